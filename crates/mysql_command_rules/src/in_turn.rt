@@ -6,9 +6,10 @@ ghost use Rattle.mysql_command_rules.specs.WritingLaws.{WrittenInTurn};
 
 use mysql_values::laws::tokens_of_a_text;
 
-/// Sets are sent in turn by text and by execute: a query against which nothing speaks begins a
-/// stream, each set against which nothing speaks is sent behind those before it, and the first that
-/// is refused is why all are.
+/// Sets are sent in turn by text and by execute.
+///
+/// A query against which nothing speaks begins a stream, each set against which nothing speaks is
+/// sent behind those before it, and the first that is refused is why all are.
 pub fn sent_in_turn()
     ensures { SentInTurn }
 {
@@ -20,8 +21,9 @@ pub fn made_in_turn()
     ensures { MadeInTurn }
 {}
 
-/// Sets are written in turn by text and by execute: a front of what carries the first of them is
-/// taken by the writer, and the rest is buffered.
+/// Sets are written in turn by text and by execute.
+///
+/// A front of what carries the first of them is taken by the writer, and the rest is buffered.
 pub fn written_in_turn()
     ensures { WrittenInTurn }
 {

@@ -19,7 +19,10 @@ pub trait SetMaker {
     fn len(&self) -> usize
         ensures { (names : List (List ℕ)) → length (given self.now names) ≡ result };
 
-    /// The set of this number, or why there is none, which is never want of memory. Refused for want of memory alone.
+    /// The set of this number, or why there is none, which is never want of memory.
+    ///
+    /// # Errors
+    /// - That of the type, for want of memory alone.
     fn set(&self, alloc: Global, number: usize) -> Result<Result<Params, SetError>, AllocError>
         requires { (names : List (List ℕ)) → number < length (given self.now names) }
         ensures at { IfOk result (IsSetAt (given self.now) number) }

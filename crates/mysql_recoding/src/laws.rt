@@ -13,8 +13,9 @@ use mysql_stmt::laws::executions_have_sizes;
 use mysql_values::laws::tokens_of_a_text;
 use mysql_wire::laws::{framed_come_first, reader_laws};
 
-/// Each set that a stream carries has as many contents as the query has placeholders, its numbers
-/// are from -2^63 to 2^64-1, and of the values that it is sent as none is a float.
+/// Each set that a stream carries has as many contents as the query has placeholders.
+///
+/// Its numbers are from -2^63 to 2^64-1, and of the values that it is sent as none is a float.
 pub fn carried_sets_fill_places()
     ensures { CarriedSetsFillPlaces }
 {
@@ -63,8 +64,9 @@ pub fn recodings_are_decided()
     tokens_of_a_text();
 }
 
-/// The recoding of two whole streams one behind the other is the first one's, and behind it the
-/// second one's without its prepare.
+/// The recoding of two whole streams, one behind the other, is both recodings.
+///
+/// The second one's stands behind the first one's, without its prepare.
 pub fn joined_streams_recode()
     ensures { JoinedStreamsRecode }
 {
@@ -73,8 +75,10 @@ pub fn joined_streams_recode()
     framed_come_first();
 }
 
-/// What a [`Recoder`](crate::Recoder) appends of a stream, however its bytes are cut, is what
-/// [`recode`](crate::recode) appends of all bytes, and what it refuses is the first cause in the
+/// What a [`Recoder`](crate::Recoder) appends is what [`recode`](crate::recode) appends of all
+/// bytes.
+///
+/// That holds however the stream's bytes are cut; and what it refuses is the first cause in the
 /// order of the stream.
 pub fn recoded_as_it_comes()
     ensures { RecodedAsItComes }

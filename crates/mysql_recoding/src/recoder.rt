@@ -128,16 +128,20 @@ fn put_sets(
 
 impl Recoder {
     /// A recoder of a stream of commands about this query, whose statement was given the id
-    /// `stmt_id`. What it appends are executions of that statement.
+    /// `stmt_id`.
     ///
-    /// The limit is the `max_allowed_packet` of the side that the packets go to, and at least 4.
-    /// Calls that write count 4 bytes for a packet's header in it: a payload has at most `limit -
-    /// 4` bytes. Calls that read count the payload alone: it has at most `limit` bytes. The stream
-    /// is read, and what is appended written.
+    /// What it appends are executions of that statement. `limit` is a `max_allowed_packet` of at
+    /// least 4: a payload that is read has at most `limit` bytes, and one that is appended at most
+    /// `limit - 4`.
+    ///
+    /// Promise: it is refused for the first cause against preparing the query (`RefusesQuery`).
     ///
     /// # Errors
-    /// The first cause that holds: `Mixed` where both names and question marks occur in the query,
-    /// `TooManyPlaces`, `PrepareTooLarge`; `Memory` where a growth was refused.
+    /// The first cause that holds:
+    /// - `Mixed` where both names and question marks occur in the query.
+    /// - `TooManyPlaces`.
+    /// - `PrepareTooLarge`.
+    /// - `Memory` where a growth was refused.
     ///
     /// (MySQL: Client/Server Protocol, "COM_STMT_PREPARE".)
     pub fn new(
@@ -215,20 +219,27 @@ impl Recoder {
         }
     }
 
-    /// Takes the next piece of the stream, of any length, and appends to `out` the executions of
-    /// the sets whose packets are whole with it, in the order of the stream; before the first
-    /// execution of all it appends the prepare. Each packet is numbered from 0.
+    /// Takes the next piece of the stream, of any length, and appends executions to `out`.
     ///
-    /// What all calls append, and [`finish`](Recoder::finish) behind them, is what
+    /// They are those of the sets whose packets are whole with the piece, in the order of the
+    /// stream; before the first execution of all it appends the prepare. Each packet is numbered
+    /// from 0. What all calls append, and [`finish`](Recoder::finish) behind them, is what
     /// [`recode`](crate::recode) appends of all bytes, however they are cut. Sets are sent as
     /// [`send_contents`](crate::send_contents) sends them.
     ///
+    /// Promise: exactly the executions of the sets that are whole with the piece are appended,
+    /// before the first the prepare, or the first cause in the stream's order is answered
+    /// (`RecodesPiece`, `RefusesPiece`).
+    ///
     /// # Errors
-    /// The first cause in the order of the stream: `PacketTooLarge` with the number of the set,
-    /// among all sets of the stream; `Stream` with the payload's number and its fault, which
-    /// `recode` finds before it looks at sets; `Memory` where a growth was refused, or more than
-    /// 2^64-1 sets came. `out` is then as it was, also where sets of this piece stand before the
-    /// cause. From then on each call answers the same and changes nothing.
+    /// The first cause in the order of the stream:
+    /// - `PacketTooLarge` with the number of the set, among all sets of the stream.
+    /// - `Stream` with the payload's number and its fault, which `recode` finds before it looks at
+    ///   sets.
+    /// - `Memory` where a growth was refused, or more than 2^64-1 sets came.
+    ///
+    /// `out` is as it was after an error, also where sets of this piece stand before the cause.
+    /// From then on each call answers the same and changes nothing.
     ///
     /// (MySQL: Client/Server Protocol, "COM_QUERY", "COM_STMT_PREPARE", "COM_STMT_SEND_LONG_DATA",
     /// "COM_STMT_EXECUTE"; MariaDB: Client/Server Protocol, "COM_STMT_BULK_EXECUTE".)
@@ -257,11 +268,18 @@ impl Recoder {
         }
     }
 
-    /// Ends the stream. Where it carried no sets, it appends the prepare to `out`, as [`recode`](crate::recode) does.
+    /// Ends the stream. Where it carried no sets, it appends the prepare to `out`, as
+    /// [`recode`](crate::recode) does.
+    ///
+    /// Promise: the prepare is appended where no set came, or how the stream ends is refused
+    /// (`Finishes`, `RefusesEnd`).
     ///
     /// # Errors
-    /// What a call of [`feed`](Recoder::feed) refused; else `Unfinished` where long data waits or a
-    /// packet isn't whole; `Memory` where a growth was refused. `out` is then as it was.
+    /// - What a call of [`feed`](Recoder::feed) refused.
+    /// - `Unfinished` where long data waits or a packet isn't whole.
+    /// - `Memory` where a growth was refused.
+    ///
+    /// `out` is as it was after an error.
     ///
     /// (MySQL: Client/Server Protocol, "COM_STMT_PREPARE", "COM_STMT_SEND_LONG_DATA".)
     pub fn finish(self, out: &mut Vec<u8>) -> Result<(), RecodeError>

@@ -67,22 +67,31 @@ pub(crate) fn values_of_all(
     Ok(all)
 }
 
-/// Appends to `out` the commands that carry sets of contents of a query to a server, as [`recode`]
-/// does of what a stream carries: one prepare, also where there are no sets, and an execution of
-/// the statement `stmt_id` for each set, its contents in the order of the placeholders: nothing as
+/// Appends to `out` the commands that carry sets of contents of a query to a server.
+///
+/// They are one prepare, also where there are no sets, and an execution of the statement `stmt_id`
+/// for each set, its contents in the order of the placeholders, as [`recode`] has them: nothing as
 /// NULL, a number as `Int` where it fits, else as `UInt`, bytes as `Bytes`. No bytes are copied but
 /// into `out`.
 ///
-/// The limit is the `max_allowed_packet` of the side that the packets go to, and at least 4. Calls
-/// that write count 4 bytes for a packet's header in it: a payload has at most `limit - 4` bytes.
-/// Calls that read count the payload alone: it has at most `limit` bytes.
+/// `limit` is the `max_allowed_packet` of the server, at least 4: a payload has at most `limit - 4`
+/// bytes.
+///
+/// Promise: what is appended is the same form of the sets as execute sends, or the first cause of
+/// sending them is answered (`SentReadable`, `RefusesGiven`).
 ///
 /// # Errors
-/// The first cause that holds, in the order of [`Refusal`]: `Mixed`, `TooManyPlaces`,
-/// `PrepareTooLarge`; set by set `WrongCount`, `PacketTooLarge`; `Memory` where a growth was
-/// refused. `out` is then as it was.
+/// The first cause that holds, in the order of [`Refusal`]:
+/// - `Mixed`.
+/// - `TooManyPlaces`.
+/// - `PrepareTooLarge`.
+/// - Set by set `WrongCount`, `PacketTooLarge`.
+/// - `Memory` where a growth was refused.
 ///
-/// (MySQL: Client/Server Protocol, "COM_STMT_PREPARE", "COM_STMT_SEND_LONG_DATA", "COM_STMT_EXECUTE".)
+/// `out` is as it was after an error.
+///
+/// (MySQL: Client/Server Protocol, "COM_STMT_PREPARE", "COM_STMT_SEND_LONG_DATA",
+/// "COM_STMT_EXECUTE".)
 pub fn send_contents(
     alloc: Global,
     query: &[u8],
@@ -169,25 +178,32 @@ pub(crate) fn refused(refusal: Refusal) -> RecodeError
     }
 }
 
-/// Appends to `out` the canonical form of what a stream of commands carries, whose bytes are those
-/// of the pieces, one after another, however they are cut: one prepare, also where there are no
-/// sets, and an execution of the statement `stmt_id` for each set, before it, where it would exceed
-/// 16777215 bytes, its byte strings as long data. Nothing is sent as NULL, a number as `Int` where
-/// it fits, else as `UInt`, bytes as `Bytes`. Streams of the same query, id and limit that carry
-/// the same sets are recoded to the same bytes, by whichever commands and types they carry them;
-/// the laws stand in `laws`.
+/// Appends to `out` the canonical form of what a stream of commands carries, however it is cut.
 ///
-/// The stream was sent to the statement `stmt_id`.
+/// The stream's bytes are those of the pieces, and it was sent to the statement `stmt_id`. The form
+/// is one prepare, also where there are no sets, and an execution of the statement for each set,
+/// before it, where it would exceed 16777215 bytes, its byte strings as long data. Nothing is sent
+/// as NULL, a number as `Int` where it fits, else as `UInt`, bytes as `Bytes`. Streams of the same
+/// query, id and limit that carry the same sets are recoded to the same bytes, by whichever
+/// commands and types they carry them; the laws stand in `laws`.
 ///
-/// The limit is the `max_allowed_packet` of the side that the packets go to, and at least 4. Calls
-/// that write count 4 bytes for a packet's header in it: a payload has at most `limit - 4` bytes.
-/// Calls that read count the payload alone: it has at most `limit` bytes. The stream is read, and
-/// what is appended written.
+/// `limit` is a `max_allowed_packet` of at least 4: a payload that is read has at most `limit`
+/// bytes, and one that is appended at most `limit - 4`.
+///
+/// Promise: one prepare and an execution of each set that the stream carries are appended, or the
+/// first cause is answered and `out` is as it was (`Recodes`, `RefusesRecoding`).
 ///
 /// # Errors
-/// The first cause that holds: `Mixed`; `Stream` with the payload's number and its fault;
-/// `Unfinished`; `TooManyPlaces`; `PrepareTooLarge`; `PacketTooLarge` with the set; `Memory` where
-/// a growth was refused. `out` is then as it was.
+/// The first cause that holds:
+/// - `Mixed`.
+/// - `Stream` with the payload's number and its fault.
+/// - `Unfinished`.
+/// - `TooManyPlaces`.
+/// - `PrepareTooLarge`.
+/// - `PacketTooLarge` with the set.
+/// - `Memory` where a growth was refused.
+///
+/// `out` is as it was after an error.
 ///
 /// (MySQL: Client/Server Protocol, "COM_QUERY", "COM_STMT_PREPARE", "COM_STMT_SEND_LONG_DATA",
 /// "COM_STMT_EXECUTE"; MariaDB: Client/Server Protocol, "COM_STMT_BULK_EXECUTE".)

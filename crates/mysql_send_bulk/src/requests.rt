@@ -194,20 +194,29 @@ fn put_sets(
     put_checked_sets(alloc, statement, sets, stop, room, out)
 }
 
-/// Appends the commands that carry parameter sets of a query to a server as bulk requests, each
-/// framed as packets that are numbered from 0: one prepare, and as few requests as there can be,
-/// each of as many sets as it has room for, with types where it has to bring them. Sets and places
-/// count from 0; a payload has at most `limit - 4` bytes, as the limit counts a packet with its
-/// header. `stop` says why one more set behind the given ones gives no values, where there is one:
-/// never want of memory, which is the caller's to answer. After a refusal what stood before stands
-/// in front of `out`.
+/// Appends the commands that carry parameter sets of a query to a server as bulk requests.
+///
+/// Each is framed as packets that are numbered from 0: one prepare, and as few requests as there
+/// can be, each of as many sets as it has room for, with types where it has to bring them. Sets and
+/// places count from 0; a payload has at most `limit - 4` bytes, as the limit counts a packet with
+/// its header. `stop` says why one more set behind the given ones gives no values, where there is
+/// one: never want of memory, which is the caller's to answer. After a refusal what stood before
+/// stands in front of `out`.
+///
+/// Promise: exactly what is stated for the road is appended, in a form that reads back, or the
+/// first cause is answered (`SentReadable`, `RefusesGiven`).
 ///
 /// # Errors
-/// The first cause that holds, in the order of [`Refusal`]: `TooManyPlaces`, `PrepareTooLarge`,
-/// `NoPlaces`; set by set `Params`, `WrongCount`, `Float`; `Params` for the set
-/// that stops; over all sets `MixedKinds`, `RowTooLarge`; `Memory` where a growth was refused.
+/// The first cause that holds, in the order of [`Refusal`]:
+/// - `TooManyPlaces`.
+/// - `PrepareTooLarge`.
+/// - `NoPlaces`.
+/// - Set by set `Params`, `WrongCount`, `Float`; `Params` for the set that stops.
+/// - Over all sets `MixedKinds`, `RowTooLarge`.
+/// - `Memory` where a growth was refused.
 ///
-/// MariaDB: Client/Server Protocol, "COM_STMT_BULK_EXECUTE"; MySQL: Client/Server Protocol, "COM_STMT_PREPARE".
+/// MariaDB: Client/Server Protocol, "COM_STMT_BULK_EXECUTE"; MySQL: Client/Server Protocol,
+/// "COM_STMT_PREPARE".
 pub fn put_requests(
     alloc: Global,
     statement: &Statement<'_>,

@@ -376,19 +376,27 @@ fn put_value_sets(
     Ok(())
 }
 
-/// Appends the commands that carry parameter sets of a query to a server as executions of a
-/// prepared statement, each framed as packets that are numbered from 0: one prepare, also where
-/// there are no sets, and an execution of the statement for each set. An execution of more than
-/// 16777215 bytes is sent without its byte strings, each of which goes before it as long data in
-/// one piece. Sets and places count from 0; a payload has at most `limit - 4` bytes, as the limit
-/// counts a packet with its header, and so has an execution with all its values, also where they
-/// are sent apart. After a refusal what stood before stands in front of `out`.
+/// Appends the commands that carry parameter sets of a query as executions of a prepared statement.
+///
+/// Each is framed as packets that are numbered from 0: one prepare, also where there are no sets,
+/// and an execution of the statement for each set. An execution of more than 16777215 bytes is sent
+/// without its byte strings, each of which goes before it as long data in one piece. Sets and
+/// places count from 0; a payload has at most `limit - 4` bytes, as the limit counts a packet with
+/// its header, and so has an execution with all its values, also where they are sent apart. After a
+/// refusal what stood before stands in front of `out`.
+///
+/// Promise: exactly what is stated for the road is appended, in a form that reads back, or the
+/// first cause is answered (`SentReadable`, `RefusesGiven`).
 ///
 /// # Errors
-/// The first cause that holds, in the order of [`Refusal`]: `TooManyPlaces`, `PrepareTooLarge`; set
-/// by set `Params`, `WrongCount`, `Float`, `PacketTooLarge`; `Memory` where a growth was refused.
+/// The first cause that holds, in the order of [`Refusal`]:
+/// - `TooManyPlaces`.
+/// - `PrepareTooLarge`.
+/// - Set by set `Params`, `WrongCount`, `Float`, `PacketTooLarge`.
+/// - `Memory` where a growth was refused.
 ///
-/// MySQL: Client/Server Protocol, "COM_STMT_PREPARE", "COM_STMT_SEND_LONG_DATA", "COM_STMT_EXECUTE".
+/// MySQL: Client/Server Protocol, "COM_STMT_PREPARE", "COM_STMT_SEND_LONG_DATA",
+/// "COM_STMT_EXECUTE".
 pub fn put_executions(
     alloc: Global,
     statement: &Statement<'_>,
@@ -461,15 +469,21 @@ pub fn put_executions_of_values(
     )
 }
 
-/// Appends the executions of further sets of values of the statement `stmt_id`, which was prepared
-/// with so many placeholders, as [`put_executions_of_values`] appends those behind its prepare.
-/// Sets are numbered on from `first`, the number of those that were appended before; they stand in
-/// the order of the placeholders. A payload has at most `limit - 4` bytes, and so has an execution
-/// with all its values. After a refusal what stood before stands in front of `out`.
+/// Appends the executions of further sets of values of a statement that was prepared.
+///
+/// The statement `stmt_id` has so many placeholders; the executions are those that
+/// [`put_executions_of_values`] appends behind its prepare. Sets are numbered on from `first`, the
+/// number of those that were appended before; they stand in the order of the placeholders. A
+/// payload has at most `limit - 4` bytes, and so has an execution with all its values. After a
+/// refusal what stood before stands in front of `out`.
+///
+/// Promise: the executions of further sets are appended without a prepare, numbered on, or the
+/// first cause against one of them is answered (`AppendsMore`, `RefusesMore`).
 ///
 /// # Errors
-/// The first cause that holds, set by set: `WrongCount`, `Float`, `PacketTooLarge`; `Memory` where
-/// a growth was refused.
+/// The first cause that holds:
+/// - Set by set `WrongCount`, `Float`, `PacketTooLarge`.
+/// - `Memory` where a growth was refused.
 ///
 /// MySQL: Client/Server Protocol, "COM_STMT_SEND_LONG_DATA", "COM_STMT_EXECUTE".
 pub fn put_more_executions(

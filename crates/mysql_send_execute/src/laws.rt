@@ -3,8 +3,9 @@
 
 ghost use Rattle.mysql_send_execute.specs.Laws.{FurtherSetsAreSent};
 
-/// Executions of sets of values, numbered on from sets that were sent by execute and appended
-/// behind them, are sent with them.
+/// Executions of sets that are numbered on from sets sent by execute are sent with them.
+///
+/// They are appended behind those.
 pub fn further_sets_are_sent()
     ensures { FurtherSetsAreSent }
 {}

@@ -12,14 +12,20 @@ use mysql_command_rules::in_turn::{made_in_turn, sent_in_turn};
 use mysql_command_rules::{Refusal, SetMaker, made_set};
 use std::alloc::Global;
 
-/// Appends what [`put_executions`](crate::put_executions) appends of sets of which each is made
-/// when its turn comes, and dropped when its execution is appended.
+/// Appends what [`put_executions`](crate::put_executions) appends, each set made when its turn
+/// comes.
+///
+/// A set is dropped when its execution is appended.
 ///
 /// # Errors
-/// The first cause that holds, in the order of [`Refusal`]: `TooManyPlaces`, `PrepareTooLarge`; set
-/// by set `Params`, `WrongCount`, `Float`, `PacketTooLarge`; `Memory` where a growth was refused.
+/// The first cause that holds, in the order of [`Refusal`]:
+/// - `TooManyPlaces`.
+/// - `PrepareTooLarge`.
+/// - Set by set `Params`, `WrongCount`, `Float`, `PacketTooLarge`.
+/// - `Memory` where a growth was refused.
 ///
-/// MySQL: Client/Server Protocol, "COM_STMT_PREPARE", "COM_STMT_SEND_LONG_DATA", "COM_STMT_EXECUTE".
+/// MySQL: Client/Server Protocol, "COM_STMT_PREPARE", "COM_STMT_SEND_LONG_DATA",
+/// "COM_STMT_EXECUTE".
 pub fn put_made_executions<S: SetMaker>(
     alloc: Global,
     statement: &Statement<'_>,

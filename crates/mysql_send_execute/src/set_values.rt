@@ -45,8 +45,9 @@ pub fn refused(set: usize, error: ParamsError) -> Refusal
     }
 }
 
-/// The values of a set that is a list, where a statement has no names: they lie in the order of its
-/// placeholders.
+/// The values of a set that is a list, where the statement has no names.
+///
+/// They lie in the order of its placeholders.
 #[inline(always)]
 pub fn values_in_order<'a>(names: &[CowSlice<'_, u8>], params: &'a Params) -> Option<&'a [Value]>
     ensures { IfSome result (λ values. values_over (map cow_slice_items names.now) params.entry.now ≡ Ok values.now) }
@@ -57,10 +58,13 @@ pub fn values_in_order<'a>(names: &[CowSlice<'_, u8>], params: &'a Params) -> Op
     }
 }
 
-/// Checks that the values of the set of this number are as many as the placeholders, and none is a float.
+/// Checks that a set's values are as many as the placeholders, and none is a float.
+///
+/// `set` is the set's number.
 ///
 /// # Errors
-/// `WrongCount`, then `Float` with the least place.
+/// - `WrongCount`.
+/// - `Float` with the least place.
 pub fn check_values<V: HasValue>(values: &[V], places: usize, set: usize) -> Result<(), Refusal>
     ensures ok { OnOk result (values_cause (refusals.WrongCount set)
         (λ place. refusals.Float set place) places (map V.value values.now) ≡ None) }

@@ -1,7 +1,8 @@
 //! A query as a statement, and its prepare.
 
 ghost use Rattle.std.specs.Cow.{cow_slice_items};
-ghost use Rattle.std.specs.Prelude.{◌≡◌, ◌<◌, ◌≤◌, ◌⊎◌, ℕ, IfErr, IfOk, List, OnErr, OnOk, false, length, map, take, true};
+ghost use Rattle.std.specs.Prelude.{◌≡◌, ◌<◌, ◌≤◌, ◌⊎◌, ℕ, IfErr, IfOk, List, OnErr, OnOk, false, length, map, take};
+ghost use Rattle.std.specs.Prelude.{true};
 ghost use Rattle.mysql_values.specs.Queries.{HasMixed, HasPlaces};
 ghost use Rattle.mysql_command_rules.specs.Sending.{RefusesGiven};
 ghost use Rattle.mysql_command_rules.specs.Sets.{Given};
@@ -19,8 +20,10 @@ use std::alloc::Global;
 use std::borrow::CowSlice;
 use std::marker::Model;
 
-/// A query as a statement that is sent: what is found of it once, its text with a question mark for
-/// each placeholder, and the number that the server gives it.
+/// A query as a statement that is sent: what is found of it once.
+///
+/// That is its text with a question mark for each placeholder, and the number that the server gives
+/// it.
 #[derive(Drop)]
 pub struct Statement<'q> {
     query: ParsedQuery<'q>,

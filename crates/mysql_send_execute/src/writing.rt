@@ -13,17 +13,21 @@ use mysql_values::Params;
 use std::alloc::Global;
 use std::io::Write;
 
-/// Writes the commands that carry parameter sets of a query as executions of its statement, as
-/// [`put_executions`](crate::put_executions) appends them, some at a time.
+/// Writes the executions that [`put_executions`](crate::put_executions) appends, some at a time.
+///
+/// Promise: the writer is given exactly the bytes that are appended else; where not all are, all
+/// sets before the refused one, each whole, or a front (`Writes`, `Stops`).
 ///
 /// # Errors
-/// `Refused` with the first cause that holds, in the order of [`Refusal`](mysql_command_rules::Refusal):
-/// `TooManyPlaces`, `PrepareTooLarge`, before anything is written; set by set `Params`,
-/// `WrongCount`, `Float`, `PacketTooLarge`, and `Memory` where a growth was refused, when the
-/// prepare and all sets before that one are written. `Io` where the writer fails: it has taken a
-/// front of what carries the first sets, and not all of it.
+/// - `Refused` with the first cause that holds, in the order of
+///   [`Refusal`](mysql_command_rules::Refusal): `TooManyPlaces`, `PrepareTooLarge`, before anything
+///   is written; set by set `Params`, `WrongCount`, `Float`, `PacketTooLarge`, and `Memory` where a
+///   growth was refused, when the prepare and all sets before that one are written.
+/// - `Io` where the writer fails: it has taken a front of what carries the first sets, and not all
+///   of it.
 ///
-/// MySQL: Client/Server Protocol, "COM_STMT_PREPARE", "COM_STMT_SEND_LONG_DATA", "COM_STMT_EXECUTE".
+/// MySQL: Client/Server Protocol, "COM_STMT_PREPARE", "COM_STMT_SEND_LONG_DATA",
+/// "COM_STMT_EXECUTE".
 pub fn write_executions<W: Write>(
     alloc: Global,
     statement: &Statement<'_>,

@@ -12,12 +12,16 @@ use mysql_command_rules::{Refusal, SetMaker, made_set};
 use mysql_queries::ParsedQuery;
 use std::alloc::Global;
 
-/// Appends what [`put_queries`](crate::put_queries) appends of sets of which each is made when its
-/// turn comes, and dropped when its query is appended.
+/// Appends what [`put_queries`](crate::put_queries) appends, each set made when its turn comes.
+///
+/// A set is dropped when its query is appended.
 ///
 /// # Errors
-/// The first cause that holds, in the order of [`Refusal`]: `Mixed`, `NotAlone`; set by set
-/// `Params`, `WrongCount`, `Float`, `PacketTooLarge`; `Memory` where a growth was refused.
+/// The first cause that holds, in the order of [`Refusal`]:
+/// - `Mixed`.
+/// - `NotAlone`.
+/// - Set by set `Params`, `WrongCount`, `Float`, `PacketTooLarge`.
+/// - `Memory` where a growth was refused.
 ///
 /// MySQL: Client/Server Protocol, "COM_QUERY".
 pub fn put_made_queries<S: SetMaker>(

@@ -111,15 +111,22 @@ pub(crate) fn put_query<'a>(
     Ok(())
 }
 
-/// Appends the commands that carry parameter sets of a query to a server as text queries, each
-/// framed as packets that are numbered from 0: a query for each set, its values as literals in the
-/// places of the placeholders. Sets and places count from 0; a payload has at most `limit - 4`
-/// bytes, as the limit counts a packet with its header. After a refusal what stood before stands in
-/// front of `out`.
+/// Appends the commands that carry parameter sets of a query to a server as text queries.
+///
+/// Each is framed as packets that are numbered from 0: a query for each set, its values as literals
+/// in the places of the placeholders. Sets and places count from 0; a payload has at most
+/// `limit - 4` bytes, as the limit counts a packet with its header. After a refusal what stood
+/// before stands in front of `out`.
+///
+/// Promise: exactly what is stated for the road is appended, in a form that reads back, or the
+/// first cause is answered (`SentReadable`, `RefusesGiven`).
 ///
 /// # Errors
-/// The first cause that holds, in the order of [`Refusal`]: `Mixed`, `NotAlone`; set by set
-/// `Params`, `WrongCount`, `Float`, `PacketTooLarge`; `Memory` where a growth was refused.
+/// The first cause that holds, in the order of [`Refusal`]:
+/// - `Mixed`.
+/// - `NotAlone`.
+/// - Set by set `Params`, `WrongCount`, `Float`, `PacketTooLarge`.
+/// - `Memory` where a growth was refused.
 ///
 /// MySQL: Client/Server Protocol, "COM_QUERY".
 pub fn put_queries(

@@ -13,16 +13,20 @@ use mysql_values::Params;
 use std::alloc::Global;
 use std::io::Write;
 
-/// Writes the commands that carry parameter sets of a query as text queries, as
-/// [`put_queries`](crate::put_queries) appends them, some at a time. Safe for the servers that
-/// `mysql_values::bind_text` names.
+/// Writes the text queries that [`put_queries`](crate::put_queries) appends, some at a time.
+///
+/// Safe for the servers that `mysql_values::bind_text` names.
+///
+/// Promise: the writer is given exactly the bytes that are appended else; where not all are, all
+/// sets before the refused one, each whole, or a front (`Writes`, `Stops`).
 ///
 /// # Errors
-/// `Refused` with the first cause that holds, in the order of [`Refusal`](mysql_command_rules::Refusal):
-/// `Mixed`, `NotAlone`, before anything is written; set by set `Params`, `WrongCount`, `Float`,
-/// `PacketTooLarge`, and `Memory` where a growth was refused, when all sets before that one are
-/// written. `Io` where the writer fails: it has taken a front of what carries the first sets, and
-/// not all of it.
+/// - `Refused` with the first cause that holds, in the order of
+///   [`Refusal`](mysql_command_rules::Refusal): `Mixed`, `NotAlone`, before anything is written;
+///   set by set `Params`, `WrongCount`, `Float`, `PacketTooLarge`, and `Memory` where a growth was
+///   refused, when all sets before that one are written.
+/// - `Io` where the writer fails: it has taken a front of what carries the first sets, and not all
+///   of it.
 ///
 /// MySQL: Client/Server Protocol, "COM_QUERY".
 pub fn write_queries<W: Write>(

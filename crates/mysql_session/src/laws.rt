@@ -32,9 +32,10 @@ pub fn readable_sets_are_delivered()
     tokens_of_a_text();
 }
 
-/// Sets that are delivered were sent, are read back as what they mean, and each front of their
-/// stream reads as the sets that stand whole in it: what [`sent_streams_join`] and
-/// [`roads_read_equally`] go by.
+/// Sets that are delivered were sent, and are read back as what they mean.
+///
+/// Each front of their stream reads as the sets that stand whole in it: what [`sent_streams_join`]
+/// and [`roads_read_equally`] go by.
 pub fn deliveries_are_read_back()
     ensures { DeliveriesAreReadBack }
 {}
@@ -44,6 +45,8 @@ pub fn deliveries_are_received()
     ensures { DeliveriesAreReceived }
 {}
 
+/// What a writer took that failed reads as the sets that stand whole in it.
+///
 /// Where a writer fails while sets are sent to it by `Query::send_to`, it has taken a front of a
 /// stream that carries the first of them, by bulk all, and not all of that stream. Where the stream
 /// has fewer than 2^64 bytes, the front reads, without a fault, as exactly the sets that stand
@@ -65,8 +68,10 @@ pub fn recodings_are_delivered()
     readable_sets_are_delivered();
 }
 
-/// Sets of values that [`Query::send_more`](crate::Query::send_more) appends behind sets that were
-/// delivered by execute, numbered on from them, are delivered with them.
+/// Sets that [`Query::send_more`](crate::Query::send_more) appends are delivered with those before
+/// them.
+///
+/// Those before were delivered by execute, and the further ones are numbered on from them.
 pub fn further_sets_are_delivered()
     ensures { FurtherSetsAreDelivered }
 {

@@ -155,24 +155,31 @@ fn put_lists(
     }
 }
 
-/// Appends to `out` the commands that carry lists of objects to a server: what
-/// [`send`](crate::send) appends of parameter sets of the objects' values, in order, one set for
-/// each list. A list without objects is the empty set. `receive` with the same query, id and limit
-/// reads back what the values mean.
+/// Appends to `out` the commands that carry lists of objects to a server.
 ///
-/// The limit is the `max_allowed_packet` of the side that the packets go to, and at least 4. Calls
-/// that write count 4 bytes for a packet's header in it: a payload has at most `limit - 4` bytes.
-/// Calls that read count the payload alone: it has at most `limit` bytes.
+/// They are what [`send`](crate::send) appends of parameter sets of the objects' values, in order,
+/// one set for each list. A list without objects is the empty set. `receive` with the same query,
+/// id and limit reads back what the values mean.
 ///
-/// By text **safe for** the servers that `mysql_values::bind_text` names; by execute and bulk for any.
+/// `limit` counts as [`send`](crate::send) has it. By text **safe for** the servers that
+/// `mysql_values::bind_text` names; by execute and bulk for any.
+///
+/// Promise: what [`send`](crate::send) promises, of the values of each list in order
+/// (`all_given_by_objects`, `Delivers`).
 ///
 /// # Errors
-/// The first cause that holds, in the order of [`Refusal`]: `Mixed`; by text `NotAlone`; by execute
-/// and bulk `TooManyPlaces`, `PrepareTooLarge`; by bulk `NoPlaces`; list by list `Params` with
-/// `TooLong` and the least place whose object is too long for a value, `Params` with
-/// `PositionalParamsForNamedQuery` where a query with names is given objects, `WrongCount`,
-/// `Float`, and but by bulk `PacketTooLarge`; by bulk over all lists `MixedKinds`, `RowTooLarge`;
-/// `Memory` where a growth was refused. `out` is then as it was.
+/// The first cause that holds, in the order of [`Refusal`]:
+/// - `Mixed`.
+/// - By text `NotAlone`.
+/// - By execute and bulk `TooManyPlaces`, `PrepareTooLarge`.
+/// - By bulk `NoPlaces`.
+/// - List by list `Params` with `TooLong` and the least place whose object is too long for a value,
+///   `Params` with `PositionalParamsForNamedQuery` where a query with names is given objects,
+///   `WrongCount`, `Float`, and but by bulk `PacketTooLarge`.
+/// - By bulk over all lists `MixedKinds`, `RowTooLarge`.
+/// - `Memory` where a growth was refused.
+///
+/// `out` is as it was after an error.
 ///
 /// (MySQL: Client/Server Protocol, "COM_QUERY", "COM_STMT_PREPARE", "COM_STMT_SEND_LONG_DATA",
 /// "COM_STMT_EXECUTE"; MariaDB: Client/Server Protocol, "COM_STMT_BULK_EXECUTE".)

@@ -38,10 +38,13 @@ use std::alloc::{AllocError, Global};
 use std::io::Write;
 use std::marker::Model;
 
-/// The text of a query and the id of its statement, with what [`send`](crate::send),
-/// [`Receiver::new`] and `bind_text` find of a text: its placeholders, their names and the text
-/// with a question mark for each. So calls that each send or read sets of one query need find these
-/// once.
+/// The text of a query and the id of its statement, kept for many calls.
+///
+/// What [`send`](crate::send), [`Receiver::new`] and `bind_text` find of a text is found once: its
+/// placeholders, their names and the text with a question mark for each.
+///
+///     let query = Query::new(alloc, b"INSERT INTO goods VALUES (?, ?)", 1)?;
+///     query.send(alloc, &sets, Road::Execute, 1 << 24, &mut out)?;
 #[derive(Drop)]
 pub struct Query<'q> {
     statement: Statement<'q>,
@@ -60,8 +63,12 @@ impl<'q> Model for Query<'q> {
 impl<'q> Query<'q> {
     /// The query of this text, whose statement has this id.
     ///
+    /// Promise: it stands for its text and its statement's id, and is refused by `Mixed` exactly
+    /// where both kinds of placeholder occur (`KeptQuery`).
+    ///
     /// # Errors
-    /// `Mixed` where both names and question marks occur in the text, `Memory`.
+    /// - `Mixed` where both names and question marks occur in the text.
+    /// - `Memory`.
     ///
     /// (MySQL Reference Manual, "PREPARE Statement" (parameter markers).)
     pub fn new(alloc: Global, text: &'q [u8], stmt_id: u32) -> Result<Query<'q>, Refusal>
@@ -126,14 +133,17 @@ impl<'q> Query<'q> {
         sent
     }
 
-    /// Appends to `out` what [`send`](crate::send) appends of sets of this text and id, by the same
-    /// road within the same limit, and is refused as it is.
+    /// Appends to `out` what [`send`](crate::send) appends of sets of this text and id.
     ///
-    /// By text **safe for** the servers that `mysql_values::bind_text` names; by execute and bulk for any.
+    /// The road and the limit are those of that call, and so are its refusals. By text **safe for**
+    /// the servers that `mysql_values::bind_text` names; by execute and bulk for any.
+    ///
+    /// Promise: what [`send`](crate::send) promises over this text and id; never `Mixed`
+    /// (`RefusesGiven`, `Delivers`).
     ///
     /// # Errors
-    /// Those of [`send`](crate::send) but for `Mixed`, which [`Query::new`] refused, in its order.
-    /// `out` is then as it was.
+    /// - Those of [`send`](crate::send) but for `Mixed`, which [`Query::new`] refused, in its
+    ///   order. `out` is then as it was.
     ///
     /// (MySQL: Client/Server Protocol, "COM_QUERY", "COM_STMT_PREPARE", "COM_STMT_SEND_LONG_DATA",
     /// "COM_STMT_EXECUTE"; MariaDB: Client/Server Protocol, "COM_STMT_BULK_EXECUTE".)
@@ -188,16 +198,23 @@ impl<'q> Query<'q> {
         sent
     }
 
-    /// Appends the executions of further sets of values, numbered on from `first` and with it fewer
-    /// than 2^64, as [`Query::send`] by [`Road::Execute`] appends those behind its prepare: for a
-    /// statement that was prepared once. `first` is the number of the sets that were sent before;
-    /// values stand in the order of the placeholders. A payload has at most `limit - 4` bytes, and
-    /// so has an execution with all its values. Behind sets that were delivered by execute, with
-    /// their number as `first`, they are delivered with them.
+    /// Appends the executions of further sets of values, for a statement that was prepared once.
+    ///
+    /// They are those that [`Query::send`] by [`Road::Execute`] appends behind its prepare,
+    /// numbered on from `first` and with it fewer than 2^64. `first` is the number of the sets that
+    /// were sent before; values stand in the order of the placeholders. A payload has at most
+    /// `limit - 4` bytes, and so has an execution with all its values. Behind sets that were
+    /// delivered by execute, with their number as `first`, they are delivered with them.
+    ///
+    /// Promise: exactly the framings of the sets' executions are appended, numbered on, or the
+    /// first cause is answered and `out` is as it was (`AppendsFurther`).
     ///
     /// # Errors
-    /// `TooManyPlaces`; then the first cause that holds, set by set: `WrongCount`, `Float`,
-    /// `PacketTooLarge`; `Memory` where a growth was refused. `out` is then as it was.
+    /// - `TooManyPlaces`.
+    /// - The first cause that holds, set by set: `WrongCount`, `Float`, `PacketTooLarge`.
+    /// - `Memory` where a growth was refused.
+    ///
+    /// `out` is as it was after an error.
     ///
     /// (MySQL: Client/Server Protocol, "COM_STMT_SEND_LONG_DATA", "COM_STMT_EXECUTE".)
     pub fn send_more(
@@ -277,24 +294,32 @@ impl<'q> Query<'q> {
         }
     }
 
-    /// Writes to `to`, as to a connection, what [`Query::send`] appends of sets of this text and id, by the same road
-    /// within the same limit: by text and execute in parts, as the sets are made packets; by bulk when all requests
-    /// stand, since what speaks against any set comes before the first of them. What `to` holds back itself, as a
-    /// `BufWriter` does, is flushed by who gave it.
+    /// Writes to `to`, as to a connection, what [`Query::send`] appends of the same sets.
     ///
-    /// By text **safe for** the servers that `mysql_values::bind_text` names; by execute and bulk for any.
+    /// By text and execute it goes in parts, as the sets are made packets; by bulk when all
+    /// requests stand, since what speaks against any set comes before the first of them. What `to`
+    /// holds back itself, as a `BufWriter` does, is flushed by who gave it.
+    ///
+    /// By text **safe for** the servers that `mysql_values::bind_text` names; by execute and bulk
+    /// for any.
+    ///
+    /// Promise: the writer is given what [`Query::send`] appends, or, where not all are written,
+    /// all sets before the refused one; a writer that failed took a front, and not all
+    /// (`DeliversTo`, `StopsSending`).
     ///
     /// # Errors
-    /// [`SendToError::Refused`] with what [`Query::send`] is refused for, and how many sets were written before: by
-    /// text `NotAlone` and by execute `TooManyPlaces` and `PrepareTooLarge`, before anything is written; at a set by
-    /// `Params`, `WrongCount`, `Float`, `PacketTooLarge`, or `Memory` where a growth was refused, when all sets before
-    /// it are written, each whole; by bulk each refusal before anything is written. [`SendToError::Io`] where the
-    /// writer fails: it has taken a front of a stream that carries the first sets, by bulk all, and not all of that
-    /// stream. A receiver reads of the front, without a fault, exactly the sets that stand whole in it: the law
-    /// `laws::failed_writers_are_read`.
+    /// - [`SendToError::Refused`] with what [`Query::send`] is refused for, and how many sets were
+    ///   written before: by text `NotAlone` and by execute `TooManyPlaces` and `PrepareTooLarge`,
+    ///   before anything is written; at a set by `Params`, `WrongCount`, `Float`, `PacketTooLarge`,
+    ///   or `Memory` where a growth was refused, when all sets before it are written, each whole;
+    ///   by bulk each refusal before anything is written.
+    /// - [`SendToError::Io`] where the writer fails: it has taken a front of a stream that carries
+    ///   the first sets, by bulk all, and not all of that stream. A receiver reads of the front,
+    ///   without a fault, exactly the sets that stand whole in it: the law
+    ///   `laws::failed_writers_are_read`.
     ///
-    /// (MySQL: Client/Server Protocol, "COM_QUERY", "COM_STMT_PREPARE", "COM_STMT_SEND_LONG_DATA", "COM_STMT_EXECUTE";
-    /// MariaDB: Client/Server Protocol, "COM_STMT_BULK_EXECUTE".)
+    /// (MySQL: Client/Server Protocol, "COM_QUERY", "COM_STMT_PREPARE", "COM_STMT_SEND_LONG_DATA",
+    /// "COM_STMT_EXECUTE"; MariaDB: Client/Server Protocol, "COM_STMT_BULK_EXECUTE".)
     pub fn send_to<W: Write>(
         &self,
         alloc: Global,
@@ -316,8 +341,15 @@ impl<'q> Query<'q> {
         self.send_sets_to(alloc, sets, road, limit, to)
     }
 
-    /// A receiver of a stream of commands about this query, as [`Receiver::new`] makes it of this
-    /// text and id, with its limit. Refused for want of memory alone.
+    /// A receiver of a stream of commands about this query, with this limit.
+    ///
+    /// It is the one that [`Receiver::new`] makes of this text and id.
+    ///
+    /// Promise: what [`Receiver::new`] promises over this text, but for a refusal other than memory
+    /// (`KeptQuery`).
+    ///
+    /// # Errors
+    /// - `AllocError` for want of memory.
     ///
     /// (MySQL: Client/Server Protocol, "MySQL Packets" and "Command Phase".)
     pub fn receiver(&self, alloc: Global, limit: usize) -> Result<Receiver, AllocError>
@@ -338,14 +370,20 @@ impl<'q> Query<'q> {
         )
     }
 
-    /// Appends the text with the literals of a set's values in the places of its placeholders, as
-    /// `mysql_values::bind_text` does.
+    /// Appends the text with the literals of a set's values in the places of its placeholders.
     ///
-    /// **Safe for** the servers that `mysql_values::bind_text` names.
+    /// `mysql_values::bind_text` does the same. **Safe for** the servers that it names.
+    ///
+    /// Promise: what `mysql_values::bind_text` promises over this text; never `Mixed`.
     ///
     /// # Errors
-    /// `NotAlone` with the first such placeholder, `Params`, `WrongCount`, `Float` with the first
-    /// such placeholder, `Memory`; nothing is appended then.
+    /// - `NotAlone` with the first such placeholder.
+    /// - `Params`.
+    /// - `WrongCount`.
+    /// - `Float` with the first such placeholder.
+    /// - `Memory`.
+    ///
+    /// Nothing is appended after an error.
     ///
     /// (MySQL Reference Manual, "Literal Values".)
     pub fn bind_text(

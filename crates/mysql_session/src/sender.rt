@@ -57,37 +57,49 @@ fn put_sets(
     }
 }
 
-/// Appends to `out` the commands that carry parameter sets of a query to a server, as framed
-/// packets, each numbered from 0: by [`Road::Text`] a query for each set, its values as literals in
-/// the places of the placeholders; by [`Road::Execute`] one prepare, also where there are no sets,
-/// and an execution of the statement `stmt_id` for each set, before it, where it would exceed
-/// 16777215 bytes, its byte strings as long data; by [`Road::Bulk`] one prepare, and the fewest
-/// bulk executions that there can be. Sets and places count from 0. `receive` with the same query,
-/// id and limit reads the sets back, and of each front of what was appended the sets whose last
-/// command stands whole in it.
+/// Appends to `out` the commands that carry parameter sets of a query to a server.
+///
+/// They are framed packets, each numbered from 0: by [`Road::Text`] a query for each set, its
+/// values as literals in the places of the placeholders; by [`Road::Execute`] one prepare, also
+/// where there are no sets, and an execution of the statement `stmt_id` for each set, before it,
+/// where it would exceed 16777215 bytes, its byte strings as long data; by [`Road::Bulk`] one
+/// prepare, and the fewest bulk executions that there can be. Sets and places count from 0.
+/// `receive` with the same query, id and limit reads the sets back, and of each front of what was
+/// appended the sets whose last command stands whole in it.
 ///
 /// A placeholder is a question mark, or a colon and a name of `a` to `z`, `0` to `9` and `_` that
 /// begins with no digit, by which, without the colon, a set gives its value. `:aB` is the
 /// placeholder `a` before a `B`; `:Name` is none, so that a set that names values is refused by
 /// `Params` over `SELECT :Name`.
 ///
-/// What is appended behind another stream of the same query, id and limit, by whichever road, also by
-/// [`send_values`](crate::send_values), reads behind its sets: the law `laws::sent_streams_join`, which stands on
-/// `mysql_receive::laws::whole_streams_join`.
+/// What is appended behind another stream of the same query, id and limit, by whichever road, also
+/// by [`send_values`](crate::send_values), reads behind its sets: the law
+/// `laws::sent_streams_join`.
 ///
-/// The limit is the `max_allowed_packet` of the side that the packets go to, and at least 4. Calls
-/// that write count 4 bytes for a packet's header in it: a payload has at most `limit - 4` bytes.
-/// Calls that read count the payload alone: it has at most `limit` bytes.
+/// `limit` is the `max_allowed_packet` of the server, at least 4. Calls that write count 4 bytes
+/// for a packet's header in it: a payload has at most `limit - 4` bytes. Calls that read take the
+/// `max_allowed_packet` of their own side and count the payload alone, so that with the same limit
+/// each payload that is appended here is within it.
 ///
-/// By execute and bulk **safe for** any server. By text for one that takes backslash escapes (NO_BACKSLASH_ESCAPES
-/// isn't in its SQL mode) over a connection in UTF-8, as `mysql_values::bind_text` is: for any other a value may end
-/// its literal, and what stands behind the quote is read as SQL.
+/// By execute and bulk **safe for** any server. By text for one that takes backslash escapes
+/// (NO_BACKSLASH_ESCAPES isn't in its SQL mode) over a connection in UTF-8, as
+/// `mysql_values::bind_text` is: for any other a value may end its literal, and what stands behind
+/// the quote is read as SQL.
+///
+/// Promise: the first cause is answered, with `out` as it was; else what is appended delivers the
+/// sets (`RefusesGiven`, `Delivers`).
 ///
 /// # Errors
-/// The first cause that holds, in the order of [`Refusal`]: `Mixed`; by text `NotAlone`; by execute
-/// and bulk `TooManyPlaces`, `PrepareTooLarge`; by bulk `NoPlaces`; set by set `Params`,
-/// `WrongCount`, `Float`, and but by bulk `PacketTooLarge`; by bulk over all sets `MixedKinds`,
-/// `RowTooLarge`; `Memory` where a growth was refused. `out` is then as it was.
+/// The first cause that holds, in the order of [`Refusal`]:
+/// - `Mixed`.
+/// - By text `NotAlone`.
+/// - By execute and bulk `TooManyPlaces`, `PrepareTooLarge`.
+/// - By bulk `NoPlaces`.
+/// - Set by set `Params`, `WrongCount`, `Float`, and but by bulk `PacketTooLarge`.
+/// - By bulk over all sets `MixedKinds`, `RowTooLarge`.
+/// - `Memory` where a growth was refused.
+///
+/// `out` is as it was after an error.
 ///
 /// (MySQL: Client/Server Protocol, "COM_QUERY", "COM_STMT_PREPARE", "COM_STMT_SEND_LONG_DATA",
 /// "COM_STMT_EXECUTE"; MariaDB: Client/Server Protocol, "COM_STMT_BULK_EXECUTE".)
