@@ -9,7 +9,7 @@ from sources import CRATES, ROOT, crate
 # before it has.
 LAYERS = ['mysql_buf', 'mysql_wire', 'mysql_values', 'mysql_convert', 'mysql_packets', 'mysql_session', 'mysql_login',
           'mysql_c']
-MANUAL = re.compile(r'\(?(Follows |MySQL|MariaDB)')
+MANUAL = re.compile(r' \(?(Follows the |)(MySQL|MariaDB)[ :].*$')
 DEFINITION = re.compile(
     r'^(?:(?:unfoldable|opaque|abbrev|data|record|pub|inductive|reducible) )+([^\s:({]+)', re.MULTILINE)
 
@@ -101,9 +101,9 @@ def row(name, item, is_law, home):
     if comment.promise:
         said, names = named(comment.promise)
     elif is_law:
-        behind = [text for kind, text in comment.blocks if kind == 'text' and not MANUAL.match(text)]
-        said = ' '.join([comment.first, *behind]).rstrip('.')
-        said = said[:1].lower() + said[1:] if not said.startswith(('`', 'COM_', 'NULL')) else said
+        behind = [text for kind, text in comment.blocks if kind == 'text']
+        said = MANUAL.sub('', ' '.join([comment.first, *behind])).rstrip('.')
+        said = said[:1].lower() + said[1:] if not said[1:2].isupper() else said
         terms = ' '.join(item.terms('ensures'))
         names = [one for one in dict.fromkeys(re.findall(r'[A-Z]\w+', terms)) if one in DEFINITIONS]
         names = [one for one in names if len([path for path in DEFINITIONS[one] if home in path.parts]) == 1][:2]
