@@ -1,4 +1,8 @@
-//! Writing to the end of a buffer.
+//! Numbers and texts of the protocol written to the end of a buffer.
+//!
+//!     out.put_lenenc_int(300)?;
+//!     out.put_lenenc_str(b"name")?;
+//!     out.put_u24_le(length)?;
 
 ghost use Rattle.std.specs.Prelude.{◌≡◌, ◌+◌, ◌≤◌, ◌∷◌, ◌++◌, OnErr, OnOk, length};
 ghost use Rattle.std.specs.Int.{cast_unsigned, w32, w64};

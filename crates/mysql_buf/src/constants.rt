@@ -1,4 +1,8 @@
 //! The constants of the protocol: commands, types, flags and sizes, and the trait of flag sets.
+//!
+//!     use mysql_buf::constants::{CapabilityFlags, Flags};
+//!
+//!     let is_new = capabilities.contains(CapabilityFlags::CLIENT_PROTOCOL_41);
 
 pub use bitflags::Flags;
 pub use mysql_const::{

@@ -1,4 +1,7 @@
-//! Length-encoded numbers and texts in streams.
+//! Length-encoded numbers and texts read from streams and written to them.
+//!
+//!     let count = writer.write_lenenc_str(b"name")?;
+//!     let text = reader.read_lenenc_str(alloc)?;
 
 ghost use Rattle.std.specs.Prelude.{◌≡◌, ◌<◌, ◌≤◌, ◌^◌, [], ◌∷◌, IfErr, IfOk, OnErr, OnOk, length};
 ghost use Rattle.std.specs.Io.KnownBytes.{Appends, Consumes, Keeps};

@@ -1,4 +1,7 @@
-//! Numbers of variable length.
+//! Numbers of variable length, written to the end of a buffer and read from the front of one.
+//!
+//!     write_varlen_uint(&mut out, 300)?;
+//!     let number = read_varlen_uint(&mut buf);
 
 ghost use Rattle.std.specs.Prelude.{◌≡◌, ◌<◌, ◌^◌, ◌++◌, OnErr, OnOk, length};
 ghost use Rattle.bytes.specs.Filled.{UsesSpare};

@@ -1,4 +1,7 @@
-//! The SQL text of a value.
+//! The SQL text of a value: the literal that stands for it in a query.
+//!
+//!     let number = Value::Int(-1).as_sql(alloc, false)?;
+//!     let text = value.as_sql(alloc, no_backslash_escape)?;
 
 ghost use Rattle.mysql_cells.specs.AsSql.{EachSqlIsLiteral, HasLiteral, PutsSql, SqlIsLiteral};
 ghost use Rattle.mysql_cells.specs.Values.{literal_of, sql_of, with_zero_sign};

@@ -1,4 +1,7 @@
 //! The forms that cells of the binary protocol have, by their column's type.
+//!
+//!     let form = form_of_type(ColumnType::MYSQL_TYPE_LONG);
+//!     let is_four_bytes = form == CellForm::Whole4;
 
 ghost use Rattle.std.specs.Prelude.{◌≡◌};
 ghost use Rattle.mysql_cells.specs.Cells.{form as form_by_type, form_of};

@@ -1,4 +1,8 @@
 //! Cells: values as the binary protocol carries them, and as rows of the text protocol do.
+//!
+//!     let value = read_cell(alloc, u8::from(column_type), unsigned, &mut buf)?;
+//!     let shown = read_text_cell(alloc, &mut buf)?;
+//!     value.serialize(&mut out)?;
 
 ghost use Rattle.mysql_cells.specs.Cells.{bin_len, cell, cell_at, is_unsigned as is_sent_unsigned, text_cell_at};
 ghost use Rattle.mysql_cells.specs.Cells.{type_of, value_at};

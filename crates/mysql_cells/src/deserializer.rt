@@ -1,4 +1,8 @@
 //! Values read as fields: cells of the text protocol and of the binary protocol.
+//!
+//!     let text: ValueDeserializer<TextValue> = buf.parse(alloc, ())?;
+//!     let cell: ValueDeserializer<BinValue> = buf.parse(alloc, (column_type, flags))?;
+//!     let value = cell.0;
 
 ghost use Rattle.mysql_cells.specs.Cells.{column_cell_at, has_no_sign, text_cell_at};
 ghost use Rattle.mysql_cells.specs.declared.value.Value.{Value as ValueOf};

@@ -129,7 +129,7 @@ fn put_hexadecimal(out: &mut Vec<u8>, bytes: &[u8]) -> Result<(), AllocError>
 {
     out.extend_from_slice(b"0x")?;
     out.reserve(2 * bytes.len())?;
-    // So many digits are made at a time, as above.
+    // The length of what no reference leads to isn't written back for each digit.
     let mut text = replace(out, Vec::new(*out.allocator()));
     for byte in bytes {
         text.push_reserved(digit(*byte / 16));

@@ -1,4 +1,8 @@
-//! Values of the client/server protocol.
+//! Values of the client/server protocol: NULL, bytes, numbers, dates and times.
+//!
+//!     let number = Value::Int(-1);
+//!     let text = Value::Bytes(ByteString::copy(alloc, b"abc")?);
+//!     let date = Value::Date(2024, 12, 31, 23, 59, 59, 0);
 
 ghost use Rattle.std.specs.Prelude.{◌≡◌, IfOk, is_none};
 ghost use Rattle.mysql_cells.specs.Values.{content_of};

@@ -1,4 +1,7 @@
-//! Requests for the binary log.
+//! Requests for the binary log: the flags of COM_BINLOG_DUMP and COM_BINLOG_DUMP_GTID.
+//!
+//!     let bits = u16::from(BinlogDumpFlags::BINLOG_DUMP_NON_BLOCK);
+//!     let flags = BinlogDumpFlags::try_from(bits)?;
 
 ghost use Rattle.std.specs.Prelude.{⊤, ◌≡◌};
 ghost use Rattle.mysql_const.specs.Tables.{ReadsFlags};

@@ -1,4 +1,8 @@
-//! MariaDB's bulk requests.
+//! MariaDB's bulk requests: what stands before each value, and the flags of a request.
+//!
+//!     let flags = u16::from(StmtBulkExecuteFlags::SEND_TYPES_TO_SERVER);
+//!     let indicator = MariadbBulkIndicator::try_from(number)?;
+//!     let is_null = indicator == MariadbBulkIndicator::BULK_INDICATOR_NULL;
 
 ghost use Rattle.std.specs.Prelude.{⊤, ◌≡◌};
 ghost use Rattle.mysql_const.specs.Tables.{ReadsAs, ReadsFlags};

@@ -1,4 +1,10 @@
-//! Capabilities.
+//! Capabilities: what a client and a server can do, by which the forms of packets are chosen.
+//!
+//!     use bitflags::Flags;
+//!
+//!     let both = client.intersection(server);
+//!     let is_new = both.contains(CapabilityFlags::CLIENT_PROTOCOL_41);
+//!     let bits = u32::from(both);
 
 ghost use Rattle.std.specs.Prelude.{⊤, ◌≡◌};
 ghost use Rattle.mysql_const.specs.Tables.{ReadsFlags};

@@ -1,4 +1,9 @@
-//! Flags of columns.
+//! Flags of a column: whether it takes NULL, is a key, has numbers without a sign, and so on.
+//!
+//!     use bitflags::Flags;
+//!
+//!     let flags = ColumnFlags::try_from(bits)?;
+//!     let unsigned = flags.contains(ColumnFlags::UNSIGNED_FLAG);
 
 ghost use Rattle.std.specs.Prelude.{⊤, ◌≡◌};
 ghost use Rattle.mysql_const.specs.Tables.{ReadsFlags};

@@ -1,4 +1,8 @@
-//! Types of columns and values.
+//! Types of columns and values, by their numbers in packets.
+//!
+//!     let column_type = ColumnType::try_from(number)?;
+//!     let is_number = column_type.is_numeric_type();
+//!     let number = u8::from(ColumnType::MYSQL_TYPE_LONGLONG);
 
 ghost use Rattle.std.specs.Prelude.{◌≡◌, ◌∷◌, []};
 ghost use Rattle.mysql_const.specs.Tables.{ReadsAs};

@@ -1,4 +1,8 @@
-//! Commands.
+//! Commands: what a client asks for, by the first byte of its packet.
+//!
+//!     let command = Command::try_from(number)?;
+//!     let is_query = command == Command::COM_QUERY;
+//!     let number = u8::from(Command::COM_PING);
 
 ghost use Rattle.std.specs.Prelude.{◌≡◌};
 ghost use Rattle.mysql_const.specs.Tables.{ReadsAs};

@@ -1,4 +1,10 @@
-//! Executions of prepared statements.
+//! Flags of an execution of a prepared statement: its cursor, whether it sends its parameters'
+//! types, and what stands beside each type.
+//!
+//!     let cursor = u8::from(CursorType::CURSOR_TYPE_READ_ONLY);
+//!     let beside_type = u8::from(StmtExecuteParamFlags::UNSIGNED);
+//!     let bound = StmtExecuteParamsFlags::try_from(byte)?;
+//!     let sends_types = bound == StmtExecuteParamsFlags::NEW_PARAMS_BOUND;
 
 ghost use Rattle.std.specs.Prelude.{⊤, ◌≡◌};
 ghost use Rattle.mysql_const.specs.Tables.{ReadsFlags};

@@ -1,4 +1,7 @@
-//! Types of geometries.
+//! Types of geometries, by their numbers in the Well-Known Binary format.
+//!
+//!     let geometry = GeometryType::try_from(number)?;
+//!     let is_point = geometry == GeometryType::GEOM_POINT;
 
 ghost use Rattle.std.specs.Prelude.{◌≡◌};
 ghost use Rattle.mysql_const.specs.Tables.{ReadsAs};

@@ -1,4 +1,7 @@
-//! Types of results of expressions.
+//! Types of what an expression or a loadable function gives, by their numbers.
+//!
+//!     let result_type = ItemResult::try_from(number)?;
+//!     let is_text = result_type == ItemResult::STRING_RESULT;
 
 ghost use Rattle.std.specs.Prelude.{◌≡◌};
 ghost use Rattle.mysql_const.specs.Tables.{ReadsAs};

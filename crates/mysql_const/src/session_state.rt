@@ -1,4 +1,7 @@
-//! Changes of a session's state.
+//! Changes of a session's state: what an entry of an OK packet tells of the session.
+//!
+//!     let state = SessionStateType::try_from(number)?;
+//!     let is_schema = state == SessionStateType::SESSION_TRACK_SCHEMA;
 
 ghost use Rattle.std.specs.Prelude.{◌≡◌};
 ghost use Rattle.mysql_const.specs.Tables.{ReadsAs};

@@ -1,4 +1,9 @@
-//! The server's status.
+//! The server's status after a command: an open transaction, more results, a cursor, and so on.
+//!
+//!     use bitflags::Flags;
+//!
+//!     let status = StatusFlags::try_from(bits)?;
+//!     let more = status.contains(StatusFlags::SERVER_MORE_RESULTS_EXISTS);
 
 ghost use Rattle.std.specs.Prelude.{⊤, ◌≡◌};
 ghost use Rattle.mysql_const.specs.Tables.{ReadsFlags};

@@ -1,4 +1,7 @@
 //! The trait of types that values convert to.
+//!
+//!     let number = from_value_opt::<u32>(value)?;
+//!     let text = from_value_opt::<Option<String>>(other)?;
 
 ghost use Rattle.std.specs.Prelude.{◌≡◌, ◌⊎◌, Err, IfErr, IfOk, IsSome, None, Ok, Option, Some};
 ghost use Rattle.mysql_cells.specs.declared.value.Value.{Value as ValueOf};
@@ -22,12 +25,13 @@ pub trait Intermediate<T>: Sized {
     fn commit(self) -> T
         ensures { result ≡ committed self };
 
-    /// Undoes the conversion: a value that converts to the same again.
+    /// Undoes the conversion: a value that converts to the same result again.
     ///
     /// It is the value that was read where that was kept or moved, and else the one that its result
     /// converts to.
     ///
-    /// Promise: the value converts to the same again, and is `NULL` exactly where the first was.
+    /// Promise: the value converts to the same result again, and is `NULL` exactly where the first
+    /// value was.
     ///
     /// # Errors
     /// - `TooLong` where that has no value, which no intermediate of this crate that was read
@@ -42,10 +46,10 @@ pub trait Intermediate<T>: Sized {
 /// A type that a [`Value`] converts to.
 ///
 /// A whole number is read from `Int`, `UInt` and texts of an optional sign and digits, in its
-/// range; a `bool` from 0 and 1 in the same three; a text from `Bytes` that are UTF-8, a list of
-/// bytes from `Bytes`, an array from `Bytes` of its length; a `Duration` from a `Time` that isn't
-/// negative and from texts such as `838:59:59.5`; an `Option` is None of `NULL`; and a [`Value`] is
-/// any value.
+/// range; a `bool` from 0 and 1 as `Int`, as `UInt` and as texts; a text from `Bytes` that are
+/// UTF-8, a list of bytes from `Bytes`, an array from `Bytes` of its length; a `Duration` from a
+/// `Time` that isn't negative and from texts such as `838:59:59.5`; an `Option` is None of `NULL`;
+/// and a [`Value`] is any value.
 ///
 /// No conversion of a value that is handed over asks for memory; a copy of a borrowed one does. An
 /// impl says by `converted` what each value converts to.

@@ -1,4 +1,10 @@
-//! Why a value doesn't convert.
+//! Why a value doesn't convert: the error holds the value.
+//!
+//!     match from_value_opt::<u64>(value) {
+//!         Ok(number) => Ok(Some(number)),
+//!         Err(FromValueError(Value::NULL)) => Ok(None),
+//!         Err(error) => Err(error),
+//!     }
 
 ghost use Rattle.std.specs.Prelude.{◌≡◌, IfErr, IfOk, None, Some};
 

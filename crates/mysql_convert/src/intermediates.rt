@@ -1,4 +1,9 @@
 //! Conversions that can still be undone, and those of values and of options.
+//!
+//!     let step: ParseIrOpt<u32> = get_intermediate::<u32>(value)?;
+//!     let number = step.commit();
+//!     let step: OptionIr2<u32> = get_intermediate::<Option<u32>>(other)?;
+//!     let other = step.rollback(alloc)?;
 
 ghost use Rattle.std.specs.Prelude.{◌≡◌, Option, Some, None};
 ghost use Rattle.std.specs.Option.{option_map};

@@ -1,4 +1,7 @@
 //! Whole numbers that values and texts hold, and the integer types that they are narrowed to.
+//!
+//!     let number = Number::of_signed(-1);
+//!     let narrowed = i8::narrow(number);
 
 ghost use Rattle.std.specs.Prelude.{◌≡◌, ◌^◌, ◌≤◌, IfErr, IfNone, IfOk, IfSome, IsSomeAnd, Option, Some, None, length};
 ghost use Rattle.std.specs.Prelude.{pos, unsigned_abs, ℕ, ℤ};

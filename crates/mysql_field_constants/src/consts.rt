@@ -1,4 +1,10 @@
-//! Constants, values by their numbers, flags, and bytes that are skipped.
+//! Constants, values by their numbers, flags, and bytes that are skipped, as fields.
+//!
+//!     let header: ConstU8<Header, 0xfe> = buf.parse(alloc, ())?;
+//!     let command: Const<Command, u8> = buf.parse(alloc, ())?;
+//!     let status: RawFlags<StatusFlags, LeU16> = buf.parse(alloc, ())?;
+//!     let filler: Skip<2> = buf.parse(alloc, ())?;
+//!     let (command, status) = (command.get(), status.get());
 
 ghost use Rattle.std.specs.Prelude.{◌≡◌, ◌<◌, ◌^◌, List, None, Option, Some, false, length, replicate, ℕ, ⊤};
 ghost use Rattle.std.specs.Int.RustNames.{bit_and};

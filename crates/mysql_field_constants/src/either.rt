@@ -1,4 +1,7 @@
-//! One of two values.
+//! A field of one of two forms: the context says which is read, and what is held is written.
+//!
+//!     let id: Either<RawInt<u8>, RawInt<LeU16>> = buf.parse(alloc, Either::Right(()))?;
+//!     let number = id.unwrap_right().get();
 
 ghost use Rattle.std.specs.Prelude.{◌≡◌, ◌⊎◌, ◌||◌, None};
 ghost use Rattle.mysql_field_constants.specs.Either.{EitherIsReadBack, IsLeft, IsRight, either_at, either_shown};

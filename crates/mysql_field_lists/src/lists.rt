@@ -1,4 +1,8 @@
-//! Lists of values.
+//! Lists of fields, behind their count or without one.
+//!
+//!     let names: Seq<RawBytes<LenEnc>, u8> = buf.parse(alloc, ())?;
+//!     let first = names.as_slice().first();
+//!     let ids: Seq<RawInt<LeU32>, Unknown> = buf.parse(alloc, count)?;
 
 ghost use Rattle.std.specs.Prelude.{◌≡◌, ◌==◌, ◌<◌, ◌≤◌, ◌-◌, ◌^◌, List, None, Ok, Option, Some, [], ◌∷◌, ◌++◌, IfErr};
 ghost use Rattle.std.specs.Prelude.{IfOk, length, map, take, ℕ};

@@ -1,4 +1,8 @@
-//! A bit for each column.
+//! Which columns or parameters are NULL: a bitmap with a bit for each.
+//!
+//!     let mut bitmap = NullBitmap::<ClientSide>::new(alloc, 3)?;
+//!     bitmap.set(2, true);
+//!     let is_null = bitmap.is_null(2);
 
 ghost use Rattle.std.specs.Prelude.{◌≡◌, ◌≤◌, ◌<◌, ◌+◌, ◌/◌, ◌-◌, ◌==◌, ℕ, List, IfOk, None, OnErr, OnOk, length};
 ghost use Rattle.std.specs.Prelude.{slice_set, take, drop, false, replicate, if◌then◌else◌};

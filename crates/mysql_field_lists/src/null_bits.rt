@@ -1,4 +1,7 @@
-//! The bits of a bitmap, one after another.
+//! The bits of a NULL bitmap, one column after another.
+//!
+//!     let mut bits = bitmap.iter(columns);
+//!     let is_first_null = bits.next();
 
 ghost use Rattle.std.specs.Prelude.{◌≡◌, ◌≤◌, ◌+◌, ◌-◌, ◌*◌, ◌/◌, ◌%◌, ◌^◌, ◌<◌, ℕ, length, slice_index};
 ghost use Rattle.std.specs.Iterator.{YieldsFirst, item_count};

@@ -1,4 +1,8 @@
-//! Lists of numbers.
+//! Lists of whole numbers, behind their count or without one.
+//!
+//!     let ids: RawSeq<LeU32, u8> = buf.parse(alloc, ())?;
+//!     let first = ids.get(0);
+//!     let numbers: RawSeq<LeU16, Unknown> = buf.parse(alloc, count)?;
 
 ghost use Rattle.std.specs.Prelude.{◌≡◌, ◌==◌, List, None, Ok, Option, [], ◌++◌, IfOk, length, take, ℕ};
 ghost use Rattle.std.specs.Cow.{IsOwnedSlice, cow_slice_items};

@@ -1,4 +1,7 @@
-//! Who writes a bitmap.
+//! Who writes a NULL bitmap: a server begins it with two bits of no column, a client with none.
+//!
+//!     let of_row = NullBitmap::<ServerSide>::new(alloc, columns)?;
+//!     let of_parameters = NullBitmap::<ClientSide>::new(alloc, parameters)?;
 
 ghost use Rattle.std.specs.Prelude.{◌≤◌, ℕ};
 ghost use Rattle.std.proofs.Common.{lit≤};

@@ -49,7 +49,7 @@ pub fn copy_bytes<'b>(alloc: Global, bytes: &[u8]) -> Result<CowSlice<'b, u8>, A
     Ok(CowSlice::Owned(Vec::from_slice(alloc, bytes)?))
 }
 
-/// The same bytes, which borrow nothing: borrowed ones are copied.
+/// What was given, as bytes that borrow nothing: borrowed ones are copied.
 ///
 /// # Errors
 /// - `AllocError` for want of memory.

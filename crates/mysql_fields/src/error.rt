@@ -1,4 +1,10 @@
-//! The error of readers and writers of fields.
+//! Why bytes can't be read as a field, or a field not be written.
+//!
+//!     match buf.parse::<RawInt<LeU32>>(alloc, ()) {
+//!         Ok(id) => Ok(Some(id.get())),
+//!         Err(WireError::UnexpectedEof) => Ok(None),
+//!         Err(error) => Err(error),
+//!     }
 
 ghost use Rattle.std.specs.Prelude.{◌≡◌};
 ghost use Rattle.mysql_fields.specs.declared.error.WireError.TheVariants.{Memory};

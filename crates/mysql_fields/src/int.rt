@@ -1,4 +1,8 @@
-//! Representations of whole numbers.
+//! Whole numbers as fields: each representation says how many bytes they take, and in which order.
+//!
+//!     let id: RawInt<LeU32> = buf.parse(alloc, ())?;
+//!     let number = id.get();
+//!     RawInt::<LenEnc>::new(300).serialize(&mut out)?;
 
 ghost use Rattle.std.specs.Prelude.{◌≡◌, ◌%◌, ◌<◌, ◌^◌, List, None, Ok, Option, Some, ◌++◌, false, length, ℕ};
 ghost use Rattle.std.specs.Int.{cast_unsigned, w8, w16, w32, w64};

@@ -1,4 +1,9 @@
-//! The traits of what is written as bytes and read from them, and reading from a buffer.
+//! The traits of fields: what is written as bytes and read from them, and reading from a buffer.
+//!
+//!     let mut buf = ParseBuf(payload);
+//!     let id: RawInt<LeU32> = buf.parse(alloc, ())?;
+//!     let name: RawBytes<LenEnc> = buf.parse(alloc, ())?;
+//!     in_order!(id, name).serialize(&mut out)?;
 
 ghost use Rattle.std.specs.Prelude.{◌≡◌, ◌++◌, Bool, List, Ok, Option, [], false, length, true, ℕ};
 ghost use Rattle.mysql_fields.specs.Wire.{Reading, Answers, Appends, Suffices, IsSized, lacks};

@@ -1,4 +1,8 @@
-//! Bytes as they stand, and markers.
+//! Bytes as they stand, and the names of the two protocols that rows are read by.
+//!
+//!     let marker: [u8; 4] = buf.parse(alloc, ())?;
+//!     let front: &[u8] = buf.parse(alloc, count)?;
+//!     let row: RowDeserializer<ServerSide, Text> = buf.parse(alloc, columns)?;
 
 ghost use Rattle.std.specs.Prelude.{◌≡◌, List, None, Some, false, length, ℕ};
 ghost use Rattle.mysql_fields.specs.Forms.{bytes_at};

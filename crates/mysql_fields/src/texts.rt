@@ -1,4 +1,9 @@
-//! Representations of texts.
+//! Texts as fields: behind their length, up to a zero, to the end, or of a length that is known.
+//!
+//!     let name: RawBytes<LenEnc> = buf.parse(alloc, ())?;
+//!     let shown = name.as_str(alloc)?;
+//!     let host: RawBytes<BareU8Bytes> = buf.parse(alloc, count)?;
+//!     RawBytes::<NullBytes>::from(bytes).serialize(&mut out)?;
 
 ghost use Rattle.std.specs.Prelude.{◌≡◌, ◌==◌, ◌-◌, ◌<◌, ◌^◌, IfErr, IfOk, List, None, Ok, Option, Some, [], ◌++◌};
 ghost use Rattle.std.specs.Prelude.{false, length, ℕ, ⊤};

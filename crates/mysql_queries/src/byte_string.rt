@@ -1,4 +1,8 @@
-//! Bytes that contracts see as their list.
+//! The bytes of a value or of a name, which contracts see as their list.
+//!
+//!     let name = ByteString::copy(alloc, b"name")?;
+//!     let bytes = name.as_slice();
+//!     let vector = name.into_vec();
 
 ghost use Rattle.std.specs.Prelude.{◌≡◌, nat_eq, IfOk};
 ghost use Rattle.std.specs.Hash as fed;

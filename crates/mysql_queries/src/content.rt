@@ -1,4 +1,10 @@
-//! What a literal or a value stands for.
+//! What a literal or a value stands for: nothing, a number or bytes.
+//!
+//!     let shown = match &content {
+//!         Content::Null => b"NULL".as_slice(),
+//!         Content::Number(_) => b"a number".as_slice(),
+//!         Content::Bytes(bytes) => bytes.as_slice(),
+//!     };
 
 ghost use Rattle.std.specs.Prelude.{◌≡◌, IfOk};
 

@@ -1,4 +1,9 @@
-//! Literals at the front of a text.
+//! Literals at the front of a text: NULL, numbers, and bytes in hexadecimal or in single quotes.
+//!
+//!     let mut bytes = Vec::new(alloc);
+//!     if let Some((literal, rest)) = read_literal(text, &mut bytes)? {
+//!         let is_null = literal == Literal::Null;
+//!     }
 
 ghost use Rattle.mysql_queries.specs.LiteralRuns.{IsLiteralRun, begins_hex};
 ghost use Rattle.mysql_queries.specs.LiteralViews.{IsHeld, IsNoLiteral, literal_content};

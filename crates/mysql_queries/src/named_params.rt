@@ -1,4 +1,8 @@
-//! A query with named placeholders, parsed.
+//! A query with named placeholders, parsed: question marks in their places, and their names.
+//!
+//!     let query = ParsedNamedParams::parse(alloc, b"SELECT :a, :b")?;
+//!     let text = query.query();
+//!     let names = query.params();
 
 ghost use Rattle.mysql_queries.specs.Parsed.{HasNames, names_at};
 ghost use Rattle.mysql_queries.specs.Queries.{HasMixed, HasPlaces, IsParsed, slices_between};

@@ -1,4 +1,8 @@
-//! A query with what one walk over its text finds.
+//! A query with what one walk over its text finds: its placeholders and their names.
+//!
+//!     let query = ParsedQuery::new(alloc, b"SELECT :a")?;
+//!     let count = query.places().len();
+//!     let statement = query.with_marks(alloc)?;
 
 ghost use Rattle.mysql_queries.specs.Parsed.{HasNames, names_at};
 ghost use Rattle.mysql_queries.specs.Queries.{HasMixed, HasPlaces, IsParsed, first_not_alone as first_apart};

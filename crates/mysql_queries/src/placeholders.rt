@@ -1,4 +1,8 @@
-//! The placeholders of a query.
+//! The placeholders of a query: question marks, and names such as `:a`.
+//!
+//!     let places = places(alloc, query)?;
+//!     let stand_alone = first_not_alone(&places).is_none();
+//!     let is_refused = is_mixed(&places);
 
 ghost use Rattle.mysql_queries.specs.PlaceKinds.{is_place_kind, place_of_kind};
 ghost use Rattle.mysql_queries.specs.Queries.{HasPlaces, first_not_alone as first_apart, is_joining};

@@ -1,4 +1,7 @@
 //! Texts of a query with literals in the places of its placeholders.
+//!
+//!     let places = places(alloc, query)?;
+//!     let contents = read_text(alloc, query, &places, text)?;
 
 ghost use Rattle.mysql_queries.specs.LiteralRuns.{IsLiteralRun};
 ghost use Rattle.mysql_queries.specs.LiteralViews.{IsNoLiteral};

@@ -124,8 +124,8 @@ impl ReplyReader {
     /// is passed over (`BorrowsNext`).
     ///
     /// # Errors
-    /// Those of [`ReplyReader::feed`], where they are met before a row. The piece is as it was;
-    /// from then on the answer is the same, and nothing changes.
+    /// - Those of [`ReplyReader::feed`], where they are met before a row. The piece is as it was; from
+    ///   then on each call answers that error, and nothing changes.
     ///
     /// MySQL: Client/Server Protocol, "Text Resultset Row" and "Binary Protocol Resultset Row"; C
     /// API, "mysql_use_result()".

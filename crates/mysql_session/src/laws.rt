@@ -22,7 +22,8 @@ use mysql_values::laws::tokens_of_a_text;
 pub use mysql_wire::laws as wire;
 use mysql_wire::laws::one_count_stands_whole;
 
-/// Sets that were sent in a form that can be read back are delivered: what `send_contents` appends too.
+/// Sets that were sent in a form that can be read back are delivered: what `send_contents` appends
+/// too.
 pub fn readable_sets_are_delivered()
     ensures { ReadableSetsAreDelivered }
 {
@@ -40,7 +41,8 @@ pub fn deliveries_are_read_back()
     ensures { DeliveriesAreReadBack }
 {}
 
-/// Whatever `receive` answers of what was appended, in whichever pieces, but Memory, is what the sets mean, and Whole.
+/// Whatever `receive` answers of what was appended, in whichever pieces, but Memory, is what the
+/// sets mean, and Whole.
 pub fn deliveries_are_received()
     ensures { DeliveriesAreReceived }
 {}

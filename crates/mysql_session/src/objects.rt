@@ -95,7 +95,8 @@ fn sets_of_objects(
     })
 }
 
-/// Appends bulk requests with the sets of all lists. All are made first, since the requests are cut over all of them.
+/// Appends bulk requests with the sets of all lists. All are made first, since the requests are cut
+/// over all of them.
 fn put_held_sets(
     alloc: Global,
     query: &[u8],

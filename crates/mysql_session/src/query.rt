@@ -392,7 +392,8 @@ impl<'q> Query<'q> {
         params: &Params,
         out: &mut Vec<u8>,
     ) -> Result<(), BindError>
-        // What is appended is the text of the set over the query, and reads as the set's meaning in both ways.
+        // What is appended is the text of the set over the query, and reads as the set's meaning in
+        // both ways.
         ensures ok { OnOk result ((text : List ℕ) × (contents : List Content) ×
             (out.new.items ≡ out.old.items ++ text) × IsBound self.now.text params.now text
             × IsMeaning self.now.text params.now contents × Slices self.now.text text contents ×

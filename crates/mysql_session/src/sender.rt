@@ -16,7 +16,8 @@ use mysql_values::Params;
 use mysql_values::bind::ParsedQuery;
 use std::alloc::Global;
 
-/// A list of bytes holds bytes, and fewer than 2^64: facts that the proofs of what is delivered use.
+/// A list of bytes holds bytes, and fewer than 2^64: facts that the proofs of what is delivered
+/// use.
 pub(crate) fn are_bytes(out: &Vec<u8>)
     ensures bytes { AreBytes out.now.items }
     ensures few { length out.now.items < 2 ^ 64 }

@@ -1,4 +1,7 @@
 //! The trait of types that convert to values.
+//!
+//!     let text = "abc".to_value(alloc)?;
+//!     let time = duration.to_value(alloc)?;
 
 ghost use Rattle.std.specs.Prelude.{◌≡◌, ◌⊎◌, IfErr, IfOk, None, Option, Some};
 ghost use Rattle.mysql_cells.specs.declared.value.Value.{Value as ValueOf};

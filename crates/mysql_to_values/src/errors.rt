@@ -1,4 +1,10 @@
-//! Why a value of Rust has no value.
+//! Why a value of Rust has no value of the protocol.
+//!
+//!     let value = match duration.to_value(alloc) {
+//!         Ok(value) => value,
+//!         Err(ToValueError::TooLong) => Value::NULL,
+//!         Err(ToValueError::Memory) => return Err(ToValueError::Memory),
+//!     };
 
 ghost use Rattle.std.specs.Prelude.{◌≡◌};
 ghost use Rattle.mysql_to_values.specs.declared.errors.ToValueError.TheVariants as to_value_error;

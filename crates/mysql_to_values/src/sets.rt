@@ -1,4 +1,7 @@
 //! Parameter sets made of lists, pairs, tuples and boxed objects.
+//!
+//!     let by_place = (number, "abc").into_params(alloc)?;
+//!     let by_name = pairs.into_params(alloc)?;
 
 ghost use Rattle.std.specs.Prelude.{◌≡◌, ◌++◌, ◌⊎◌, IfErr, IfOk, List, OnOk, [], ◌∷◌, None, Option, Some};
 ghost use Rattle.std.specs.Prelude.{if◌then◌else◌, is_none, is_some, map, nat_eq, ℕ};
@@ -23,7 +26,7 @@ use std::convert::AsSlice;
 /// `()` and a list without elements make the empty set. A list of pairs of a name (text or bytes,
 /// without the colon) and a value makes a set of a value for each name, also where it has no pairs.
 /// A list of `Box<dyn ToValue + Drop>` holds values of several types. A reference to any of these
-/// makes the same set.
+/// makes the set of what it refers to.
 ///
 /// The values are copied: `into_params` drops what it takes, `to_params` leaves it.
 ///

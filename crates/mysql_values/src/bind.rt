@@ -1,4 +1,7 @@
 //! A query's text with literals in the places of its placeholders.
+//!
+//!     let params = Params::Positional(values);
+//!     bind_text(alloc, b"SELECT ? + 1", &params, &mut out)?;
 
 ghost use Rattle.mysql_values.specs.Binding.{IsBindCause, IsBound, bind_cause, bind_error_of};
 ghost use Rattle.mysql_values.specs.Params.{IsMeaning};
@@ -163,12 +166,18 @@ pub fn bind_text_onto<'a>(
 }
 
 /// [`bind_text_at`] for one of many sets of a query: what doesn't depend on the set is found once.
+///
 /// The placeholders are of one kind and stand alone, and `names` are those among them, as
 /// [`names_among`] lists them. `values` keeps its room from set to set; what it held leaves it, and
 /// what it then holds isn't said. Safe for the servers that [`bind_text`] names.
 ///
 /// # Errors
-/// `Params`, `WrongCount`, `Float` with the first such placeholder, `Memory`; nothing is appended then.
+/// - `Params`.
+/// - `WrongCount`.
+/// - `Float` with the first such placeholder.
+/// - `Memory`.
+///
+/// Nothing is appended after an error.
 pub fn bind_text_over<'a>(
     query: &[u8],
     places: &[Place],

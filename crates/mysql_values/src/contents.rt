@@ -1,4 +1,7 @@
 //! The values that contents are sent as.
+//!
+//!     let value = content.to_value(alloc)?;
+//!     values.push(value)?;
 
 ghost use Rattle.std.specs.Prelude.{◌≡◌, IfOk};
 ghost use Rattle.mysql_queries.specs.declared.content.Content.{Content as ContentOf};

@@ -1,4 +1,8 @@
-//! Parameter sets of a query.
+//! Parameter sets of a query: values in order, or by name.
+//!
+//!     let query = ParsedNamedParams::parse(alloc, b"SELECT ? + 1")?;
+//!     let params = Params::Positional(values);
+//!     let lent = params.values_for(alloc, &query)?;
 
 ghost use Rattle.mysql_values.specs.Params.{IsMissing, IsPositional, names_given, value_named, values_named};
 ghost use Rattle.mysql_values.specs.Params.{values_over};
@@ -173,7 +177,7 @@ fn list_references<'a>(values: &'a [Value], listed: &mut Vec<&'a Value>) -> Resu
 /// Lists the values that a set gives a query with these names, in place of what the list holds.
 ///
 /// # Errors
-/// Those of [`Params::values_for`]. What the list then holds isn't said.
+/// - Those of [`Params::values_for`]. What the list then holds isn't said.
 pub fn list_values_over_names<'a, N: AsSlice<u8>>(
     params: &'a Params,
     names: &[N],

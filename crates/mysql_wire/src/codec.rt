@@ -1,4 +1,11 @@
 //! The codec: reads packets from a stream and writes payloads as packets.
+//!
+//!     let mut codec = PacketCodec::default();
+//!     codec.encode(command, &mut out)?;
+//!     while codec.decode(&mut src, &mut payload)? {
+//!         self.take(&payload);
+//!         payload.clear();
+//!     }
 
 ghost use Rattle.std.specs.Prelude.{◌≡◌, ◌≢◌, ◌++◌, ◌<◌, ◌≤◌, [], None, Err, IfErr, IfOk, IfSome, Ok, OnErr, OnOk};
 ghost use Rattle.std.specs.Prelude.{false, length};
@@ -212,7 +219,7 @@ impl PacketCodec {
     /// - `PacketsOutOfSync` once a chunk stands whole that hasn't the number due.
     ///
     /// What `src` and `dst` hold after an error isn't said. The codec has the number that it had
-    /// before the call, and keeps to the error: each further call answers the same and changes
+    /// before the call, and keeps to the error: each further call answers it again and changes
     /// nothing.
     ///
     /// (MySQL: Client/Server Protocol, "Protocol Basics: MySQL Packets", "Sending More Than 16Mb"

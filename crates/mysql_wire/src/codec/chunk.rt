@@ -1,4 +1,9 @@
 //! Single chunks: their headers, and the decoder that takes one at a time.
+//!
+//!     let mut decoder = ChunkDecoder::Idle;
+//!     while let Some(chunk) = decoder.decode(&mut src, &mut dst, max_allowed_packet)? {
+//!         let ends_packet = chunk.is_last();
+//!     }
 
 ghost use Rattle.std.specs.Prelude.{◌≡◌, ◌≤◌, IfErr, IfOk, IfSome, MatchOption, None, Ok, OnErr, length};
 ghost use Rattle.mysql_wire.specs.Chunk.{IsTooLargeOrMemory, LacksChunk, PassesLimit, StillAwaits, TakesChunk};

@@ -1,4 +1,7 @@
 //! All packets of a stream that is handed over in pieces.
+//!
+//!     let answer = feed_all(alloc, PacketCodec::default(), pieces);
+//!     for payload in &answer.packets { .. }
 
 ghost use Rattle.std.specs.Prelude.{◌≡◌, ◌++◌, ◌∷◌, [], IfErr, List, OnOk, flat_map, ℕ};
 ghost use Rattle.mysql_wire.specs.declared.codec.PacketCodecError.TheVariants.{Memory};

@@ -1,4 +1,8 @@
 //! The front of a header that a reader keeps from one piece of a stream to the next.
+//!
+//!     let mut src = header.followed_by(piece);
+//!     while codec.decode(&mut src, &mut payload)? { .. }
+//!     let kept = PartialHeader::rest_of(&mut src);
 
 ghost use Rattle.std.specs.Bool.{OnFalse, OnTrue};
 ghost use Rattle.std.specs.Prelude.{◌≡◌, ◌<◌, ◌==◌, [], ◌++◌, length};

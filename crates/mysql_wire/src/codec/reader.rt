@@ -1,4 +1,8 @@
 //! A reader of the packets of a stream that comes in pieces.
+//!
+//!     let mut reader = PacketReader::new(alloc, 0, 1 << 24);
+//!     let mut rest = piece;
+//!     while let Some(payload) = reader.read(&mut rest)? { .. }
 
 ghost use Rattle.std.specs.Prelude.{◌≡◌, ◌≢◌, ◌+◌, ◌%◌, ◌==◌, ◌<◌, ◌++◌, not, [], None, Err, IfErr, IfOk, IfSome};
 ghost use Rattle.std.specs.Prelude.{MatchOption, Ok, OnErr, OnOk, false, length, true};
@@ -216,8 +220,8 @@ impl PacketReader {
 
     /// Takes a piece that ends within a chunk's header or within the chunk, and answers whether it
     /// did. After `true` the piece is used up, and no payload stands whole in the bytes that came;
-    /// after `false` nothing changed, and [`PacketReader::advance`] reads on, which does the same
-    /// with any piece. It is the quick way where few bytes come at a time.
+    /// after `false` nothing changed, and [`PacketReader::advance`], which takes any piece, reads
+    /// on. It is the quick way where few bytes come at a time.
     ///
     /// Promise: a piece is taken as `advance` takes it, or nothing changes; when it is left isn't
     /// promised (`ReadsOn`).
@@ -284,7 +288,7 @@ impl PacketReader {
     /// - `Memory` where a growth was refused.
     /// - `PacketsOutOfSync` once a chunk stands whole that hasn't the number due.
     ///
-    /// The piece is as it was after an error, and each further call answers the same and changes
+    /// The piece is as it was after an error, and each further call answers that error and changes
     /// nothing.
     ///
     /// (MySQL: Client/Server Protocol, "Protocol Basics: MySQL Packets", "Sending More Than 16Mb"

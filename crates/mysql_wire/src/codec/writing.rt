@@ -1,4 +1,11 @@
-//! Payloads written as chunks.
+//! Payloads written as chunks: appended to a buffer, or framed where they stand in it.
+//!
+//!     let next = packet_to_chunks(0, payload, &mut out)?;
+//!
+//!     let start = out.len();
+//!     out.extend_from_slice(&[0; 4])?;
+//!     response.serialize(&mut out)?;
+//!     let next = frame_in_place(number, start, &mut spare, &mut out)?;
 
 ghost use Rattle.byteorder.specs.Endian.{little_bytes};
 ghost use Rattle.std.specs.Prelude.{◌≡◌, ◌+◌, ◌++◌, ◌∷◌, ◌<◌, ◌≤◌, [], IfOk, OnErr, OnOk, drop, length, take};
