@@ -37,7 +37,8 @@ static size_t send_all(mysql_session_handle *sets, size_t handles, Bytes query, 
             const uint8_t *data = NULL;
             size_t len = 0;
             done(mysql_session_bytes_clear(&out));
-            done(mysql_session_send(sets + i, query.at, query.len, road, STATEMENT, LIMIT, &out, &place));
+            done(mysql_session_send(sets + i, query.at, query.len, road, STATEMENT, LIMIT, 0, &out,
+                                    &place));
             done(mysql_session_bytes_data(&out, &data, &len));
             written += len;
         }
@@ -64,7 +65,7 @@ static size_t look_at_sets(mysql_session_handle *receiver) {
 static size_t receive(Bytes query, Bytes stream) {
     mysql_session_handle receiver = MYSQL_SESSION_NOTHING;
     size_t seen = 0;
-    done(mysql_session_receiver_new(&receiver, query.at, query.len, STATEMENT, LIMIT));
+    done(mysql_session_receiver_new(&receiver, query.at, query.len, STATEMENT, LIMIT, 0));
     for (size_t i = 0; i < stream.len; i += PIECE) {
         done(mysql_session_receiver_feed(&receiver, stream.at + i, stream.len - i < PIECE ? stream.len - i : PIECE));
         seen += look_at_sets(&receiver);

@@ -43,7 +43,7 @@ extern "C" {
 
 /* The number of this interface. mysql_session_abi() answers the library's: compare them before
  * any other call. It changes with each change of a declaration below. */
-#define MYSQL_SESSION_ABI 3
+#define MYSQL_SESSION_ABI 4
 
 uint32_t mysql_session_abi(void);
 
@@ -81,6 +81,8 @@ enum mysql_session_code {
     MYSQL_SESSION_BAD_PACKET = 9,
     /* The stream isn't whole where it ends: a packet is cut off, or long data waits. */
     MYSQL_SESSION_UNFINISHED = 10,
+    /* No mode has these flags. */
+    MYSQL_SESSION_NO_SUCH_MODE = 11,
 
     /* Faults of a stream of commands: the first field, from the left, that has no allowed value. */
     MYSQL_SESSION_FAULT_TOO_LARGE = 100,
@@ -147,6 +149,40 @@ enum mysql_session_code {
  * good as long as the program runs. Of a number that is no code it is "no such code". */
 void mysql_session_code_text(uint32_t code, const uint8_t **text, size_t *len);
 
+/* ---- Modes: how a server reads a text -------------------------------------------------------- */
+
+/* By its SQL mode a server reads texts in one of four ways. Calls that read or write texts take the
+ * mode as flags; 0 is a server in neither of these modes, byte strings in quotes. With any other
+ * bit they answer NO_SUCH_MODE, and change nothing. Executions have no literals: by execute and
+ * bulk the mode says which bytes of the query's own text are placeholders, and nothing else.
+ *
+ * A text is safe for the server whose mode is told. For a server in another a value may end its
+ * literal, and what stands behind the quote is read as SQL: ask for the mode, send by execute, or
+ * spell byte strings in hexadecimal. */
+enum mysql_session_flag {
+    /* A backslash in a string is a byte like any other. */
+    MYSQL_SESSION_NO_BACKSLASH_ESCAPES = 1,
+    /* Double quotes are those of identifiers. */
+    MYSQL_SESSION_ANSI_QUOTES = 2,
+    /* Byte strings are written as 0x and hexadecimal digits, the empty one as ''. No mode: calls
+     * that read a stream take no notice of it. Dates and durations stand in quotes as ever. */
+    MYSQL_SESSION_HEXADECIMAL = 4
+};
+
+/* The flags of the mode that a server's status tells, as its greeting and each of its OK packets
+ * have it; no code. MySQL doesn't tell ANSI_QUOTES in it, MariaDB does. */
+uint32_t mysql_session_mode_of_status(uint16_t status);
+
+/* The flags of the mode that the value of the variable sql_mode tells, names between commas in any
+ * case; no code. ANSI_QUOTES is told by each name that stands for it too, as ANSI does. */
+uint32_t mysql_session_mode_of_sql_mode(const uint8_t *value, size_t len);
+
+/* 1 where literals in quotes are safe in a text that a server reads in the collation of this id
+ * (character_set_client), else 0; no code. 0 is the answer for collations of big5, sjis, gbk, cp932
+ * and gb18030, and for gb2312_bin, in which a quote or a backslash can be the second byte of a
+ * character: there take MYSQL_SESSION_HEXADECIMAL, or send by execute. */
+uint32_t mysql_session_is_safe_to_quote(uint16_t collation);
+
 /* ---- Receivers: a stream of commands about one query, read back ------------------------------ */
 
 /* Kinds of contents. */
@@ -184,10 +220,12 @@ typedef struct mysql_session_end {
 
 /* Makes the handle stand for a receiver of a stream of commands about this query, whose statement
  * was given this id. What the handle stood for before is freed; where the answer isn't OK it stays.
- * The limit is the max_allowed_packet of the receiving side, at least 4. The query is copied.
- * Answers OK, LIMIT_TOO_SMALL (before any other), MEMORY, MIXED. */
+ * The limit is the max_allowed_packet of the receiving side, at least 4. The query is copied. The
+ * flags (of mysql_session_flag) tell the mode of the server that the stream was sent to: for one in
+ * another mode texts, and the query's placeholders, may be others than this receiver reads.
+ * Answers OK, NO_SUCH_MODE (before any other), LIMIT_TOO_SMALL (before the rest), MEMORY, MIXED. */
 uint32_t mysql_session_receiver_new(mysql_session_handle *handle, const uint8_t *query,
-                                    size_t len, uint32_t statement, size_t limit);
+                                    size_t len, uint32_t statement, size_t limit, uint32_t flags);
 
 /* Takes the next piece of the stream, of any length; the piece isn't kept. However the stream is
  * cut, the same sets come. Answers OK, a fault (from then on each feed answers that fault, and
@@ -302,36 +340,41 @@ typedef struct mysql_session_place {
 } mysql_session_place;
 
 /* Appends to the bytes of `out` the commands that carry the sets of `sets`, as framed packets. A
- * receiver of the same query, id and limit reads the sets back, to the end of what was appended.
+ * receiver of the same query, id, limit and mode reads the sets back, to the end of what was
+ * appended.
  * Values of a set that wasn't ended aren't sent; the sets stay. The limit is the
  * max_allowed_packet of the receiving side, at least 4. The two handles are different ones.
- * By MYSQL_SESSION_TEXT: safe for a server that takes backslash escapes (NO_BACKSLASH_ESCAPES isn't
- * in its SQL mode) over a connection in UTF-8; for any other a value may end its literal: send by
- * execute there.
+ * By MYSQL_SESSION_TEXT: safe for a server in the mode that the flags (of mysql_session_flag) tell,
+ * over a connection whose collation is safe to quote, as UTF-8's are, or with
+ * MYSQL_SESSION_HEXADECIMAL in any character set in which bytes below 80 that follow one another
+ * are themselves; for any other a value may end its literal. By execute and bulk: safe for any
+ * server.
  * Answers OK, or why nothing is appended, by the first that holds: EMPTY_HANDLE or OTHER_KIND of
- * `sets`, then of `out`, NO_SUCH_ROAD, LIMIT_TOO_SMALL, MIXED, REFUSED_.. with the set and the
- * place; or MEMORY. */
+ * `sets`, then of `out`, NO_SUCH_ROAD, NO_SUCH_MODE, LIMIT_TOO_SMALL, MIXED, REFUSED_.. with the
+ * set and the place; or MEMORY. */
 uint32_t mysql_session_send(mysql_session_handle *sets, const uint8_t *query, size_t len,
-                            uint32_t road, uint32_t statement, size_t limit,
+                            uint32_t road, uint32_t statement, size_t limit, uint32_t flags,
                             mysql_session_handle *out, mysql_session_place *place);
 
 /* Appends to the bytes of `out` the text of one set, by its number from 0: the query with a literal
  * in the place of each placeholder. It is what a COM_QUERY has behind its first byte.
- * Safe for a server that takes backslash escapes (NO_BACKSLASH_ESCAPES isn't in its SQL mode) over
- * a connection in UTF-8; for any other a value may end its literal: send by execute there.
- * Answers OK, or why nothing is appended: EMPTY_HANDLE, OTHER_KIND, OUT_OF_RANGE (no such set),
- * MIXED, REFUSED_NOT_ALONE, REFUSED_PARAMS, REFUSED_WRONG_COUNT, REFUSED_FLOAT, MEMORY. */
+ * Safe for a server in the mode that the flags (of mysql_session_flag) tell, over a connection
+ * whose collation is safe to quote, as UTF-8's are, or with MYSQL_SESSION_HEXADECIMAL in any
+ * character set in which bytes below 80 that follow one another are themselves; for any other a
+ * value may end its literal: send by execute there.
+ * Answers OK, or why nothing is appended: NO_SUCH_MODE (before any other), EMPTY_HANDLE,
+ * OTHER_KIND, OUT_OF_RANGE (no such set), MIXED, REFUSED_NOT_ALONE, REFUSED_PARAMS,
+ * REFUSED_WRONG_COUNT, REFUSED_FLOAT, MEMORY. */
 uint32_t mysql_session_bind_text(mysql_session_handle *sets, size_t set, const uint8_t *query,
-                                 size_t len, mysql_session_handle *out,
+                                 size_t len, uint32_t flags, mysql_session_handle *out,
                                  mysql_session_place *place);
 
 /* Appends to the bytes of `out` the literal of one value, by the numbers of its set and its place.
- * Safe for a server that takes backslash escapes (NO_BACKSLASH_ESCAPES isn't in its SQL mode) over
- * a connection in UTF-8; for any other a value may end its literal: send by execute there.
- * Answers OK, EMPTY_HANDLE, OTHER_KIND, OUT_OF_RANGE, MEMORY; and REFUSED_FLOAT of a float, which
- * has no literal, but no call here puts a float into a set. */
+ * Safe where the text of mysql_session_bind_text with the same flags is.
+ * Answers OK, NO_SUCH_MODE (before any other), EMPTY_HANDLE, OTHER_KIND, OUT_OF_RANGE, MEMORY; and
+ * REFUSED_FLOAT of a float, which has no literal, but no call here puts a float into a set. */
 uint32_t mysql_session_value_text(mysql_session_handle *sets, size_t set, size_t place,
-                                  mysql_session_handle *out);
+                                  uint32_t flags, mysql_session_handle *out);
 
 /* ---- Recoding: a stream of commands as executions, as it comes ------------------------------- */
 
@@ -345,10 +388,13 @@ typedef struct mysql_session_stop {
 } mysql_session_stop;
 
 /* Makes the handle stand for a recoder of a stream of commands about this query, whose statement
- * was given this id. Answers OK, or the first that holds of LIMIT_TOO_SMALL, MIXED,
+ * was given this id. The flags tell the mode of the server that the stream was sent to, as those of
+ * mysql_session_receiver_new do; what is recoded is safe for any server that reads the query's own
+ * text as one in this mode does.
+ * Answers OK, or the first that holds of NO_SUCH_MODE, LIMIT_TOO_SMALL, MIXED,
  * REFUSED_TOO_MANY_PLACES, REFUSED_PREPARE_TOO_LARGE, or MEMORY; but for OK the handle stays. */
 uint32_t mysql_session_recoder_new(mysql_session_handle *handle, const uint8_t *query, size_t len,
-                                   uint32_t statement, size_t limit);
+                                   uint32_t statement, size_t limit, uint32_t flags);
 
 /* Takes the next piece, and appends to the bytes of `out` the executions of the sets that are whole
  * with it, before the first of all the prepare. Answers OK, or why nothing is appended: a FAULT_..

@@ -34,9 +34,11 @@ happens in another thread, its own thread frees it when it makes its next object
 that thread has ended: `close` what a thread leaves. A closed object's calls raise
 `MySQLSessionError` with `Code.EMPTY_HANDLE`.
 
-Texts of values (`Road.TEXT`, `bind_text`, `literal`) are safe for a server that takes backslash
-escapes (NO_BACKSLASH_ESCAPES isn't in its SQL mode) over a connection in UTF-8; for any other a
-value may end its literal: send by execution there.
+Texts of values (`Road.TEXT`, `bind_text`, `literal`) are safe for a server in the `Mode` that the
+call is given, over a connection in UTF-8 or another character set that `is_safe_to_quote`; for any
+other a value may end its literal. Without a mode that is a server whose SQL mode has neither
+NO_BACKSLASH_ESCAPES nor ANSI_QUOTES: take the mode that the server tells, by `Mode.of`.
+`Spelling.HEXADECIMAL` is safe in each character set, and executions at each server.
 
 Numbers that are too large for their field raise OverflowError.
 """
@@ -46,6 +48,7 @@ from __future__ import annotations
 import collections
 import collections.abc
 import ctypes
+import dataclasses
 import datetime
 import enum
 import os
@@ -57,16 +60,17 @@ from typing import (Any, Deque, Dict, Iterable, Iterator, List, Mapping, NamedTu
 
 __all__ = [
     "ABI", "AUTOCOMMIT", "Capability", "Cell", "Code", "Column", "ColumnType", "Content",
-    "DateFields", "DEFAULT_LIMIT", "End", "EndKind", "File", "Greeting", "Login", "MORE_RESULTS",
-    "MySQLSessionError", "Ok", "PacketReader", "Parameter", "ParameterSets", "Prepared",
-    "Receiver", "Recoder", "ReplyKind", "ReplyReader", "ReplyWriter", "Result", "Road", "Rows",
-    "ServerError", "State", "Text", "TimeFields", "binlog_dump", "binlog_dump_gtid", "bind_text",
-    "code_text", "ends_reply", "literal", "positional", "put_greeting", "put_login", "put_packet",
-    "read_greeting", "read_login", "read_reply", "recode", "register_replica", "send",
+    "DateFields", "DEFAULT_LIMIT", "End", "EndKind", "File", "Greeting", "Login", "Mode",
+    "MORE_RESULTS", "MySQLSessionError", "Ok", "PacketReader", "Parameter", "ParameterSets",
+    "Prepared", "Receiver", "Recoder", "ReplyKind", "ReplyReader", "ReplyWriter", "Result", "Road",
+    "Rows", "ServerError", "Spelling", "State", "Text", "TimeFields", "binlog_dump",
+    "binlog_dump_gtid", "bind_text", "code_text", "ends_reply", "is_safe_to_quote", "literal",
+    "positional", "put_greeting", "put_login", "put_packet", "read_greeting", "read_login",
+    "read_reply", "recode", "register_replica", "send",
 ]
 
 # The number of the interface that this module calls.
-ABI = 3
+ABI = 4
 
 # The max_allowed_packet that most servers have.
 DEFAULT_LIMIT = 1 << 24
@@ -95,6 +99,7 @@ class Code(enum.IntEnum):
     NO_SUCH_KIND = 8
     BAD_PACKET = 9
     UNFINISHED = 10
+    NO_SUCH_MODE = 11
     FAULT_TOO_LARGE = 100
     FAULT_OUT_OF_SYNC = 101
     FAULT_EMPTY_COMMAND = 102
@@ -153,13 +158,24 @@ class Road(enum.IntEnum):
     """How parameter sets are sent."""
 
     TEXT = 0
-    """A text query for each set. Safe for a server that takes backslash escapes
-    (NO_BACKSLASH_ESCAPES isn't in its SQL mode) over a connection in UTF-8; for any other a value
-    may end its literal: send by execution there."""
+    """A text query for each set, in which values are literals. Safe for a server in the mode that
+    `send` is given, over a connection in UTF-8 or another character set that `is_safe_to_quote`;
+    for any other a value may end its literal."""
     EXECUTE = 1
-    """One prepare, and an execution for each set."""
+    """One prepare, and an execution for each set. Safe for any server."""
     BULK = 2
-    """One prepare, and the fewest of MariaDB's bulk executions."""
+    """One prepare, and the fewest of MariaDB's bulk executions. Safe for any MariaDB server."""
+
+
+class Spelling(enum.IntEnum):
+    """How byte strings are spelled where values are written as literals: str and bytes. Numbers and
+    NULL are spelled as ever, and dates and durations stand in quotes."""
+
+    QUOTED = 0
+    """UTF-8 between single quotes, by the mode of the server, and other bytes as 0x and digits."""
+    HEXADECIMAL = 4
+    """0x and two digits for each byte, and '' for no bytes: the same in each mode and each
+    character set."""
 
 
 class EndKind(enum.IntEnum):
@@ -278,6 +294,75 @@ class _ResultKind(enum.IntEnum):
     PREPARED = 2
     ERROR = 3
     FILE = 4
+
+
+# ---- Modes --------------------------------------------------------------------------------------
+
+# The library's flags; a spelling is the third.
+_NO_BACKSLASH_ESCAPES, _ANSI_QUOTES = 1, 2
+
+
+@dataclasses.dataclass(frozen=True)
+class Mode:
+    """The SQL mode of a server, as far as it changes how a text is read. The default has neither.
+
+    Two modes change where a string ends. What is made for a server in one of them may be something
+    else in another: a value may end its literal there, and what stands behind the quote is read as
+    SQL. So take the mode that the server tells, at the login and whenever it tells another (MySQL
+    Reference Manual, "Server SQL Modes").
+    """
+
+    no_backslash_escapes: bool = False
+    """A backslash in a string is a byte like any other."""
+    ansi_quotes: bool = False
+    """Double quotes are those of identifiers, as backticks are."""
+
+    @classmethod
+    def of(cls, status: int) -> Mode:
+        """The mode that the status of a server tells, as its greeting and its OK and EOF packets
+        have it (MySQL: Client/Server Protocol, "Status Flags"; MariaDB: "OK_Packet").
+
+        MySQL tells NO_BACKSLASH_ESCAPES in its status and not ANSI_QUOTES, for which the bit is
+        MariaDB's. Where a MySQL server may be in ANSI_QUOTES, take the variable sql_mode, as
+        session tracking tells it, and `of_sql_mode`. A packet with MariaDB's bit, which has no name
+        in MySQL's protocol, is refused by `read_greeting` and `ReplyReader`.
+        """
+        return cls._told(_numbers["mode_of_status"](_fitting(status, 16)))
+
+    @classmethod
+    def of_sql_mode(cls, value: Text) -> Mode:
+        """The mode that the value of the variable sql_mode tells: names between commas, their
+        letters in any case (MySQL Reference Manual, "Server SQL Modes"; MariaDB: "SQL_MODE").
+
+        ANSI_QUOTES is also told by each name that stands for it and others: ANSI, and DB2, MAXDB,
+        MSSQL, ORACLE and POSTGRESQL, which MariaDB has, and MySQL before 8.0. Other names say
+        nothing of how a text is read.
+        """
+        return cls._told(_numbers["mode_of_sql_mode"](*_lent(value)))
+
+    @classmethod
+    def _told(cls, flags: int) -> Mode:
+        """The mode that the library's flags tell."""
+        return cls(bool(flags & _NO_BACKSLASH_ESCAPES), bool(flags & _ANSI_QUOTES))
+
+
+def _flags(mode: Mode, spelling: Spelling = Spelling.QUOTED) -> int:
+    """The library's flags of a mode and a spelling."""
+    return (_NO_BACKSLASH_ESCAPES * bool(mode.no_backslash_escapes)
+            | _ANSI_QUOTES * bool(mode.ansi_quotes) | Spelling(spelling))
+
+
+def is_safe_to_quote(collation: int) -> bool:
+    """Whether literals in quotes are safe in a text that a server reads in this collation, which is
+    told by its id (MySQL Reference Manual and MariaDB, "Supported Character Sets and Collations").
+
+    In some character sets a quote, a backslash or a backtick can be the second byte of a character.
+    A server that reads a text so may take the byte before a quote and the quote for one character,
+    and the string goes on. There take `Spelling.HEXADECIMAL`, or an execution. False for collations
+    of big5, sjis, gbk, cp932 and gb18030, for gb2312_bin, and for MariaDB's of these without
+    padding, whose ids are greater by 1024.
+    """
+    return bool(_numbers["is_safe_to_quote"](_fitting(collation, 16)))
 
 
 # ---- Values -------------------------------------------------------------------------------------
@@ -476,7 +561,7 @@ _HANDLE = ctypes.POINTER(_Handle)
 _BYTES = (ctypes.c_char_p, _SIZE)
 
 _ARGUMENTS: Dict[str, Tuple[Any, ...]] = {
-    "receiver_new": (_HANDLE, *_BYTES, _U32, _SIZE),
+    "receiver_new": (_HANDLE, *_BYTES, _U32, _SIZE, _U32),
     "receiver_feed": (_HANDLE, *_BYTES),
     "receiver_sets": (_HANDLE, _OUT),
     "receiver_width": (_HANDLE, _SIZE, _OUT),
@@ -490,10 +575,10 @@ _ARGUMENTS: Dict[str, Tuple[Any, ...]] = {
     "bytes_new": (_HANDLE,),
     "bytes_data": (_HANDLE, _OUT, _OUT),
     "bytes_clear": (_HANDLE,),
-    "send": (_HANDLE, *_BYTES, _U32, _U32, _SIZE, _HANDLE, _OUT),
-    "bind_text": (_HANDLE, _SIZE, *_BYTES, _HANDLE, _OUT),
-    "value_text": (_HANDLE, _SIZE, _SIZE, _HANDLE),
-    "recoder_new": (_HANDLE, *_BYTES, _U32, _SIZE),
+    "send": (_HANDLE, *_BYTES, _U32, _U32, _SIZE, _U32, _HANDLE, _OUT),
+    "bind_text": (_HANDLE, _SIZE, *_BYTES, _U32, _HANDLE, _OUT),
+    "value_text": (_HANDLE, _SIZE, _SIZE, _U32, _HANDLE),
+    "recoder_new": (_HANDLE, *_BYTES, _U32, _SIZE, _U32),
     "recoder_feed": (_HANDLE, *_BYTES, _HANDLE, _OUT),
     "recoder_end": (_HANDLE, _HANDLE, _OUT),
     "reply_new": (_HANDLE, _U32, _U32, _U8, _SIZE),
@@ -529,6 +614,13 @@ _ARGUMENTS: Dict[str, Tuple[Any, ...]] = {
     "binlog_dump_gtid_put": (_HANDLE, _U32, _U64, _U16, *_BYTES, *_BYTES),
 }
 
+# Those of calls that answer a number and no code.
+_NUMBER_ARGUMENTS: Dict[str, Tuple[Any, ...]] = {
+    "mode_of_status": (_U16,),
+    "mode_of_sql_mode": _BYTES,
+    "is_safe_to_quote": (_U16,),
+}
+
 
 def _loaded() -> ctypes.CDLL:
     """The library, where its interface is the one that this module calls."""
@@ -550,10 +642,10 @@ def _loaded() -> ctypes.CDLL:
     return library
 
 
-def _functions(library: ctypes.CDLL) -> Dict[str, Any]:
-    """The calls that answer a code, by their names without the prefix."""
+def _functions(library: ctypes.CDLL, declared: Dict[str, Tuple[Any, ...]]) -> Dict[str, Any]:
+    """Calls by their names without the prefix."""
     functions = {}
-    for name, arguments in _ARGUMENTS.items():
+    for name, arguments in declared.items():
         function = getattr(library, "mysql_session_" + name)
         function.argtypes = arguments
         function.restype = _U32
@@ -562,7 +654,8 @@ def _functions(library: ctypes.CDLL) -> Dict[str, Any]:
 
 
 _library = _loaded()
-_calls = _functions(_library)
+_calls = _functions(_library, _ARGUMENTS)
+_numbers = _functions(_library, _NUMBER_ARGUMENTS)
 
 # The fields that say where a call was refused, by its code; a fault of a stream has its payload.
 _WHERE: Dict[int, Tuple[str, ...]] = {
@@ -838,15 +931,18 @@ def _content(shown: Any) -> Content:
 class Receiver(_Object):
     """Reads the parameter sets that a stream of commands about one query carries.
 
-    The statement is the id that the stream's executions name. Raises MySQLSessionError:
-    LIMIT_TOO_SMALL, MIXED (names and question marks as placeholders), MEMORY.
+    The statement is the id that the stream's executions name. The mode is that of the server which
+    the stream was sent to: for one in another mode texts, and the query's placeholders, may be
+    others than this receiver reads. Raises MySQLSessionError: LIMIT_TOO_SMALL, MIXED (names and
+    question marks as placeholders), MEMORY.
     """
 
-    def __init__(self, query: Text, statement: int = 1, limit: int = DEFAULT_LIMIT) -> None:
+    def __init__(self, query: Text, statement: int = 1, limit: int = DEFAULT_LIMIT, *,
+                 mode: Mode = Mode()) -> None:
         super().__init__()
         self._given = 0
         _call("receiver_new", self._handle, *_lent(query), _fitting(statement, 32),
-              _fitting(limit, _SIZE_BITS))
+              _fitting(limit, _SIZE_BITS), _flags(mode))
 
     def feed(self, piece: Union[bytes, bytearray, memoryview]) -> None:
         """Takes the next piece of the stream, of any length.
@@ -1012,16 +1108,20 @@ class ParameterSets(_Object):
 
 
 def send(query: Text, sets: Union[ParameterSets, Iterable[Sequence[Parameter]]], road: Road,
-         statement: int = 1, limit: int = DEFAULT_LIMIT) -> bytes:
+         statement: int = 1, limit: int = DEFAULT_LIMIT, *, mode: Mode = Mode(),
+         spelling: Spelling = Spelling.QUOTED) -> bytes:
     """The commands that carry these sets to a server, as framed packets.
 
     By `Road.EXECUTE` and `Road.BULK` the first packet is the prepare, and the others name the
     statement by this id: a server answers the prepare with an id of its own. A receiver of the same
-    query, id and limit reads the sets back. The sets stay as they are.
+    query, id, limit and mode reads the sets back. The sets stay as they are.
 
-    By `Road.TEXT` values are literals in the query's text. Safe for a server that takes backslash
-    escapes (NO_BACKSLASH_ESCAPES isn't in its SQL mode) over a connection in UTF-8; for any other a
-    value may end its literal: send by execution there.
+    By `Road.TEXT` values are literals in the query's text. Safe for a server in this mode: by
+    `Spelling.QUOTED` over a connection in UTF-8 or another character set that `is_safe_to_quote`,
+    by `Spelling.HEXADECIMAL` in any in which bytes below 80 that follow one another are themselves.
+    For a server in another mode a value may end its literal, and what stands behind the quote is
+    read as SQL. By the other roads it is safe for any server, and the mode says which bytes of the
+    query's own text are placeholders.
 
     The query has question marks as placeholders; where it has names, send for its `positional`.
 
@@ -1030,47 +1130,53 @@ def send(query: Text, sets: Union[ParameterSets, Iterable[Sequence[Parameter]]],
     """
     if not isinstance(sets, ParameterSets):
         with ParameterSets(sets) as made:
-            return send(query, made, road, statement, limit)
+            return send(query, made, road, statement, limit, mode=mode, spelling=spelling)
     with _Output() as out:
         _call_at(_Place(), "send", sets._handle, *_lent(query), _fitting(road, 32),
-                 _fitting(statement, 32), _fitting(limit, _SIZE_BITS), out.to_write())
+                 _fitting(statement, 32), _fitting(limit, _SIZE_BITS), _flags(mode, spelling),
+                 out.to_write())
         return out.take()
 
 
-def positional(query: Text) -> bytes:
-    """The query as it is prepared: with a question mark in the place of each name.
+def positional(query: Text, *, mode: Mode = Mode()) -> bytes:
+    """The query as it is prepared at a server in this mode: with a question mark in the place of
+    each name.
 
     Raises MySQLSessionError: MIXED, REFUSED_TOO_MANY_PLACES.
     """
     query = _as_bytes(query)
     limit = max(DEFAULT_LIMIT, 2 * len(query) + 4)
     with PacketReader(0, limit) as reader:
-        reader.feed(send(query, (), Road.EXECUTE, limit=limit))
+        reader.feed(send(query, (), Road.EXECUTE, limit=limit, mode=mode))
         return (reader.payload() or b"")[1:]
 
 
-def bind_text(query: Text, values: Sequence[Parameter]) -> bytes:
+def bind_text(query: Text, values: Sequence[Parameter], *, mode: Mode = Mode(),
+              spelling: Spelling = Spelling.QUOTED) -> bytes:
     """The query with a literal in the place of each placeholder, as a COM_QUERY has it. The query
     is `positional`.
 
-    Safe for a server that takes backslash escapes (NO_BACKSLASH_ESCAPES isn't in its SQL mode) over
-    a connection in UTF-8; for any other a value may end its literal: send by execution there.
+    Safe for a server in this mode: by `Spelling.QUOTED` over a connection in UTF-8 or another
+    character set that `is_safe_to_quote`, by `Spelling.HEXADECIMAL` in any in which bytes below 80
+    that follow one another are themselves. For a server in another mode a value may end its
+    literal, and what stands behind the quote is read as SQL.
 
     Raises MySQLSessionError: MIXED, REFUSED_NOT_ALONE, REFUSED_PARAMS, REFUSED_WRONG_COUNT.
     """
     with ParameterSets([values]) as sets, _Output() as out:
-        _call_at(_Place(), "bind_text", sets._handle, 0, *_lent(query), out.to_write())
+        _call_at(_Place(), "bind_text", sets._handle, 0, *_lent(query), _flags(mode, spelling),
+                 out.to_write())
         return out.take()
 
 
-def literal(value: Parameter) -> bytes:
+def literal(value: Parameter, *, mode: Mode = Mode(),
+            spelling: Spelling = Spelling.QUOTED) -> bytes:
     """The literal of a value, as it stands in the text of a query.
 
-    Safe for a server that takes backslash escapes (NO_BACKSLASH_ESCAPES isn't in its SQL mode) over
-    a connection in UTF-8; for any other a value may end its literal: send by execution there.
+    Safe for the servers that `bind_text` is safe for by the same mode and spelling.
     """
     with ParameterSets([(value,)]) as sets, _Output() as out:
-        _call("value_text", sets._handle, 0, 0, out.to_write())
+        _call("value_text", sets._handle, 0, 0, _flags(mode, spelling), out.to_write())
         return out.take()
 
 
@@ -1081,14 +1187,17 @@ class Recoder(_Object):
     """Writes a stream of commands about one query as executions, as it comes.
 
     Streams that carry the same sets give the same bytes. The arguments are those of `Receiver`.
-    Raises MySQLSessionError also by REFUSED_TOO_MANY_PLACES and REFUSED_PREPARE_TOO_LARGE.
+    What it writes carries no texts with values: it is for a server in any mode in which the query's
+    own text is the same. Raises MySQLSessionError also by REFUSED_TOO_MANY_PLACES and
+    REFUSED_PREPARE_TOO_LARGE.
     """
 
-    def __init__(self, query: Text, statement: int = 1, limit: int = DEFAULT_LIMIT) -> None:
+    def __init__(self, query: Text, statement: int = 1, limit: int = DEFAULT_LIMIT, *,
+                 mode: Mode = Mode()) -> None:
         super().__init__()
         self._out = _Output()
         _call("recoder_new", self._handle, *_lent(query), _fitting(statement, 32),
-              _fitting(limit, _SIZE_BITS))
+              _fitting(limit, _SIZE_BITS), _flags(mode))
 
     def feed(self, piece: Union[bytes, bytearray, memoryview]) -> bytes:
         """Takes the next piece; gives the executions of the sets that are whole with it, before
@@ -1124,9 +1233,9 @@ class Recoder(_Object):
 
 
 def recode(query: Text, stream: Union[bytes, bytearray, memoryview], statement: int = 1,
-           limit: int = DEFAULT_LIMIT) -> bytes:
+           limit: int = DEFAULT_LIMIT, *, mode: Mode = Mode()) -> bytes:
     """The executions that carry the sets of a stream which is all at hand. Raises as `Recoder`."""
-    with Recoder(query, statement, limit) as recoder:
+    with Recoder(query, statement, limit, mode=mode) as recoder:
         executions = recoder.feed(stream)
         return executions + recoder.end()
 

@@ -71,6 +71,20 @@ class Examples(unittest.TestCase):
             self.check(port, stream, "SELECT ?", [],
                        ["answer 0: 1 rows", error, "the recorded stream ends: whole"], 1)
 
+    def test_recorded_mode(self) -> None:
+        """What was recorded at a server in another mode is read by it; the test server is in the
+        default mode, so that the text is another one."""
+        mode = ms.Mode(no_backslash_escapes=True)
+        stream = ms.send("SELECT ?", [("\\",)], ms.Road.TEXT, mode=mode)
+        self.assertEqual(stream[4:], b"\x03SELECT '\\'")
+        error = r"answer 0: error 1064 (42000): no answer to this query is known: select '\\'"
+        with server(2) as port:
+            self.check(port, stream, "SELECT ?", ["--recorded-mode", "NO_BACKSLASH_ESCAPES"],
+                       [error, "the recorded stream ends: whole"], 1)
+            self.check(port, stream, "SELECT ?", [],
+                       ["the recorded stream ends: fault at payload 0: "
+                        + ms.code_text(ms.Code.FAULT_TEXT_MISMATCH)], 1)
+
     def test_set(self) -> None:
         stream = ms.send("SET @a = ?", [("a",), (None,)], ms.Road.TEXT)
         ok = "OK, 0 rows affected, 0 warnings"

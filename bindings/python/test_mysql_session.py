@@ -28,7 +28,7 @@ from typing import (Any, Callable, Dict, Generator, Iterable, Iterator, List, Op
                     Set, Tuple, Type)
 
 import mysql_session as ms
-from mysql_session import Code, Column, ColumnType, EndKind, ReplyKind, Road
+from mysql_session import Code, Column, ColumnType, EndKind, Mode, ReplyKind, Road, Spelling
 
 BINDINGS = pathlib.Path(__file__).resolve().parent.parent
 HEADER = BINDINGS / "c" / "mysql_session.h"
@@ -114,6 +114,12 @@ class Interface(Case):
             self.assertEqual(self.numbers(name), {prefix + it.name: int(it) for it in kinds})
         values = {**self.numbers("mysql_session_kind"), **self.numbers("mysql_session_value_kind")}
         self.assertEqual(values, {it.name: int(it) for it in ms._Kind})
+        flags = {"NO_BACKSLASH_ESCAPES": ms._flags(Mode(no_backslash_escapes=True)),
+                 "ANSI_QUOTES": ms._flags(Mode(ansi_quotes=True)),
+                 "HEXADECIMAL": ms._flags(Mode(), Spelling.HEXADECIMAL)}
+        self.assertEqual(self.numbers("mysql_session_flag"), flags)
+        self.assertEqual((ms._flags(Mode()), ms._flags(Mode(True, True), Spelling.HEXADECIMAL)),
+                         (0, 7))
 
     def argument(self, written: str) -> Any:
         """The type of an argument, as the header has it."""
@@ -129,8 +135,9 @@ class Interface(Case):
         declared = dict(re.findall(r"uint32_t mysql_session_(\w+)\(([^)]*)\);", self.header))
         del declared["abi"]
         unused = {name for name in declared if name.startswith("sets_push_")} | {"sets_end_set"}
-        self.assertEqual(set(declared) - unused, set(ms._ARGUMENTS))
-        for name, arguments in ms._ARGUMENTS.items():
+        called = {**ms._ARGUMENTS, **ms._NUMBER_ARGUMENTS}
+        self.assertEqual(set(declared) - unused, set(called))
+        for name, arguments in called.items():
             wanted = [self.argument(it) for it in declared[name].split(",")]
             if name == "packets_feed":
                 wanted[1] = ctypes.c_void_p  # a place within the bytes
@@ -291,6 +298,129 @@ class Sets(Case):
         self.assertEqual(ms.literal("it's"), b"'it\\'s'")
         self.assertEqual(ms.literal(2**64 - 1), b"18446744073709551615")
         self.assertEqual(ms.literal(datetime.date(2024, 2, 29)), b"'2024-02-29'")
+
+
+DEFAULT, NO_ESCAPES, ANSI_QUOTES, BOTH = Mode(), Mode(True), Mode(False, True), Mode(True, True)
+MODES = (DEFAULT, NO_ESCAPES, ANSI_QUOTES, BOTH)
+
+
+def query_packet(query: bytes) -> bytes:
+    """The packet of a text query."""
+    return (len(query) + 1).to_bytes(3, "little") + b"\0\x03" + query
+
+
+class Modes(Case):
+    """Texts by the mode of a server, and byte strings in hexadecimal."""
+
+    def test_texts(self) -> None:
+        quoted = {DEFAULT: rb"'\'\\'", ANSI_QUOTES: rb"'\'\\'",
+                  NO_ESCAPES: rb"'''\'", BOTH: rb"'''\'"}
+        for mode, wanted in quoted.items():
+            self.assertEqual(ms.literal("'\\", mode=mode), wanted, mode)
+            self.assertEqual(ms.bind_text("SELECT ?", ["'\\"], mode=mode), b"SELECT " + wanted)
+        rows: List[Tuple[ms.Parameter, bytes]] = [
+            ("'\\", b"0x275C"), ("", b"''"), (b"\xff", b"0xFF"), (None, b"NULL"), (-7, b"-7"),
+            (datetime.date(2024, 2, 29), b"'2024-02-29'"),
+            (datetime.timedelta(0), b"'000:00:00'")]
+        for mode in MODES:
+            for value, wanted in rows:
+                found = ms.bind_text("SELECT ?", [value], mode=mode, spelling=Spelling.HEXADECIMAL)
+                self.assertEqual(found, b"SELECT " + wanted, mode)
+                found = ms.literal(value, mode=mode, spelling=Spelling.HEXADECIMAL)
+                self.assertEqual(found, wanted, mode)
+
+    def test_placeholders(self) -> None:
+        for query, modes in [(r"SELECT '\', ?", (NO_ESCAPES, BOTH)),
+                             (r'SELECT "a\", ?', (NO_ESCAPES, ANSI_QUOTES, BOTH))]:
+            wanted = query.replace("?", "1").encode()
+            named = query.replace("?", ":a")
+            for mode in MODES:
+                text = lambda: ms.bind_text(query, [1], mode=mode)
+                if mode in modes:
+                    self.assertEqual(text(), wanted, mode)
+                    self.assertEqual(ms.positional(named, mode=mode), query.encode(), mode)
+                else:
+                    self.refuses(Code.REFUSED_WRONG_COUNT, text, set=0)
+                    self.assertEqual(ms.positional(named, mode=mode), named.encode(), mode)
+
+    def test_one_backslash(self) -> None:
+        """A backslash alone is a text of one mode, and none of the other."""
+        stream = query_packet(rb"SELECT '\'")
+        for mode in MODES:
+            with ms.Receiver("SELECT ?", mode=mode) as receiver:
+                feed = lambda: receiver.feed(stream)
+                recode = lambda: ms.recode("SELECT ?", stream, mode=mode)
+                if mode.no_backslash_escapes:
+                    feed()
+                    self.assertEqual(receiver.take(), [(b"\\",)], mode)
+                    self.assertEqual(recode(), ms.send("SELECT ?", [(b"\\",)], Road.EXECUTE), mode)
+                else:
+                    self.refuses(Code.FAULT_TEXT_MISMATCH, feed)
+                    self.refuses(Code.FAULT_TEXT_MISMATCH, recode, payload=0)
+
+    def test_received(self) -> None:
+        """What is sent in a mode is received in it, and recoded as executions."""
+        contents: List[Tuple[ms.Content, ...]] = [
+            (it,) for it in (b"", b"'\\", b"' OR 1=1 -- ", b"\\' OR 1=1 -- ", b'"`?:a/*',
+                             "\u00e9\U0001f33f'\0\x1a\n".encode(), bytes(range(256)))]
+        executions = ms.send("SELECT ?", contents, Road.EXECUTE)
+        for mode, road, spelling in itertools.product(MODES, Road, Spelling):
+            stream = ms.send("SELECT ?", contents, road, mode=mode, spelling=spelling)
+            with ms.Receiver("SELECT ?", mode=mode) as receiver:
+                for piece in cut(stream, 1):
+                    receiver.feed(piece)
+                self.assertEqual(receiver.take(), contents, (mode, road, spelling))
+                self.assertEqual(receiver.end(), ms.End(EndKind.WHOLE))
+            self.assertEqual(ms.recode("SELECT ?", stream, mode=mode), executions)
+
+    def test_other_mode(self) -> None:
+        """A value may end its literal at a server in another mode; in hexadecimal it can't."""
+        for mode, other, value in [(DEFAULT, NO_ESCAPES, "' OR 1=1 -- "),
+                                   (NO_ESCAPES, DEFAULT, "\\' OR 1=1 -- ")]:
+            stream = ms.send("SELECT ?", [(value,)], Road.TEXT, mode=mode)
+            with ms.Receiver("SELECT ?", mode=other) as receiver:
+                self.refuses(Code.FAULT_TEXT_MISMATCH, lambda: receiver.feed(stream))
+        streams = {ms.send("SELECT ?", [("' \\",)], Road.TEXT, mode=mode,
+                           spelling=Spelling.HEXADECIMAL) for mode in MODES}
+        self.assertEqual(streams, {query_packet(b"SELECT 0x27205C")})
+
+    def test_default(self) -> None:
+        """Calls without a mode mean the default, and quotes."""
+        self.assertEqual((Mode(), Mode(no_backslash_escapes=False, ansi_quotes=False)),
+                         (DEFAULT, DEFAULT))
+        for road in Road:
+            self.assertEqual(ms.send("SELECT ?", [("'\\",)], road),
+                             ms.send("SELECT ?", [("'\\",)], road, mode=DEFAULT,
+                                     spelling=Spelling.QUOTED), road)
+        self.assertEqual(ms.literal("'\\"), ms.literal("'\\", mode=DEFAULT))
+        with self.assertRaises(ValueError):
+            ms.literal("", spelling=1)  # type: ignore[arg-type]
+
+    def test_of(self) -> None:
+        for bit in (1 << it for it in range(16)):
+            self.assertEqual(Mode.of(bit), Mode(bit == 0x200, bit == 0x8000), bit)
+            self.assertEqual(Mode.of(0xFFFF - bit), Mode(bit != 0x200, bit != 0x8000), bit)
+        self.assertEqual(Mode.of(0), DEFAULT)
+        for status in (-1, 1 << 16):
+            with self.assertRaises(OverflowError):
+                Mode.of(status)
+
+    def test_of_sql_mode(self) -> None:
+        rows = {"": DEFAULT, "STRICT_TRANS_TABLES,NO_ENGINE_SUBSTITUTION": DEFAULT,
+                "NO_BACKSLASH_ESCAPES": NO_ESCAPES,
+                "STRICT_ALL_TABLES,no_backslash_escapes": NO_ESCAPES,
+                "ANSI_QUOTES,NO_BACKSLASH_ESCAPES": BOTH, "Ansi": ANSI_QUOTES, "DB2": ANSI_QUOTES,
+                "MAXDB": ANSI_QUOTES, "MSSQL": ANSI_QUOTES, "ORACLE": ANSI_QUOTES,
+                "POSTGRESQL": ANSI_QUOTES, "ANSI_QUOTES_NOT,XNO_BACKSLASH_ESCAPES": DEFAULT}
+        for value, mode in rows.items():
+            self.assertEqual(Mode.of_sql_mode(value), mode, value)
+            self.assertEqual(Mode.of_sql_mode(value.encode()), mode, value)
+
+    def test_collations(self) -> None:
+        hide = {1, 13, 28, 84, 86, 87, 88, 95, 96, 248, 249, 250}
+        hide |= {1024 + it for it in hide}
+        found = {it for it in range(1 << 16) if not ms.is_safe_to_quote(it)}
+        self.assertEqual(found, hide)
 
 
 class Refusals(Case):

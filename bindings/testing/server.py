@@ -1,4 +1,4 @@
-"""The examples of the bindings against a MariaDB server of their own, and its clients.
+"""The examples of the bindings, and texts in each mode, against a MariaDB server of their own.
 
 `bindings/test --server` calls `test_server`. Everything that is started here is stopped by its
 process id, whatever happens.
@@ -395,6 +395,53 @@ class Tests:
             compare(said, "2\tcoffee\t3.75\tit's strong\n1\ttea\t2.50\tNULL\n")
 
 
+    # Modes.
+
+    def modes(self, port, *queries):
+        """Runs the program of texts in each mode, and returns what it prints."""
+        return run(["python3", os.path.join(BINDINGS, "testing", "modes.py"), str(port), USER,
+                    DATABASE, *queries], env=self.python)
+
+    def texts_in_modes(self):
+        """In each mode the server reads texts as what they carry."""
+        compare(self.modes(self.port).count(": 10000 values, "), 8)
+
+    def proxy_of_a_mode(self):
+        """The proxy follows a session that changes to ANSI_QUOTES."""
+        self.sql(r"CREATE TABLE quoted (`a\` INT)")
+        with self.proxy("proxy_quotes.log") as (proxy, port):
+            self.modes(port, r'SELECT "a\", ? FROM quoted')
+            proxy.wait_for(r"^connection 1, statement [0-9]+: .*")
+            if r'SELECT "a\", ? FROM quoted [1]' not in proxy.said():
+                raise Failure(f"it prints {proxy.said()}")
+
+    def examples_of_a_mode(self):
+        """At a server in NO_BACKSLASH_ESCAPES the examples take its mode."""
+        self.sql("CREATE TABLE escapeless (name VARCHAR(99)); "
+                 "SET GLOBAL sql_mode = 'NO_BACKSLASH_ESCAPES'")
+        try:
+            query, names = "INSERT INTO escapeless VALUES (?)", ["it's", "\\", "' OR 1=1 -- "]
+            escaped = [it.replace("\\", "\\\\").replace("'", "\\'") for it in names]
+            doubled = [it.replace("'", "''") for it in names]
+            for texts, words in ((escaped, []), (doubled, ["--recorded-mode",
+                                                           "NO_BACKSLASH_ESCAPES"])):
+                self.sql("TRUNCATE escapeless")
+                self.replay(b"".join(text_query(query.replace("?", f"'{it}'")) for it in texts),
+                            query, *words)
+                compare(self.sql("SELECT HEX(name) FROM escapeless"),
+                        [[hex_of(it)] for it in names])
+            with self.proxy("proxy_modes.log") as (proxy, port):
+                self.replay(text_query("SELECT '\\', 1"), "SELECT '\\', ?", "--road", "execute",
+                            "--recorded-mode", "NO_BACKSLASH_ESCAPES", port=port)
+                proxy.wait_for(r"^connection 1, statement [0-9]+: SELECT '\\', \? \[1\]$")
+            [[position]] = self.sql("SELECT @@gtid_binlog_pos")
+            self.sql("INSERT INTO escapeless VALUES ('logged')")
+            events = [name for name, _ in self.read_log("--gtid", position)]
+            compare(events.count("WRITE_ROWS_EVENT_V1"), 1)
+        finally:
+            self.sql("SET GLOBAL sql_mode = DEFAULT")
+
+
 # ---- Rows, streams and what is compared -------------------------------------------------------
 
 
@@ -435,7 +482,7 @@ def pymysql_python():
 
 
 def test_server(report, room, libraries, shared):
-    """Runs the five examples against a server."""
+    """Runs the five examples, and texts in each mode, against a server."""
     with contextlib.ExitStack() as stack:
         port = report.run("a MariaDB server", lambda: stack.enter_context(mariadb(room)))
         if not port:
@@ -444,5 +491,6 @@ def test_server(report, room, libraries, shared):
         for test in (it.bulk_load, it.bulk_load_refused, it.bulk_load_memory,
                      it.bulk_load_valgrind, it.proxy_texts, it.proxy_statements, it.proxy_rows,
                      it.replays, it.replay_faults, it.replication, it.replication_by_gtid,
-                     it.test_server_clients, it.test_server_statements):
+                     it.test_server_clients, it.test_server_statements, it.texts_in_modes,
+                     it.proxy_of_a_mode, it.examples_of_a_mode):
             report.run("server: " + test.__name__.replace("_", " "), test)

@@ -10,6 +10,11 @@
  * one is refused none: they stand in one transaction, and the line of the first is told that is
  * refused.
  *
+ * The rows are executions: no value is part of a text. Which bytes of the statement are
+ * placeholders depends on the server's SQL mode, as its answers tell it. A MariaDB whose SQL mode
+ * has ANSI_QUOTES can't be loaded: its status then has a bit without a name in the protocol, by
+ * which the library refuses its greeting and its answers.
+ *
  * The user has no password. At any time the program holds the rows of one request.
  */
 #define _POSIX_C_SOURCE 200809L
@@ -263,6 +268,7 @@ typedef struct answer {
     uint32_t statement;
     uint64_t affected_rows;
     uint64_t number; /* in the first cell of its rows */
+    uint32_t flags;  /* the server's mode behind it */
 } answer;
 
 static uint64_t number_in(mysql_session_handle *reply, size_t result)
@@ -304,6 +310,7 @@ static int note_result(mysql_session_handle *reply, size_t number, answer *found
     default:
         stop("the server asks for a file");
     }
+    found->flags = mysql_session_mode_of_status(result.status);
     return (result.status & SERVER_MORE_RESULTS_EXISTS) == 0;
 }
 
@@ -312,7 +319,7 @@ static answer read_reply(int server, uint32_t kind)
 {
     static uint8_t piece[65536];
     mysql_session_handle reply = MYSQL_SESSION_NOTHING;
-    answer found = { 0, 0, 0 };
+    answer found = { 0, 0, 0, 0 };
     size_t results = 0, at;
     int over = 0;
     check(mysql_session_reply_new(&reply, kind, CAPABILITIES, 1, LIMIT), "a reply");
@@ -423,6 +430,7 @@ typedef struct load {
     size_t columns;
     size_t limit;
     uint32_t statement;
+    uint32_t flags;     /* the server's mode as the statement is prepared */
     size_t prepare_len; /* of the packet that each send begins with */
     mysql_session_handle sets;
     mysql_session_handle out;
@@ -432,7 +440,8 @@ typedef struct load {
     uint64_t loaded;
 } load;
 
-/* Runs a query without parameters: what is sent by text of one set of no values. */
+/* Runs a query without parameters: what is sent by text of one set of no values. None that is run
+ * has a quote or a backslash, so that each is the same in each mode. */
 static answer run(int server, const char *query)
 {
     mysql_session_handle sets = MYSQL_SESSION_NOTHING, out = MYSQL_SESSION_NOTHING;
@@ -443,7 +452,7 @@ static answer run(int server, const char *query)
     check(mysql_session_sets_end_set(&sets), query);
     check(mysql_session_bytes_new(&out), query);
     check(mysql_session_send(&sets, (const uint8_t *)query, strlen(query), MYSQL_SESSION_TEXT, 0,
-                             LIMIT, &out, &place), query);
+                             LIMIT, 0, &out, &place), query);
     check(mysql_session_bytes_data(&out, &data, &len), query);
     write_all(server, data, len);
     mysql_session_free(&sets);
@@ -491,8 +500,8 @@ static void put_requests(load *to)
 {
     mysql_session_place place = { 0, 0 };
     uint32_t code = mysql_session_send(&to->sets, (const uint8_t *)to->query, strlen(to->query),
-                                       MYSQL_SESSION_BULK, to->statement, to->limit, &to->out,
-                                       &place);
+                                       MYSQL_SESSION_BULK, to->statement, to->limit, to->flags,
+                                       &to->out, &place);
     char what[64] = "the statement";
     if (to->rows > 0)
         snprintf(what, sizeof what, "the row of line %lu", to->lines[place.set]);
@@ -567,7 +576,7 @@ static void load_file(load *to, csv *from)
     check(mysql_session_bytes_new(&to->out), "the rows");
     to->limit = (size_t)run(to->server, "SELECT @@max_allowed_packet").number;
     to->limit = to->limit < LIMIT ? to->limit : LIMIT;
-    run(to->server, "START TRANSACTION");
+    to->flags = run(to->server, "START TRANSACTION").flags;
     prepare(to);
     while (read_row(from))
         add_row(to, from);

@@ -45,10 +45,10 @@ static void send_sets(void)
     AGAIN(mysql_session_sets_end_set(&sets));
     AGAIN(mysql_session_sets_add(&sets, values, 2, bytes_of("abc"), 3));
     for (road = MYSQL_SESSION_TEXT; road <= MYSQL_SESSION_BULK; road++)
-        AGAIN(mysql_session_send(&sets, bytes_of(QUERY), strlen(QUERY), road, 1, LIMIT, &out,
+        AGAIN(mysql_session_send(&sets, bytes_of(QUERY), strlen(QUERY), road, 1, LIMIT, 0, &out,
                                  &place));
-    AGAIN(mysql_session_bind_text(&sets, 1, bytes_of(QUERY), strlen(QUERY), &out, &place));
-    AGAIN(mysql_session_value_text(&sets, 0, 1, &out));
+    AGAIN(mysql_session_bind_text(&sets, 1, bytes_of(QUERY), strlen(QUERY), 0, &out, &place));
+    AGAIN(mysql_session_value_text(&sets, 0, 1, 0, &out));
 }
 
 static void put_columns(void)
@@ -188,7 +188,7 @@ static void receivers(void)
         int faulty;
         check_note("receivers", (size_t)refused);
         refuse_memory(refused);
-        AGAIN(mysql_session_receiver_new(&made, bytes_of(QUERY), strlen(QUERY), 1, LIMIT));
+        AGAIN(mysql_session_receiver_new(&made, bytes_of(QUERY), strlen(QUERY), 1, LIMIT, 0));
         faulty = feed(feed_receiver, &whole);
         CHECK_DONE(mysql_session_receiver_end(&made, &end));
         CHECK_NUMBER(end.kind, faulty ? MYSQL_SESSION_END_FAULT : MYSQL_SESSION_END_WHOLE);
@@ -213,7 +213,7 @@ static void recoders(void)
         check_note("recoders", (size_t)refused);
         CHECK_DONE(mysql_session_bytes_clear(&out));
         refuse_memory(refused);
-        AGAIN(mysql_session_recoder_new(&made, bytes_of(QUERY), strlen(QUERY), 1, LIMIT));
+        AGAIN(mysql_session_recoder_new(&made, bytes_of(QUERY), strlen(QUERY), 1, LIMIT, 0));
         faulty = feed(feed_recoder, &whole);
         code = mysql_session_recoder_end(&made, &out, &stop);
         CHECK_CODE(code, faulty ? MYSQL_SESSION_MEMORY : MYSQL_SESSION_OK);

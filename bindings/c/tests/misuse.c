@@ -19,12 +19,12 @@ static const uint8_t some[] = "SELECT ?";
 static void make_all(void)
 {
     mysql_session_end end = { 0, 0, 0 };
-    CHECK_DONE(mysql_session_receiver_new(&handles[RECEIVER], some, LEN, 1, 1000));
-    CHECK_DONE(mysql_session_receiver_new(&handles[AUDIT], some, LEN, 1, 1000));
+    CHECK_DONE(mysql_session_receiver_new(&handles[RECEIVER], some, LEN, 1, 1000, 0));
+    CHECK_DONE(mysql_session_receiver_new(&handles[AUDIT], some, LEN, 1, 1000, 0));
     CHECK_DONE(mysql_session_receiver_end(&handles[AUDIT], &end));
     CHECK_DONE(mysql_session_sets_new(&handles[SETS]));
     CHECK_DONE(mysql_session_bytes_new(&handles[BYTES]));
-    CHECK_DONE(mysql_session_recoder_new(&handles[RECODER], some, LEN, 1, 1000));
+    CHECK_DONE(mysql_session_recoder_new(&handles[RECODER], some, LEN, 1, 1000, 0));
     CHECK_DONE(mysql_session_reply_new(&handles[REPLY], 0, 0x200, 1, 1000));
     CHECK_DONE(mysql_session_reply_new(&handles[ANSWER], 0, 0x200, 1, 1000));
     CHECK_DONE(mysql_session_reply_end(&handles[ANSWER], &end));
@@ -117,22 +117,22 @@ static uint32_t bytes_data(mysql_session_handle *handle)
 
 static uint32_t send_from(mysql_session_handle *handle)
 {
-    return mysql_session_send(handle, some, LEN, 0, 1, 1000, &good_out, &place);
+    return mysql_session_send(handle, some, LEN, 0, 1, 1000, 0, &good_out, &place);
 }
 
 static uint32_t send_to(mysql_session_handle *handle)
 {
-    return mysql_session_send(&good_sets, some, LEN, 0, 1, 1000, handle, &place);
+    return mysql_session_send(&good_sets, some, LEN, 0, 1, 1000, 0, handle, &place);
 }
 
 static uint32_t bind_from(mysql_session_handle *handle)
 {
-    return mysql_session_bind_text(handle, 0, some, LEN, &good_out, &place);
+    return mysql_session_bind_text(handle, 0, some, LEN, 0, &good_out, &place);
 }
 
 static uint32_t value_from(mysql_session_handle *handle)
 {
-    return mysql_session_value_text(handle, 0, 0, &good_out);
+    return mysql_session_value_text(handle, 0, 0, 0, &good_out);
 }
 
 static uint32_t recoder_feed(mysql_session_handle *handle)
@@ -376,8 +376,9 @@ static void second_handles(void)
         if (kind == BYTES)
             continue;
         if (kind != SETS) {
-            CHECK_CODE(mysql_session_bind_text(&handles[SETS], 0, some, LEN, out, &place), wanted);
-            CHECK_CODE(mysql_session_value_text(&handles[SETS], 0, 0, out), wanted);
+            CHECK_CODE(mysql_session_bind_text(&handles[SETS], 0, some, LEN, 0, out, &place),
+                       wanted);
+            CHECK_CODE(mysql_session_value_text(&handles[SETS], 0, 0, 0, out), wanted);
         }
         if (kind != RECODER) {
             CHECK_CODE(mysql_session_recoder_feed(&handles[RECODER], some, 0, out, &stop), wanted);
@@ -400,14 +401,14 @@ static void replaced(void)
     mysql_session_handle handle = MYSQL_SESSION_NOTHING;
     int times;
     for (times = 0; times < 2; times++) {
-        CHECK_DONE(mysql_session_receiver_new(&handle, some, LEN, 1, 1000));
+        CHECK_DONE(mysql_session_receiver_new(&handle, some, LEN, 1, 1000, 0));
         CHECK_DONE(mysql_session_sets_new(&handle));
         CHECK_DONE(push_bytes(&handle));
         CHECK_DONE(mysql_session_sets_end_set(&handle));
         CHECK_DONE(push_bytes(&handle));
         CHECK_DONE(mysql_session_bytes_new(&handle));
         CHECK_DONE(packet_put(&handle));
-        CHECK_DONE(mysql_session_recoder_new(&handle, some, LEN, 1, 1000));
+        CHECK_DONE(mysql_session_recoder_new(&handle, some, LEN, 1, 1000, 0));
         CHECK_DONE(mysql_session_reply_new(&handle, 0, 0x200, 1, 1000));
         CHECK_DONE(mysql_session_reply_feed(&handle, some, 2));
         CHECK_DONE(mysql_session_writer_new(&handle, 0, 0x200, 1, 1000));
@@ -436,7 +437,7 @@ static void after_free(void)
 
 /* The first and the last code of each range of codes. */
 static const uint32_t ranges[][2] = {
-    { MYSQL_SESSION_OK, MYSQL_SESSION_UNFINISHED },
+    { MYSQL_SESSION_OK, MYSQL_SESSION_NO_SUCH_MODE },
     { MYSQL_SESSION_FAULT_TOO_LARGE, MYSQL_SESSION_FAULT_PIECES_BEFORE_BULK },
     { MYSQL_SESSION_REFUSED_NOT_ALONE, MYSQL_SESSION_REFUSED_ROW_TOO_LARGE },
     { MYSQL_SESSION_REPLY_TOO_LARGE, MYSQL_SESSION_REPLY_AFTER_END },

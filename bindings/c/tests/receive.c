@@ -131,7 +131,7 @@ static void read_row(const row *given, size_t piece, int as_they_come)
     text shown;
     text_clear(&shown);
     CHECK_DONE(mysql_session_receiver_new(&receiver, bytes_of(given->query), strlen(given->query),
-                                          1, 1000));
+                                          1, 1000, 0));
     while (code == MYSQL_SESSION_OK && fed < whole.len) {
         size_t count = piece_at(fed, piece, whole.len);
         code = mysql_session_receiver_feed(&receiver, whole.bytes + fed, count);
@@ -156,15 +156,15 @@ static void new_in_place(void)
     mysql_session_handle receiver = MYSQL_SESSION_NOTHING;
     stream whole = stream_of(TEXT_1);
     size_t sets = 0;
-    CHECK_DONE(mysql_session_receiver_new(&receiver, bytes_of("SELECT ?"), 8, 1, 1000));
+    CHECK_DONE(mysql_session_receiver_new(&receiver, bytes_of("SELECT ?"), 8, 1, 1000, 0));
     CHECK_DONE(mysql_session_receiver_feed(&receiver, whole.bytes, whole.len));
-    CHECK_CODE(mysql_session_receiver_new(&receiver, bytes_of("SELECT ?"), 8, 1, 3),
+    CHECK_CODE(mysql_session_receiver_new(&receiver, bytes_of("SELECT ?"), 8, 1, 3, 0),
                MYSQL_SESSION_LIMIT_TOO_SMALL);
-    CHECK_CODE(mysql_session_receiver_new(&receiver, bytes_of(":a ?"), 4, 1, 1000),
+    CHECK_CODE(mysql_session_receiver_new(&receiver, bytes_of(":a ?"), 4, 1, 1000, 0),
                MYSQL_SESSION_MIXED);
     CHECK_DONE(mysql_session_receiver_sets(&receiver, &sets));
     CHECK_NUMBER(sets, 1);
-    CHECK_DONE(mysql_session_receiver_new(&receiver, bytes_of("SELECT ?"), 8, 1, 1000));
+    CHECK_DONE(mysql_session_receiver_new(&receiver, bytes_of("SELECT ?"), 8, 1, 1000, 0));
     CHECK_DONE(mysql_session_receiver_sets(&receiver, &sets));
     CHECK_NUMBER(sets, 0);
     mysql_session_free(&receiver);

@@ -66,7 +66,7 @@ static void recode(size_t at, size_t piece)
     mysql_session_stop stop = no_stop();
     stream whole = stream_of(rows[at].written);
     CHECK_DONE(mysql_session_bytes_new(&out));
-    CHECK_DONE(mysql_session_recoder_new(&recoder, bytes_of(QUERY), strlen(QUERY), 1, 1000));
+    CHECK_DONE(mysql_session_recoder_new(&recoder, bytes_of(QUERY), strlen(QUERY), 1, 1000, 0));
     CHECK_DONE(feed(&recoder, &whole, piece, &out, &stop));
     CHECK_CODE(mysql_session_recoder_end(&recoder, &out, &stop), rows[at].code);
     if (rows[at].code != MYSQL_SESSION_OK)
@@ -96,7 +96,7 @@ static void fault(size_t piece)
     mysql_session_stop stop = no_stop();
     stream good = stream_of(TEXT_1), bad = stream_of("0a 00 00 00 03 |SELECT +1|");
     CHECK_DONE(mysql_session_bytes_new(&out));
-    CHECK_DONE(mysql_session_recoder_new(&recoder, bytes_of(QUERY), strlen(QUERY), 1, 1000));
+    CHECK_DONE(mysql_session_recoder_new(&recoder, bytes_of(QUERY), strlen(QUERY), 1, 1000, 0));
     CHECK_DONE(feed(&recoder, &good, piece, &out, &stop));
     CHECK_CODE(feed(&recoder, &bad, piece, &out, &stop), MYSQL_SESSION_FAULT_TEXT_MISMATCH);
     CHECK_NUMBER(stop.payload, 1);
@@ -118,7 +118,7 @@ static void too_large(size_t piece)
     mysql_session_stop stop = no_stop();
     stream whole = stream_of("0c 00 00 00 03 |SELECT NULL| " TEXT_1);
     CHECK_DONE(mysql_session_bytes_new(&out));
-    CHECK_DONE(mysql_session_recoder_new(&recoder, bytes_of(QUERY), strlen(QUERY), 1, 20));
+    CHECK_DONE(mysql_session_recoder_new(&recoder, bytes_of(QUERY), strlen(QUERY), 1, 20, 0));
     CHECK_CODE(feed(&recoder, &whole, piece, &out, &stop), MYSQL_SESSION_REFUSED_PACKET_TOO_LARGE);
     CHECK_NUMBER(stop.set, 1);
     CHECK_STREAM(&out, piece >= whole.len ? "" : PREPARE EXECUTE_NULL);
@@ -135,14 +135,14 @@ static void refusals(void)
     stream whole = stream_of(TEXT_1);
     memset(places, '?', sizeof places);
     CHECK_DONE(mysql_session_bytes_new(&out));
-    CHECK_DONE(mysql_session_recoder_new(&recoder, bytes_of(QUERY), strlen(QUERY), 1, 1000));
-    CHECK_CODE(mysql_session_recoder_new(&recoder, bytes_of(QUERY), strlen(QUERY), 1, 3),
+    CHECK_DONE(mysql_session_recoder_new(&recoder, bytes_of(QUERY), strlen(QUERY), 1, 1000, 0));
+    CHECK_CODE(mysql_session_recoder_new(&recoder, bytes_of(QUERY), strlen(QUERY), 1, 3, 0),
                MYSQL_SESSION_LIMIT_TOO_SMALL);
-    CHECK_CODE(mysql_session_recoder_new(&recoder, bytes_of(":a ?"), 4, 1, 1000),
+    CHECK_CODE(mysql_session_recoder_new(&recoder, bytes_of(":a ?"), 4, 1, 1000, 0),
                MYSQL_SESSION_MIXED);
-    CHECK_CODE(mysql_session_recoder_new(&recoder, bytes_of(places), sizeof places, 1, 100000),
+    CHECK_CODE(mysql_session_recoder_new(&recoder, bytes_of(places), sizeof places, 1, 100000, 0),
                MYSQL_SESSION_REFUSED_TOO_MANY_PLACES);
-    CHECK_CODE(mysql_session_recoder_new(&recoder, bytes_of(QUERY), strlen(QUERY), 1, 12),
+    CHECK_CODE(mysql_session_recoder_new(&recoder, bytes_of(QUERY), strlen(QUERY), 1, 12, 0),
                MYSQL_SESSION_REFUSED_PREPARE_TOO_LARGE);
     CHECK_DONE(feed(&recoder, &whole, whole.len, &out, &stop));
     CHECK_STREAM(&out, PREPARE EXECUTE_1);

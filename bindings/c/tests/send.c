@@ -29,7 +29,8 @@ static void push_ints(const int64_t *numbers, size_t count)
 
 static uint32_t send_by(uint32_t road, const char *query, size_t limit, mysql_session_place *place)
 {
-    return mysql_session_send(&sets, bytes_of(query), strlen(query), road, 1, limit, &out, place);
+    return mysql_session_send(&sets, bytes_of(query), strlen(query), road, 1, limit, 0, &out,
+                              place);
 }
 
 /* What is appended by each road for one number, and for the sets of an empty list. */
@@ -99,7 +100,7 @@ static void read_back(mysql_session_handle *receiver, const char *query)
     const uint8_t *data = NULL;
     size_t len = 0, fed;
     CHECK_DONE(mysql_session_bytes_data(&out, &data, &len));
-    CHECK_DONE(mysql_session_receiver_new(receiver, bytes_of(query), strlen(query), 1, LIMIT));
+    CHECK_DONE(mysql_session_receiver_new(receiver, bytes_of(query), strlen(query), 1, LIMIT, 0));
     for (fed = 0; fed < len; fed++)
         CHECK_DONE(mysql_session_receiver_feed(receiver, data + fed, 1));
     CHECK_DONE(mysql_session_receiver_end(receiver, &how));
@@ -166,7 +167,7 @@ static void put_one_byte(void)
     const uint8_t *data = NULL;
     size_t len = 0;
     CHECK_DONE(mysql_session_sets_end_set(&sets));
-    CHECK_DONE(mysql_session_bind_text(&sets, 0, bytes_of("\n"), 1, &out, &place));
+    CHECK_DONE(mysql_session_bind_text(&sets, 0, bytes_of("\n"), 1, 0, &out, &place));
     CHECK_DONE(mysql_session_bytes_data(&out, &data, &len));
     CHECK_NUMBER(len, 1);
     CHECK_DONE(mysql_session_sets_clear(&sets));

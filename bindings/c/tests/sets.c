@@ -39,7 +39,8 @@ static void check_text(size_t set, const char *query, const char *wanted)
     const uint8_t *data = NULL;
     size_t len = 0;
     CHECK_DONE(mysql_session_bytes_clear(&out));
-    CHECK_DONE(mysql_session_bind_text(&sets, set, bytes_of(query), strlen(query), &out, &place));
+    CHECK_DONE(mysql_session_bind_text(&sets, set, bytes_of(query), strlen(query), 0, &out,
+                                       &place));
     CHECK_DONE(mysql_session_bytes_data(&out, &data, &len));
     CHECK_TEXT(data, len, wanted);
 }
@@ -204,8 +205,8 @@ static void many(void)
         CHECK_DONE(mysql_session_sets_add(&sets, values, 2, bytes_of("xyz"), 3));
     }
     CHECK_DONE(mysql_session_send(&sets, bytes_of(query), strlen(query), MYSQL_SESSION_BULK, 1,
-                                  LIMIT, &out, &place));
-    CHECK_DONE(mysql_session_receiver_new(&receiver, bytes_of(query), strlen(query), 1, LIMIT));
+                                  LIMIT, 0, &out, &place));
+    CHECK_DONE(mysql_session_receiver_new(&receiver, bytes_of(query), strlen(query), 1, LIMIT, 0));
     CHECK_DONE(mysql_session_bytes_data(&out, &data, &len));
     for (fed = 0; fed < len; fed++)
         CHECK_DONE(mysql_session_receiver_feed(&receiver, data + fed, 1));

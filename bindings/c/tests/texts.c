@@ -30,7 +30,7 @@ static void check_out(const char *wanted)
 
 static uint32_t bind(size_t set, const char *query, mysql_session_place *place)
 {
-    return mysql_session_bind_text(&sets, set, bytes_of(query), strlen(query), &out, place);
+    return mysql_session_bind_text(&sets, set, bytes_of(query), strlen(query), 0, &out, place);
 }
 
 /* The bytes of `out` go on behind what stood there. */
@@ -86,7 +86,7 @@ static void reads_back(void)
         memcpy(command + 1, data, len);
     CHECK_DONE(mysql_session_bytes_new(&framed));
     CHECK_DONE(mysql_session_packet_put(&framed, command, len + 1, &number, 1000));
-    CHECK_DONE(mysql_session_receiver_new(&receiver, bytes_of(query), strlen(query), 1, 1000));
+    CHECK_DONE(mysql_session_receiver_new(&receiver, bytes_of(query), strlen(query), 1, 1000, 0));
     CHECK_DONE(mysql_session_bytes_data(&framed, &data, &len));
     for (fed = 0; fed < len; fed++)
         CHECK_DONE(mysql_session_receiver_feed(&receiver, data + fed, 1));
@@ -101,13 +101,13 @@ static void reads_back(void)
 static void literals(void)
 {
     begin();
-    CHECK_DONE(mysql_session_value_text(&sets, 0, 0, &out));
-    CHECK_DONE(mysql_session_value_text(&sets, 0, 1, &out));
-    CHECK_DONE(mysql_session_value_text(&sets, 0, 2, &out));
+    CHECK_DONE(mysql_session_value_text(&sets, 0, 0, 0, &out));
+    CHECK_DONE(mysql_session_value_text(&sets, 0, 1, 0, &out));
+    CHECK_DONE(mysql_session_value_text(&sets, 0, 2, 0, &out));
     check_out("NULL-7'\\'x\\\\ OR ?'");
-    CHECK_CODE(mysql_session_value_text(&sets, 0, 3, &out), MYSQL_SESSION_OUT_OF_RANGE);
-    CHECK_CODE(mysql_session_value_text(&sets, 1, 0, &out), MYSQL_SESSION_OUT_OF_RANGE);
-    CHECK_CODE(mysql_session_value_text(&sets, SIZE_MAX, SIZE_MAX, &out),
+    CHECK_CODE(mysql_session_value_text(&sets, 0, 3, 0, &out), MYSQL_SESSION_OUT_OF_RANGE);
+    CHECK_CODE(mysql_session_value_text(&sets, 1, 0, 0, &out), MYSQL_SESSION_OUT_OF_RANGE);
+    CHECK_CODE(mysql_session_value_text(&sets, SIZE_MAX, SIZE_MAX, 0, &out),
                MYSQL_SESSION_OUT_OF_RANGE);
     check_out("NULL-7'\\'x\\\\ OR ?'");
     end();
@@ -123,11 +123,11 @@ static void dates(void)
     CHECK_DONE(mysql_session_sets_push_time(&sets, true, 34, 22, 59, 59, 999999));
     CHECK_DONE(mysql_session_sets_push_uint(&sets, UINT64_MAX));
     CHECK_DONE(mysql_session_sets_end_set(&sets));
-    CHECK_DONE(mysql_session_value_text(&sets, 1, 0, &out));
-    CHECK_DONE(mysql_session_value_text(&sets, 1, 1, &out));
-    CHECK_DONE(mysql_session_value_text(&sets, 1, 2, &out));
-    CHECK_DONE(mysql_session_value_text(&sets, 1, 3, &out));
-    CHECK_DONE(mysql_session_value_text(&sets, 1, 4, &out));
+    CHECK_DONE(mysql_session_value_text(&sets, 1, 0, 0, &out));
+    CHECK_DONE(mysql_session_value_text(&sets, 1, 1, 0, &out));
+    CHECK_DONE(mysql_session_value_text(&sets, 1, 2, 0, &out));
+    CHECK_DONE(mysql_session_value_text(&sets, 1, 3, 0, &out));
+    CHECK_DONE(mysql_session_value_text(&sets, 1, 4, 0, &out));
     check_out("'2024-02-29''2024-02-29 01:02:03''000:00:00''-838:59:59.999999'"
               "18446744073709551615");
     end();

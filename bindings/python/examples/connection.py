@@ -31,11 +31,17 @@ class ConnectionClosed(Exception):
 
 
 class Connection:
-    """Packets over a socket. Its capabilities are those that both sides have, after the login."""
+    """Packets over a socket. Its capabilities are those that both sides have, after the login; its
+    mode is how the server reads a text, by the last status that it told.
+
+    A MariaDB whose SQL mode has ANSI_QUOTES tells it by a bit that has no name in the protocol. The
+    library refuses a greeting, and a result, with such a status.
+    """
 
     def __init__(self, stream: socket.socket, limit: int = ms.DEFAULT_LIMIT) -> None:
         self.capabilities = 0
         self.mariadb_capabilities = 0
+        self.mode = ms.Mode()
         self._stream = stream
         self._limit = limit
         self._reader = ms.PacketReader(0, limit)
@@ -93,10 +99,11 @@ class Connection:
             # The account has another plugin; the answer of an empty password is empty in each.
             number = self.send(b"", number + 1)
             answer = self.expect(number)
-        results, _ = ms.read_reply(ms.ReplyKind.QUERY, self.capabilities,
-                                   ms.put_packet(answer, number)[0], number)
+        results, end = ms.read_reply(ms.ReplyKind.QUERY, self.capabilities,
+                                     ms.put_packet(answer, number)[0], number)
         if not results or not isinstance(results[0], ms.Ok):
-            raise PermissionError(f"the server refuses the login: {results}")
+            raise PermissionError(f"the server refuses the login: {results or end}")
+        self._note(results)
         return greeting
 
     def command(self, payload: bytes, kind: ms.ReplyKind) -> Iterator[ms.Result]:
@@ -110,7 +117,14 @@ class Connection:
                     raise ConnectionClosed("the connection was closed within a reply")
                 reader.feed(piece)
                 results = reader.take()
+                self._note(results)
                 yield from results
+
+    def _note(self, results: List[ms.Result]) -> None:
+        """Notes the mode that the status of results tells: any command may have changed it."""
+        for result in results:
+            if isinstance(result, ms.Ok) or isinstance(result, ms.Rows) and result.ended:
+                self.mode = ms.Mode.of(result.status)
 
     # A server's side.
 

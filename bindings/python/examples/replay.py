@@ -7,8 +7,11 @@ is printed, and how the recorded stream ends.
 
     replay.py captured.bin 127.0.0.1:3306 --user root --database test --query 'SELECT :a'
 
-By text, values are literals: for a server that takes backslash escapes (NO_BACKSLASH_ESCAPES isn't
-in its SQL mode). The connection is in UTF-8. For any other server choose another road.
+By text, values are literals. They are written for the server's SQL mode, as its status tells it at
+the login and behind each command; the connection is in UTF-8. Where the server that the stream was
+recorded at had NO_BACKSLASH_ESCAPES or ANSI_QUOTES in its SQL mode, --recorded-mode says so: texts
+are read by it. A MariaDB that itself has ANSI_QUOTES can't be replayed to: its status has a bit
+without a name in the protocol then, by which the library refuses its greeting and its answers.
 
 The status is 0 where the stream is whole and the server answered no error, 1 where not, and 2 where
 the replay itself failed.
@@ -61,10 +64,9 @@ def shown(result: ms.Result) -> str:
 class Replay:
     """Sends sets of one query over a connection, and prints what the server answers."""
 
-    def __init__(self, connection: Connection, query: str, road: ms.Road, limit: int) -> None:
+    def __init__(self, connection: Connection, query: bytes, road: ms.Road, limit: int) -> None:
         self._connection = connection
-        # What a receiver reads has an order and no names.
-        self._query = ms.positional(query)
+        self._query = query
         self._road = road
         self._limit = limit
         self._statement = 0 if road == ms.Road.TEXT else self._prepare()
@@ -73,7 +75,8 @@ class Replay:
 
     def _prepare(self) -> int:
         """Prepares the query; gives the id that this server has for the statement."""
-        stream = ms.send(self._query, [], ms.Road.EXECUTE, limit=self._limit)
+        stream = ms.send(self._query, [], ms.Road.EXECUTE, limit=self._limit,
+                         mode=self._connection.mode)
         for prepare in commands(stream, self._limit):
             for result in self._connection.command(prepare, ms.ReplyKind.PREPARE):
                 if isinstance(result, ms.Prepared):
@@ -83,9 +86,17 @@ class Replay:
 
     def send(self, sets: Sets) -> None:
         """Sends sets, and prints the answer to each command."""
-        if not sets:
-            return
-        stream = ms.send(self._query, sets, self._road, self._statement, self._limit)
+        if self._road == ms.Road.TEXT:
+            # One by one: each text is for the mode that the answer before it tells.
+            for it in sets:
+                self._send([it])
+        elif sets:
+            self._send(sets)
+
+    def _send(self, sets: Sets) -> None:
+        """Sends sets at once."""
+        stream = ms.send(self._query, sets, self._road, self._statement, self._limit,
+                         mode=self._connection.mode)
         payloads = commands(stream, self._limit)
         if self._road != ms.Road.TEXT:
             next(payloads)  # the prepare, which was sent before
@@ -126,6 +137,8 @@ def options() -> argparse.Namespace:
     parser.add_argument("--query", required=True, help="the query that the stream is about")
     parser.add_argument("--statement", type=int, default=1,
                         help="the id that the stream's statement has (1)")
+    parser.add_argument("--recorded-mode", metavar="SQL_MODE", default="",
+                        help="the sql_mode of the server that it was recorded at (none)")
     parser.add_argument("--road", choices=ROADS, default="text", help="how sets are sent (text)")
     parser.add_argument("--limit", type=int, default=ms.DEFAULT_LIMIT,
                         help="the server's max_allowed_packet (16777216)")
@@ -141,8 +154,11 @@ def run(given: argparse.Namespace) -> int:
         print(f"server {greeting.version.decode()}")
         if given.road == "bulk" and not connection.mariadb_capabilities & MARIADB_BULK:
             raise ValueError("the server takes no bulk executions")
-        to = Replay(connection, given.query, ROADS[given.road], given.limit)
-        with ms.Receiver(given.query, given.statement, given.limit) as receiver:
+        recorded = ms.Mode.of_sql_mode(given.recorded_mode)
+        # What a receiver reads has an order and no names.
+        query = ms.positional(given.query, mode=recorded)
+        to = Replay(connection, query, ROADS[given.road], given.limit)
+        with ms.Receiver(given.query, given.statement, given.limit, mode=recorded) as receiver:
             end = replay(pieces(given.stream), receiver, to)
     finally:
         connection.close()

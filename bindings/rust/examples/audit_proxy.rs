@@ -13,6 +13,13 @@
 //! whichever direction that went; only a command begins at 0. So an answer is known by the number
 //! that it begins with, also where a client sends commands ahead of the answers. A side that can't
 //! be followed any more is told of; its bytes still pass.
+//!
+//! Which bytes of a query are placeholders depends on the server's SQL mode: OK packets tell it,
+//! the one of the login and those that answer queries and executions. They are read here, not by a
+//! `ReplyReader`: the library refuses a status with MariaDB's bit for ANSI_QUOTES, which has no
+//! name in the protocol, and a session that changes to this mode is followed all the same. A
+//! MariaDB that greets with the bit, the mode being global then, can't be reached through the
+//! proxy: the library refuses its greeting.
 
 mod common;
 #[path = "audit_proxy/sides.rs"]

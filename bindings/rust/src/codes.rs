@@ -38,6 +38,8 @@ impl Code {
     pub const BAD_PACKET: Code = Code(9);
     /// The stream isn't whole where it ends: a packet is cut off, or long data waits.
     pub const UNFINISHED: Code = Code(10);
+    /// No mode has these flags. No safe call answers it.
+    pub const NO_SUCH_MODE: Code = Code(11);
 }
 
 /// Faults of a stream of commands.

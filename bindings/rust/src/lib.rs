@@ -5,6 +5,8 @@
 //!   [`Recoder`] and [`recode`] make one form of it.
 //! - [`send`] appends [`ParameterSets`] as commands to [`Bytes`], by text, by execution or by bulk;
 //!   [`bind_text`] puts one set into the query's text.
+//! - [`Mode`] is how a server reads a text, and [`Spelling`] how byte strings are written in one:
+//!   calls whose names end with `_in` take them.
 //! - [`ReplyReader`] reads a server's reply; [`ReplyWriter`] writes one.
 //! - [`PacketReader`] cuts a stream into payloads, [`put_packet`] frames them; [`Greeting`] and
 //!   [`Login`], [`RegisterReplica`], [`BinlogDump`] and [`BinlogDumpGtid`] are payloads of a
@@ -16,9 +18,12 @@
 //! or a row's cells, borrows from that value, and nothing is copied. A value stays in the thread
 //! that made it; values in different threads share nothing.
 //!
-//! Texts of values ([`Road::Text`], [`bind_text`], [`value_text`]) are safe for a server that takes
-//! backslash escapes (NO_BACKSLASH_ESCAPES isn't in its SQL mode) over a connection in UTF-8; for
-//! any other a value may end its literal: send by execution there.
+//! Texts of values ([`Road::Text`], [`bind_text`], [`value_text`]) are safe for a server whose SQL
+//! mode has neither NO_BACKSLASH_ESCAPES nor ANSI_QUOTES, over a connection in UTF-8 or another
+//! character set that is safe to quote ([`is_safe_to_quote`]); for any other a value may end its
+//! literal. For a server in another mode there are [`send_in`], [`bind_text_in`] and
+//! [`value_text_in`]; [`Spelling::Hexadecimal`] is safe in each character set, and executions at
+//! each server.
 //!
 //! A call that isn't done answers an [`Error`], and a stream that can't be read on a [`Fault`], by
 //! a [`Code`] that the library has a text for. A call panics only where the linked library isn't
@@ -32,6 +37,7 @@ pub mod capability;
 mod codes;
 mod handle;
 mod login;
+mod modes;
 mod packets;
 mod raw;
 mod receiver;
@@ -47,16 +53,17 @@ mod writer;
 pub use bytes::Bytes;
 pub use codes::{At, Code, End, Error, Fault};
 pub use login::{Greeting, Login};
+pub use modes::{is_safe_to_quote, Mode, Spelling};
 pub use packets::{put_packet, PacketReader};
 pub use receiver::{Audit, Receiver, Set};
-pub use recoder::{recode, Recoder};
+pub use recoder::{recode, recode_in, Recoder};
 pub use replication::{BinlogDump, BinlogDumpGtid, RegisterReplica, BINLOG_DUMP_NON_BLOCK};
 pub use reply::{Reply, ReplyKind, ReplyReader};
 pub use results::{
     Column, ColumnType, Done, ErrorPacket, OkPacket, Prepared, ReplyResult, Row, Rows,
     SessionState, SessionStates,
 };
-pub use sending::{bind_text, send, value_text, Road};
+pub use sending::{bind_text, bind_text_in, send, send_in, value_text, value_text_in, Road};
 pub use sets::ParameterSets;
 pub use values::{Content, Date, Time, Value};
 pub use writer::ReplyWriter;

@@ -9,7 +9,12 @@ use std::ptr::null;
 use std::slice;
 
 /// `MYSQL_SESSION_ABI`: the interface that is declared here.
-pub const ABI: u32 = 3;
+pub const ABI: u32 = 4;
+
+// `enum mysql_session_flag`.
+pub const NO_BACKSLASH_ESCAPES: u32 = 1;
+pub const ANSI_QUOTES: u32 = 2;
+pub const HEXADECIMAL: u32 = 4;
 
 /// `mysql_session_handle`.
 #[repr(C)]
@@ -202,12 +207,17 @@ extern "C" {
     pub fn mysql_session_free(handle: *mut Handle);
     pub fn mysql_session_code_text(code: u32, text: *mut *const u8, len: *mut usize);
 
+    pub fn mysql_session_mode_of_status(status: u16) -> u32;
+    pub fn mysql_session_mode_of_sql_mode(value: *const u8, len: usize) -> u32;
+    pub fn mysql_session_is_safe_to_quote(collation: u16) -> u32;
+
     pub fn mysql_session_receiver_new(
         handle: *mut Handle,
         query: *const u8,
         len: usize,
         statement: u32,
         limit: usize,
+        flags: u32,
     ) -> u32;
     pub fn mysql_session_receiver_feed(handle: *mut Handle, piece: *const u8, len: usize) -> u32;
     pub fn mysql_session_receiver_sets(handle: *mut Handle, count: *mut usize) -> u32;
@@ -271,6 +281,7 @@ extern "C" {
         road: u32,
         statement: u32,
         limit: usize,
+        flags: u32,
         out: *mut Handle,
         place: *mut Place,
     ) -> u32;
@@ -279,6 +290,7 @@ extern "C" {
         set: usize,
         query: *const u8,
         len: usize,
+        flags: u32,
         out: *mut Handle,
         place: *mut Place,
     ) -> u32;
@@ -286,6 +298,7 @@ extern "C" {
         sets: *mut Handle,
         set: usize,
         place: usize,
+        flags: u32,
         out: *mut Handle,
     ) -> u32;
 
@@ -295,6 +308,7 @@ extern "C" {
         len: usize,
         statement: u32,
         limit: usize,
+        flags: u32,
     ) -> u32;
     pub fn mysql_session_recoder_feed(
         handle: *mut Handle,

@@ -2,6 +2,7 @@
 
 use crate::codes::{certain, in_range, End, Error, Fault};
 use crate::handle::Handle;
+use crate::modes::Mode;
 use crate::raw;
 use crate::values::Content;
 
@@ -51,13 +52,51 @@ impl Receiver {
     /// The limit is the `max_allowed_packet` of the side that the stream goes to, at least 4. A
     /// payload has at most that many bytes.
     ///
+    /// Texts are read as a server in the default mode reads them: [`Receiver::new_in`] takes the
+    /// mode.
+    ///
     /// # Errors
     /// [`Code::LIMIT_TOO_SMALL`](crate::Code::LIMIT_TOO_SMALL),
     /// [`Code::MIXED`](crate::Code::MIXED), [`Code::MEMORY`](crate::Code::MEMORY).
     pub fn new(query: &[u8], statement: u32, limit: usize) -> Result<Receiver, Error> {
+        Receiver::new_in(query, statement, limit, Mode::default())
+    }
+
+    /// A receiver of a stream of commands about this query, which were sent to a server in this
+    /// mode: for one in another mode texts, and the query's placeholders, may be others than this
+    /// receiver reads.
+    ///
+    /// # Errors
+    /// Those of [`Receiver::new`].
+    ///
+    /// ```
+    /// use mysql_session::{Content, Mode, Receiver};
+    ///
+    /// # fn main() -> Result<(), mysql_session::Error> {
+    /// let mode = Mode { no_backslash_escapes: true, ..Mode::default() };
+    /// let mut receiver = Receiver::new_in(b"SELECT ?", 1, 1 << 24, mode)?;
+    /// receiver.feed(b"\x0b\0\0\0\x03SELECT '\\'")?;
+    /// let set = receiver.sets().next().expect("one set was read");
+    /// assert_eq!(set.content(0), Some(Content::Bytes(b"\\")));
+    /// # Ok(())
+    /// # }
+    /// ```
+    pub fn new_in(
+        query: &[u8],
+        statement: u32,
+        limit: usize,
+        mode: Mode,
+    ) -> Result<Receiver, Error> {
         // SAFETY: "Handles": a handle that is being made; "Bytes go in": the query is a slice.
         let handle = Handle::made(|handle| unsafe {
-            raw::mysql_session_receiver_new(handle, query.as_ptr(), query.len(), statement, limit)
+            raw::mysql_session_receiver_new(
+                handle,
+                query.as_ptr(),
+                query.len(),
+                statement,
+                limit,
+                mode.flags(),
+            )
         })?;
         Ok(Receiver { handle })
     }

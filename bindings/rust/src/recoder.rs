@@ -3,6 +3,7 @@
 use crate::bytes::Bytes;
 use crate::codes::{answer, At, Code, End, Error};
 use crate::handle::Handle;
+use crate::modes::Mode;
 use crate::raw;
 
 /// Recodes a stream of commands about one query as it comes: as one prepare, and an execution for
@@ -32,13 +33,38 @@ impl Recoder {
     /// A recoder of a stream of commands about this query, whose statement was given this id. The
     /// limit is the `max_allowed_packet` of the receiving side, at least 4.
     ///
+    /// Texts are read as a server in the default mode reads them: [`Recoder::new_in`] takes the
+    /// mode.
+    ///
     /// # Errors
     /// [`Code::LIMIT_TOO_SMALL`], [`Code::MIXED`], [`Code::REFUSED_TOO_MANY_PLACES`],
     /// [`Code::REFUSED_PREPARE_TOO_LARGE`], [`Code::MEMORY`].
     pub fn new(query: &[u8], statement: u32, limit: usize) -> Result<Recoder, Error> {
+        Recoder::new_in(query, statement, limit, Mode::default())
+    }
+
+    /// A recoder of a stream that was sent to a server in this mode, else as [`Recoder::new`] makes
+    /// it. What it writes carries no texts with values: it is for a server in any mode in which the
+    /// query's own text is the same.
+    ///
+    /// # Errors
+    /// Those of [`Recoder::new`].
+    pub fn new_in(
+        query: &[u8],
+        statement: u32,
+        limit: usize,
+        mode: Mode,
+    ) -> Result<Recoder, Error> {
         // SAFETY: "Handles": a handle that is being made; "Bytes go in": the query is a slice.
         let handle = Handle::made(|handle| unsafe {
-            raw::mysql_session_recoder_new(handle, query.as_ptr(), query.len(), statement, limit)
+            raw::mysql_session_recoder_new(
+                handle,
+                query.as_ptr(),
+                query.len(),
+                statement,
+                limit,
+                mode.flags(),
+            )
         })?;
         Ok(Recoder { handle })
     }
@@ -98,8 +124,22 @@ impl Recoder {
 /// # }
 /// ```
 pub fn recode(query: &[u8], statement: u32, limit: usize, stream: &[u8]) -> Result<Bytes, Error> {
+    recode_in(query, statement, limit, Mode::default(), stream)
+}
+
+/// Recodes a whole stream of commands about one query, which was sent to a server in this mode.
+///
+/// # Errors
+/// Those of [`Recoder::new_in`], [`Recoder::feed`] and [`Recoder::end`].
+pub fn recode_in(
+    query: &[u8],
+    statement: u32,
+    limit: usize,
+    mode: Mode,
+    stream: &[u8],
+) -> Result<Bytes, Error> {
     let mut out = Bytes::new()?;
-    let mut recoder = Recoder::new(query, statement, limit)?;
+    let mut recoder = Recoder::new_in(query, statement, limit, mode)?;
     recoder.feed(stream, &mut out)?;
     recoder.end(&mut out)?;
     Ok(out)

@@ -2,21 +2,22 @@
 
 use crate::bytes::Bytes;
 use crate::codes::{answer, At, Code, Error};
+use crate::modes::{Mode, Spelling};
 use crate::raw;
 use crate::sets::ParameterSets;
 
 /// By which commands parameter sets are sent.
 #[derive(Clone, Copy, Debug, PartialEq, Eq, Hash)]
 pub enum Road {
-    /// A text query for each set.
+    /// A text query for each set, in which values are literals.
     ///
-    /// Safe for a server that takes backslash escapes (NO_BACKSLASH_ESCAPES isn't in its SQL mode)
-    /// over a connection in UTF-8; for any other a value may end its literal: send by execution
-    /// there.
+    /// Safe for a server in the mode that the call takes, or in the default mode where it takes
+    /// none, over a connection in UTF-8 or another character set that is safe to quote
+    /// ([`is_safe_to_quote`](crate::is_safe_to_quote)); for any other a value may end its literal.
     Text = 0,
-    /// One prepare, and an execution for each set.
+    /// One prepare, and an execution for each set. Safe for any server.
     Execute = 1,
-    /// One prepare, and the fewest of MariaDB's bulk executions.
+    /// One prepare, and the fewest of MariaDB's bulk executions. Safe for any MariaDB server.
     Bulk = 2,
 }
 
@@ -26,9 +27,11 @@ pub enum Road {
 /// set that wasn't ended aren't sent. The query's placeholders are question marks: sets have no
 /// names, so that a query with `:name` refuses them by [`Code::REFUSED_PARAMS`].
 ///
-/// By [`Road::Text`] values are literals in the query's text. Safe for a server that takes
-/// backslash escapes (NO_BACKSLASH_ESCAPES isn't in its SQL mode) over a connection in UTF-8; for
-/// any other a value may end its literal: send by execution there.
+/// By [`Road::Text`] values are literals in the query's text. **Safe for** a server whose SQL mode
+/// has neither NO_BACKSLASH_ESCAPES nor ANSI_QUOTES, over a connection in UTF-8 or another
+/// character set that is safe to quote ([`is_safe_to_quote`](crate::is_safe_to_quote)). For a
+/// server in another mode a value may end its literal, and what stands behind the quote is read as
+/// SQL: [`send_in`] takes the mode. By the other roads it is safe for any server.
 ///
 /// The limit is the `max_allowed_packet` of the receiving side, at least 4; a payload has at most
 /// `limit - 4` bytes.
@@ -64,6 +67,51 @@ pub fn send(
     limit: usize,
     out: &mut Bytes,
 ) -> Result<(), Error> {
+    let (mode, spelling) = (Mode::default(), Spelling::Quoted);
+    send_in(sets, query, road, statement, limit, mode, spelling, out)
+}
+
+/// Appends the commands that [`send`] appends, for a server in this mode and with byte strings
+/// spelled so. A receiver in this mode reads the sets back.
+///
+/// By [`Road::Text`] it is **safe for** a server in this mode: by [`Spelling::Quoted`] over a
+/// connection in UTF-8 or another character set that is safe to quote
+/// ([`is_safe_to_quote`](crate::is_safe_to_quote)), by [`Spelling::Hexadecimal`] in any character
+/// set in which bytes below 80 that follow one another are themselves. For a server in another mode
+/// a value may end its literal. By the other roads it is safe for any server, and the mode says
+/// which bytes of the query's own text are placeholders.
+///
+/// # Errors
+/// Those of [`send`].
+///
+/// ```
+/// use mysql_session::{send_in, Bytes, Mode, ParameterSets, Road, Spelling};
+///
+/// # fn main() -> Result<(), mysql_session::Error> {
+/// let mut sets = ParameterSets::new()?;
+/// sets.add(&["it's".into()])?;
+///
+/// let mode = Mode { no_backslash_escapes: true, ..Mode::default() };
+/// let mut out = Bytes::new()?;
+/// send_in(&sets, b"SELECT ?", Road::Text, 1, 1 << 24, mode, Spelling::Quoted, &mut out)?;
+/// assert_eq!(&out[5..], b"SELECT 'it''s'");
+/// out.clear();
+/// send_in(&sets, b"SELECT ?", Road::Text, 1, 1 << 24, mode, Spelling::Hexadecimal, &mut out)?;
+/// assert_eq!(&out[5..], b"SELECT 0x69742773");
+/// # Ok(())
+/// # }
+/// ```
+#[allow(clippy::too_many_arguments)] // those of the library's call
+pub fn send_in(
+    sets: &ParameterSets,
+    query: &[u8],
+    road: Road,
+    statement: u32,
+    limit: usize,
+    mode: Mode,
+    spelling: Spelling,
+    out: &mut Bytes,
+) -> Result<(), Error> {
     let mut place = raw::Place::default();
     // SAFETY: "Handles": by `Handle::get`, and the handles are different ones as objects of two
     // kinds own them; "Bytes go in": the query is a slice; "Results go out": a local.
@@ -75,6 +123,7 @@ pub fn send(
             road as u32,
             statement,
             limit,
+            mode.flags_with(spelling),
             out.changing(),
             &mut place,
         )
@@ -85,8 +134,10 @@ pub fn send(
 /// Appends to `out` the text of one set, by its number from 0: the query with a literal in the
 /// place of each placeholder. It is what a text query has behind its first byte.
 ///
-/// Safe for a server that takes backslash escapes (NO_BACKSLASH_ESCAPES isn't in its SQL mode) over
-/// a connection in UTF-8; for any other a value may end its literal: send by execution there.
+/// **Safe for** a server whose SQL mode has neither NO_BACKSLASH_ESCAPES nor ANSI_QUOTES, over a
+/// connection in UTF-8 or another character set that is safe to quote
+/// ([`is_safe_to_quote`](crate::is_safe_to_quote)). For a server in another mode a value may end
+/// its literal, and what stands behind the quote is read as SQL: [`bind_text_in`] takes the mode.
 ///
 /// # Errors
 /// [`Code::OUT_OF_RANGE`] where there is no such set, [`Code::MIXED`], [`Code::MEMORY`],
@@ -111,14 +162,36 @@ pub fn bind_text(
     query: &[u8],
     out: &mut Bytes,
 ) -> Result<(), Error> {
+    bind_text_in(sets, set, query, Mode::default(), Spelling::Quoted, out)
+}
+
+/// Appends the text that [`bind_text`] appends, for a server in this mode and with byte strings
+/// spelled so.
+///
+/// **Safe for** a server in this mode: by [`Spelling::Quoted`] over a connection in UTF-8 or
+/// another character set that is safe to quote ([`is_safe_to_quote`](crate::is_safe_to_quote)), by
+/// [`Spelling::Hexadecimal`] in any character set in which bytes below 80 that follow one another
+/// are themselves. For a server in another mode a value may end its literal.
+///
+/// # Errors
+/// Those of [`bind_text`].
+pub fn bind_text_in(
+    sets: &ParameterSets,
+    set: usize,
+    query: &[u8],
+    mode: Mode,
+    spelling: Spelling,
+    out: &mut Bytes,
+) -> Result<(), Error> {
     let mut place = raw::Place::default();
-    // SAFETY: as in `send`.
+    // SAFETY: as in `send_in`.
     let code = unsafe {
         raw::mysql_session_bind_text(
             sets.looking(),
             set,
             query.as_ptr(),
             query.len(),
+            mode.flags_with(spelling),
             out.changing(),
             &mut place,
         )
@@ -128,8 +201,7 @@ pub fn bind_text(
 
 /// Appends to `out` the literal of one value, by the numbers of its set and its place, from 0.
 ///
-/// Safe for a server that takes backslash escapes (NO_BACKSLASH_ESCAPES isn't in its SQL mode) over
-/// a connection in UTF-8; for any other a value may end its literal: send by execution there.
+/// **Safe for** the servers that [`bind_text`] is safe for: [`value_text_in`] takes the mode.
 ///
 /// # Errors
 /// [`Code::OUT_OF_RANGE`], [`Code::MEMORY`]; nothing is appended then.
@@ -139,8 +211,28 @@ pub fn value_text(
     place: usize,
     out: &mut Bytes,
 ) -> Result<(), Error> {
-    // SAFETY: as in `send`.
-    let code = unsafe { raw::mysql_session_value_text(sets.looking(), set, place, out.changing()) };
+    value_text_in(sets, set, place, Mode::default(), Spelling::Quoted, out)
+}
+
+/// Appends the literal that [`value_text`] appends, for a server in this mode and with byte strings
+/// spelled so.
+///
+/// **Safe for** the servers that [`bind_text_in`] is safe for by the same mode and spelling.
+///
+/// # Errors
+/// Those of [`value_text`].
+pub fn value_text_in(
+    sets: &ParameterSets,
+    set: usize,
+    place: usize,
+    mode: Mode,
+    spelling: Spelling,
+    out: &mut Bytes,
+) -> Result<(), Error> {
+    let flags = mode.flags_with(spelling);
+    // SAFETY: as in `send_in`.
+    let code =
+        unsafe { raw::mysql_session_value_text(sets.looking(), set, place, flags, out.changing()) };
     Ok(answer(code)?)
 }
 

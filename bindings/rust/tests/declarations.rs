@@ -220,23 +220,48 @@ fn calls_are_those_of_the_header() {
     }
 }
 
-#[test]
-fn codes_are_those_of_the_header() {
+/// The names of an enum of the header without the prefix, and their numbers.
+fn header_numbers(name: &str) -> BTreeMap<String, String> {
     let text = header();
     let (_, rest) = text
-        .split_once("enum mysql_session_code {")
-        .expect("there are codes");
-    let (codes, _) = rest.split_once('}').expect("the codes end");
-    let wanted: BTreeMap<String, String> = codes
+        .split_once(&format!("enum {name} {{"))
+        .expect("the header has the enum");
+    let (names, _) = rest.split_once('}').expect("the enum ends");
+    names
         .split(',')
-        .map(|code| {
-            code.trim()
+        .map(|name| {
+            name.trim()
                 .split_once(" = ")
-                .expect("each code has a number")
+                .expect("each name has a number")
         })
         .map(|(name, number)| (name.replace("MYSQL_SESSION_", ""), number.to_string()))
-        .filter(|(name, _)| name != "OK")
+        .collect()
+}
+
+#[test]
+fn flags_and_the_interface_are_those_of_the_header() {
+    let mut wanted = header_numbers("mysql_session_flag");
+    let text = text_of("../c/mysql_session.h");
+    let (_, rest) = text
+        .split_once("#define MYSQL_SESSION_ABI ")
+        .expect("the interface has a number");
+    let number = rest.split_whitespace().next().expect("a number");
+    wanted.insert("ABI".to_string(), number.to_string());
+    let text = text_of("src/raw.rs");
+    let found: BTreeMap<String, String> = text
+        .lines()
+        .filter_map(|line| line.strip_prefix("pub const ")?.strip_suffix(';'))
+        .filter_map(|constant| constant.split_once(": u32 = "))
+        .map(|(name, number)| (name.to_string(), number.to_string()))
         .collect();
+    assert_eq!(wanted.len(), 4);
+    assert_eq!(wanted, found);
+}
+
+#[test]
+fn codes_are_those_of_the_header() {
+    let mut wanted = header_numbers("mysql_session_code");
+    wanted.remove("OK");
     let text = text_of("src/codes.rs");
     let found: BTreeMap<String, String> = text
         .lines()

@@ -4,21 +4,22 @@
 use mysql_session::{
     Audit, BindError, ByteString, CapabilityFlags, Column, ColumnIndex, Content, End, Flags,
     FromValue, FromValueError, FromValueRef, Intermediate, IntoParams, LentRow, LocalInfilePacket,
-    MissingNamedParameterError, OkPacket, PacketCodecError, PacketReader, Params,
+    MissingNamedParameterError, Mode, OkPacket, PacketCodecError, PacketReader, Params,
     ParamsConfusionError, ParamsError, ParseIr, ProgressReport, Query, Receiver, ReceiverError,
     RecodeError, Recoder, Refusal, Reply, ReplyEnd, ReplyFault, ReplyKind, ReplyReader,
     ReplyRefusal, ReplyResult, ReplyWriter, Road, Row, RowError, RowExt, RowFormat, RowLender,
-    RowReader, RowRef, RowRefExt, SendToError, ServerError, SetError, SqlState, StatusFlags,
-    StmtPacket, StoredRows, StreamFault, ToValue, ToValueError, Value, ValueRef, from_value,
-    from_value_opt, packet_to_chunks, read_reply, receive, recode, send, send_contents,
-    send_values, write_reply,
+    RowReader, RowRef, RowRefExt, SendToError, ServerError, SetError, Spelling, SqlState,
+    StatusFlags, StmtPacket, StoredRows, StreamFault, ToValue, ToValueError, Value, ValueRef,
+    from_value, from_value_opt, is_safe_to_quote, packet_to_chunks, read_reply, receive,
+    receive_in, recode, recode_in, send, send_contents, send_contents_in, send_values, write_reply,
 };
 
 mod laws {
     use mysql_session::laws::{
         deliveries_are_read_back, deliveries_are_received, failed_writers_are_read,
-        further_sets_are_delivered, made_sets_give_the_same, readable_sets_are_delivered,
-        recodings_are_delivered, roads_read_equally, sent_streams_join,
+        further_sets_are_delivered, hexadecimal_reads_in_each_mode, made_sets_give_the_same,
+        readable_sets_are_delivered, recodings_are_delivered, roads_read_equally,
+        sent_streams_join, tokens_in_each_mode,
     };
 
     mod commands {
@@ -70,9 +71,10 @@ mod laws {
 
     mod streams {
         use mysql_session::laws::streams::{
-            executions_read, queries_read, requests_have_their_size, requests_read,
-            roads_read_equally, sent_payloads_fit, sent_sets_are_delivered, sent_streams_join,
-            sent_values_are_carried, sets_mean_each, statements_are_one,
+            executions_read, hexadecimal_reads_in_each_mode, queries_read,
+            requests_have_their_size, requests_read, roads_read_equally, sent_payloads_fit,
+            sent_sets_are_delivered, sent_streams_join, sent_values_are_carried, sets_mean_each,
+            statements_are_one, tokens_in_each_mode,
         };
     }
 

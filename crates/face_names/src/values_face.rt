@@ -3,16 +3,17 @@
 
 use mysql_values::{
     AsSqlError, BinValue, BindError, ByteString, ClientSide, Content, ContentExt, Literal,
-    MissingNamedParameterError, MixedParamsError, NamedParamsError, Params, ParamsConfusionError,
-    ParamsError, ParsedNamedParams, Place, SerializationSide, ServerSide, SetError, TextValue,
-    Value, ValueDeserializer, bind_text, bind_text_at, first_not_alone, is_mixed, places,
-    read_cell, read_literal, read_text, read_text_cell,
+    MissingNamedParameterError, MixedParamsError, Mode, NamedParamsError, Params,
+    ParamsConfusionError, ParamsError, ParsedNamedParams, Place, SerializationSide, ServerSide,
+    SetError, Spelling, TextValue, Value, ValueDeserializer, bind_query, bind_text, bind_text_at,
+    bind_text_in, first_not_alone, is_mixed, is_safe_to_quote, places, places_in, read_cell,
+    read_literal, read_literal_in, read_text, read_text_cell, read_text_in,
 };
 
 mod bind {
     use mysql_values::bind::{
-        BindError, ParsedQuery, bind_text, bind_text_at, bind_text_onto, bind_text_over,
-        names_among,
+        BindError, ParsedQuery, bind_query, bind_query_onto, bind_text, bind_text_at, bind_text_in,
+        bind_text_onto, bind_text_over, names_among,
     };
 }
 

@@ -1,9 +1,10 @@
-//! Commands: bytes that were written, receivers, parameter sets, sending, texts and recoders.
+//! Commands: bytes that were written, modes, receivers, parameter sets, sending, texts and recoders.
 
 ghost use Rattle.mysql_c_commands.specs.Adding.{AddsSetIn};
-ghost use Rattle.mysql_c_commands.specs.Receivers.{EndsAs, IsFedBy, IsNew, IsReceiver, LetsGo, OfReceiver, content_at};
+ghost use Rattle.mysql_c_commands.specs.Modes.{InMode, flagged};
+ghost use Rattle.mysql_c_commands.specs.Receivers.{EndsAs, IsFedBy, LetsGo, MakesReceiver, OfReceiver, content_at};
 ghost use Rattle.mysql_c_commands.specs.Receivers.{missing_code, reading_code, sets_held};
-ghost use Rattle.mysql_c_commands.specs.Recoding.{IsRecoder, IsWhyNoRecoder, RecoderEnds, RecodesFrom};
+ghost use Rattle.mysql_c_commands.specs.Recoding.{MakesRecoder, RecoderEnds, RecodesFrom};
 ghost use Rattle.mysql_c_commands.specs.Sending.{SendsFrom};
 ghost use Rattle.mysql_c_commands.specs.Sets.{CountsSets, EndsSetIn, HasNone, LosesAll, TakesValueIn};
 ghost use Rattle.mysql_c_commands.specs.Shown.{Shows};
@@ -11,18 +12,19 @@ ghost use Rattle.mysql_c_commands.specs.Texts.{BindsTextFrom, PutsLiteralFrom};
 ghost use Rattle.mysql_c_handles.specs.Bytes.{HasLength, IsBytes, IsCleared, OfBytes};
 ghost use Rattle.mysql_c_handles.specs.Codes.{code_number};
 ghost use Rattle.mysql_c_handles.specs.Sets.{IsSets, OfSets};
-ghost use Rattle.mysql_recoding.specs.AsItComes.{IsNewRecoder, recoder_state};
-ghost use Rattle.mysql_values.specs.Queries.{HasMixed};
-ghost use Rattle.std.specs.Prelude.{MatchOption, [], false, length, slice_get, true, ◌<◌, ◌≡◌, ◌≢◌, ◌⊎◌};
-ghost use Rattle.mysql_c_handles.specs.declared.code.Code.TheVariants as code;
+ghost use Rattle.mysql_values.specs.Modes.{is_safe_to_quote as is_safe, mode_of_sql_mode as told_by_variable};
+ghost use Rattle.mysql_values.specs.Modes.{mode_of_status as told_by_status};
+ghost use Rattle.mysql_values.specs.Spelling.TheVariants.{Quoted};
+ghost use Rattle.mysql_values.specs.Sql.{read_in};
+ghost use Rattle.std.specs.Prelude.{MatchOption, Some, [], false, length, slice_get, true, ◌≡◌, ◌≢◌};
 ghost use Rattle.mysql_cells.specs.declared.value.Value.TheVariants as value;
 
 use mysql_c_commands::{
-    Parameter, ShownContent, ShownPlace, ShownStop, bind_text, receiver_clear, receiver_content,
-    receiver_end, receiver_feed, receiver_new, receiver_sets, receiver_width, recoder_end,
-    recoder_feed, recoder_new, send, sets_add, sets_clear, sets_count, sets_end_set, sets_new,
-    sets_push_bytes, sets_push_date, sets_push_int, sets_push_null, sets_push_time, sets_push_uint,
-    value_text,
+    Parameter, ShownContent, ShownPlace, ShownStop, bind_text, is_safe_to_quote, mode_of_sql_mode,
+    mode_of_status, receiver_clear, receiver_content, receiver_end, receiver_feed, receiver_new,
+    receiver_sets, receiver_width, recoder_end, recoder_feed, recoder_new, send, sets_add,
+    sets_clear, sets_count, sets_end_set, sets_new, sets_push_bytes, sets_push_date, sets_push_int,
+    sets_push_null, sets_push_time, sets_push_uint, value_text,
 };
 use mysql_c_handles::{Handle, ShownEnd, bytes_clear, bytes_data, bytes_new};
 use std::alloc::Global;
@@ -57,9 +59,35 @@ pub extern "C" fn mysql_session_bytes_clear(alloc: Global, handle: &mut Handle) 
     bytes_clear(alloc, handle)
 }
 
+/// The flags that tell the mode of a server by its status, as its OK packets have it.
+#[unsafe(no_mangle)]
+pub extern "C" fn mysql_session_mode_of_status(status: u16) -> u32
+    ensures { flagged result ≡ Some (told_by_status status, Quoted) }
+{
+    mode_of_status(status)
+}
+
+/// The flags that tell the mode of a server by the value of its variable `sql_mode`.
+#[unsafe(no_mangle)]
+pub extern "C" fn mysql_session_mode_of_sql_mode(value: &[u8]) -> u32
+    ensures { flagged result ≡ Some (told_by_variable value.now, Quoted) }
+{
+    mode_of_sql_mode(value)
+}
+
+/// 1 where literals in quotes are safe in a text that a server reads in this collation, else 0.
+#[unsafe(no_mangle)]
+pub extern "C" fn mysql_session_is_safe_to_quote(collation: u16) -> u32
+    ensures safe { is_safe collation ≡ true → result ≡ 1 }
+    ensures hidden { is_safe collation ≡ false → result ≡ 0 }
+{
+    is_safe_to_quote(collation)
+}
+
 /// Makes the handle stand for a receiver of a stream of commands about this query.
 ///
-/// `id` is that of the query's statement.
+/// `id` is that of the query's statement. The flags tell the mode of the server that the stream was
+/// sent to; of how they spell byte strings it takes no notice.
 #[unsafe(no_mangle)]
 pub extern "C" fn mysql_session_receiver_new(
     alloc: Global,
@@ -67,15 +95,12 @@ pub extern "C" fn mysql_session_receiver_new(
     query: &[u8],
     id: u32,
     limit: usize,
+    flags: u32,
 ) -> u32
-    ensures made { result ≡ 0 → IsReceiver handle.new.object (IsNew query.now id limit) × HasMixed query.now false }
-    ensures kept { result ≢ 0 → handle.new.object ≡ handle.old.object }
-    ensures small { limit < 4 → result ≡ code_number code.LimitTooSmall }
-    ensures cause { (result ≡ 0) ⊎ (result ≡ code_number code.Memory) ⊎
-        ((result ≡ code_number code.LimitTooSmall) × (limit < 4)) ⊎
-        ((result ≡ code_number code.Mixed) × HasMixed query.now true) }
+    ensures { InMode flags result handle.old.object handle.new.object
+        (λ mode _. MakesReceiver (read_in mode query.now) id limit handle.old.object result handle.new.object) }
 {
-    receiver_new(alloc, handle, query, id, limit)
+    receiver_new(alloc, handle, query, id, limit, flags)
 }
 
 /// Feeds a receiver with the next piece of its stream.
@@ -314,52 +339,64 @@ pub extern "C" fn mysql_session_send(
     road: u32,
     id: u32,
     limit: usize,
+    flags: u32,
     out: &mut Handle,
     place: &mut ShownPlace,
 ) -> u32
     ensures kept { sets.new.object ≡ sets.old.object }
-    ensures sent { SendsFrom road query.now id limit sets.old.object out.old.object result place.new out.new.object }
+    ensures sent { SendsFrom road flags query.now id limit sets.old.object out.old.object result
+        place.new out.new.object }
 {
-    send(alloc, sets, query, road, id, limit, out, place)
+    send(alloc, sets, query, road, id, limit, flags, out, place)
 }
 
 /// Appends the text of the set of this number over a query to the bytes of another handle. Where
 /// there is none it shows the set and the place that are refused, and the bytes stay.
+///
+/// The flags tell the mode of the server that the text is for, and how byte strings are spelled.
 #[unsafe(no_mangle)]
 pub extern "C" fn mysql_session_bind_text(
     alloc: Global,
     sets: &mut Handle,
     set: usize,
     query: &[u8],
+    flags: u32,
     out: &mut Handle,
     place: &mut ShownPlace,
 ) -> u32
     ensures kept { sets.new.object ≡ sets.old.object }
-    ensures bound { BindsTextFrom query.now sets.old.object set out.old.object result place.new out.new.object }
+    ensures bound { InMode flags result out.old.object out.new.object
+        (λ mode spelling. BindsTextFrom (read_in mode query.now) spelling sets.old.object set
+        out.old.object result place.new out.new.object) }
 {
-    bind_text(alloc, sets, set, query, out, place)
+    bind_text(alloc, sets, set, query, flags, out, place)
 }
 
 /// Appends the literal of a value to the bytes of another handle.
 ///
-/// The value is at a place of the set of this number.
+/// The value is at a place of the set of this number. The flags tell the mode of the server that
+/// the literal is for, and how byte strings are spelled.
 #[unsafe(no_mangle)]
 pub extern "C" fn mysql_session_value_text(
     alloc: Global,
     sets: &mut Handle,
     set: usize,
     place: usize,
+    flags: u32,
     out: &mut Handle,
 ) -> u32
     ensures kept { sets.new.object ≡ sets.old.object }
-    ensures put { PutsLiteralFrom sets.old.object set place out.old.object result out.new.object }
+    ensures put { InMode flags result out.old.object out.new.object
+        (λ mode spelling. PutsLiteralFrom mode spelling sets.old.object set place out.old.object
+        result out.new.object) }
 {
-    value_text(alloc, sets, set, place, out)
+    value_text(alloc, sets, set, place, flags, out)
 }
 
 /// Makes the handle stand for a recoder of a stream of commands about this query.
 ///
-/// `id` is that of the query's statement.
+/// `id` is that of the query's statement. The flags tell the mode of the server that the stream was
+/// sent to; of how they spell byte strings it takes no notice.
 #[unsafe(no_mangle)]
 pub extern "C" fn mysql_session_recoder_new(
     alloc: Global,
@@ -367,13 +404,12 @@ pub extern "C" fn mysql_session_recoder_new(
     query: &[u8],
     id: u32,
     limit: usize,
+    flags: u32,
 ) -> u32
-    ensures made { result ≡ 0 → IsRecoder handle.new.object (λ r. IsNewRecoder query.now id limit (recoder_state r)) }
-    ensures kept { result ≢ 0 → handle.new.object ≡ handle.old.object }
-    ensures small { limit < 4 → result ≡ code_number code.LimitTooSmall }
-    ensures cause { (result ≡ 0) ⊎ IsWhyNoRecoder query.now id limit result }
+    ensures { InMode flags result handle.old.object handle.new.object
+        (λ mode _. MakesRecoder (read_in mode query.now) id limit handle.old.object result handle.new.object) }
 {
-    recoder_new(alloc, handle, query, id, limit)
+    recoder_new(alloc, handle, query, id, limit, flags)
 }
 
 /// Feeds a recoder with the next piece of its stream, and appends the executions it makes.

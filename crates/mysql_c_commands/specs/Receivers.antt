@@ -1,7 +1,9 @@
 -- What the calls on receivers say of the object that a handle stands for.
-use Rattle.std.specs.Prelude.{◌≡◌, ℕ, List, [], Option, None, slice_get}
+use Rattle.std.specs.Prelude.{◌≡◌, ◌≢◌, ◌⊎◌, ◌<◌, ℕ, false, true, List, [], Option, None, slice_get}
 use Rattle.std.specs.Option.{option_and_then}
 use Rattle.mysql_values.specs.Content.{Content}
+use Rattle.mysql_values.specs.Queries.{HasMixed}
+use Rattle.mysql_values.specs.Sql.{Sql}
 use Rattle.mysql_receive.specs.Audit.{IsAbout}
 use Rattle.mysql_receive.specs.GoingOn.{HasFoundNoFault, ReceiverDecides, fresh_receiver}
 use Rattle.mysql_receive.specs.Reading.{Set}
@@ -11,7 +13,7 @@ use Rattle.mysql_receive.specs.Taking.{Feeds, HandsOut}
 use Rattle.mysql_receive.specs.Views.{sets_of}
 use Rattle.mysql_receive.specs.declared.audit.Audit.{Audit}
 use Rattle.mysql_c_handles.specs.declared.code.Code.{Code}
-use Rattle.mysql_c_handles.specs.declared.code.Code.TheVariants.{Done, OutOfRange}
+use Rattle.mysql_c_handles.specs.declared.code.Code.TheVariants.{Done, LimitTooSmall, Memory, Mixed, OutOfRange}
 use Rattle.mysql_c_handles.specs.declared.object.Object.{Object}
 use Rattle.mysql_c_handles.specs.declared.object.Object.TheVariants as object
 use Rattle.mysql_c_handles.specs.declared.shown.ShownEnd.{ShownEnd}
@@ -34,10 +36,20 @@ OfReceiver (object.Receiver r) number new Says = Says r
 OfReceiver held number new Says = Stays held number new
 
 -- a receiver that was fed nothing, of a stream about this query
-pub record IsNew (query : List ℕ) (id limit : ℕ) (r : Received) : Type 0 where
+pub record IsNew (query : Sql) (id limit : ℕ) (r : Received) : Type 0 where
   pub fresh : receiver_state r ≡ fresh_receiver
   pub about : IsAbout r.statement query id
   pub limit_is : r.limit ≡ limit
+
+-- A receiver of a stream about this query was made, whose placeholders are of one kind. Or the
+-- object stays, and the number says why: a limit below 4, both kinds, or that memory was refused.
+pub record MakesReceiver (query : Sql) (id limit : ℕ) (old : Object) (number : ℕ) (new : Object) : Type 0 where
+  pub made : number ≡ 0 → IsReceiver new (IsNew query id limit) × HasMixed query false
+  pub kept : number ≢ 0 → new ≡ old
+  pub small : limit < 4 → number ≡ code_number LimitTooSmall
+  pub cause : (number ≡ 0) ⊎ (number ≡ code_number Memory) ⊎
+      ((number ≡ code_number LimitTooSmall) × (limit < 4)) ⊎
+      ((number ≡ code_number Mixed) × HasMixed query true)
 
 -- What a receiver holds after it was fed a piece.
 pub record IsFed (old : Received) (piece : List ℕ) (new : Received) : Type 0 where

@@ -1,7 +1,8 @@
 -- What the calls on recoders say of the objects that two handles stand for, and of what C is shown.
 use Rattle.std.specs.Prelude.{◌≡◌, ◌≢◌, ◌⊎◌, ◌<◌, ℕ, List, ◌++◌, Option, None, Some, IfSome}
-use Rattle.mysql_recoding.specs.AsItComes.{Finishes, Recoded, RecodesPiece, RefusesEnd, RefusesPiece, RefusesQuery}
-use Rattle.mysql_recoding.specs.AsItComes.{recoder_state}
+use Rattle.mysql_values.specs.Sql.{Sql}
+use Rattle.mysql_recoding.specs.AsItComes.{Finishes, IsNewRecoder, Recoded, RecodesPiece, RefusesEnd, RefusesPiece}
+use Rattle.mysql_recoding.specs.AsItComes.{RefusesQuery, recoder_state}
 use Rattle.mysql_recoding.specs.declared.errors.RecodeError.{RecodeError}
 use Rattle.mysql_recoding.specs.declared.errors.RecodeError.TheVariants as recode_error
 use Rattle.mysql_c_handles.specs.declared.code.Code.{Code}
@@ -45,10 +46,17 @@ AnswersBy None number stop = number ≡ 0
 AnswersBy (Some error) number stop = ShowsStop error number stop
 
 -- no recoder is made, by the number: memory was refused, the limit is below 4, or the query can't be prepared
-abbrev pub IsWhyNoRecoder : List ℕ → ℕ → ℕ → ℕ → Type 0
+abbrev pub IsWhyNoRecoder : Sql → ℕ → ℕ → ℕ → Type 0
 IsWhyNoRecoder query id limit number =
     (number ≡ code_number code.Memory) ⊎ ((number ≡ code_number code.LimitTooSmall) × (limit < 4))
     ⊎ ((error : RecodeError) × (number ≡ code_number (recode_code error)) × RefusesQuery query id limit error)
+
+-- A recoder of streams about this query was made. Or the object stays, and the number says why.
+pub record MakesRecoder (query : Sql) (id limit : ℕ) (old : Object) (number : ℕ) (new : Object) : Type 0 where
+  pub made : number ≡ 0 → IsRecoder new (λ r. IsNewRecoder query id limit (recoder_state r))
+  pub kept : number ≢ 0 → new ≡ old
+  pub small : limit < 4 → number ≡ code_number code.LimitTooSmall
+  pub cause : (number ≡ 0) ⊎ IsWhyNoRecoder query id limit number
 
 -- A recoder took a piece, and what it appends stands behind the old bytes; or the bytes stay. The
 -- number and the place are those of the error that it then holds. With an error from before nothing

@@ -4,10 +4,10 @@ use Rattle.std.specs.Prelude.{◌≡◌, ◌≢◌, ◌⊎◌, ℕ, List, ◌++�
 use Rattle.mysql_cells.specs.AsSql.{HasLiteral}
 use Rattle.mysql_cells.specs.Values.{literal_of}
 use Rattle.mysql_cells.specs.declared.value.Value.{Value}
-use Rattle.mysql_values.specs.Queries.{Lexes, Slices}
-use Rattle.mysql_values.specs.Content.{Content}
-use Rattle.mysql_values.specs.Binding.{IsBindCause, IsBound}
-use Rattle.mysql_values.specs.Params.{IsMeaning}
+use Rattle.mysql_values.specs.Binding.{Binds, RefusesBinding}
+use Rattle.mysql_values.specs.Mode.{Mode}
+use Rattle.mysql_values.specs.Spelling.{Spelling}
+use Rattle.mysql_values.specs.Sql.{Sql}
 use Rattle.mysql_values.specs.declared.bind.BindError.{BindError}
 use Rattle.mysql_values.specs.declared.bind.BindError.TheVariants as bind_error
 use Rattle.mysql_values.specs.declared.params.Params.{Params}
@@ -42,54 +42,48 @@ bind_place set other = record { set = 0; place = 0 }
 abbrev pub ShowsBindError : ℕ → BindError → ℕ → ShownPlace → Type 0
 ShowsBindError set error number place = (number ≡ code_number (bind_code error)) × (place ≡ bind_place set error)
 
--- this text is that of the set over the query, and reads as the set's meaning in both ways
-pub record IsTextOf (query : List ℕ) (params : Params) (text : List ℕ) : Type 0 where
-  pub contents : List Content
-  pub bound : IsBound query params text
-  pub meaning : IsMeaning query params contents
-  pub slices : Slices query text contents
-  pub lexes : Lexes query text contents
-
 -- an error of binding is shown: Memory, or the first cause
-pub record IsUnbound (query : List ℕ) (params : Params) (set number : ℕ) (place : ShownPlace) : Type 0 where
+pub record IsUnbound (query : Sql) (params : Params) (set number : ℕ) (place : ShownPlace) : Type 0 where
   pub error : BindError
-  pub cause : (error ≡ bind_error.Memory) ⊎ IsBindCause query params error
+  pub cause : RefusesBinding query params error
   pub shows : ShowsBindError set error number place
 
--- The text of the set of this number is appended to the old bytes; or the bytes stay, and the
--- number and the place say why.
-pub record BindsText (query : List ℕ) (params : Params) (set : ℕ) (old : List ℕ) (number : ℕ)
-    (place : ShownPlace) (new : List ℕ) : Type 0 where
-  pub bound : number ≡ 0 → (text : List ℕ) × (new ≡ old ++ text) × IsTextOf query params text
+-- The text of the set of this number, which reads as the set's meaning, is appended to the old
+-- bytes; or the bytes stay, and the number and the place say why.
+pub record BindsText (query : Sql) (spelling : Spelling) (params : Params) (set : ℕ) (old : List ℕ)
+    (number : ℕ) (place : ShownPlace) (new : List ℕ) : Type 0 where
+  pub bound : number ≡ 0 → Binds query spelling params old new
   pub kept : number ≢ 0 → new ≡ old
   pub why : number ≢ 0 → IsUnbound query params set number place
 
 -- the text of a set is appended to the bytes that a handle stands for, or these stay
-abbrev pub BindsTextTo : List ℕ → Params → ℕ → Object → ℕ → ShownPlace → Object → Type 0
-BindsTextTo query params set (object.Bytes old) number place new =
-    IsBytes new (λ bytes. BindsText query params set old.items number place bytes)
-BindsTextTo query params set held number place new = Stays held number new
+abbrev pub BindsTextTo : Sql → Spelling → Params → ℕ → Object → ℕ → ShownPlace → Object → Type 0
+BindsTextTo query spelling params set (object.Bytes old) number place new =
+    IsBytes new (λ bytes. BindsText query spelling params set old.items number place bytes)
+BindsTextTo query spelling params set held number place new = Stays held number new
 
 -- the text of a set that the other handle's object holds is appended, or the bytes stay
-abbrev pub BindsTextFrom : List ℕ → Object → ℕ → Object → ℕ → ShownPlace → Object → Type 0
-BindsTextFrom query held set old number place new =
+abbrev pub BindsTextFrom : Sql → Spelling → Object → ℕ → Object → ℕ → ShownPlace → Object → Type 0
+BindsTextFrom query spelling held set old number place new =
     MatchOption (set_held held set) ((number ≡ code_number (unheld_code held)) ×
-    (new ≡ old)) (λ params. BindsTextTo query params set old number place new)
+    (new ≡ old)) (λ params. BindsTextTo query spelling params set old number place new)
 
--- The literal of a value is appended to the old bytes, and is one of the value's content; or the
--- bytes stay: a float has none, or memory was refused.
-pub record PutsLiteral (value : Value) (old : List ℕ) (number : ℕ) (new : List ℕ) : Type 0 where
-  pub put : MatchOption (literal_of value) ((number ≡ code_number Float) × (new ≡ old))
+-- The literal of a value for a mode is appended to the old bytes, and is one of the value's
+-- content; or the bytes stay: a float has none, or memory was refused.
+pub record PutsLiteral (mode : Mode) (spelling : Spelling) (value : Value) (old : List ℕ)
+    (number : ℕ) (new : List ℕ) : Type 0 where
+  pub put : MatchOption (literal_of mode spelling value) ((number ≡ code_number Float) × (new ≡ old))
       (λ text. ((number ≡ code_number Done) × (new ≡ old ++ text)) ⊎ ((number ≡ code_number Memory) × (new ≡ old)))
   pub literal : HasLiteral value
 
 -- the literal of a value is appended to the bytes that a handle stands for, or these stay
-abbrev pub PutsLiteralTo : Value → Object → ℕ → Object → Type 0
-PutsLiteralTo value (object.Bytes old) number new = IsBytes new (λ bytes. PutsLiteral value old.items number bytes)
-PutsLiteralTo value held number new = Stays held number new
+abbrev pub PutsLiteralTo : Mode → Spelling → Value → Object → ℕ → Object → Type 0
+PutsLiteralTo mode spelling value (object.Bytes old) number new =
+    IsBytes new (λ bytes. PutsLiteral mode spelling value old.items number bytes)
+PutsLiteralTo mode spelling value held number new = Stays held number new
 
 -- the literal of a value that the other handle's object holds is appended, or the bytes stay
-abbrev pub PutsLiteralFrom : Object → ℕ → ℕ → Object → ℕ → Object → Type 0
-PutsLiteralFrom held set place old number new =
+abbrev pub PutsLiteralFrom : Mode → Spelling → Object → ℕ → ℕ → Object → ℕ → Object → Type 0
+PutsLiteralFrom mode spelling held set place old number new =
     MatchOption (value_held held set place) ((number ≡ code_number (unheld_code held)) ×
-    (new ≡ old)) (λ value. PutsLiteralTo value old number new)
+    (new ≡ old)) (λ value. PutsLiteralTo mode spelling value old number new)

@@ -3,32 +3,37 @@
 ghost use Rattle.std.specs.Prelude.{◌≡◌, ◌≢◌, ◌≤◌, ◌<◌, ◌⊎◌, false, true, Err, IfErr, IfOk, MatchOption, MatchResult};
 ghost use Rattle.std.specs.Prelude.{OnErr, OnOk, length, slice_get};
 ghost use Rattle.mysql_values.specs.Queries.{HasMixed};
+ghost use Rattle.mysql_values.specs.Sql.{read_in};
 ghost use Rattle.mysql_receive.specs.Views.{sets_of};
 ghost use Rattle.mysql_c_handles.specs.Codes.{code_number, fault_code};
 ghost use Rattle.mysql_c_handles.specs.declared.code.Code.TheVariants as code;
+ghost use Rattle.mysql_c_commands.specs.Modes.{InMode};
 ghost use Rattle.mysql_c_commands.specs.Receivers.{EndsAs, IsFed, IsAudited, IsFedBy, IsNew, IsReceiver, LetsGo};
-ghost use Rattle.mysql_c_commands.specs.Receivers.{OfReceiver, ShowsEndOf, content_at, missing_code, reading_code};
-ghost use Rattle.mysql_c_commands.specs.Receivers.{sets_held};
+ghost use Rattle.mysql_c_commands.specs.Receivers.{MakesReceiver, OfReceiver, ShowsEndOf, content_at, missing_code};
+ghost use Rattle.mysql_c_commands.specs.Receivers.{reading_code, sets_held};
 ghost use Rattle.mysql_c_commands.specs.Shown.{Shows};
 
+use crate::modes::mode_of;
 use crate::shown::{ShownContent, show, shown_end};
 use mysql_c_handles::{Code, Handle, Object, ShownEnd};
 use mysql_receive::{Content, Receiver, ReceiverError};
+use mysql_values::Mode;
 use std::alloc::Global;
 use std::mem::replace;
 
 /// A new receiver.
-fn made(alloc: Global, query: &[u8], id: u32, limit: usize) -> Result<Object, Code>
-    ensures made { IfOk result (λ object. IsReceiver object (IsNew query.now id limit)) }
-    ensures one_kind { OnOk result (HasMixed query.now false) }
+fn made(alloc: Global, query: &[u8], id: u32, limit: usize, mode: Mode) -> Result<Object, Code>
+    ensures made { IfOk result (λ object. IsReceiver object (IsNew (read_in mode query.now) id limit)) }
+    ensures one_kind { OnOk result (HasMixed (read_in mode query.now) false) }
     ensures small { limit < 4 → result ≡ Err code.LimitTooSmall }
     ensures cause { IfErr result (λ e. (e ≡ code.Memory) ⊎
-        ((e ≡ code.LimitTooSmall) × (limit < 4)) ⊎ ((e ≡ code.Mixed) × HasMixed query.now true)) }
+        ((e ≡ code.LimitTooSmall) × (limit < 4)) ⊎
+        ((e ≡ code.Mixed) × HasMixed (read_in mode query.now) true)) }
 {
     if limit < 4 {
         return Err(Code::LimitTooSmall);
     }
-    match Receiver::new(alloc, query, id, limit) {
+    match Receiver::new_in(alloc, query, id, limit, mode) {
         Ok(receiver) => Ok(Object::Receiver(receiver)),
         Err(ReceiverError::Mixed) => Err(Code::Mixed),
         Err(ReceiverError::Memory) => Err(Code::Memory),
@@ -170,16 +175,26 @@ fn clear_sets(object: &mut Object) -> Code
 
 /// Makes the handle stand for a receiver of a stream of commands about this query.
 ///
-/// `id` is that of the query's statement.
-pub fn receiver_new(alloc: Global, handle: &mut Handle, query: &[u8], id: u32, limit: usize) -> u32
-    ensures made { result ≡ 0 → IsReceiver handle.new.object (IsNew query.now id limit) × HasMixed query.now false }
-    ensures kept { result ≢ 0 → handle.new.object ≡ handle.old.object }
-    ensures small { limit < 4 → result ≡ code_number code.LimitTooSmall }
-    ensures cause { (result ≡ 0) ⊎ (result ≡ code_number code.Memory) ⊎
-        ((result ≡ code_number code.LimitTooSmall) × (limit < 4)) ⊎
-        ((result ≡ code_number code.Mixed) × HasMixed query.now true) }
+/// `id` is that of the query's statement. The flags tell the mode of the server that the stream was
+/// sent to; of how they spell byte strings it takes no notice.
+///
+/// Promise: the receiver is about the query in this mode, or nothing has changed and the code is a
+/// cause (`MakesReceiver`).
+pub fn receiver_new(
+    alloc: Global,
+    handle: &mut Handle,
+    query: &[u8],
+    id: u32,
+    limit: usize,
+    flags: u32,
+) -> u32
+    ensures { InMode flags result handle.old.object handle.new.object
+        (λ mode _. MakesReceiver (read_in mode query.now) id limit handle.old.object result handle.new.object) }
 {
-    match made(alloc, query, id, limit) {
+    let Some((mode, _)) = mode_of(flags) else {
+        return Code::NoSuchMode.number();
+    };
+    match made(alloc, query, id, limit, mode) {
         Ok(object) => match handle.set(alloc, object) {
             Ok(()) => Code::Done.number(),
             Err(_) => Code::Memory.number(),

@@ -1,17 +1,21 @@
 //! Recoders: streams of commands as executions, as their bytes come.
 
-ghost use Rattle.std.specs.Prelude.{◌≡◌, ◌≢◌, ◌⊎◌, ◌<◌, Err, IfErr, IfOk};
-ghost use Rattle.mysql_recoding.specs.AsItComes.{IsNewRecoder, RefusesQuery, recoder_state};
+ghost use Rattle.std.specs.Prelude.{◌≡◌, ◌≢◌, ◌<◌, Err, IfErr, IfOk};
+ghost use Rattle.mysql_values.specs.Sql.{read_in};
+ghost use Rattle.mysql_recoding.specs.AsItComes.{IsNewRecoder, recoder_state};
 ghost use Rattle.mysql_c_handles.specs.declared.code.Code.TheVariants as code;
 ghost use Rattle.mysql_c_handles.specs.declared.object.Object.TheVariants as object;
 ghost use Rattle.mysql_c_handles.specs.Codes.{code_number};
+ghost use Rattle.mysql_c_commands.specs.Modes.{InMode};
 ghost use Rattle.mysql_c_commands.specs.Recoding.{EndsBytes, EndsObject, EndsTo, IsRecoder, IsWhyNoRecoder};
-ghost use Rattle.mysql_c_commands.specs.Recoding.{RecoderEnds, RecodesBytes, RecodesFrom, RecodesTo, ShowsStop};
-ghost use Rattle.mysql_c_commands.specs.Recoding.{recode_code, stop_of};
+ghost use Rattle.mysql_c_commands.specs.Recoding.{MakesRecoder, RecoderEnds, RecodesBytes, RecodesFrom, RecodesTo};
+ghost use Rattle.mysql_c_commands.specs.Recoding.{ShowsStop, recode_code, stop_of};
 
+use crate::modes::mode_of;
 use crate::shown::{ShownStop, kind_of_end};
 use mysql_c_handles::{Code, Handle, Object, number_of_fault};
 use mysql_recoding::{RecodeError, Recoder};
+use mysql_values::Mode;
 use std::alloc::Global;
 use std::mem::replace;
 
@@ -73,15 +77,17 @@ fn show_stop(error: RecodeError, stop: &mut ShownStop) -> Code
 }
 
 /// A new recoder.
-fn made(alloc: Global, query: &[u8], id: u32, limit: usize) -> Result<Object, Code>
-    ensures made { IfOk result (λ object. IsRecoder object (λ r. IsNewRecoder query.now id limit (recoder_state r))) }
+fn made(alloc: Global, query: &[u8], id: u32, limit: usize, mode: Mode) -> Result<Object, Code>
+    ensures made { IfOk result (λ object. IsRecoder object
+        (λ r. IsNewRecoder (read_in mode query.now) id limit (recoder_state r))) }
     ensures small { limit < 4 → result ≡ Err code.LimitTooSmall }
-    ensures cause { IfErr result (λ e. IsWhyNoRecoder query.now id limit (code_number e) × (code_number e ≢ 0)) }
+    ensures cause { IfErr result (λ e.
+        IsWhyNoRecoder (read_in mode query.now) id limit (code_number e) × (code_number e ≢ 0)) }
 {
     if limit < 4 {
         return Err(Code::LimitTooSmall);
     }
-    match Recoder::new(alloc, query, id, limit) {
+    match Recoder::new_in(alloc, query, id, limit, mode) {
         Ok(recoder) => Ok(Object::Recoder(recoder)),
         Err(error) => Err(code_of(error)),
     }
@@ -200,14 +206,26 @@ fn end_from(alloc: Global, held: &mut Object, out: &mut Handle, stop: &mut Shown
 
 /// Makes the handle stand for a recoder of a stream of commands about this query.
 ///
-/// `id` is that of the query's statement.
-pub fn recoder_new(alloc: Global, handle: &mut Handle, query: &[u8], id: u32, limit: usize) -> u32
-    ensures made { result ≡ 0 → IsRecoder handle.new.object (λ r. IsNewRecoder query.now id limit (recoder_state r)) }
-    ensures kept { result ≢ 0 → handle.new.object ≡ handle.old.object }
-    ensures small { limit < 4 → result ≡ code_number code.LimitTooSmall }
-    ensures cause { (result ≡ 0) ⊎ IsWhyNoRecoder query.now id limit result }
+/// `id` is that of the query's statement. The flags tell the mode of the server that the stream was
+/// sent to; of how they spell byte strings it takes no notice.
+///
+/// Promise: the recoder is about the query in this mode, or nothing has changed and the code is a
+/// cause (`MakesRecoder`).
+pub fn recoder_new(
+    alloc: Global,
+    handle: &mut Handle,
+    query: &[u8],
+    id: u32,
+    limit: usize,
+    flags: u32,
+) -> u32
+    ensures { InMode flags result handle.old.object handle.new.object
+        (λ mode _. MakesRecoder (read_in mode query.now) id limit handle.old.object result handle.new.object) }
 {
-    match made(alloc, query, id, limit) {
+    let Some((mode, _)) = mode_of(flags) else {
+        return Code::NoSuchMode.number();
+    };
+    match made(alloc, query, id, limit, mode) {
         Ok(object) => match handle.set(alloc, object) {
             Ok(()) => Code::Done.number(),
             Err(_) => Code::Memory.number(),

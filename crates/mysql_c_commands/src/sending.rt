@@ -1,13 +1,20 @@
 //! Parameter sets sent.
 
-ghost use Rattle.std.specs.Prelude.{◌≡◌, ◌≢◌};
+ghost use Rattle.std.specs.Prelude.{◌≡◌, ◌≢◌, ◌≤◌, IfErr, OnErr, OnOk};
+ghost use Rattle.mysql_values.specs.Sql.{read_in};
+ghost use Rattle.mysql_command_rules.specs.Sending.{RefusesGiven};
+ghost use Rattle.mysql_command_rules.specs.Sets.{all_given};
+ghost use Rattle.mysql_command_rules.specs.SpelledRoad.{spelled};
+ghost use Rattle.mysql_session.specs.Delivery.{Delivers};
 ghost use Rattle.mysql_c_handles.specs.Codes.{code_number};
 ghost use Rattle.mysql_c_commands.specs.Sending.{AppendsTo, Sends, SendsFrom, ShowsRefusal, refusal_code};
 ghost use Rattle.mysql_c_commands.specs.Sending.{refusal_place, road_numbered};
 
+use crate::modes::mode_of;
 use crate::shown::ShownPlace;
 use mysql_c_handles::{Code, Handle, Object};
-use mysql_session::{Params, Refusal, Road, send as send_sets};
+use mysql_session::{Params, Query, Refusal, Road};
+use mysql_values::{Mode, Spelling};
 use std::alloc::Global;
 
 /// The road of a number.
@@ -77,6 +84,30 @@ fn show_refusal(refusal: &Refusal, place: &mut ShownPlace) -> Code
     code_of(refusal)
 }
 
+/// Appends sets to bytes, for a server in a mode. Where they aren't sent the bytes stay.
+fn sent_in(
+    alloc: Global,
+    query: &[u8],
+    sets: &[Params],
+    road: Road,
+    id: u32,
+    limit: usize,
+    mode: Mode,
+    spelling: Spelling,
+    out: &mut Vec<u8>,
+) -> Result<(), Refusal>
+    requires { 4 ≤ limit }
+    ensures refused { IfErr result
+        (RefusesGiven (spelled spelling road) (read_in mode query.now) (all_given sets.now) id limit) }
+    ensures kept { OnErr result (out.new.items ≡ out.old.items) }
+    ensures delivered { OnOk result
+        (Delivers (spelled spelling road) (read_in mode query.now) (all_given sets.now) id limit
+        out.old.items out.new.items) }
+{
+    let query = Query::new_in(alloc, query, id, mode, spelling)?;
+    query.send(alloc, sets, road, limit, out)
+}
+
 /// Appends sets to bytes. Where they aren't sent the bytes stay.
 fn sent(
     alloc: Global,
@@ -85,18 +116,22 @@ fn sent(
     road: u32,
     id: u32,
     limit: usize,
+    flags: u32,
     out: &mut Vec<u8>,
     place: &mut ShownPlace,
 ) -> Code
-    ensures { Sends road query.now sets.now id limit out.old.items (code_number result) place.new out.new.items }
+    ensures { Sends road flags query.now sets.now id limit out.old.items (code_number result) place.new out.new.items }
 {
     let Some(road) = road_of(road) else {
         return Code::NoSuchRoad;
     };
+    let Some((mode, spelling)) = mode_of(flags) else {
+        return Code::NoSuchMode;
+    };
     if limit < 4 {
         return Code::LimitTooSmall;
     }
-    match send_sets(alloc, query, sets, road, id, limit, out) {
+    match sent_in(alloc, query, sets, road, id, limit, mode, spelling, out) {
         Ok(()) => Code::Done,
         Err(refusal) => show_refusal(&refusal, place),
     }
@@ -111,12 +146,13 @@ fn append_to(
     road: u32,
     id: u32,
     limit: usize,
+    flags: u32,
     place: &mut ShownPlace,
 ) -> Code
-    ensures { AppendsTo road query.now sets.now id limit object.old (code_number result) place.new object.new }
+    ensures { AppendsTo road flags query.now sets.now id limit object.old (code_number result) place.new object.new }
 {
     match object {
-        Object::Bytes(out) => sent(alloc, query, sets, road, id, limit, out, place),
+        Object::Bytes(out) => sent(alloc, query, sets, road, id, limit, flags, out, place),
         Object::Empty => Code::EmptyHandle,
         _ => Code::OtherKind,
     }
@@ -130,14 +166,17 @@ fn send_to(
     road: u32,
     id: u32,
     limit: usize,
+    flags: u32,
     out: &mut Handle,
     place: &mut ShownPlace,
 ) -> Code
-    ensures { SendsFrom road query.now id limit object.now out.old.object (code_number result)
+    ensures { SendsFrom road flags query.now id limit object.now out.old.object (code_number result)
         place.new out.new.object }
 {
     match object {
-        Object::Sets(sets) => append_sets(alloc, query, &sets.sets, road, id, limit, out, place),
+        Object::Sets(sets) => append_sets(
+            alloc, query, &sets.sets, road, id, limit, flags, out, place,
+        ),
         Object::Empty => Code::EmptyHandle,
         _ => Code::OtherKind,
     }
@@ -151,26 +190,39 @@ fn append_sets(
     road: u32,
     id: u32,
     limit: usize,
+    flags: u32,
     out: &mut Handle,
     place: &mut ShownPlace,
 ) -> Code
-    ensures { AppendsTo road query.now sets.now id limit out.old.object (code_number result) place.new out.new.object }
+    ensures { AppendsTo road flags query.now sets.now id limit out.old.object (code_number result)
+        place.new out.new.object }
 {
     let Some(mut object) = out.take(alloc) else {
         return Code::EmptyHandle;
     };
-    let code = append_to(&mut object, alloc, query, sets, road, id, limit, place);
+    let code = append_to(
+        &mut object,
+        alloc,
+        query,
+        sets,
+        road,
+        id,
+        limit,
+        flags,
+        place,
+    );
     out.put(object);
     code
 }
 
 /// Appends the whole parameter sets of one handle, as commands, to the bytes of another.
 ///
-/// The number of the road is 0 for text, 1 for execute, 2 for bulk. Where the sets aren't sent it
-/// shows the set and the place that are refused, and the bytes stay.
+/// The number of the road is 0 for text, 1 for execute, 2 for bulk. The flags tell the mode of the
+/// server and, by text, how byte strings are spelled. Where the sets aren't sent it shows the set
+/// and the place that are refused, and the bytes stay.
 ///
-/// Promise: what is appended delivers the sets, or nothing is appended, and the code and the place
-/// are those of the first cause (`SendsFrom`).
+/// Promise: what is appended delivers the sets to a server in this mode, or nothing is appended, and
+/// the code and the place are those of the first cause (`SendsFrom`).
 pub fn send(
     alloc: Global,
     sets: &mut Handle,
@@ -178,16 +230,18 @@ pub fn send(
     road: u32,
     id: u32,
     limit: usize,
+    flags: u32,
     out: &mut Handle,
     place: &mut ShownPlace,
 ) -> u32
     ensures kept { sets.new.object ≡ sets.old.object }
-    ensures sent { SendsFrom road query.now id limit sets.old.object out.old.object result place.new out.new.object }
+    ensures sent { SendsFrom road flags query.now id limit sets.old.object out.old.object result
+        place.new out.new.object }
 {
     let Some(given) = sets.take(alloc) else {
         return Code::EmptyHandle.number();
     };
-    let code = send_to(&given, alloc, query, road, id, limit, out, place);
+    let code = send_to(&given, alloc, query, road, id, limit, flags, out, place);
     sets.put(given);
     code.number()
 }

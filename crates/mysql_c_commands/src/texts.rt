@@ -2,13 +2,16 @@
 
 ghost use Rattle.std.specs.Prelude.{◌≡◌, ◌≢◌};
 ghost use Rattle.mysql_c_handles.specs.Codes.{code_number};
+ghost use Rattle.mysql_values.specs.Sql.{read_in};
+ghost use Rattle.mysql_c_commands.specs.Modes.{InMode};
 ghost use Rattle.mysql_c_commands.specs.Texts.{BindsText, BindsTextFrom, BindsTextTo, PutsLiteral, PutsLiteralFrom};
 ghost use Rattle.mysql_c_commands.specs.Texts.{PutsLiteralTo, ShowsBindError, bind_code, bind_place};
 
+use crate::modes::mode_of;
 use crate::shown::ShownPlace;
 use mysql_c_handles::{Code, Handle, Object};
-use mysql_cells::as_sql::{AsSqlError, push_literal};
-use mysql_values::{BindError, Params, Value, bind_text as put_text};
+use mysql_cells::as_sql::{AsSqlError, push_literal_in};
+use mysql_values::{BindError, Mode, Params, Spelling, Value, bind_text_in};
 use std::alloc::Global;
 
 /// The code of an error of binding.
@@ -53,12 +56,15 @@ fn bound(
     query: &[u8],
     params: &Params,
     set: usize,
+    mode: Mode,
+    spelling: Spelling,
     out: &mut Vec<u8>,
     place: &mut ShownPlace,
 ) -> Code
-    ensures { BindsText query.now params.now set out.old.items (code_number result) place.new out.new.items }
+    ensures { BindsText (read_in mode query.now) spelling params.now set out.old.items (code_number result)
+        place.new out.new.items }
 {
-    match put_text(alloc, query, params, out) {
+    match bind_text_in(alloc, query, params, mode, spelling, out) {
         Ok(()) => Code::Done,
         Err(error) => show_error(set, &error, place),
     }
@@ -70,13 +76,16 @@ fn bind_to(
     query: &[u8],
     params: &Params,
     set: usize,
+    mode: Mode,
+    spelling: Spelling,
     object: &mut Object,
     place: &mut ShownPlace,
 ) -> Code
-    ensures { BindsTextTo query.now params.now set object.old (code_number result) place.new object.new }
+    ensures { BindsTextTo (read_in mode query.now) spelling params.now set object.old (code_number result)
+        place.new object.new }
 {
     match object {
-        Object::Bytes(out) => bound(alloc, query, params, set, out, place),
+        Object::Bytes(out) => bound(alloc, query, params, set, mode, spelling, out, place),
         Object::Empty => Code::EmptyHandle,
         _ => Code::OtherKind,
     }
@@ -88,15 +97,27 @@ fn bind_onto(
     query: &[u8],
     params: &Params,
     set: usize,
+    mode: Mode,
+    spelling: Spelling,
     out: &mut Handle,
     place: &mut ShownPlace,
 ) -> Code
-    ensures { BindsTextTo query.now params.now set out.old.object (code_number result) place.new out.new.object }
+    ensures { BindsTextTo (read_in mode query.now) spelling params.now set out.old.object (code_number result)
+        place.new out.new.object }
 {
     let Some(mut object) = out.take(alloc) else {
         return Code::EmptyHandle;
     };
-    let code = bind_to(alloc, query, params, set, &mut object, place);
+    let code = bind_to(
+        alloc,
+        query,
+        params,
+        set,
+        mode,
+        spelling,
+        &mut object,
+        place,
+    );
     out.put(object);
     code
 }
@@ -107,22 +128,25 @@ fn bind_from(
     held: &Object,
     set: usize,
     query: &[u8],
+    mode: Mode,
+    spelling: Spelling,
     out: &mut Handle,
     place: &mut ShownPlace,
 ) -> Code
-    ensures { BindsTextFrom query.now held.now set out.old.object (code_number result) place.new out.new.object }
+    ensures { BindsTextFrom (read_in mode query.now) spelling held.now set out.old.object (code_number result)
+        place.new out.new.object }
 {
     match held.set_at(set) {
-        Ok(params) => bind_onto(alloc, query, params, set, out, place),
+        Ok(params) => bind_onto(alloc, query, params, set, mode, spelling, out, place),
         Err(code) => code,
     }
 }
 
 /// Appends the literal of a value to bytes. A float has none.
-fn put_literal(value: &Value, out: &mut Vec<u8>) -> Code
-    ensures { PutsLiteral value.now out.old.items (code_number result) out.new.items }
+fn put_literal(value: &Value, mode: Mode, spelling: Spelling, out: &mut Vec<u8>) -> Code
+    ensures { PutsLiteral mode spelling value.now out.old.items (code_number result) out.new.items }
 {
-    match push_literal(out, value) {
+    match push_literal_in(out, value, mode, spelling) {
         Ok(()) => Code::Done,
         Err(AsSqlError::Float) => Code::Float,
         Err(AsSqlError::Memory) => Code::Memory,
@@ -130,24 +154,30 @@ fn put_literal(value: &Value, out: &mut Vec<u8>) -> Code
 }
 
 /// Appends the literal of a value to bytes.
-fn put_literal_to(value: &Value, object: &mut Object) -> Code
-    ensures { PutsLiteralTo value.now object.old (code_number result) object.new }
+fn put_literal_to(value: &Value, mode: Mode, spelling: Spelling, object: &mut Object) -> Code
+    ensures { PutsLiteralTo mode spelling value.now object.old (code_number result) object.new }
 {
     match object {
-        Object::Bytes(out) => put_literal(value, out),
+        Object::Bytes(out) => put_literal(value, mode, spelling, out),
         Object::Empty => Code::EmptyHandle,
         _ => Code::OtherKind,
     }
 }
 
 /// Appends the literal of a value to the bytes that a handle stands for.
-fn put_literal_onto(alloc: Global, value: &Value, out: &mut Handle) -> Code
-    ensures { PutsLiteralTo value.now out.old.object (code_number result) out.new.object }
+fn put_literal_onto(
+    alloc: Global,
+    value: &Value,
+    mode: Mode,
+    spelling: Spelling,
+    out: &mut Handle,
+) -> Code
+    ensures { PutsLiteralTo mode spelling value.now out.old.object (code_number result) out.new.object }
 {
     let Some(mut object) = out.take(alloc) else {
         return Code::EmptyHandle;
     };
-    let code = put_literal_to(value, &mut object);
+    let code = put_literal_to(value, mode, spelling, &mut object);
     out.put(object);
     code
 }
@@ -158,12 +188,14 @@ fn put_literal_from(
     held: &Object,
     set: usize,
     place: usize,
+    mode: Mode,
+    spelling: Spelling,
     out: &mut Handle,
 ) -> Code
-    ensures { PutsLiteralFrom held.now set place out.old.object (code_number result) out.new.object }
+    ensures { PutsLiteralFrom mode spelling held.now set place out.old.object (code_number result) out.new.object }
 {
     match held.value_at(set, place) {
-        Ok(value) => put_literal_onto(alloc, value, out),
+        Ok(value) => put_literal_onto(alloc, value, mode, spelling, out),
         Err(code) => code,
     }
 }
@@ -171,45 +203,61 @@ fn put_literal_from(
 /// Appends the text of the set of this number over a query to the bytes of another handle. Where
 /// there is none it shows the set and the place that are refused, and the bytes stay.
 ///
-/// Promise: the text of the set is one that reads back, or the bytes stay (`BindsTextFrom`).
+/// The flags tell the mode of the server that the text is for, and how byte strings are spelled.
+///
+/// Promise: the text of the set is one that reads back in this mode, or the bytes stay
+/// (`BindsTextFrom`).
 pub fn bind_text(
     alloc: Global,
     sets: &mut Handle,
     set: usize,
     query: &[u8],
+    flags: u32,
     out: &mut Handle,
     place: &mut ShownPlace,
 ) -> u32
     ensures kept { sets.new.object ≡ sets.old.object }
-    ensures bound { BindsTextFrom query.now sets.old.object set out.old.object result place.new out.new.object }
+    ensures bound { InMode flags result out.old.object out.new.object
+        (λ mode spelling. BindsTextFrom (read_in mode query.now) spelling sets.old.object set
+        out.old.object result place.new out.new.object) }
 {
+    let Some((mode, spelling)) = mode_of(flags) else {
+        return Code::NoSuchMode.number();
+    };
     let Some(given) = sets.take(alloc) else {
         return Code::EmptyHandle.number();
     };
-    let code = bind_from(alloc, &given, set, query, out, place);
+    let code = bind_from(alloc, &given, set, query, mode, spelling, out, place);
     sets.put(given);
     code.number()
 }
 
 /// Appends the literal of a value to the bytes of another handle.
 ///
-/// The value is at a place of the set of this number.
+/// The value is at a place of the set of this number. The flags tell the mode of the server that
+/// the literal is for, and how byte strings are spelled.
 ///
-/// Promise: the literal is the value's, or the bytes stay (`PutsLiteralFrom`).
+/// Promise: the literal is the value's in this mode, or the bytes stay (`PutsLiteralFrom`).
 pub fn value_text(
     alloc: Global,
     sets: &mut Handle,
     set: usize,
     place: usize,
+    flags: u32,
     out: &mut Handle,
 ) -> u32
     ensures kept { sets.new.object ≡ sets.old.object }
-    ensures put { PutsLiteralFrom sets.old.object set place out.old.object result out.new.object }
+    ensures put { InMode flags result out.old.object out.new.object
+        (λ mode spelling. PutsLiteralFrom mode spelling sets.old.object set place out.old.object
+        result out.new.object) }
 {
+    let Some((mode, spelling)) = mode_of(flags) else {
+        return Code::NoSuchMode.number();
+    };
     let Some(given) = sets.take(alloc) else {
         return Code::EmptyHandle.number();
     };
-    let code = put_literal_from(alloc, &given, set, place, out);
+    let code = put_literal_from(alloc, &given, set, place, mode, spelling, out);
     sets.put(given);
     code.number()
 }

@@ -82,6 +82,7 @@ code_number code.NoSuchRoad = 7
 code_number code.NoSuchKind = 8
 code_number code.BadPacket = 9
 code_number code.Unfinished = 10
+code_number code.NoSuchMode = 11
 code_number code.NotAlone = 200
 code_number code.TooManyPlaces = 201
 code_number code.PrepareTooLarge = 202

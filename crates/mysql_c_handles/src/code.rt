@@ -32,6 +32,8 @@ pub enum Code {
     BadPacket,
     /// The stream isn't whole where it ends.
     Unfinished,
+    /// No mode has these flags.
+    NoSuchMode,
     /// By text: a placeholder doesn't stand alone.
     NotAlone,
     /// By execute and bulk: the query has more than 65535 placeholders.
@@ -77,6 +79,7 @@ impl Code {
             Code::NoSuchKind => 8,
             Code::BadPacket => 9,
             Code::Unfinished => 10,
+            Code::NoSuchMode => 11,
             Code::NotAlone => 200,
             Code::TooManyPlaces => 201,
             Code::PrepareTooLarge => 202,

@@ -44,6 +44,7 @@ fn text_of_answer(number: u32) -> &'static [u8]
         8 => b"there is no kind of this number\0",
         9 => b"bytes of a packet are cut off, or have no such layout\0",
         10 => b"the stream is not whole where it ends\0",
+        11 => b"no mode has these flags\0",
         _ => b"no such code\0",
     }
 }

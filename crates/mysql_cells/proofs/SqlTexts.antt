@@ -1,6 +1,6 @@
--- With backslash escapes the SQL text of a value is a literal of what it means; in both modes it is UTF-8.
-use Rattle.std.proofs.Common.{◌≡◌, ◌≢◌, ℕ, zero, suc, ◌+◌, ◌-◌, ◌*◌, ◌/◌, ◌%◌, ◌^◌, ◌<◌, ◌≤◌, Bool, true, false, ◌&&◌, ◌||◌, ◌==◌, if◌then◌else◌, List, [], ◌∷◌, ◌++◌, length, get_or, map, flat_map, replicate, codes, pos, negsuc, neg_ℤ, Option, Some, None, Ok, refl, sym, ap, ◌∙◌, subst, inl, inr, arith, append-nil}
-use Rattle.std.specs.Prelude.{fold, IsUtf8}
+-- The SQL text of a value is a literal of what it means, and UTF-8; in hexadecimal spelling it is the same in each mode, of safe bytes.
+use Rattle.std.proofs.Common.{◌≡◌, ◌≢◌, ℕ, zero, suc, ◌+◌, ◌-◌, ◌*◌, ◌/◌, ◌%◌, ◌^◌, ◌<◌, ◌≤◌, Bool, true, false, ◌&&◌, ◌||◌, ◌==◌, if◌then◌else◌, List, [], ◌∷◌, ◌++◌, length, get_or, flat_map, replicate, codes, pos, negsuc, neg_ℤ, Option, Some, None, Ok, refl, sym, ap, ◌∙◌, subst, inl, inr, arith, append-nil}
+use Rattle.std.specs.Prelude.{◌⊎◌, fold, not, IsUtf8}
 use Rattle.std.specs.Int.{IsInRange}
 use Rattle.std.specs.List.{AllByRecursion}
 use Rattle.std.specs.Fmt.{decimal, sign_text}
@@ -12,14 +12,17 @@ use Rattle.std.proofs.lemmas.Fmt.{digits_decimal, digits_value-decimal, decimal_
 use Rattle.std.proofs.lemmas.List.Concat.{flat_map-append}
 use Rattle.std.proofs.lemmas.Str.{IsUtf8-append, IsUtf8-nil, IsUtf8-encode, IsUtf8-from_ascii, IsUtf8-from_is_utf8, is_utf8-from_IsUtf8, encode_ascii, inside_one}
 use Rattle.std.proofs.lemmas.Str.Parse.{IsNumeralModel, IsDigitsTest, FoldsDigits, numerals_by_fold}
-use Rattle.mysql_cells.specs.AsSql.{FitsFields, SqlIsLiteral, EachSqlIsLiteral, PutsSql, byte_in_quotes}
-use Rattle.mysql_queries.specs.Laws.{WrittenIsRead}
-use Rattle.mysql_queries.specs.Literals.{AreDigits, IsLiteral, IsNumber, digits_value, is_digit, inside_content}
-use Rattle.mysql_queries.specs.Tokens.{Byte, IsInside, inside_bytes, single_quote, double_quote, backslash}
-use Rattle.mysql_cells.specs.Values.{bytes_sql, clock_text, date_text, day_text, digits_in, in_quotes, is_zero_time, micros_text, sql_of, time_text, with_zero_sign, without_zero_sign}
-use Rattle.mysql_queries.specs.Written.{hex_digit, in_hexadecimal, quoted}
+use Rattle.mysql_cells.specs.AsSql.{FitsFields, IsSafeByte, SqlIsLiteral, EachSqlIsLiteral, EachHexadecimalIsSafe, OneHexadecimal, PutsSql, stands_in_quotes}
+use Rattle.mysql_queries.specs.Laws.{PlainIsRead, WrittenIsRead}
+use Rattle.mysql_queries.specs.Literals.{AreDigits, IsLiteral, IsNumber, digits_value, is_digit}
+use Rattle.mysql_queries.specs.Tokens.{single_quote, double_quote, backslash}
+use Rattle.mysql_cells.specs.Values.{bytes_sql, clock_text, date_text, day_text, digits_in, hexadecimal_sql, in_quotes, is_zero_time, micros_text, quoted_sql, sql_of, time_text, with_zero_sign, without_zero_sign}
+use Rattle.mysql_queries.specs.Written.{hex_digit, in_hexadecimal, quoted, written_byte}
 use Rattle.mysql_queries.specs.declared.content.Content.{Content}
 use Rattle.mysql_queries.specs.declared.content.Content.TheVariants as content
+use Rattle.mysql_queries.specs.declared.mode.Mode.{Mode}
+use Rattle.mysql_cells.specs.declared.spelling.Spelling.{Spelling}
+use Rattle.mysql_cells.specs.declared.spelling.Spelling.TheVariants.{Quoted, Hexadecimal}
 use Rattle.mysql_cells.specs.declared.value.Value.{Value}
 use Rattle.mysql_cells.specs.declared.value.Value.TheVariants.{NULL, Bytes, Int, UInt, Float, Double, Date, Time}
 
@@ -60,87 +63,84 @@ negative_number n h =
     let v : digits_value (decimal (suc n)) ≡ suc n = digits_value-decimal own (suc n) fits in
     record { digits = decimal (suc n); are = are_digits (suc n) fits; value = inr (refl, sym (ap (λ m. neg_ℤ (pos m)) v), omega (arith, v, h)) }
 
+-- safe bytes
+
+abbrev AreSafe : List ℕ → Type 0
+AreSafe text = AllByRecursion IsSafeByte text
+
+-- the marks from the opening parenthesis on, digits and capital letters
+safe_between : (b : ℕ) → 0x28 ≤ b → b < 0x5c → IsSafeByte b
+safe_between b h k = (omega arith, λ e. omega (arith, e), λ e. omega (arith, e), λ e. omega (arith, e), λ e. omega (arith, e))
+
+safe_space : IsSafeByte 0x20
+safe_space = (omega arith, λ e. omega (arith, e), λ e. omega (arith, e), λ e. omega (arith, e), λ e. omega (arith, e))
+
+safe_x : IsSafeByte 0x78
+safe_x = (omega arith, λ e. omega (arith, e), λ e. omega (arith, e), λ e. omega (arith, e), λ e. omega (arith, e))
+
+safe_append : (xs ys : List ℕ) → AreSafe xs → AreSafe ys → AreSafe (xs ++ ys)
+safe_append [] ys h k = k
+safe_append (x ∷ xs) ys h k = (h.0, safe_append xs ys h.1 k)
+
+safe_choice : (test : Bool) (xs ys : List ℕ) → AreSafe xs → AreSafe ys → AreSafe (if test then xs else ys)
+safe_choice true xs ys h k = h
+safe_choice false xs ys h k = k
+
+-- numbers
+
+digit_is_safe : (b : ℕ) → IsInRange 48 57 b → IsSafeByte b
+digit_is_safe b h = safe_between b (omega (arith, h.0)) (omega (arith, h.1))
+
+safe_digits : (digits : List ℕ) → AllByRecursion (λ b. is_digit b ≡ true) digits → AreSafe digits
+safe_digits [] h = tt
+safe_digits (d ∷ digits) h = (digit_is_safe d (range_of d h.0), safe_digits digits h.1)
+
+safe_decimal : (n : ℕ) → n < 2 ^ 64 → AreSafe (decimal n)
+safe_decimal n h = safe_digits (decimal n) (digits_decimal own n h)
+
+safe_negative : (n : ℕ) → n < 2 ^ 64 → AreSafe (0x2d ∷ decimal n)
+safe_negative n h = (safe_between 0x2d (omega arith) (omega arith), safe_decimal n h)
+
 -- dates and times
 
--- a byte that stands for itself between quotes: ASCII, and neither a quote nor a backslash
-abbrev IsPlain : ℕ → Type 0
-IsPlain b = (b ≢ single_quote) × (b ≢ backslash) × (b < 128)
+safe_zeros : (n : ℕ) → AreSafe (replicate n 0x30)
+safe_zeros zero = tt
+safe_zeros (suc n) = (safe_between 0x30 (omega arith) (omega arith), safe_zeros n)
 
-abbrev ArePlain : List ℕ → Type 0
-ArePlain text = AllByRecursion IsPlain text
+safe_number : (width n : ℕ) → n < 2 ^ 64 → AreSafe (digits_in width n)
+safe_number width n h = safe_append (replicate (width - length (decimal n)) 0x30) (decimal n) (safe_zeros (width - length (decimal n))) (safe_decimal n h)
 
-plain_append : (xs ys : List ℕ) → ArePlain xs → ArePlain ys → ArePlain (xs ++ ys)
-plain_append [] ys h k = k
-plain_append (x ∷ xs) ys h k = (h.0, plain_append xs ys h.1 k)
+-- a number behind a separator
+safe_part : (separator width n : ℕ) → 0x28 ≤ separator → separator < 0x5c → n < 2 ^ 64 → AreSafe (separator ∷ digits_in width n)
+safe_part separator width n low high h = (safe_between separator low high, safe_number width n h)
 
-digit_is_plain : (b : ℕ) → IsInRange 48 57 b → IsPlain b
-digit_is_plain b h = (λ e. omega (arith, e), λ e. omega (arith, e), omega arith)
+safe_clock : (width hours minutes seconds micros : ℕ) → hours < 2 ^ 64 → minutes < 256 → seconds < 256 → micros < 2 ^ 32 → AreSafe (clock_text width hours minutes seconds ++ micros_text micros)
+safe_clock width hours minutes seconds micros h m s u =
+    let two : AreSafe (0x3a ∷ digits_in 2 seconds) = safe_part 0x3a 2 seconds (omega arith) (omega arith) (omega arith) in
+    let three : AreSafe (0x3a ∷ digits_in 2 minutes) = safe_part 0x3a 2 minutes (omega arith) (omega arith) (omega arith) in
+    let six : AreSafe (0x2e ∷ digits_in 6 micros) = safe_part 0x2e 6 micros (omega arith) (omega arith) (omega arith) in
+    safe_append (clock_text width hours minutes seconds) (micros_text micros)
+    (safe_append (digits_in width hours) _ (safe_number width hours h) (safe_append (0x3a ∷ digits_in 2 minutes) _ three two))
+    (safe_choice _ [] (0x2e ∷ digits_in 6 micros) tt six)
 
-plain_digits : (digits : List ℕ) → AllByRecursion (λ b. is_digit b ≡ true) digits → ArePlain digits
-plain_digits [] h = tt
-plain_digits (d ∷ digits) h = (digit_is_plain d (range_of d h.0), plain_digits digits h.1)
+safe_date : (year month day hour minute second micros : ℕ) → year < 2 ^ 16 → month < 256 → day < 256 → hour < 256 → minute < 256 → second < 256 → micros < 2 ^ 32 → AreSafe (date_text year month day hour minute second micros)
+safe_date year month day hour minute second micros y m d h n s u =
+    let two : AreSafe (0x2d ∷ digits_in 2 day) = safe_part 0x2d 2 day (omega arith) (omega arith) (omega arith) in
+    let one : AreSafe (0x2d ∷ digits_in 2 month) = safe_part 0x2d 2 month (omega arith) (omega arith) (omega arith) in
+    let clock : AreSafe (0x20 ∷ (clock_text 2 hour minute second ++ micros_text micros)) = (safe_space, safe_clock 2 hour minute second micros (omega arith) n s u) in
+    safe_append (day_text year month day) _
+    (safe_append (digits_in 4 year) _ (safe_number 4 year (omega arith)) (safe_append (0x2d ∷ digits_in 2 month) _ one two))
+    (safe_choice (is_zero_time 0 hour minute second micros) [] _ tt clock)
 
-plain_zeros : (n : ℕ) → ArePlain (replicate n 0x30)
-plain_zeros zero = tt
-plain_zeros (suc n) = (digit_is_plain 0x30 (omega arith, omega arith), plain_zeros n)
+safe_time : (negative : Bool) (days hours minutes seconds micros : ℕ) → days < 2 ^ 32 → hours < 256 → minutes < 256 → seconds < 256 → micros < 2 ^ 32 → AreSafe (time_text negative days hours minutes seconds micros)
+safe_time negative days hours minutes seconds micros d h m s u =
+    safe_append (sign_text negative) _
+    (safe_choice negative (0x2d ∷ []) [] (safe_between 0x2d (omega arith) (omega arith), tt) tt)
+    (safe_clock 3 (days * 24 + hours) minutes seconds micros (omega arith) m s u)
 
-plain_number : (width n : ℕ) → n < 2 ^ 64 → ArePlain (digits_in width n)
-plain_number width n h = plain_append (replicate (width - length (decimal n)) 0x30) (decimal n) (plain_zeros (width - length (decimal n))) (plain_digits (decimal n) (digits_decimal own n h))
-
--- a separator before a plain text
-plain_behind : (b : ℕ) (text : List ℕ) → b < 0x30 → b ≢ single_quote → ArePlain text → ArePlain (b ∷ text)
-plain_behind b text low other h = ((other, λ e. omega (arith, e), omega arith), h)
-
-plain_choice : (test : Bool) (xs ys : List ℕ) → ArePlain xs → ArePlain ys → ArePlain (if test then xs else ys)
-plain_choice true xs ys h k = h
-plain_choice false xs ys h k = k
-
-plain_part : (separator n : ℕ) → separator < 0x3b → separator ≢ single_quote → n < 2 ^ 64 → ArePlain (separator ∷ digits_in 2 n)
-plain_part separator n low other h = ((other, λ e. omega (arith, e), omega arith), plain_number 2 n h)
-
-plain_clock : (width hours minutes seconds micros : ℕ) → hours < 2 ^ 64 → minutes < 256 → seconds < 256 → micros < 2 ^ 32 → ArePlain (clock_text width hours minutes seconds ++ micros_text micros)
-plain_clock width hours minutes seconds micros h m s u =
-    let two : ArePlain (0x3a ∷ digits_in 2 seconds) = plain_part 0x3a seconds (omega arith) (λ e. omega (arith, e)) (omega arith) in
-    let three : ArePlain (0x3a ∷ digits_in 2 minutes) = plain_part 0x3a minutes (omega arith) (λ e. omega (arith, e)) (omega arith) in
-    let six : ArePlain (0x2e ∷ digits_in 6 micros) = plain_behind 0x2e (digits_in 6 micros) (omega arith) (λ e. omega (arith, e)) (plain_number 6 micros (omega arith)) in
-    plain_append (clock_text width hours minutes seconds) (micros_text micros)
-    (plain_append (digits_in width hours) _ (plain_number width hours h) (plain_append (0x3a ∷ digits_in 2 minutes) _ three two))
-    (plain_choice _ [] (0x2e ∷ digits_in 6 micros) tt six)
-
-plain_date : (year month day hour minute second micros : ℕ) → year < 2 ^ 16 → month < 256 → day < 256 → hour < 256 → minute < 256 → second < 256 → micros < 2 ^ 32 → ArePlain (date_text year month day hour minute second micros)
-plain_date year month day hour minute second micros y m d h n s u =
-    let two : ArePlain (0x2d ∷ digits_in 2 day) = plain_part 0x2d day (omega arith) (λ e. omega (arith, e)) (omega arith) in
-    let one : ArePlain (0x2d ∷ digits_in 2 month) = plain_part 0x2d month (omega arith) (λ e. omega (arith, e)) (omega arith) in
-    let clock : ArePlain (0x20 ∷ (clock_text 2 hour minute second ++ micros_text micros)) = plain_behind 0x20 _ (omega arith) (λ e. omega (arith, e)) (plain_clock 2 hour minute second micros (omega arith) n s u) in
-    plain_append (day_text year month day) _
-    (plain_append (digits_in 4 year) _ (plain_number 4 year (omega arith)) (plain_append (0x2d ∷ digits_in 2 month) _ one two))
-    (plain_choice (is_zero_time 0 hour minute second micros) [] _ tt clock)
-
-plain_time : (negative : Bool) (days hours minutes seconds micros : ℕ) → days < 2 ^ 32 → hours < 256 → minutes < 256 → seconds < 256 → micros < 2 ^ 32 → ArePlain (time_text negative days hours minutes seconds micros)
-plain_time negative days hours minutes seconds micros d h m s u =
-    plain_append (sign_text negative) _
-    (plain_choice negative (0x2d ∷ []) [] (plain_behind 0x2d [] (omega arith) (λ e. omega (arith, e)) tt) tt)
-    (plain_clock 3 (days * 24 + hours) minutes seconds micros (omega arith) m s u)
-
-plain_inside : (text : List ℕ) → ArePlain text → AllByRecursion (IsInside single_quote) (map Byte text)
-plain_inside [] h = tt
-plain_inside (b ∷ text) h = ((h.0.0, λ _. h.0.1), plain_inside text h.1)
-
-bytes_spelled : (text : List ℕ) → text ≡ flat_map (inside_bytes single_quote) (map Byte text)
-bytes_spelled [] = refl
-bytes_spelled (b ∷ text) = ap (λ t. b ∷ t) (bytes_spelled text)
-
-bytes_read : (text : List ℕ) → text ≡ flat_map inside_content (map Byte text)
-bytes_read [] = refl
-bytes_read (b ∷ text) = ap (λ t. b ∷ t) (bytes_read text)
-
-plain_literal : (text : List ℕ) → ArePlain text → IsLiteral (in_quotes text) (content.Bytes text)
-plain_literal text h = inl (record {
-  parts = map Byte text;
-  inside = plain_inside text h;
-  spelled = ap (λ t. single_quote ∷ (t ++ single_quote ∷ [])) (bytes_spelled text);
-  read = bytes_read text;
-})
+unquoted : (text : List ℕ) → AreSafe text → AllByRecursion (λ b. (b ≢ single_quote) × (b ≢ backslash)) text
+unquoted [] h = tt
+unquoted (b ∷ text) h = ((h.0.1, h.0.4), unquoted text h.1)
 
 -- bytes
 
@@ -149,35 +149,62 @@ all_bytes : (bytes : List ℕ) → ((k : ℕ) → k < length bytes → get_or by
 all_bytes [] h = tt
 all_bytes (b ∷ bytes) h = (h 0 (omega arith), all_bytes bytes (λ k l. h (suc k) (omega arith)))
 
-bytes_literal : WrittenIsRead → (test : Bool) (bytes : List ℕ) → is_utf8 bytes ≡ test → AllByRecursion (λ b. b < 256) bytes → IsLiteral (if test then quoted bytes else in_hexadecimal bytes) (content.Bytes bytes)
-bytes_literal written true bytes e h = written.0 bytes
-bytes_literal written false bytes e h =
-    written.1 bytes h (λ none.
+digit_is_low : (n : ℕ) → n < 16 → IsInRange 0x30 0x46 (hex_digit n)
+digit_is_low n h = grind (arith, nat_tests)
+
+safe_hex_digit : (n : ℕ) → n < 16 → IsSafeByte (hex_digit n)
+safe_hex_digit n h = let l : IsInRange 0x30 0x46 (hex_digit n) = digit_is_low n h in safe_between (hex_digit n) (omega (arith, l.0)) (omega (arith, l.1))
+
+safe_hex_digits : (bytes : List ℕ) → AllByRecursion (λ b. b < 256) bytes → AreSafe (flat_map (λ b. hex_digit (b / 16) ∷ hex_digit (b % 16) ∷ []) bytes)
+safe_hex_digits [] h = tt
+safe_hex_digits (b ∷ bytes) h =
+    let high : b / 16 < 16 = omega (arith, h.0) in
+    let low : b % 16 < 16 = omega arith in
+    (safe_hex_digit (b / 16) high, (safe_hex_digit (b % 16) low, safe_hex_digits bytes h.1))
+
+safe_hexadecimal : (bytes : List ℕ) → AllByRecursion (λ b. b < 256) bytes → AreSafe (in_hexadecimal bytes)
+safe_hexadecimal bytes h = (safe_between 0x30 (omega arith) (omega arith), (safe_x, safe_hex_digits bytes h))
+
+quoted_literal : WrittenIsRead → (mode : Mode) (test : Bool) (bytes : List ℕ) → is_utf8 bytes ≡ test → AllByRecursion (λ b. b < 256) bytes
+    → IsLiteral mode (if test then quoted mode.no_backslash_escapes bytes else in_hexadecimal bytes) (content.Bytes bytes)
+quoted_literal written mode true bytes e h = written.0 mode bytes
+quoted_literal written mode false bytes e h =
+    written.1 mode bytes h (λ none.
     let text : is_utf8 bytes ≡ true = ap is_utf8 none ∙ is_utf8-from_IsUtf8 [] IsUtf8-nil in
     let differs : true ≡ false = sym text ∙ e in cc)
 
+hexadecimal_literal : WrittenIsRead → PlainIsRead → (mode : Mode) (bytes : List ℕ) → AllByRecursion (λ b. b < 256) bytes → IsLiteral mode (hexadecimal_sql bytes) (content.Bytes bytes)
+hexadecimal_literal written plain mode [] h = plain mode [] tt
+hexadecimal_literal written plain mode (b ∷ bytes) h = written.1 mode (b ∷ bytes) h (λ e. cc)
+
+bytes_literal : WrittenIsRead → PlainIsRead → (mode : Mode) (spelling : Spelling) (bytes : List ℕ) → AllByRecursion (λ b. b < 256) bytes
+    → IsLiteral mode (bytes_sql mode.no_backslash_escapes spelling bytes) (content.Bytes bytes)
+bytes_literal written plain mode Quoted bytes h = quoted_literal written mode (is_utf8 bytes) bytes refl h
+bytes_literal written plain mode Hexadecimal bytes h = hexadecimal_literal written plain mode bytes h
+
 -- values
 
-at_both : (a text : List ℕ) (c meaning : Content) → Some a ≡ Some text → Some c ≡ Some meaning → IsLiteral a c → IsLiteral text meaning
-at_both a text c meaning e f h =
+at_both : (mode : Mode) (a text : List ℕ) (c meaning : Content) → Some a ≡ Some text → Some c ≡ Some meaning → IsLiteral mode a c → IsLiteral mode text meaning
+at_both mode a text c meaning e f h =
     let same : a ≡ text = cc in
     let means : c ≡ meaning = cc in
-    subst (λ t. IsLiteral t meaning) same (subst (λ k. IsLiteral a k) means h)
+    subst (λ t. IsLiteral mode t meaning) same (subst (λ k. IsLiteral mode a k) means h)
 
-each_sql_is_literal : WrittenIsRead → (value : Value) → FitsFields value → SqlIsLiteral value
-each_sql_is_literal written NULL h text meaning e f = at_both (codes "NULL") text content.Null meaning e f refl
-each_sql_is_literal written (Bytes bytes) h text meaning e f = at_both (bytes_sql false bytes) text (content.Bytes bytes) meaning e f (bytes_literal written (is_utf8 bytes) bytes refl (all_bytes bytes (λ k l. h.0 k)))
-each_sql_is_literal written (Int (pos n)) h text meaning e f = at_both (decimal n) text (content.Number (pos n)) meaning e f (unsigned_number n (omega (arith, h.sfits)))
-each_sql_is_literal written (Int (negsuc n)) h text meaning e f = at_both (0x2d ∷ decimal (suc n)) text (content.Number (negsuc n)) meaning e f (negative_number n (omega (arith, h.sfits)))
-each_sql_is_literal written (UInt n) h text meaning e f = at_both (decimal n) text (content.Number (pos n)) meaning e f (unsigned_number n h)
-each_sql_is_literal written (Float bits) h text meaning e f = cc
-each_sql_is_literal written (Double bits) h text meaning e f = cc
-each_sql_is_literal written (Date year month day hour minute second micros) h text meaning e f =
-    let plain : ArePlain (date_text year month day hour minute second micros) = plain_date year month day hour minute second micros h.0 h.1 h.2 h.3 h.4 h.5 h.6 in
-    at_both _ text _ meaning e f (plain_literal (date_text year month day hour minute second micros) plain)
-each_sql_is_literal written (Time negative days hours minutes seconds micros) h text meaning e f =
-    let plain : ArePlain (time_text negative days hours minutes seconds micros) = plain_time negative days hours minutes seconds micros h.0 h.1 h.2 h.3 h.4 in
-    at_both _ text _ meaning e f (plain_literal (time_text negative days hours minutes seconds micros) plain)
+each_sql_is_literal : WrittenIsRead → PlainIsRead → (value : Value) → FitsFields value → SqlIsLiteral value
+each_sql_is_literal written plain NULL h mode spelling text meaning e f = at_both mode (codes "NULL") text content.Null meaning e f refl
+each_sql_is_literal written plain (Bytes bytes) h mode spelling text meaning e f =
+    at_both mode (bytes_sql mode.no_backslash_escapes spelling bytes) text (content.Bytes bytes) meaning e f (bytes_literal written plain mode spelling bytes (all_bytes bytes (λ k l. h.0 k)))
+each_sql_is_literal written plain (Int (pos n)) h mode spelling text meaning e f = at_both mode (decimal n) text (content.Number (pos n)) meaning e f (unsigned_number n (omega (arith, h.sfits)))
+each_sql_is_literal written plain (Int (negsuc n)) h mode spelling text meaning e f = at_both mode (0x2d ∷ decimal (suc n)) text (content.Number (negsuc n)) meaning e f (negative_number n (omega (arith, h.sfits)))
+each_sql_is_literal written plain (UInt n) h mode spelling text meaning e f = at_both mode (decimal n) text (content.Number (pos n)) meaning e f (unsigned_number n h)
+each_sql_is_literal written plain (Float bits) h mode spelling text meaning e f = cc
+each_sql_is_literal written plain (Double bits) h mode spelling text meaning e f = cc
+each_sql_is_literal written plain (Date year month day hour minute second micros) h mode spelling text meaning e f =
+    let safe : AreSafe (date_text year month day hour minute second micros) = safe_date year month day hour minute second micros h.0 h.1 h.2 h.3 h.4 h.5 h.6 in
+    at_both mode _ text _ meaning e f (plain mode (date_text year month day hour minute second micros) (unquoted _ safe))
+each_sql_is_literal written plain (Time negative days hours minutes seconds micros) h mode spelling text meaning e f =
+    let safe : AreSafe (time_text negative days hours minutes seconds micros) = safe_time negative days hours minutes seconds micros h.0 h.1 h.2 h.3 h.4 in
+    at_both mode _ text _ meaning e f (plain mode (time_text negative days hours minutes seconds micros) (unquoted _ safe))
 
 fits_without_sign : (value : Value) → FitsFields value → FitsFields (without_zero_sign value)
 fits_without_sign NULL h = h
@@ -189,8 +216,47 @@ fits_without_sign (Double bits) h = h
 fits_without_sign (Date year month day hour minute second micros) h = h
 fits_without_sign (Time negative days hours minutes seconds micros) h = h
 
-pub each_is_literal : WrittenIsRead → EachSqlIsLiteral
-each_is_literal written value h = (each_sql_is_literal written value h, each_sql_is_literal written (without_zero_sign value) (fits_without_sign value h))
+pub each_is_literal : WrittenIsRead → PlainIsRead → EachSqlIsLiteral
+each_is_literal written plain value h = (each_sql_is_literal written plain value h, each_sql_is_literal written plain (without_zero_sign value) (fits_without_sign value h))
+
+-- hexadecimal spelling
+
+-- what stands for a value whose literal has no quotes, and for another
+abbrev IsSafeText : Bool → List ℕ → Type 0
+IsSafeText in_place text = ((in_place ≡ false) × AreSafe text) ⊎ ((in_place ≡ true) × (inside : List ℕ) × (text ≡ in_quotes inside) × AreSafe inside)
+
+safe_text : (a text : List ℕ) (in_place : Bool) → Some a ≡ Some text → IsSafeText in_place a → IsSafeText in_place text
+safe_text a text in_place e h = let same : a ≡ text = cc in subst (IsSafeText in_place) same h
+
+safe_bytes : (bytes : List ℕ) → AllByRecursion (λ b. b < 256) bytes → IsSafeText (stands_in_quotes (Bytes bytes)) (hexadecimal_sql bytes)
+safe_bytes [] h = inr (refl, [], refl, tt)
+safe_bytes (b ∷ bytes) h = inl (refl, safe_hexadecimal (b ∷ bytes) h)
+
+pub each_hexadecimal_is_safe : EachHexadecimalIsSafe
+each_hexadecimal_is_safe NULL h mode text e =
+    let letter : IsSafeByte 0x4c = safe_between 0x4c (omega arith) (omega arith) in
+    safe_text (codes "NULL") text false e (inl (refl, (safe_between 0x4e (omega arith) (omega arith), (safe_between 0x55 (omega arith) (omega arith), (letter, (letter, tt))))))
+each_hexadecimal_is_safe (Bytes bytes) h mode text e = safe_text (hexadecimal_sql bytes) text (stands_in_quotes (Bytes bytes)) e (safe_bytes bytes (all_bytes bytes (λ k l. h.0 k)))
+each_hexadecimal_is_safe (Int (pos n)) h mode text e = safe_text (decimal n) text false e (inl (refl, safe_decimal n (omega (arith, h.sfits))))
+each_hexadecimal_is_safe (Int (negsuc n)) h mode text e = safe_text (0x2d ∷ decimal (suc n)) text false e (inl (refl, safe_negative (suc n) (omega (arith, h.sfits))))
+each_hexadecimal_is_safe (UInt n) h mode text e = safe_text (decimal n) text false e (inl (refl, safe_decimal n h))
+each_hexadecimal_is_safe (Float bits) h mode text e = cc
+each_hexadecimal_is_safe (Double bits) h mode text e = cc
+each_hexadecimal_is_safe (Date year month day hour minute second micros) h mode text e =
+    safe_text _ text true e (inr (refl, date_text year month day hour minute second micros, refl, safe_date year month day hour minute second micros h.0 h.1 h.2 h.3 h.4 h.5 h.6))
+each_hexadecimal_is_safe (Time negative days hours minutes seconds micros) h mode text e =
+    let sign : Bool = negative && not (is_zero_time days hours minutes seconds micros) in
+    safe_text _ text true e (inr (refl, time_text sign days hours minutes seconds micros, refl, safe_time sign days hours minutes seconds micros h.0 h.1 h.2 h.3 h.4))
+
+pub one_hexadecimal : OneHexadecimal
+one_hexadecimal NULL mode other = refl
+one_hexadecimal (Bytes bytes) mode other = refl
+one_hexadecimal (Int z) mode other = refl
+one_hexadecimal (UInt n) mode other = refl
+one_hexadecimal (Float bits) mode other = refl
+one_hexadecimal (Double bits) mode other = refl
+one_hexadecimal (Date year month day hour minute second micros) mode other = refl
+one_hexadecimal (Time negative days hours minutes seconds micros) mode other = refl
 
 -- UTF-8
 
@@ -202,33 +268,23 @@ ascii_at (b ∷ text) h (suc i) = ascii_at text h.1 i
 ascii_is_utf8 : (text : List ℕ) → AllByRecursion (λ b. b < 128) text → IsUtf8 text
 ascii_is_utf8 text h = IsUtf8-from_ascii text (ascii_at text h)
 
-plain_is_ascii : (text : List ℕ) → ArePlain text → AllByRecursion (λ b. b < 128) text
-plain_is_ascii [] h = tt
-plain_is_ascii (b ∷ text) h = (h.0.2, plain_is_ascii text h.1)
+safe_is_ascii : (text : List ℕ) → AreSafe text → AllByRecursion (λ b. b < 128) text
+safe_is_ascii [] h = tt
+safe_is_ascii (b ∷ text) h = (h.0.0, safe_is_ascii text h.1)
 
-plain_is_utf8 : (text : List ℕ) → ArePlain text → IsUtf8 text
-plain_is_utf8 text h = ascii_is_utf8 text (plain_is_ascii text h)
+safe_is_utf8 : (text : List ℕ) → AreSafe text → IsUtf8 text
+safe_is_utf8 text h = ascii_is_utf8 text (safe_is_ascii text h)
 
 quotes_are_utf8 : (text : List ℕ) → IsUtf8 text → IsUtf8 (in_quotes text)
 quotes_are_utf8 text h =
     let quote : IsUtf8 (single_quote ∷ []) = ascii_is_utf8 (single_quote ∷ []) (omega arith, tt) in
     IsUtf8-append (single_quote ∷ []) (text ++ single_quote ∷ []) quote (IsUtf8-append text (single_quote ∷ []) h quote)
 
-digit_is_ascii : (n : ℕ) → n < 16 → hex_digit n < 128
-digit_is_ascii n h = grind (arith, nat_tests)
-
-hexadecimal_is_ascii : (bytes : List ℕ) → AllByRecursion (λ b. b < 256) bytes → AllByRecursion (λ b. b < 128) (flat_map (λ b. hex_digit (b / 16) ∷ hex_digit (b % 16) ∷ []) bytes)
-hexadecimal_is_ascii [] h = tt
-hexadecimal_is_ascii (b ∷ bytes) h =
-    let high : b / 16 < 16 = omega (arith, h.0) in
-    let low : b % 16 < 16 = omega arith in
-    (digit_is_ascii (b / 16) high, (digit_is_ascii (b % 16) low, hexadecimal_is_ascii bytes h.1))
-
 -- a byte from 128 on stands for itself
 is_other : (b k : ℕ) → k < 128 → 128 ≤ b → (b == k) ≡ false
 is_other b k l h = grind (arith, nat_tests)
 
-high_byte : (m : Bool) (b : ℕ) → 128 ≤ b → byte_in_quotes m b ≡ b ∷ []
+high_byte : (m : Bool) (b : ℕ) → 128 ≤ b → written_byte m b ≡ b ∷ []
 high_byte true b h =
     let e : (b == single_quote) ≡ false = is_other b single_quote (omega arith) h in rw e refl
 high_byte false b h =
@@ -241,10 +297,10 @@ high_byte false b h =
     let e6 : (b == double_quote) ≡ false = is_other b double_quote (omega arith) h in
     rw (e0, e1, e2, e3, e4, e5, e6) refl
 
-high_bytes : (m : Bool) (bytes : List ℕ) → ((k : ℕ) → k < length bytes → 128 ≤ get_or bytes k 0) → flat_map (byte_in_quotes m) bytes ≡ bytes
+high_bytes : (m : Bool) (bytes : List ℕ) → ((k : ℕ) → k < length bytes → 128 ≤ get_or bytes k 0) → flat_map (written_byte m) bytes ≡ bytes
 high_bytes m [] h = refl
 high_bytes m (b ∷ bytes) h =
-    ap (λ t. t ++ flat_map (byte_in_quotes m) bytes) (high_byte m b (h 0 (omega arith))) ∙ ap (λ t. b ∷ t) (high_bytes m bytes (λ k l. h (suc k) (omega arith)))
+    ap (λ t. t ++ flat_map (written_byte m) bytes) (high_byte m b (h 0 (omega arith))) ∙ ap (λ t. b ∷ t) (high_bytes m bytes (λ k l. h (suc k) (omega arith)))
 
 ascii_choice : (test : Bool) (xs ys : List ℕ) → AllByRecursion (λ b. b < 128) xs → AllByRecursion (λ b. b < 128) ys → AllByRecursion (λ b. b < 128) (if test then xs else ys)
 ascii_choice true xs ys h k = h
@@ -253,7 +309,7 @@ ascii_choice false xs ys h k = k
 two : (a b : ℕ) → a < 128 → b < 128 → AllByRecursion (λ b. b < 128) (a ∷ b ∷ [])
 two a b h k = (h, (k, tt))
 
-low_byte : (m : Bool) (b : ℕ) → b < 128 → AllByRecursion (λ b. b < 128) (byte_in_quotes m b)
+low_byte : (m : Bool) (b : ℕ) → b < 128 → AllByRecursion (λ b. b < 128) (written_byte m b)
 low_byte true b h = ascii_choice (b == single_quote) _ (b ∷ []) (two single_quote single_quote (omega arith) (omega arith)) (h, tt)
 low_byte false b h =
     ascii_choice (b == 0x00) _ _ (two backslash 0x30 (omega arith) (omega arith))
@@ -268,10 +324,10 @@ char_high c h k l =
       | inr large ↦ large
     ]
 
-char_is_utf8 : (m : Bool) (c : ℕ) → scalar c ≡ true → IsUtf8 (flat_map (byte_in_quotes m) (encode c))
+char_is_utf8 : (m : Bool) (c : ℕ) → scalar c ≡ true → IsUtf8 (flat_map (written_byte m) (encode c))
 char_is_utf8 m c s =
     elim (cases_lt c 128) [
-      | inl small ↦ subst (λ t. IsUtf8 (flat_map (byte_in_quotes m) t)) (sym (encode_ascii c small)) (subst IsUtf8 (sym (append-nil (byte_in_quotes m c))) (ascii_is_utf8 (byte_in_quotes m c) (low_byte m c small)))
+      | inl small ↦ subst (λ t. IsUtf8 (flat_map (written_byte m) t)) (sym (encode_ascii c small)) (subst IsUtf8 (sym (append-nil (written_byte m c))) (ascii_is_utf8 (written_byte m c) (low_byte m c small)))
       | inr large ↦ subst IsUtf8 (sym (high_bytes m (encode c) (char_high c large))) (IsUtf8-encode c s)
     ]
 
@@ -283,48 +339,40 @@ second_of_both : (a b : Bool) → a && b ≡ true → b ≡ true
 second_of_both true b e = e
 second_of_both false b e = cc
 
-chars_are_utf8 : (m : Bool) (cs : List ℕ) → scalars cs ≡ true → IsUtf8 (flat_map (byte_in_quotes m) (encodes cs))
+chars_are_utf8 : (m : Bool) (cs : List ℕ) → scalars cs ≡ true → IsUtf8 (flat_map (written_byte m) (encodes cs))
 chars_are_utf8 m [] e = IsUtf8-nil
 chars_are_utf8 m (c ∷ cs) e =
-    subst IsUtf8 (sym (flat_map-append (byte_in_quotes m) (encode c) (encodes cs)))
+    subst IsUtf8 (sym (flat_map-append (written_byte m) (encode c) (encodes cs)))
     (IsUtf8-append _ _ (char_is_utf8 m c (first_of_both (scalar c) (scalars cs) e)) (chars_are_utf8 m cs (second_of_both (scalar c) (scalars cs) e)))
 
-escaped_is_utf8 : (m : Bool) (bytes : List ℕ) → IsUtf8 bytes → IsUtf8 (flat_map (byte_in_quotes m) bytes)
-escaped_is_utf8 m bytes u = subst (λ t. IsUtf8 (flat_map (byte_in_quotes m) t)) u.1.1 (chars_are_utf8 m u.0 u.1.0)
+escaped_is_utf8 : (m : Bool) (bytes : List ℕ) → IsUtf8 bytes → IsUtf8 (flat_map (written_byte m) bytes)
+escaped_is_utf8 m bytes u = subst (λ t. IsUtf8 (flat_map (written_byte m) t)) u.1.1 (chars_are_utf8 m u.0 u.1.0)
 
--- the bytes of a value's SQL text, as they are appended
-pub bytes_in_mode : (m : Bool) (bytes : List ℕ) → is_utf8 bytes ≡ true → bytes_sql m bytes ≡ in_quotes (flat_map (byte_in_quotes m) bytes)
-bytes_in_mode true bytes e = rw e refl
-bytes_in_mode false bytes e = rw e refl
-
-pub bytes_in_hexadecimal : (m : Bool) (bytes : List ℕ) → is_utf8 bytes ≡ false → bytes_sql m bytes ≡ in_hexadecimal bytes
-bytes_in_hexadecimal m bytes e = rw e refl
-
-bytes_are_utf8 : (m test : Bool) (bytes : List ℕ) → is_utf8 bytes ≡ test → AllByRecursion (λ b. b < 256) bytes → IsUtf8 (bytes_sql m bytes)
-bytes_are_utf8 m true bytes e h = subst IsUtf8 (sym (bytes_in_mode m bytes e)) (quotes_are_utf8 _ (escaped_is_utf8 m bytes (IsUtf8-from_is_utf8 bytes e)))
-bytes_are_utf8 m false bytes e h = subst IsUtf8 (sym (bytes_in_hexadecimal m bytes e)) (ascii_is_utf8 (in_hexadecimal bytes) (omega arith, (omega arith, hexadecimal_is_ascii bytes h)))
+bytes_are_utf8 : (m test : Bool) (bytes : List ℕ) → is_utf8 bytes ≡ test → AllByRecursion (λ b. b < 256) bytes → IsUtf8 (if test then quoted m bytes else in_hexadecimal bytes)
+bytes_are_utf8 m true bytes e h = quotes_are_utf8 _ (escaped_is_utf8 m bytes (IsUtf8-from_is_utf8 bytes e))
+bytes_are_utf8 m false bytes e h = safe_is_utf8 (in_hexadecimal bytes) (safe_hexadecimal bytes h)
 
 number_is_utf8 : (n : ℕ) → n < 2 ^ 64 → IsUtf8 (decimal n)
-number_is_utf8 n h = plain_is_utf8 (decimal n) (plain_digits (decimal n) (digits_decimal own n h))
+number_is_utf8 n h = safe_is_utf8 (decimal n) (safe_decimal n h)
 
 pub sql_is_utf8 : (m : Bool) (value : Value) (text : List ℕ) → FitsFields value → sql_of m value ≡ Some text → IsUtf8 text
 sql_is_utf8 m NULL text h e = let same : codes "NULL" ≡ text = cc in subst IsUtf8 same (ascii_is_utf8 (codes "NULL") (omega arith, (omega arith, (omega arith, (omega arith, tt)))))
-sql_is_utf8 m (Bytes bytes) text h e = let same : bytes_sql m bytes ≡ text = cc in subst IsUtf8 same (bytes_are_utf8 m (is_utf8 bytes) bytes refl (all_bytes bytes (λ k l. h.0 k)))
+sql_is_utf8 m (Bytes bytes) text h e = let same : quoted_sql m bytes ≡ text = cc in subst IsUtf8 same (bytes_are_utf8 m (is_utf8 bytes) bytes refl (all_bytes bytes (λ k l. h.0 k)))
 sql_is_utf8 m (Int (pos n)) text h e = let same : decimal n ≡ text = cc in subst IsUtf8 same (number_is_utf8 n (omega (arith, h.sfits)))
 sql_is_utf8 m (Int (negsuc n)) text h e =
     let same : 0x2d ∷ decimal (suc n) ≡ text = cc in
-    subst IsUtf8 same (IsUtf8-append (0x2d ∷ []) (decimal (suc n)) (ascii_is_utf8 (0x2d ∷ []) (omega arith, tt)) (number_is_utf8 (suc n) (omega (arith, h.sfits))))
+    subst IsUtf8 same (safe_is_utf8 (0x2d ∷ decimal (suc n)) (safe_negative (suc n) (omega (arith, h.sfits))))
 sql_is_utf8 m (UInt n) text h e = let same : decimal n ≡ text = cc in subst IsUtf8 same (number_is_utf8 n h)
 sql_is_utf8 m (Float bits) text h e = cc
 sql_is_utf8 m (Double bits) text h e = cc
 sql_is_utf8 m (Date year month day hour minute second micros) text h e =
-    let plain : ArePlain (date_text year month day hour minute second micros) = plain_date year month day hour minute second micros h.0 h.1 h.2 h.3 h.4 h.5 h.6 in
+    let safe : AreSafe (date_text year month day hour minute second micros) = safe_date year month day hour minute second micros h.0 h.1 h.2 h.3 h.4 h.5 h.6 in
     let same : in_quotes (date_text year month day hour minute second micros) ≡ text = cc in
-    subst IsUtf8 same (quotes_are_utf8 _ (plain_is_utf8 _ plain))
+    subst IsUtf8 same (quotes_are_utf8 _ (safe_is_utf8 _ safe))
 sql_is_utf8 m (Time negative days hours minutes seconds micros) text h e =
-    let plain : ArePlain (time_text negative days hours minutes seconds micros) = plain_time negative days hours minutes seconds micros h.0 h.1 h.2 h.3 h.4 in
+    let safe : AreSafe (time_text negative days hours minutes seconds micros) = safe_time negative days hours minutes seconds micros h.0 h.1 h.2 h.3 h.4 in
     let same : in_quotes (time_text negative days hours minutes seconds micros) ≡ text = cc in
-    subst IsUtf8 same (quotes_are_utf8 _ (plain_is_utf8 _ plain))
+    subst IsUtf8 same (quotes_are_utf8 _ (safe_is_utf8 _ safe))
 
 -- what was appended to nothing is the text
 some_text : (o : Option (List ℕ)) (new : List ℕ) → PutsSql o [] new (Ok tt) → o ≡ Some new

@@ -1,16 +1,20 @@
 -- How a value's SQL text is appended, and that it is a literal of the value's content. MySQL
 -- Reference Manual, "Literal Values": "String Literals" (escape sequences), "Hexadecimal Literals",
--- "Date and Time Literals".
-use Rattle.std.specs.Prelude.{◌≡◌, ℕ, ◌^◌, ◌<◌, ◌==◌, FitsSigned, Bool, false, if◌then◌else◌, List, [], ◌∷◌, ◌++◌}
+-- "Date and Time Literals"; "Server SQL Modes" (NO_BACKSLASH_ESCAPES).
+use Rattle.std.specs.Prelude.{◌≡◌, ◌≢◌, ◌⊎◌, ℕ, ◌^◌, ◌<◌, FitsSigned, Bool, false, true, if◌then◌else◌}
+use Rattle.std.specs.Prelude.{List, [], ◌∷◌, ◌++◌}
+use Rattle.std.specs.List.{AllByRecursion}
 use Rattle.std.specs.Prelude.{length, take, Option, Some, None, Result, Ok, Err}
 use Rattle.std.specs.Int.{w64}
 use Rattle.mysql_buf.specs.Bytes.{AreBytes}
-use Rattle.mysql_queries.specs.Tokens.{single_quote}
+use Rattle.mysql_queries.specs.Tokens.{backslash, backtick, double_quote, single_quote}
 use Rattle.mysql_queries.specs.Literals.{IsLiteral}
-use Rattle.mysql_queries.specs.Written.{written_byte}
 use Rattle.mysql_cells.specs.Values.{clock_text, content_of, digits_in, is_zero_time, literal_of, micros_text}
-use Rattle.mysql_cells.specs.Values.{plain_content, sql_of}
+use Rattle.mysql_cells.specs.Values.{in_quotes, plain_content, spelled_sql}
 use Rattle.mysql_queries.specs.declared.content.Content.{Content}
+use Rattle.mysql_queries.specs.declared.mode.Mode.{Mode}
+use Rattle.mysql_cells.specs.declared.spelling.Spelling.{Spelling}
+use Rattle.mysql_cells.specs.declared.spelling.Spelling.TheVariants.{Hexadecimal}
 use Rattle.mysql_cells.specs.declared.as_sql.AsSqlError.{AsSqlError}
 use Rattle.mysql_cells.specs.declared.as_sql.AsSqlError.TheVariants as as_sql_error
 use Rattle.mysql_cells.specs.declared.value.Value.{Value}
@@ -29,6 +33,14 @@ PutsSql (Some text) old new (Err e) = (e ≡ as_sql_error.Memory) × (take (leng
 PutsSql None old new (Ok _) = ⊥
 PutsSql None old new (Err e) = (e ≡ as_sql_error.Float) × (new ≡ old)
 
+-- A call appended a literal, if there is one; where there is none it says that the value is a
+-- float. After a refusal all is as it was.
+abbrev pub PutsLiteral : Option (List ℕ) → List ℕ → List ℕ → Result (Unit {0}) AsSqlError → Type 0
+PutsLiteral (Some text) old new (Ok _) = new ≡ old ++ text
+PutsLiteral (Some text) old new (Err e) = (e ≡ as_sql_error.Memory) × (new ≡ old)
+PutsLiteral None old new (Ok _) = ⊥
+PutsLiteral None old new (Err e) = (e ≡ as_sql_error.Float) × (new ≡ old)
+
 -- a separator and at least two digits
 abbrev pub part_text : ℕ → ℕ → List ℕ
 part_text separator n = separator ∷ digits_in 2 n
@@ -38,12 +50,6 @@ abbrev pub time_of_day_text : ℕ → ℕ → ℕ → ℕ → List ℕ
 time_of_day_text hour minute second micros =
     if is_zero_time 0 hour minute second micros then [] else 0x20 ∷
     (clock_text 2 hour minute second ++ micros_text micros)
-
--- a byte between quotes, for a server that takes backslash escapes or for one that doesn't
-abbrev pub byte_in_quotes : Bool → ℕ → List ℕ
-byte_in_quotes no_backslash_escape b =
-    if no_backslash_escape then (if b == single_quote then single_quote ∷ single_quote ∷ [] else b ∷
-    []) else written_byte b
 
 -- each number of the value fits its field
 abbrev pub FitsFields : Value → Type 0
@@ -58,16 +64,47 @@ FitsFields (Date year month day hour minute second micros) =
 FitsFields (Time negative days hours minutes seconds micros) =
     (days < 2 ^ 32) × (hours < 256) × (minutes < 256) × (seconds < 256) × (micros < 2 ^ 32)
 
--- With backslash escapes the SQL text of a value is a literal of what the value means, the sign of
+-- The SQL text of a value for a mode is in that mode a literal of what the value means, the sign of
 -- an all-zero time kept in both.
 abbrev pub SqlIsLiteral : Value → Type 0
-SqlIsLiteral value = (text : List ℕ) (content : Content) → sql_of false value ≡ Some text →
-    plain_content value ≡ Some content → IsLiteral text content
+SqlIsLiteral value = (mode : Mode) (spelling : Spelling) (text : List ℕ) (content : Content) →
+    spelled_sql mode.no_backslash_escapes spelling value ≡ Some text →
+    plain_content value ≡ Some content → IsLiteral mode text content
 
--- The literal that is bound for a value is a literal of its content.
+-- The literal that is bound for a value and a mode is in that mode a literal of its content.
 abbrev pub HasLiteral : Value → Type 0
-HasLiteral value = (text : List ℕ) (content : Content) → literal_of value ≡ Some text →
-    content_of value ≡ Some content → IsLiteral text content
+HasLiteral value = (mode : Mode) (spelling : Spelling) (text : List ℕ) (content : Content) →
+    literal_of mode spelling value ≡ Some text →
+    content_of value ≡ Some content → IsLiteral mode text content
+
+-- A byte of ASCII that no mode and no character set takes otherwise: none of the three quotes and
+-- no backslash.
+abbrev pub IsSafeByte : ℕ → Type 0
+IsSafeByte b = (b < 0x80) × (b ≢ single_quote) × (b ≢ double_quote) × (b ≢ backtick) × (b ≢ backslash)
+
+-- dates, times and the empty byte string, which stand between quotes in hexadecimal spelling too
+abbrev pub stands_in_quotes : Value → Bool
+stands_in_quotes (Date year month day hour minute second micros) = true
+stands_in_quotes (Time negative days hours minutes seconds micros) = true
+stands_in_quotes (Bytes []) = true
+stands_in_quotes _ = false
+
+-- In hexadecimal spelling the literal of a value has safe bytes alone, but for the two quotes
+-- around a date, a time and no bytes.
+abbrev pub HexadecimalIsSafe : Value → Type 0
+HexadecimalIsSafe value = (mode : Mode) (text : List ℕ) → literal_of mode Hexadecimal value ≡ Some text →
+    ((stands_in_quotes value ≡ false) × AllByRecursion IsSafeByte text) ⊎
+    ((stands_in_quotes value ≡ true) × (inside : List ℕ) × (text ≡ in_quotes inside) ×
+    AllByRecursion IsSafeByte inside)
+
+-- Hexadecimal spelling is the same for each mode.
+abbrev pub OneHexadecimal : Type 0
+OneHexadecimal = (value : Value) (mode other : Mode) →
+    literal_of mode Hexadecimal value ≡ literal_of other Hexadecimal value
+
+-- That holds of each value whose numbers fit their fields.
+abbrev pub EachHexadecimalIsSafe : Type 0
+EachHexadecimalIsSafe = (value : Value) → FitsFields value → HexadecimalIsSafe value
 
 -- Both hold of each value.
 abbrev pub EachSqlIsLiteral : Type 0

@@ -3,7 +3,7 @@
 -- Values"; of the SQL mode NO_BACKSLASH_ESCAPES: "Server SQL Modes".
 use Rattle.std.specs.Prelude.{ℕ, pos, ◌+◌, ◌*◌, ◌-◌, ◌==◌, ◌&&◌, ◌||◌, Bool, true, false, not, if◌then◌else◌, List, []}
 use Rattle.std.specs.Prelude.{◌∷◌}
-use Rattle.std.specs.Prelude.{◌++◌, length, replicate, flat_map, codes, is_none, Option, Some, None}
+use Rattle.std.specs.Prelude.{◌++◌, length, replicate, codes, is_none, Option, Some, None}
 use Rattle.std.specs.Fmt.{decimal, signed_decimal, sign_text}
 use Rattle.std.specs.List.{position_from}
 use Rattle.std.specs.Str.{is_utf8}
@@ -11,6 +11,9 @@ use Rattle.mysql_queries.specs.Tokens.{single_quote}
 use Rattle.mysql_queries.specs.Written.{quoted, in_hexadecimal}
 use Rattle.mysql_queries.specs.declared.content.Content.{Content}
 use Rattle.mysql_queries.specs.declared.content.Content.TheVariants as content
+use Rattle.mysql_queries.specs.declared.mode.Mode.{Mode}
+use Rattle.mysql_cells.specs.declared.spelling.Spelling.{Spelling}
+use Rattle.mysql_cells.specs.declared.spelling.Spelling.TheVariants.{Quoted, Hexadecimal}
 use Rattle.mysql_cells.specs.declared.value.Value.{Value}
 use Rattle.mysql_cells.specs.declared.value.Value.TheVariants.{NULL, Bytes, Int, UInt, Float, Double, Date, Time}
 
@@ -95,31 +98,40 @@ first_float values = position_from (λ value. is_none (content_of value)) 0 valu
 abbrev pub in_quotes : List ℕ → List ℕ
 in_quotes text = single_quote ∷ (text ++ single_quote ∷ [])
 
--- bytes between single quotes where a backslash escapes nothing: single quotes are doubled
-abbrev pub with_doubled_quotes : List ℕ → List ℕ
-with_doubled_quotes bytes =
-    in_quotes (flat_map (λ b. if b == single_quote then single_quote ∷ single_quote ∷ [] else b ∷
-    []) bytes)
+-- bytes that are UTF-8 between quotes, for a server in NO_BACKSLASH_ESCAPES or for another, and
+-- others in hexadecimal
+abbrev pub quoted_sql : (no_backslash_escapes : Bool) → List ℕ → List ℕ
+quoted_sql no_backslash_escapes bytes =
+    if is_utf8 bytes then quoted no_backslash_escapes bytes else in_hexadecimal bytes
 
--- bytes that are UTF-8 between quotes, escaped for the mode, and others in hexadecimal
-abbrev pub bytes_sql : Bool → List ℕ → List ℕ
-bytes_sql no_backslash_escape bytes =
-    if is_utf8 bytes then (if no_backslash_escape then with_doubled_quotes bytes else quoted bytes)
-    else in_hexadecimal bytes
+-- bytes in hexadecimal, and none between quotes
+abbrev pub hexadecimal_sql : List ℕ → List ℕ
+hexadecimal_sql [] = in_quotes []
+hexadecimal_sql (b ∷ bytes) = in_hexadecimal (b ∷ bytes)
 
--- The SQL text of a value, for a server that takes backslash escapes or for one that doesn't. Floats have none.
-abbrev pub sql_of : Bool → Value → Option (List ℕ)
-sql_of no_backslash_escape NULL = Some (codes "NULL")
-sql_of no_backslash_escape (Bytes bytes) = Some (bytes_sql no_backslash_escape bytes)
-sql_of no_backslash_escape (Int z) = Some (signed_decimal z)
-sql_of no_backslash_escape (UInt n) = Some (decimal n)
-sql_of no_backslash_escape (Float bits) = None
-sql_of no_backslash_escape (Double bits) = None
-sql_of no_backslash_escape (Date year month day hour minute second micros) =
+-- a byte string by its spelling
+abbrev pub bytes_sql : (no_backslash_escapes : Bool) → Spelling → List ℕ → List ℕ
+bytes_sql no_backslash_escapes Quoted bytes = quoted_sql no_backslash_escapes bytes
+bytes_sql no_backslash_escapes Hexadecimal bytes = hexadecimal_sql bytes
+
+-- The SQL text of a value, by the mode of the server that reads it and the spelling of byte
+-- strings. Floats have none.
+abbrev pub spelled_sql : (no_backslash_escapes : Bool) → Spelling → Value → Option (List ℕ)
+spelled_sql no_backslash_escapes spelling NULL = Some (codes "NULL")
+spelled_sql no_backslash_escapes spelling (Bytes bytes) = Some (bytes_sql no_backslash_escapes spelling bytes)
+spelled_sql no_backslash_escapes spelling (Int z) = Some (signed_decimal z)
+spelled_sql no_backslash_escapes spelling (UInt n) = Some (decimal n)
+spelled_sql no_backslash_escapes spelling (Float bits) = None
+spelled_sql no_backslash_escapes spelling (Double bits) = None
+spelled_sql no_backslash_escapes spelling (Date year month day hour minute second micros) =
     Some (in_quotes (date_text year month day hour minute second micros))
-sql_of no_backslash_escape (Time negative days hours minutes seconds micros) =
+spelled_sql no_backslash_escapes spelling (Time negative days hours minutes seconds micros) =
     Some (in_quotes (time_text negative days hours minutes seconds micros))
 
--- the literal that is bound for a value: its SQL text with backslash escapes, an all-zero time taken as positive
-abbrev pub literal_of : Value → Option (List ℕ)
-literal_of value = sql_of false (without_zero_sign value)
+-- The SQL text of a value with byte strings in quotes.
+abbrev pub sql_of : (no_backslash_escapes : Bool) → Value → Option (List ℕ)
+sql_of no_backslash_escapes value = spelled_sql no_backslash_escapes Quoted value
+
+-- the literal that is bound for a value: its SQL text, an all-zero time taken as positive
+abbrev pub literal_of : Mode → Spelling → Value → Option (List ℕ)
+literal_of mode spelling value = spelled_sql mode.no_backslash_escapes spelling (without_zero_sign value)

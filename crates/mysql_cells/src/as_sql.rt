@@ -3,15 +3,20 @@
 //!     let number = Value::Int(-1).as_sql(alloc, false)?;
 //!     let text = value.as_sql(alloc, no_backslash_escape)?;
 
-ghost use Rattle.mysql_cells.specs.AsSql.{EachSqlIsLiteral, HasLiteral, PutsSql, SqlIsLiteral};
-ghost use Rattle.mysql_cells.specs.Values.{literal_of, sql_of, with_zero_sign};
+ghost use Rattle.mysql_cells.specs.AsSql.{EachHexadecimalIsSafe, EachSqlIsLiteral, HasLiteral, OneHexadecimal};
+ghost use Rattle.mysql_cells.specs.AsSql.{PutsLiteral, PutsSql, SqlIsLiteral};
+ghost use Rattle.mysql_queries.specs.Sql.{default_mode};
+ghost use Rattle.mysql_cells.specs.Values.{literal_of, spelled_sql, sql_of, with_zero_sign};
 ghost use Rattle.mysql_cells.specs.declared.as_sql.AsSqlError.TheVariants as as_sql_error;
-ghost use Rattle.std.specs.Prelude.{◌≡◌, ◌++◌, ◌↔◌, Err, IfOk, IsSomeAnd, None, OnErr, OnOk, Some, string_bytes};
+ghost use Rattle.std.specs.Prelude.{◌≡◌, ◌↔◌, Err, IfOk, None, Some, string_bytes};
 
-use crate::date_text::{is_zero_time, put_date, put_signed, put_time, put_unsigned};
+use crate::date_text::{is_zero_time, put_date, put_time};
 use crate::laws::fields_fit;
 use crate::quoting::put_bytes;
+use crate::spelling::Spelling;
 use crate::value::Value;
+use itoa::Buffer;
+use mysql_queries::Mode;
 use mysql_queries::laws::content_of_a_spelling;
 use std::alloc::{AllocError, AllocFailed, Global};
 use thiserror::Error;
@@ -42,12 +47,22 @@ impl<T: Drop> From<AllocFailed<T>> for AsSqlError {
     }
 }
 
-/// With backslash escapes the SQL text of a value is a literal of what the value means.
+/// The SQL text of a value for a mode is in that mode a literal of what the value means.
 pub fn sql_text_is_a_literal()
     ensures { EachSqlIsLiteral }
 {
     content_of_a_spelling();
 }
+
+/// In hexadecimal spelling literals are the same for each mode, and have safe bytes alone.
+///
+/// Those are bytes below 80 but the three quotes and the backslash. Quotes stand around a date, a
+/// time and no bytes. So a literal is one in every mode, and in every character set in which bytes
+/// below 80 that follow one another are themselves.
+pub fn hexadecimal_is_safe()
+    ensures one { OneHexadecimal }
+    ensures safe { EachHexadecimalIsSafe }
+{}
 
 /// The SQL text of a value is a literal of what it means, and so is the literal that is bound for it.
 fn text_is_a_literal(value: &Value)
@@ -58,8 +73,10 @@ fn text_is_a_literal(value: &Value)
     fields_fit(value);
 }
 
-/// Appends the SQL text of a value, the sign of an all-zero time only where it is kept. A refusal
-/// may leave a part behind.
+/// Appends the SQL text of a value for a server in a mode.
+///
+/// Byte strings are by their spelling, and the sign of an all-zero time stands only where it is
+/// kept. A refusal may leave a part behind.
 ///
 /// # Errors
 /// - `Float` for a float: nothing is appended then.
@@ -70,9 +87,10 @@ pub fn put_sql(
     out: &mut Vec<u8>,
     value: &Value,
     no_backslash_escape: bool,
+    spelling: Spelling,
     zero_sign: bool,
 ) -> Result<(), AsSqlError>
-    ensures text { PutsSql (sql_of no_backslash_escape (with_zero_sign zero_sign value.now))
+    ensures text { PutsSql (spelled_sql no_backslash_escape spelling (with_zero_sign zero_sign value.now))
         out.old.items out.new.items result }
     ensures plain { SqlIsLiteral value.now }
     ensures literal { HasLiteral value.now }
@@ -80,9 +98,9 @@ pub fn put_sql(
     text_is_a_literal(value);
     match value {
         Value::NULL => out.extend_from_slice(b"NULL")?,
-        Value::Bytes(bytes) => put_bytes(out, bytes.as_slice(), no_backslash_escape)?,
-        Value::Int(number) => put_signed(out, *number)?,
-        Value::UInt(number) => put_unsigned(out, *number)?,
+        Value::Bytes(bytes) => put_bytes(out, bytes.as_slice(), no_backslash_escape, spelling)?,
+        Value::Int(number) => out.extend_from_slice(Buffer::new().format(*number).as_bytes())?,
+        Value::UInt(number) => out.extend_from_slice(Buffer::new().format(*number).as_bytes())?,
         Value::Float(_) | Value::Double(_) => return Err(AsSqlError::Float),
         Value::Date(year, month, day, hour, minute, second, micros) => {
             put_date(out, *year, *month, *day, *hour, *minute, *second, *micros)?
@@ -96,8 +114,9 @@ pub fn put_sql(
     Ok(())
 }
 
-/// Appends the literal of a value: its SQL text with backslash escapes, an all-zero time without
-/// its sign.
+/// Appends the literal of a value for a server in the default mode.
+///
+/// That is its SQL text, byte strings in quotes, an all-zero time without its sign.
 ///
 /// # Errors
 /// - `Float` for a float.
@@ -107,13 +126,34 @@ pub fn put_sql(
 ///
 /// Follows the MySQL Reference Manual, "Literal Values".
 pub fn push_literal(out: &mut Vec<u8>, value: &Value) -> Result<(), AsSqlError>
-    ensures ok { OnOk result (IsSomeAnd (literal_of value.now) (λ text. out.new.items ≡ out.old.items ++ text)) }
-    ensures float { (result ≡ Err AsSqlError.Float) ↔ (literal_of value.now ≡ None) }
-    ensures err { OnErr result (out.new.items ≡ out.old.items) }
+    ensures text { PutsLiteral (literal_of default_mode Spelling.Quoted value.now) out.old.items out.new.items result }
+    ensures literal { HasLiteral value.now }
+{
+    push_literal_in(out, value, Mode::default(), Spelling::Quoted)
+}
+
+/// Appends the literal of a value for a server in a mode.
+///
+/// That is its SQL text, byte strings by their spelling, an all-zero time without its sign.
+///
+/// # Errors
+/// - `Float` for a float.
+/// - `Memory`.
+///
+/// `out` is as it was after an error.
+///
+/// Follows the MySQL Reference Manual, "Literal Values", "Server SQL Modes".
+pub fn push_literal_in(
+    out: &mut Vec<u8>,
+    value: &Value,
+    mode: Mode,
+    spelling: Spelling,
+) -> Result<(), AsSqlError>
+    ensures text { PutsLiteral (literal_of mode spelling value.now) out.old.items out.new.items result }
     ensures literal { HasLiteral value.now }
 {
     let start = out.len();
-    let put = put_sql(out, value, false, false);
+    let put = put_sql(out, value, mode.no_backslash_escapes, spelling, false);
     if put.is_err() {
         out.truncate(start);
     }
@@ -130,8 +170,8 @@ impl Value {
     /// doubled, and no other byte is escaped. By the wrong one of both, or in a character set with
     /// a quote or a backslash among the bytes of a character, a value may end its literal.
     ///
-    /// Promise: exactly the stated text of the value is written, with backslash escapes a literal
-    /// of its content (`sql_of`, `SqlIsLiteral`).
+    /// Promise: exactly the stated text of the value is written, in the mode that it is for a
+    /// literal of its content (`sql_of`, `SqlIsLiteral`).
     ///
     /// # Errors
     /// - `Float` for a float.
@@ -145,7 +185,7 @@ impl Value {
     {
         fields_fit(self);
         let mut text = Vec::new(alloc);
-        put_sql(&mut text, self, no_backslash_escape, true)?;
+        put_sql(&mut text, self, no_backslash_escape, Spelling::Quoted, true)?;
         Ok(unsafe { String::from_utf8_unchecked(text) })
     }
 }

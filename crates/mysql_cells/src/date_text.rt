@@ -1,30 +1,13 @@
-//! The texts of numbers, dates and times.
+//! The texts of dates and times.
 #![tactic(auto, using(crate::proofs::Appended::what_is_kept))]
 
 ghost use Rattle.mysql_cells.specs.AsSql.{Puts, part_text, time_of_day_text};
 ghost use Rattle.mysql_cells.specs.Values.{clock_text, date_text, day_text, digits_in, in_quotes, is_zero_time};
 ghost use Rattle.mysql_cells.specs.Values.{micros_text, time_text};
-ghost use Rattle.std.specs.Fmt.{decimal, signed_decimal};
 ghost use Rattle.std.specs.Prelude.{◌++◌, ◌<◌, ◌^◌, ◌≡◌};
 
 use itoa::Buffer;
 use std::alloc::AllocError;
-
-/// Appends the number's digits.
-pub fn put_unsigned(out: &mut Vec<u8>, number: u64) -> Result<(), AllocError>
-    ensures { Puts (decimal number) out.old.items out.new.items result }
-{
-    let mut buffer = Buffer::new();
-    out.extend_from_slice(buffer.format(number).as_bytes())
-}
-
-/// Appends the number's digits behind its sign.
-pub fn put_signed(out: &mut Vec<u8>, number: i64) -> Result<(), AllocError>
-    ensures { Puts (signed_decimal number) out.old.items out.new.items result }
-{
-    let mut buffer = Buffer::new();
-    out.extend_from_slice(buffer.format(number).as_bytes())
-}
 
 /// Appends the number's digits, filled with zeros to the width.
 fn put_padded(out: &mut Vec<u8>, width: u8, number: u64) -> Result<(), AllocError>

@@ -11,10 +11,12 @@ pub mod deserializer;
 mod into_content;
 pub mod laws;
 mod quoting;
+pub mod spelling;
 pub mod value;
 
 pub use as_sql::AsSqlError;
 pub use cell_form::CellForm;
 pub use cells::{read_cell, read_text_cell};
 pub use deserializer::{BinValue, TextValue, ValueDeserializer};
+pub use spelling::Spelling;
 pub use value::Value;

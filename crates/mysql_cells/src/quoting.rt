@@ -1,13 +1,14 @@
 //! Bytes as literals: between quotes, or in hexadecimal.
 #![tactic(auto, using(crate::proofs::Appended::what_is_kept))]
 
-ghost use Rattle.mysql_cells.specs.AsSql.{Puts, byte_in_quotes};
+ghost use Rattle.mysql_cells.specs.AsSql.{Puts};
 ghost use Rattle.mysql_cells.specs.Values.{bytes_sql, in_quotes};
-ghost use Rattle.mysql_queries.specs.Written.{hex_digit, in_hexadecimal};
+ghost use Rattle.mysql_queries.specs.Written.{hex_digit, in_hexadecimal, written_byte};
 ghost use Rattle.std.specs.List.{flat_map};
 ghost use Rattle.std.specs.Str.{is_utf8};
 ghost use Rattle.std.specs.Prelude.{◌<◌, ◌≡◌, ◌∷◌, [], Bool, IfNone, IfSome, false, true};
 
+use crate::spelling::Spelling;
 use std::alloc::AllocError;
 use std::mem::replace;
 use std::str::from_utf8;
@@ -17,8 +18,8 @@ const BLOCK: usize = 32;
 
 /// The two bytes that stand for a byte between quotes; None where it stands for itself.
 fn escape(no_backslash_escape: bool, byte: u8) -> Option<(u8, u8)>
-    ensures some { IfSome result (λ pair. byte_in_quotes no_backslash_escape byte ≡ pair.0 ∷ pair.1 ∷ []) }
-    ensures none { IfNone result (byte_in_quotes no_backslash_escape byte ≡ byte ∷ []) }
+    ensures some { IfSome result (λ pair. written_byte no_backslash_escape byte ≡ pair.0 ∷ pair.1 ∷ []) }
+    ensures none { IfNone result (written_byte no_backslash_escape byte ≡ byte ∷ []) }
 {
     if no_backslash_escape {
         return if byte == b'\'' {
@@ -39,7 +40,7 @@ fn escape(no_backslash_escape: bool, byte: u8) -> Option<(u8, u8)>
 
 /// Whether a byte is one of those that are escaped in either mode.
 fn is_special(byte: u8) -> bool
-    ensures { result ≡ false → (mode : Bool) → byte_in_quotes mode byte ≡ byte ∷ [] }
+    ensures { result ≡ false → (mode : Bool) → written_byte mode byte ≡ byte ∷ [] }
 {
     matches!(byte, 0 | b'\n' | b'\r' | 0x1a | b'\\' | b'\'' | b'"')
 }
@@ -47,7 +48,7 @@ fn is_special(byte: u8) -> bool
 /// Whether each byte stands for itself in each mode. There is no way out of the loop, so that many
 /// bytes are compared at a time.
 fn is_plain(bytes: &[u8]) -> bool
-    ensures { result ≡ true → (mode : Bool) → flat_map (byte_in_quotes mode) bytes.now ≡ bytes.now }
+    ensures { result ≡ true → (mode : Bool) → flat_map (written_byte mode) bytes.now ≡ bytes.now }
 {
     let mut special = false;
     for byte in bytes {
@@ -58,7 +59,7 @@ fn is_plain(bytes: &[u8]) -> bool
 
 /// Appends bytes as they stand between quotes, one by one, into room that is made for all.
 fn put_each(out: &mut Vec<u8>, bytes: &[u8], no_backslash_escape: bool) -> Result<(), AllocError>
-    ensures { Puts (flat_map (byte_in_quotes no_backslash_escape) bytes.now) out.old.items out.new.items result }
+    ensures { Puts (flat_map (written_byte no_backslash_escape) bytes.now) out.old.items out.new.items result }
 {
     out.reserve(2 * bytes.len())?;
     // The length of what no reference leads to isn't written back for each byte.
@@ -78,7 +79,7 @@ fn put_each(out: &mut Vec<u8>, bytes: &[u8], no_backslash_escape: bool) -> Resul
 /// Appends bytes as they stand between quotes, all at once where none is escaped; the test isn't
 /// worth its time for a few.
 fn put_block(out: &mut Vec<u8>, bytes: &[u8], no_backslash_escape: bool) -> Result<(), AllocError>
-    ensures { Puts (flat_map (byte_in_quotes no_backslash_escape) bytes.now) out.old.items out.new.items result }
+    ensures { Puts (flat_map (written_byte no_backslash_escape) bytes.now) out.old.items out.new.items result }
 {
     if bytes.len() >= BLOCK / 2 && is_plain(bytes) {
         out.extend_from_slice(bytes)
@@ -91,7 +92,7 @@ fn put_block(out: &mut Vec<u8>, bytes: &[u8], no_backslash_escape: bool) -> Resu
 // In a function of their own the loops over the bytes are compiled better than within the long ones that call it.
 #[inline(never)]
 fn put_escaped(out: &mut Vec<u8>, bytes: &[u8], no_backslash_escape: bool) -> Result<(), AllocError>
-    ensures { Puts (flat_map (byte_in_quotes no_backslash_escape) bytes.now) out.old.items out.new.items result }
+    ensures { Puts (flat_map (written_byte no_backslash_escape) bytes.now) out.old.items out.new.items result }
 {
     let mut rest = bytes;
     while !rest.is_empty() {
@@ -104,7 +105,7 @@ fn put_escaped(out: &mut Vec<u8>, bytes: &[u8], no_backslash_escape: bool) -> Re
 
 /// Appends bytes between single quotes.
 fn put_quoted(out: &mut Vec<u8>, bytes: &[u8], no_backslash_escape: bool) -> Result<(), AllocError>
-    ensures { Puts (in_quotes (flat_map (byte_in_quotes no_backslash_escape) bytes.now))
+    ensures { Puts (in_quotes (flat_map (written_byte no_backslash_escape) bytes.now))
         out.old.items out.new.items result }
 {
     out.reserve(bytes.len() + 2)?;
@@ -150,10 +151,15 @@ pub fn put_bytes(
     out: &mut Vec<u8>,
     bytes: &[u8],
     no_backslash_escape: bool,
+    spelling: Spelling,
 ) -> Result<(), AllocError>
-    ensures { Puts (bytes_sql no_backslash_escape bytes.now) out.old.items out.new.items result }
+    ensures { Puts (bytes_sql no_backslash_escape spelling bytes.now) out.old.items out.new.items result }
 {
-    if is_text(bytes) {
+    let in_quotes = match spelling {
+        Spelling::Quoted => is_text(bytes),
+        Spelling::Hexadecimal => bytes.is_empty(),
+    };
+    if in_quotes {
         put_quoted(out, bytes, no_backslash_escape)?;
     } else {
         put_hexadecimal(out, bytes)?;

@@ -6,7 +6,9 @@ use crate::program::Status;
 use crate::reading::{Skips, read_input};
 use crate::stop::Stop;
 use crate::words::Statement;
-use mysql_session::{Audit, End, Receiver, RecodeError, Road, StreamFault, send, send_contents};
+use mysql_session::{
+    Audit, End, Query, Receiver, RecodeError, Road, Spelling, StreamFault, send_contents_in,
+};
 use std::alloc::Global;
 use std::io::{Read, Write};
 
@@ -14,6 +16,7 @@ use std::io::{Read, Write};
 pub(crate) fn encode<R: Read, W: Write>(
     alloc: Global,
     road: Road,
+    spelling: Spelling,
     statement: Statement<'_>,
     input: &mut R,
     output: &mut W,
@@ -21,9 +24,14 @@ pub(crate) fn encode<R: Read, W: Write>(
     let mut text = Vec::new(alloc);
     read_input(alloc, input, &mut text)?;
     let sets = sets_of(alloc, &text)?;
-    let Statement { query, id, limit } = statement;
+    let Statement {
+        query,
+        mode,
+        id,
+        limit,
+    } = statement;
     let mut stream = Vec::new(alloc);
-    send(alloc, query, &sets, road, id, limit, &mut stream)?;
+    Query::new_in(alloc, query, id, mode, spelling)?.send(alloc, &sets, road, limit, &mut stream)?;
     print_stream(output, &stream)?;
     Ok(Status::Done)
 }
@@ -43,8 +51,13 @@ fn audit_input<R: Read>(
     statement: Statement<'_>,
     input: &mut R,
 ) -> Result<Audit, Stop> {
-    let Statement { query, id, limit } = statement;
-    match Receiver::new(alloc, query, id, limit) {
+    let Statement {
+        query,
+        mode,
+        id,
+        limit,
+    } = statement;
+    match Receiver::new_in(alloc, query, id, limit, mode) {
         Ok(mut receiver) => {
             read_input(alloc, input, &mut receiver)?;
             audit_of(receiver)
@@ -92,9 +105,14 @@ pub(crate) fn recode<R: Read, W: Write>(
     if let Some(error) = RecodeError::of_end(end) {
         return Err(Stop::Recoding(error));
     }
-    let Statement { query, id, limit } = statement;
+    let Statement {
+        query,
+        mode,
+        id,
+        limit,
+    } = statement;
     let mut stream = Vec::new(alloc);
-    send_contents(alloc, query, sets, id, limit, &mut stream)?;
+    send_contents_in(alloc, query, sets, id, limit, mode, &mut stream)?;
     print_stream(output, &stream)?;
     Ok(Status::Done)
 }

@@ -37,10 +37,15 @@ pub(crate) fn follow<R: Read, W: Write>(
     input: &mut R,
     output: &mut W,
 ) -> Result<Status, Stop> {
-    let Statement { query, id, limit } = statement;
+    let Statement {
+        query,
+        mode,
+        id,
+        limit,
+    } = statement;
     let mut following = Following {
         alloc,
-        receiver: Receiver::new(alloc, query, id, limit)?,
+        receiver: Receiver::new_in(alloc, query, id, limit, mode)?,
         printed: 0,
         output,
     };

@@ -1,6 +1,6 @@
 //! What the program prints of itself.
 
-/// The words that the program knows, in ten lines.
+/// The words that the program knows, in twelve lines.
 pub(crate) const HELP: &str =
     "Parameter sets of one query as a stream of MySQL's commands, and back.
     mysql_session_program                              SELECT :a with a = 1, sent and audited
@@ -11,5 +11,7 @@ pub(crate) const HELP: &str =
     mysql_session_program help                         these lines
 ROAD is text, execute or bulk, ID the statement's id, LIMIT the most bytes of a packet, from 4.
 QUERY has question marks, or names as :a; sets are [[1, \"x\"], ..], or [{\"a\": 1}, ..] for :a.
+Before ROAD or ID: --mode no-backslash-escapes,ansi-quotes (the server's, one or both), and
+of encode --hex (byte strings of texts in hexadecimal, the same in each mode).
 Status: 0 done, 1 refused or a stream that isn't whole, 2 unknown words or input.
 ";

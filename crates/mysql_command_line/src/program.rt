@@ -86,7 +86,9 @@ fn run_words<R: Read, W: Write>(
 ) -> Result<Status, Stop> {
     match task_of(words)? {
         Task::WorkedRun => worked_run(alloc, output),
-        Task::Encode(road, statement) => encode(alloc, road, statement, input, output),
+        Task::Encode(road, spelling, statement) => {
+            encode(alloc, road, spelling, statement, input, output)
+        }
         Task::Audit(statement) => audit(alloc, statement, input, output),
         Task::Follow(statement) => follow(alloc, statement, input, output),
         Task::Recode(statement) => recode(alloc, statement, input, output),
@@ -114,13 +116,16 @@ fn answer_stop<W: Write>(output: &mut W, stop: &Stop) -> Status {
 /// the end.
 ///
 /// - `encode ROAD ID LIMIT QUERY` reads a list of parameter sets in JSON and prints the commands
-/// that carry them by `text`,
-///   `execute` or `bulk`.
+///   that carry them by `text`, `execute` or `bulk`.
 /// - `audit ID LIMIT QUERY` reads a stream of commands and prints its audit.
 /// - `follow ID LIMIT QUERY` prints the same lines, those of sets as soon as they stand, and reads
 /// no further than to a fault.
 /// - `recode ID LIMIT QUERY` reads a stream of commands and prints the executions that carry the same sets.
-/// - `help` prints these words in ten lines, and reads nothing.
+/// - `help` prints these words in twelve lines, and reads nothing.
+///
+/// Behind a command `--mode NAMES` may stand, with `no-backslash-escapes` and `ansi-quotes` between
+/// commas: the modes of the server that reads the commands. Behind it, of `encode` alone, `--hex`
+/// may stand: texts have byte strings in hexadecimal.
 ///
 /// Other words print `usage`, and a limit that is no whole number from 4 to `usize::MAX` prints
 /// `bad limit`, before anything is read. Input that can't be read, or not by 1000000 reads, prints

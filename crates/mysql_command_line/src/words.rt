@@ -6,12 +6,13 @@ ghost use Rattle.mysql_command_line.specs.Words.{IsId, IsLimit};
 ghost use Rattle.mysql_command_line.specs.declared.stop.Stop.TheVariants as stop;
 
 use crate::stop::Stop;
-use mysql_session::Road;
+use mysql_session::{Mode, Road, Spelling};
 
-/// A query, the id of its statement and the limit of its packets.
+/// A query for a server in a mode, the id of its statement and the limit of its packets.
 #[derive(Clone, Copy)]
 pub(crate) struct Statement<'a> {
     pub(crate) query: &'a [u8],
+    pub(crate) mode: Mode,
     pub(crate) id: u32,
     pub(crate) limit: usize,
     ghost holds_a_header: { 4 ≤ limit },
@@ -22,8 +23,8 @@ pub(crate) struct Statement<'a> {
 pub(crate) enum Task<'a> {
     /// One set sent by text, received and audited.
     WorkedRun,
-    /// Parameter sets in JSON as commands.
-    Encode(Road, Statement<'a>),
+    /// Parameter sets in JSON as commands, by text with byte strings in this spelling.
+    Encode(Road, Spelling, Statement<'a>),
     /// What a stream of commands says, line by line.
     Audit(Statement<'a>),
     /// What a stream of commands says, line by line, as the stream comes.
@@ -57,8 +58,13 @@ fn road_of(word: &str) -> Result<Road, Stop> {
 }
 
 /// The statement of these words; `Usage` where the first is no id, then `BadLimit` where the second is no limit.
-fn statement_of<'a>(id: &str, limit: &str, query: &'a str) -> Result<Statement<'a>, Stop>
-    ensures statement { IfOk result (λ it. (it.query.now ≡ query.entry.now) ×
+fn statement_of<'a>(
+    id: &str,
+    limit: &str,
+    query: &'a str,
+    mode: Mode,
+) -> Result<Statement<'a>, Stop>
+    ensures statement { IfOk result (λ it. (it.query.now ≡ query.entry.now) × (it.mode ≡ mode) ×
         (it.id ≡ digits_value 10 id.now) × (it.limit ≡ digits_value 10 limit.now)) }
     ensures usage { IsErrOf result stop.Usage ↔ ¬ IsId id.now }
     ensures bad_limit { IsErrOf result stop.BadLimit ↔ IsId id.now × ¬ IsLimit limit.now }
@@ -72,6 +78,7 @@ fn statement_of<'a>(id: &str, limit: &str, query: &'a str) -> Result<Statement<'
     match whole_number(limit) {
         Some(limit) if limit >= 4 => Ok(Statement {
             query: query.as_bytes(),
+            mode,
             id,
             limit,
         }),
@@ -79,22 +86,86 @@ fn statement_of<'a>(id: &str, limit: &str, query: &'a str) -> Result<Statement<'
     }
 }
 
+/// The mode with one more flag, by its name.
+fn with_flag(mode: Mode, name: &str) -> Result<Mode, Stop> {
+    let Mode {
+        no_backslash_escapes,
+        ansi_quotes,
+    } = mode;
+    match name.as_bytes() {
+        b"no-backslash-escapes" => Ok(Mode {
+            no_backslash_escapes: true,
+            ansi_quotes,
+        }),
+        b"ansi-quotes" => Ok(Mode {
+            no_backslash_escapes,
+            ansi_quotes: true,
+        }),
+        _ => Err(Stop::Usage),
+    }
+}
+
+/// The mode that these names between commas make.
+fn mode_named(names: &str) -> Result<Mode, Stop> {
+    let mut mode = Mode::default();
+    for name in names.split(',') {
+        mode = with_flag(mode, name)?;
+    }
+    Ok(mode)
+}
+
+/// The mode that the words begin with, the default one where they name none, and the words behind it.
+fn mode_first(words: &[String]) -> Result<(Mode, &[String]), Stop> {
+    match words {
+        [word, names, rest @ ..] if word.as_str() == "--mode" => Ok((mode_named(names)?, rest)),
+        _ => Ok((Mode::default(), words)),
+    }
+}
+
+/// The spelling of byte strings that the words begin with, and the words behind it.
+fn spelling_first(words: &[String]) -> (Spelling, &[String]) {
+    match words {
+        [word, rest @ ..] if word.as_str() == "--hex" => (Spelling::Hexadecimal, rest),
+        _ => (Spelling::Quoted, words),
+    }
+}
+
+/// What the words behind `encode` ask for.
+fn encoding_of(words: &[String]) -> Result<Task<'_>, Stop> {
+    let (mode, words) = mode_first(words)?;
+    let (spelling, words) = spelling_first(words);
+    match words {
+        [road, id, limit, query] => {
+            let road = road_of(road)?;
+            let statement = statement_of(id, limit, query, mode)?;
+            Ok(Task::Encode(road, spelling, statement))
+        }
+        _ => Err(Stop::Usage),
+    }
+}
+
+/// The statement that the words behind another command name.
+fn statement_in(words: &[String]) -> Result<Statement<'_>, Stop> {
+    let (mode, words) = mode_first(words)?;
+    match words {
+        [id, limit, query] => statement_of(id, limit, query, mode),
+        _ => Err(Stop::Usage),
+    }
+}
+
 /// What the words ask for; `Usage` where they are none that the program knows, then `BadLimit`.
 pub(crate) fn task_of(words: &[String]) -> Result<Task<'_>, Stop> {
     match words {
         [] => Ok(Task::WorkedRun),
-        [command, road, id, limit, query] if command.as_str() == "encode" => {
-            let road = road_of(road)?;
-            Ok(Task::Encode(road, statement_of(id, limit, query)?))
+        [command, words @ ..] if command.as_str() == "encode" => encoding_of(words),
+        [command, words @ ..] if command.as_str() == "audit" => {
+            Ok(Task::Audit(statement_in(words)?))
         }
-        [command, id, limit, query] if command.as_str() == "audit" => {
-            Ok(Task::Audit(statement_of(id, limit, query)?))
+        [command, words @ ..] if command.as_str() == "follow" => {
+            Ok(Task::Follow(statement_in(words)?))
         }
-        [command, id, limit, query] if command.as_str() == "follow" => {
-            Ok(Task::Follow(statement_of(id, limit, query)?))
-        }
-        [command, id, limit, query] if command.as_str() == "recode" => {
-            Ok(Task::Recode(statement_of(id, limit, query)?))
+        [command, words @ ..] if command.as_str() == "recode" => {
+            Ok(Task::Recode(statement_in(words)?))
         }
         [command] if command.as_str() == "help" => Ok(Task::Help),
         _ => Err(Stop::Usage),

@@ -15,6 +15,8 @@ mod json;
 #[cfg(test)]
 mod large;
 #[cfg(test)]
+mod modes;
+#[cfg(test)]
 mod outputs;
 #[cfg(test)]
 mod reading;

@@ -49,6 +49,7 @@ const UNKNOWN: &[&[&str]] = &[
     &["encode", "text", "-1", "1000", "SELECT 1"],
     &["encode", "text", "4294967296", "1000", "SELECT 1"],
     &["recode", "", "1000", "SELECT 1"],
+    &["recode", "--mode", "1", "1000", "SELECT 1"],
 ];
 
 #[test]
@@ -136,6 +137,8 @@ const HELP: &[u8] = b"Parameter sets of one query as a stream of MySQL's command
     mysql_session_program help                         these lines
 ROAD is text, execute or bulk, ID the statement's id, LIMIT the most bytes of a packet, from 4.
 QUERY has question marks, or names as :a; sets are [[1, \"x\"], ..], or [{\"a\": 1}, ..] for :a.
+Before ROAD or ID: --mode no-backslash-escapes,ansi-quotes (the server's, one or both), and
+of encode --hex (byte strings of texts in hexadecimal, the same in each mode).
 Status: 0 done, 1 refused or a stream that isn't whole, 2 unknown words or input.
 ";
 

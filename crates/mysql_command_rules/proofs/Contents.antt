@@ -4,6 +4,7 @@ use Rattle.std.specs.List.{AllByRecursion, AllZip, position_from}
 use Rattle.std.specs.Option.{option_map, option_or}
 use Rattle.std.specs.Result.{result_map_both}
 use Rattle.std.proofs.lemmas.Bool.{eqb-true, ltb-false}
+use Rattle.mysql_values.specs.Sql.{Sql}
 use Rattle.mysql_values.specs.Content.{Content}
 use Rattle.mysql_values.specs.Content.TheVariants.{Null}
 use Rattle.mysql_values.specs.declared.params.Params.{Params}
@@ -34,7 +35,7 @@ given_over (Ok others) values gives =
 given_over (Err error) values gives = cc
 
 -- each parameter set has its meaning
-mean_each : (query : List ℕ) (tokens : List (List ℕ)) → HasTokens query tokens → (sets : List Params) (values : List (List Value)) (contents : List Set) → map (given_by (names_of tokens)) sets ≡ map Ok values
+mean_each : (query : Sql) (tokens : List (List ℕ)) → HasTokens query.mode query.text tokens → (sets : List Params) (values : List (List Value)) (contents : List Set) → map (given_by (names_of tokens)) sets ≡ map Ok values
     → AllByRecursion (λ set. length set ≡ length (filter is_place tokens)) values → HaveContents values contents → AllZip (IsMeaning query) sets contents
 mean_each query tokens has [] [] [] gives counts each = tt
 mean_each query tokens has [] [] (set ∷ contents) gives counts each = cc
@@ -126,13 +127,13 @@ all_hold command places room number (values ∷ sets) none =
     (all_held 0 values g.exact, all_hold command places room (number + 1) sets parts.1)
 
 -- and each has as many values as the query has placeholders
-pub all_counted : (query : List ℕ) (tokens : List (List ℕ)) (command : List Value → List ℕ) (places room : ℕ) → places ≡ length (places_from query 0 tokens) → (number : ℕ) (sets : List (List Value))
+pub all_counted : (query : Sql) (tokens : List (List ℕ)) (command : List Value → List ℕ) (places room : ℕ) → places ≡ length (places_from query.text 0 tokens) → (number : ℕ) (sets : List (List Value))
     → first_of_sets (set_cause command places room) number (map Ok sets) ≡ None → AllByRecursion (λ set. length set ≡ length (filter is_place tokens)) sets
 all_counted query tokens command places room count number [] none = tt
 all_counted query tokens command places room count number (values ∷ sets) none =
     let parts = neither (set_cause command places room number (Ok values)) (first_of_sets (set_cause command places room) (number + 1) (map Ok sets)) none in
     let g : IsGood command places room values = good command places room number values parts.0 in
-    (g.count_is ∙ count ∙ counted query 0 tokens, all_counted query tokens command places room count (number + 1) sets parts.1)
+    (g.count_is ∙ count ∙ counted query.text 0 tokens, all_counted query tokens command places room count (number + 1) sets parts.1)
 
 -- payloads that leave room for a header are within the limit
 pub within_limit : (limit : ℕ) (payloads : List (List ℕ)) → AllByRecursion (λ payload. length payload ≤ limit - 4) payloads → AllByRecursion (λ payload. length payload ≤ limit) payloads

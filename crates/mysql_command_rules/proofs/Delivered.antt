@@ -3,6 +3,8 @@ use Rattle.std.proofs.Common.{◌≡◌, ℕ, suc, ◌+◌, ◌-◌, ◌^◌, �
 use Rattle.std.specs.List.{flat_map}
 use Rattle.std.specs.Option.{option_or}
 use Rattle.std.proofs.lemmas.List.{length-map}
+use Rattle.mysql_values.specs.Spelling.{Spelling}
+use Rattle.mysql_values.specs.Sql.{Sql}
 use Rattle.mysql_values.specs.Laws.{OneTokens}
 use Rattle.mysql_values.specs.Value.{Value}
 use Rattle.mysql_values.specs.Tokens.{HasTokens}
@@ -12,8 +14,8 @@ use Rattle.mysql_receive.specs.Audit.{Audited}
 use Rattle.mysql_receive.specs.Laws.{FrontsReadOn}
 use Rattle.mysql_receive.specs.Query.{Statement, place_count, statement_of}
 use Rattle.mysql_receive.specs.Reading.{Set}
-use Rattle.mysql_command_rules.specs.declared.road.Road.{Road}
-use Rattle.mysql_command_rules.specs.declared.road.Road.TheVariants.{Text, Execute, Bulk}
+use Rattle.mysql_command_rules.specs.SpelledRoad.{SpelledRoad}
+use Rattle.mysql_command_rules.specs.SpelledRoad.{Text, Execute, Bulk}
 use Rattle.mysql_command_rules.specs.Cause.{first_of_sets, query_cause, set_cause, sets_cause}
 use Rattle.mysql_command_rules.specs.Laws.{CarriesValues, ReadsEach, SentPayloadsRead, SentSetsAreDelivered, SentValuesAreCarried}
 use Rattle.mysql_command_rules.specs.Reading.{FrontsRead, HaveContents}
@@ -31,8 +33,8 @@ placed_count : (start : ℕ) (cut : List Part) → length (placed_from start cut
 placed_count start [] = refl
 placed_count start (part ∷ cut) = ap (λ n. suc n) (placed_count (start + part.count) cut)
 
-has_fewest : TightTypedHasFewest → (road : Road) (statement : Statement) (room : ℕ) (sets : List (List Value)) (sent : List SentPayload) → AreSent road statement room sets sent → HasFewest road statement room sets sent
-has_fewest law Text statement room sets sent is = tt
+has_fewest : TightTypedHasFewest → (road : SpelledRoad) (statement : Statement) (room : ℕ) (sets : List (List Value)) (sent : List SentPayload) → AreSent road statement room sets sent → HasFewest road statement room sets sent
+has_fewest law (Text spelling) statement room sets sent is = tt
 has_fewest law Execute statement room sets sent is = tt
 has_fewest law Bulk statement room sets sent is = λ other is_cut fits.
     let few : length is.0 ≤ length other = law room (place_count statement.query) sets is.0 other is.1 is_cut fits in
@@ -43,17 +45,17 @@ has_fewest law Bulk statement room sets sent is = λ other is_cut fits.
 -- ---- delivered
 
 -- each front of their stream reads as the sets that stand whole in it
-fronts : OneTokens → FrontsReadOn → (query : List ℕ) (tokens : List (List ℕ)) (id limit : ℕ) (sent : List SentPayload) → HasTokens query tokens → ReadsEach (statement_of query tokens id) limit sent → length sent < 2 ^ 64 → FrontsRead query id limit sent
+fronts : OneTokens → FrontsReadOn → (query : Sql) (tokens : List (List ℕ)) (id limit : ℕ) (sent : List SentPayload) → HasTokens query.mode query.text tokens → ReadsEach (statement_of query tokens id) limit sent → length sent < 2 ^ 64 → FrontsRead query id limit sent
 fronts once law query tokens id limit sent has reads few front back audit joined is =
     let statement : Statement = statement_of query tokens id in
-    let same : is.0 ≡ tokens = once query is.0 tokens is.1 has in
+    let same : is.0 ≡ tokens = once query.mode query.text is.0 tokens is.1 has in
     let all : List (List Set) = reads.reads in
     let found = law statement limit (payloads_of sent) all front back audit (query_is query tokens id has) reads.within joined (reads.each few) (subst (λ (t : List (List ℕ)). Audited (statement_of query t id) limit front audit) same is.2) in
     let whole : HaveContents (sets_of (take found.0 sent)) (flat_map (λ sets. sets) (take found.0 all)) =
     contents_in_a_row (take found.0 sent) (take found.0 all) (first_zip (λ payload sets. HaveContents payload.sets sets) found.0 sent all reads.contents) in
     (found.0, found.1, whole ∙ ap (λ l. map (map Some) l) (sym found.2), found.3)
 
-pub delivered : SentPayloadsRead Text → SentPayloadsRead Execute → SentPayloadsRead Bulk → SentValuesAreCarried → OneTokens → FrontsReadOn → TightTypedHasFewest → SentSetsAreDelivered
+pub delivered : ((spelling : Spelling) → SentPayloadsRead (Text spelling)) → SentPayloadsRead Execute → SentPayloadsRead Bulk → SentValuesAreCarried → OneTokens → FrontsReadOn → TightTypedHasFewest → SentSetsAreDelivered
 delivered text execute bulk carried once fronts_read fewest road query sets id limit old new small room short q =
     let tokens : List (List ℕ) = q.sends.tokens in
     let values : List (List Value) = q.sends.values in

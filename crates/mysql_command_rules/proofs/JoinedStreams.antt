@@ -5,6 +5,7 @@ use Rattle.std.proofs.lemmas.List.{map-append}
 use Rattle.mysql_wire.specs.Framing.{chunk, chunks, framing, slice}
 use Rattle.mysql_wire.specs.Stream.{Split, framings}
 use Rattle.mysql_wire.specs.Stream.Numbering.{EachFromZero}
+use Rattle.mysql_values.specs.Sql.{Sql}
 use Rattle.mysql_values.specs.Laws.{OneTokens}
 use Rattle.mysql_values.specs.Parsed.{names_of}
 use Rattle.mysql_values.specs.Queries.{is_place}
@@ -39,9 +40,9 @@ few : (split : Split) (bytes : List ℕ) → bytes ≡ framings split.payloads E
 few split bytes is = omega (arith, ap length is, as_long split.payloads, length-append (framings split.payloads EachFromZero) split.rest_bytes)
 
 -- the meanings of sets and of others behind them
-meanings_join : OneTokens → (query : List ℕ) (sets others : List (List ℕ) → List Given) (contents later : List Set) → AreMeanings query sets contents → AreMeanings query others later → AreMeanings query (λ names. sets names ++ others names) (contents ++ later)
+meanings_join : OneTokens → (query : Sql) (sets others : List (List ℕ) → List Given) (contents later : List Set) → AreMeanings query sets contents → AreMeanings query others later → AreMeanings query (λ names. sets names ++ others names) (contents ++ later)
 meanings_join once query sets others contents later m n =
-    let tokens : n.tokens ≡ m.tokens = once query n.tokens m.tokens n.has m.has in
+    let tokens : n.tokens ≡ m.tokens = once query.mode query.text n.tokens m.tokens n.has m.has in
     let given : others (names_of m.tokens) ≡ map Ok n.values = ap (λ t. others (names_of t)) (sym tokens) ∙ n.given in
     record {
       tokens = m.tokens;
@@ -54,11 +55,11 @@ meanings_join once query sets others contents later m n =
     }
 
 -- two streams of a query and an id that read as meanings, one behind the other, in fewer than 2 ^ 64 bytes
-streams_join : OneTokens → WholeStreamsJoin → (query : List ℕ) (sets others : List (List ℕ) → List Given) (id limit : ℕ) (stream behind : List ℕ) (contents later : List Set) → length stream + length behind < 2 ^ 64
+streams_join : OneTokens → WholeStreamsJoin → (query : Sql) (sets others : List (List ℕ) → List Given) (id limit : ℕ) (stream behind : List ℕ) (contents later : List Set) → length stream + length behind < 2 ^ 64
     → StreamReadsAs query sets id limit stream contents → StreamReadsAs query others id limit behind later → StreamReadsAs query (λ names. sets names ++ others names) id limit (stream ++ behind) (contents ++ later)
 streams_join once join query sets others id limit stream behind contents later short r q =
     let statement : Statement = statement_of query r.audit.0 id in
-    let same : q.audit.0 ≡ r.audit.0 = once query q.audit.0 r.audit.0 q.audit.1 r.audit.1 in
+    let same : q.audit.0 ≡ r.audit.0 = once query.mode query.text q.audit.0 r.audit.0 q.audit.1 r.audit.1 in
     let second : Audited statement limit behind (record { sets = later; ending = Whole }) =
     subst (λ (tokens : List (List ℕ)). Audited (statement_of query tokens id) limit behind (record { sets = later; ending = Whole })) same q.audit.2 in
     record {

@@ -2,6 +2,7 @@ pub mod Carried
 pub mod Contents
 pub mod Statements
 pub mod Delivered
+pub mod EachMode
 pub mod Executable
 pub mod ExecutionSizes
 pub mod ExecutionStreams
@@ -28,6 +29,7 @@ pub mod Texts
 pub mod Values
 pub mod Beside
 pub mod Types
+pub mod TokensInModes
 pub mod Executes
 pub mod Bulks
 pub mod Fillings

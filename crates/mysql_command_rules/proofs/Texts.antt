@@ -3,12 +3,14 @@ use Rattle.std.proofs.Common.{◌≡◌, ℕ, zero, suc, ◌+◌, List, [], ◌�
 use Rattle.std.specs.Prelude.{replicate, slice_index, slice_index_or, slice_range}
 use Rattle.std.specs.List.{AllZip, flat_map, join_with_byte, range_with_len}
 use Rattle.std.proofs.lemmas.List.{append-nil, length-replicate, take_rest}
+use Rattle.mysql_values.specs.Sql.{Sql}
 use Rattle.mysql_values.specs.Tokens.{HasTokens, question}
 use Rattle.mysql_values.specs.Literals.{IsLiteral}
 use Rattle.mysql_values.specs.Laws.{OnePlaces, PiecesAreSlices}
 use Rattle.mysql_values.specs.Queries.{Alternates, HasPlaces, IsParsed, Slices, interleaved, pieces_of, places_from, slices_between}
 use Rattle.mysql_values.specs.Content.{Content}
 use Rattle.mysql_values.specs.Place.{Place}
+use Rattle.mysql_values.specs.Mode.{Mode}
 
 -- a piece of a text from this start on
 abbrev pub piece_from : List ℕ → ℕ → List Place → ℕ → List ℕ
@@ -43,19 +45,19 @@ laid text start (p ∷ ps) (l ∷ ls) e =
 
 -- ---- literals between pieces
 
-record Between (pieces : List (List ℕ)) (contents : List Content) (text : List ℕ) : Type 0 where
+record Between (mode : Mode) (pieces : List (List ℕ)) (contents : List Content) (text : List ℕ) : Type 0 where
   literals : List (List ℕ)
   count : suc (length literals) ≡ length pieces
-  each : AllZip IsLiteral literals contents
+  each : AllZip (IsLiteral mode) literals contents
   spelled : text ≡ interleaved pieces literals
 
-between : (pieces : List (List ℕ)) (contents : List Content) (text : List ℕ) → Alternates pieces contents text → Between pieces contents text
-between [] contents text h = absurd h
-between (piece ∷ []) [] text h = record { literals = []; count = refl; each = tt; spelled = h ∙ sym (append-nil piece) }
-between (piece ∷ []) (x ∷ xs) text h = absurd h
-between (piece ∷ next ∷ pieces) [] text h = absurd h
-between (piece ∷ next ∷ pieces) (x ∷ xs) text h =
-    let others = between (next ∷ pieces) xs h.1 h.4 in
+between : (m : Mode) (pieces : List (List ℕ)) (contents : List Content) (text : List ℕ) → Alternates m pieces contents text → Between m pieces contents text
+between m [] contents text h = absurd h
+between m (piece ∷ []) [] text h = record { literals = []; count = refl; each = tt; spelled = h ∙ sym (append-nil piece) }
+between m (piece ∷ []) (x ∷ xs) text h = absurd h
+between m (piece ∷ next ∷ pieces) [] text h = absurd h
+between m (piece ∷ next ∷ pieces) (x ∷ xs) text h =
+    let others = between m (next ∷ pieces) xs h.1 h.4 in
     record {
       literals = h.0 ∷ others.literals;
       count = omega (arith, others.count);
@@ -63,15 +65,15 @@ between (piece ∷ next ∷ pieces) (x ∷ xs) text h =
       spelled = h.3 ∙ ap (λ (l : List ℕ). piece ++ (h.0 ++ l)) others.spelled;
     }
 
-alternates : (pieces literals : List (List ℕ)) (contents : List Content) → length pieces ≡ suc (length literals) → AllZip IsLiteral literals contents → Alternates pieces contents (interleaved pieces literals)
-alternates [] ls xs e each = absurd (omega (arith, e))
-alternates (piece ∷ []) [] [] e each = append-nil piece
-alternates (piece ∷ []) [] (x ∷ xs) e each = absurd each
-alternates (piece ∷ []) (l ∷ ls) xs e each = absurd (omega (arith, e))
-alternates (piece ∷ next ∷ pieces) [] xs e each = absurd (omega (arith, e))
-alternates (piece ∷ next ∷ pieces) (l ∷ ls) [] e each = absurd each
-alternates (piece ∷ next ∷ pieces) (l ∷ ls) (x ∷ xs) e each =
-    (l, interleaved (next ∷ pieces) ls, each.0, refl, alternates (next ∷ pieces) ls xs (omega (arith, e)) each.1)
+alternates : (m : Mode) (pieces literals : List (List ℕ)) (contents : List Content) → length pieces ≡ suc (length literals) → AllZip (IsLiteral m) literals contents → Alternates m pieces contents (interleaved pieces literals)
+alternates m [] ls xs e each = absurd (omega (arith, e))
+alternates m (piece ∷ []) [] [] e each = append-nil piece
+alternates m (piece ∷ []) [] (x ∷ xs) e each = absurd each
+alternates m (piece ∷ []) (l ∷ ls) xs e each = absurd (omega (arith, e))
+alternates m (piece ∷ next ∷ pieces) [] xs e each = absurd (omega (arith, e))
+alternates m (piece ∷ next ∷ pieces) (l ∷ ls) [] e each = absurd each
+alternates m (piece ∷ next ∷ pieces) (l ∷ ls) (x ∷ xs) e each =
+    (l, interleaved (next ∷ pieces) ls, each.0, refl, alternates m (next ∷ pieces) ls xs (omega (arith, e)) each.1)
 
 length_slices : (text : List ℕ) (start : ℕ) (places : List Place) → length (slices_between text start places) ≡ suc (length places)
 length_slices text start [] = refl
@@ -79,9 +81,9 @@ length_slices text start (p ∷ ps) = omega (arith, length_slices text p.end ps)
 
 -- ---- of a query
 
-pieces_are : OnePlaces → PiecesAreSlices → (query : List ℕ) (places : List Place) (tokens : List (List ℕ)) → HasPlaces query places → HasTokens query tokens → pieces_of tokens ≡ slices_between query 0 places
+pieces_are : OnePlaces → PiecesAreSlices → (query : Sql) (places : List Place) (tokens : List (List ℕ)) → HasPlaces query places → HasTokens query.mode query.text tokens → pieces_of tokens ≡ slices_between query.text 0 places
 pieces_are one slices query places tokens are has =
-    slices query tokens has ∙ ap (λ (ps : List Place). slices_between query 0 ps) (one query (places_from query 0 tokens) places (tokens, has, refl) are)
+    slices query tokens has ∙ ap (λ (ps : List Place). slices_between query.text 0 ps) (one query (places_from query.text 0 tokens) places (tokens, has, refl) are)
 
 join_marks : (pieces : List (List ℕ)) (n : ℕ) → length pieces ≡ suc n → join_with_byte question pieces ≡ interleaved pieces (replicate n (question ∷ []))
 join_marks [] n e = absurd (omega (arith, e))
@@ -91,32 +93,32 @@ join_marks (x ∷ y ∷ pieces) zero e = absurd (omega (arith, e))
 join_marks (x ∷ y ∷ pieces) (suc n) e = ap (λ (l : List ℕ). x ++ (question ∷ l)) (join_marks (y ∷ pieces) n (omega (arith, e)))
 
 -- the query with a question mark for each placeholder
-pub parsed_is : OnePlaces → PiecesAreSlices → (query parsed : List ℕ) (places : List Place) → HasPlaces query places → IsParsed query parsed → parsed ≡ filled_from query 0 places (replicate (length places) (question ∷ []))
+pub parsed_is : OnePlaces → PiecesAreSlices → (query : Sql) (parsed : List ℕ) (places : List Place) → HasPlaces query places → IsParsed query parsed → parsed ≡ filled_from query.text 0 places (replicate (length places) (question ∷ []))
 parsed_is one slices query parsed places are is =
     is.2 ∙ ap (λ (ps : List (List ℕ)). join_with_byte question ps) (pieces_are one slices query places is.0 are is.1)
-    ∙ join_marks (slices_between query 0 places) (length places) (length_slices query 0 places)
-    ∙ laid query 0 places (replicate (length places) (question ∷ [])) (length-replicate (length places) (question ∷ []))
+    ∙ join_marks (slices_between query.text 0 places) (length places) (length_slices query.text 0 places)
+    ∙ laid query.text 0 places (replicate (length places) (question ∷ [])) (length-replicate (length places) (question ∷ []))
 
 -- a text with these literals between the pieces
-pub record Filling (query : List ℕ) (places : List Place) (text : List ℕ) (contents : List Content) : Type 0 where
+pub record Filling (query : Sql) (places : List Place) (text : List ℕ) (contents : List Content) : Type 0 where
   pub literals : List (List ℕ)
   pub count : length literals ≡ length places
-  pub each : AllZip IsLiteral literals contents
-  pub spelled : text ≡ filled_from query 0 places literals
+  pub each : AllZip (IsLiteral query.mode) literals contents
+  pub spelled : text ≡ filled_from query.text 0 places literals
 
-pub filling_of : OnePlaces → PiecesAreSlices → (query : List ℕ) (places : List Place) (text : List ℕ) (contents : List Content) → HasPlaces query places → Slices query text contents → Filling query places text contents
+pub filling_of : OnePlaces → PiecesAreSlices → (query : Sql) (places : List Place) (text : List ℕ) (contents : List Content) → HasPlaces query places → Slices query text contents → Filling query places text contents
 filling_of one slices query places text contents are is =
-    let found = between (slices_between query 0 places) contents text (subst (λ (ps : List (List ℕ)). Alternates ps contents text) (pieces_are one slices query places is.tokens are is.has) is.alternates) in
-    let count : length found.literals ≡ length places = omega (arith, found.count, length_slices query 0 places) in
-    record { literals = found.literals; count = count; each = found.each; spelled = found.spelled ∙ laid query 0 places found.literals count }
+    let found = between query.mode (slices_between query.text 0 places) contents text (subst (λ (ps : List (List ℕ)). Alternates query.mode ps contents text) (pieces_are one slices query places is.tokens are is.has) is.alternates) in
+    let count : length found.literals ≡ length places = omega (arith, found.count, length_slices query.text 0 places) in
+    record { literals = found.literals; count = count; each = found.each; spelled = found.spelled ∙ laid query.text 0 places found.literals count }
 
-pub slices_of : OnePlaces → PiecesAreSlices → (query : List ℕ) (places : List Place) (text : List ℕ) (contents : List Content) → HasPlaces query places → Filling query places text contents → Slices query text contents
+pub slices_of : OnePlaces → PiecesAreSlices → (query : Sql) (places : List Place) (text : List ℕ) (contents : List Content) → HasPlaces query places → Filling query places text contents → Slices query text contents
 slices_of one slices query places text contents are is =
-    let back : text ≡ interleaved (slices_between query 0 places) is.literals = is.spelled ∙ sym (laid query 0 places is.literals is.count) in
+    let back : text ≡ interleaved (slices_between query.text 0 places) is.literals = is.spelled ∙ sym (laid query.text 0 places is.literals is.count) in
     record {
       tokens = are.0;
       has = are.1;
-      alternates = subst (λ (t : List ℕ). Alternates (pieces_of are.0) contents t) (sym back)
-          (subst (λ (ps : List (List ℕ)). Alternates ps contents (interleaved (slices_between query 0 places) is.literals)) (sym (pieces_are one slices query places are.0 are are.1))
-          (alternates (slices_between query 0 places) is.literals contents (omega (arith, is.count, length_slices query 0 places)) is.each));
+      alternates = subst (λ (t : List ℕ). Alternates query.mode (pieces_of are.0) contents t) (sym back)
+          (subst (λ (ps : List (List ℕ)). Alternates query.mode ps contents (interleaved (slices_between query.text 0 places) is.literals)) (sym (pieces_are one slices query places are.0 are are.1))
+          (alternates query.mode (slices_between query.text 0 places) is.literals contents (omega (arith, is.count, length_slices query.text 0 places)) is.each));
     }

@@ -1,3 +1,4 @@
+pub mod SpelledRoad
 pub mod Commands
 pub mod Sets
 pub mod Sent

@@ -35,11 +35,11 @@ piece_starts query = 0 ∷ map (λ place. place.end) query.places
 
 -- where they end: at the start of each placeholder, and at the end of the text
 abbrev pub piece_ends : Query → List ℕ
-piece_ends query = map (λ place. place.start) query.places ++ length query.text ∷ []
+piece_ends query = map (λ place. place.start) query.places ++ length query.sql.text ∷ []
 
 -- a piece of the query: its text from one placeholder to the next
 abbrev pub piece : Query → ℕ → List ℕ
-piece query i = slice_range query.text (slice_index (piece_starts query) i) (slice_index (piece_ends query) i)
+piece query i = slice_range query.sql.text (slice_index (piece_starts query) i) (slice_index (piece_ends query) i)
 
 -- the pieces of a query, each with one of the parts behind it but for the last
 abbrev pub filled_with : Query → List (List ℕ) → List ℕ
@@ -56,7 +56,7 @@ pub record IsFilled (query : Query) (text : List ℕ) (set : Set) : Type 0 where
   pub alone : IsTrue (all_alone query)
   pub literals : List (List ℕ)
   pub count : length literals ≡ place_count query
-  pub each : AllZip IsLiteral literals set
+  pub each : AllZip (IsLiteral query.sql.mode) literals set
   pub spelled : text ≡ filled_with query literals
 
 -- TYPES AND CELLS

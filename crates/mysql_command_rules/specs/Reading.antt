@@ -4,6 +4,7 @@ use Rattle.std.specs.Prelude.{◌≡◌, ℕ, List, ◌++◌, filter, length, ma
 use Rattle.std.specs.List.{AllByRecursion}
 use Rattle.mysql_wire.specs.Stream.{StandWhole}
 use Rattle.mysql_wire.specs.Stream.Numbering.{EachFromZero}
+use Rattle.mysql_values.specs.Sql.{Sql}
 use Rattle.mysql_values.specs.AsSql.{FitsFields}
 use Rattle.mysql_values.specs.Parsed.{names_of}
 use Rattle.mysql_values.specs.Queries.{is_place}
@@ -14,8 +15,8 @@ use Rattle.mysql_receive.specs.declared.audit.End.TheVariants.{Whole}
 use Rattle.mysql_receive.specs.Audit.{Audit, AuditOf, IsNoFault}
 use Rattle.mysql_receive.specs.Query.{Query, statement_of}
 use Rattle.mysql_receive.specs.Reading.{Set, TextReadsAs}
-use Rattle.mysql_command_rules.specs.declared.road.Road.{Road}
-use Rattle.mysql_command_rules.specs.declared.road.Road.TheVariants.{Text, Execute, Bulk}
+use Rattle.mysql_command_rules.specs.SpelledRoad.{SpelledRoad}
+use Rattle.mysql_command_rules.specs.SpelledRoad.{Text, Execute, Bulk}
 use Rattle.mysql_command_rules.specs.Sets.{Given}
 use Rattle.mysql_command_rules.specs.Sent.{SentPayload, payloads_of, query_text_of, sets_of, stream_of}
 use Rattle.mysql_command_rules.specs.Sending.{HasFewest, SendsGiven}
@@ -26,22 +27,22 @@ HaveContents sets contents = map (map content_of) sets ≡ map (map Some) conten
 
 -- what sets mean that give this for the query's names: the contents of their values, in each as
 -- many as the query has placeholders, and none a float
-pub record AreMeanings (query : List ℕ) (sets : List (List ℕ) → List Given) (contents : List Set) : Type 0 where
+pub record AreMeanings (query : Sql) (sets : List (List ℕ) → List Given) (contents : List Set) : Type 0 where
   pub tokens : List (List ℕ)
-  pub has : HasTokens query tokens
+  pub has : HasTokens query.mode query.text tokens
   pub values : List (List Value)
   pub given : sets (names_of tokens) ≡ map Ok values
   pub counts : AllByRecursion (λ set. length set ≡ length (filter is_place tokens)) values
   pub each : HaveContents values contents
 
 -- these contents are what the sets mean, and the stream reads as them, to its end
-pub record StreamReadsAs (query : List ℕ) (sets : List (List ℕ) → List Given) (id limit : ℕ)
+pub record StreamReadsAs (query : Sql) (sets : List (List ℕ) → List Given) (id limit : ℕ)
     (stream : List ℕ) (contents : List Set) : Type 0 where
   pub meanings : AreMeanings query sets contents
   pub audit : AuditOf query id limit stream (record { sets = contents; ending = Whole })
 
 -- what is appended is read back as what the sets mean
-pub record ReadsBack (query : List ℕ) (sets : List (List ℕ) → List Given) (id limit : ℕ)
+pub record ReadsBack (query : Sql) (sets : List (List ℕ) → List Given) (id limit : ℕ)
     (old new : List ℕ) : Type 0 where
   pub stream : List ℕ
   pub appended : new ≡ old ++ stream
@@ -50,7 +51,7 @@ pub record ReadsBack (query : List ℕ) (sets : List (List ℕ) → List Given) 
 
 -- Each front of the stream of these payloads reads, without a fault, as exactly the contents of the
 -- sets of the payloads that stand whole in it.
-abbrev pub FrontsRead : List ℕ → ℕ → ℕ → List SentPayload → Type 0
+abbrev pub FrontsRead : Sql → ℕ → ℕ → List SentPayload → Type 0
 FrontsRead query id limit sent =
     (front back : List ℕ) (audit : Audit) → stream_of sent ≡ front ++ back → AuditOf query id limit front audit
     → (k : ℕ) × StandWhole EachFromZero (payloads_of sent) front k ×
@@ -58,7 +59,7 @@ FrontsRead query id limit sent =
 
 -- what was appended of sets that give this for the query's names: each front of it reads as the
 -- sets that stand whole in it, and by bulk no requests could be fewer
-pub record SendsWhole (road : Road) (query : List ℕ) (sets : List (List ℕ) →
+pub record SendsWhole (road : SpelledRoad) (query : Sql) (sets : List (List ℕ) →
     List Given) (id limit : ℕ) (old new : List ℕ) : Type 0 where
   pub sends : SendsGiven road query sets id limit old new
   pub fronts : FrontsRead query id limit sends.sent
@@ -66,14 +67,14 @@ pub record SendsWhole (road : Road) (query : List ℕ) (sets : List (List ℕ) �
 
 -- what was sent of a set's values can be read back: by text the query reads as their contents, by
 -- the other roads their numbers fit their fields
-abbrev pub IsReadable : Road → Query → List Value → Type 0
-IsReadable Text query values = (contents : Set) × (map content_of values ≡ map Some contents) ×
-    TextReadsAs query.text (query_text_of query values) contents
+abbrev pub IsReadable : SpelledRoad → Query → List Value → Type 0
+IsReadable (Text spelling) query values = (contents : Set) × (map content_of values ≡ map Some contents) ×
+    TextReadsAs query.sql (query_text_of spelling query values) contents
 IsReadable Execute query values = AllByRecursion (λ value. FitsFields value) values
 IsReadable Bulk query values = AllByRecursion (λ value. FitsFields value) values
 
 -- what is sent of sets that give this for the query's names, and what was sent of each can be read back
-pub record SentReadable (road : Road) (query : List ℕ) (sets : List (List ℕ) →
+pub record SentReadable (road : SpelledRoad) (query : Sql) (sets : List (List ℕ) →
     List Given) (id limit : ℕ) (old new : List ℕ) : Type 0 where
   pub sends : SendsGiven road query sets id limit old new
   pub readable : AllByRecursion (IsReadable road (statement_of query sends.tokens id).query) sends.values

@@ -1,17 +1,23 @@
 //! Laws of what is sent. Functions without a result do nothing: their contracts are the laws.
 
-ghost use Rattle.mysql_command_rules.specs.Laws.{OneStatement, RequestsHaveTheirSize, RoadsReadEqually};
+ghost use Rattle.mysql_command_rules.specs.Laws.{HexadecimalInEachMode, OneStatement};
+ghost use Rattle.mysql_command_rules.specs.Laws.{RequestsHaveTheirSize, RoadsReadEqually};
 ghost use Rattle.mysql_command_rules.specs.Laws.{SentPayloadsFit, SentPayloadsRead, SentSetsAreDelivered};
 ghost use Rattle.mysql_command_rules.specs.Laws.{SentStreamsJoin, SentValuesAreCarried, SetsMeanEach};
-ghost use Rattle.mysql_command_rules.specs.declared.road.Road.TheVariants as roads;
+ghost use Rattle.mysql_command_rules.specs.Laws.{TokensInEachMode};
+ghost use Rattle.mysql_command_rules.specs.SpelledRoad as roads;
+ghost use Rattle.mysql_values.specs.Spelling.{Spelling};
 
 use mysql_bulk_builder::laws::{tight_typed_has_fewest, types_in_force_serve};
+use mysql_cells::as_sql::hexadecimal_is_safe;
 use mysql_receive::laws::{fronts_read_on, whole_streams_join, written_cells_are_held};
-use mysql_values::laws::{cells_have_lengths, tokens_of_a_text};
+use mysql_values::laws::{
+    cells_have_lengths, filled_text_is_read, sql_text_is_a_literal, tokens_of_a_text,
+};
 
 /// Text queries read as the sets whose values they carry.
 pub fn queries_read()
-    ensures { SentPayloadsRead roads.Text }
+    ensures { (spelling : Spelling) → SentPayloadsRead (roads.Text spelling) }
 {}
 
 /// A prepare and executions, with long data before those that need it, read as the sets whose values they carry.
@@ -74,6 +80,31 @@ pub fn sent_sets_are_delivered()
     fronts_read_on();
     tokens_of_a_text();
     tight_typed_has_fewest();
+}
+
+/// A text without a backslash has the same tokens in each mode.
+///
+/// Only a backslash makes a string or a quoted identifier end elsewhere.
+///
+/// (MySQL Reference Manual, "Server SQL Modes": ANSI_QUOTES, NO_BACKSLASH_ESCAPES.)
+pub fn tokens_in_each_mode()
+    ensures { TokensInEachMode }
+{}
+
+/// Sets that were sent by text in hexadecimal are sent so for a server in any other mode.
+///
+/// The query needs to have the same tokens in that mode, as it has without a backslash by
+/// `tokens_in_each_mode`. Then whoever sends need not know the mode of the server: by
+/// `sent_sets_are_delivered` what was appended reads in each as the same sets. That the numbers of
+/// the values fit their fields is what `all_fields_fit` gives.
+///
+/// (MySQL Reference Manual, "Server SQL Modes", "Hexadecimal Literals".)
+pub fn hexadecimal_reads_in_each_mode()
+    ensures { HexadecimalInEachMode }
+{
+    hexadecimal_is_safe();
+    sql_text_is_a_literal();
+    filled_text_is_read();
 }
 
 /// Parameter sets mean what each of them means by itself, as `bind_text` goes by it.

@@ -84,7 +84,10 @@ impl Refusal {
                 "",
             ),
             Refusal::Params(_, _) => ("", ""),
-            Refusal::WrongCount(_) => ("the values are not as many as the placeholders", ""),
+            Refusal::WrongCount(_) => (
+                "the values are not as many as the placeholders: give one for each",
+                "",
+            ),
             Refusal::Float(_, _) => ("the value at place ", " is a float: give it as a text"),
             Refusal::PacketTooLarge(_) => (
                 "its command is larger than max_allowed_packet: raise it, or send less in a set",

@@ -11,10 +11,10 @@ use thiserror::Error;
 #[derive(Debug, Drop, Error)]
 pub enum SendToError {
     /// Why the sets are refused, and how many of them were written before, each whole.
-    #[error("{0}")]
+    #[error("{0} (sets written before it: {1}; go on behind them)")]
     Refused(Refusal, usize),
     /// The writer failed: it took a front of what carries the sets, and not all of it.
-    #[error("{0}")]
+    #[error("{0}: what was written may end inside a packet, close the connection")]
     Io(io::Error),
 }
 

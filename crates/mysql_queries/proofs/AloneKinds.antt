@@ -4,6 +4,7 @@ use Rattle.mysql_queries.specs.Tokens.{Kind, Quoted, LineComment, BlockComment, 
 use Rattle.mysql_queries.specs.Scanning.{is_plain}
 use Rattle.mysql_queries.specs.Queries.{is_name_kind, is_name, is_place}
 use Rattle.mysql_queries.specs.PlaceKinds.{is_place_kind}
+use Rattle.mysql_queries.specs.declared.mode.Mode.{Mode}
 use Rattle.mysql_queries.proofs.FirstBytes.{bool_tells}
 use Rattle.mysql_queries.proofs.Filled.{place_begins, name_is_place}
 use Rattle.mysql_queries.proofs.QuerySlices.{no_name_token}
@@ -22,8 +23,8 @@ plain_kind : (b : ℕ) (x : List ℕ) → is_plain b ≡ true → kind_of (b ∷
 plain_kind b x e = plain_choice b (is_quote b) (b == hash) (b == dash) (b == slash) (b == colon) (b == question) (goes_on_as_dashes x) (goes_on_as_block x) (goes_on_as_name x) e
 
 -- a plain byte is a token before any rest
-pub plain_token : (b : ℕ) (x : List ℕ) → is_plain b ≡ true → IsToken (b ∷ []) x
-plain_token b x e = subst (λ k. HasShape k (b ∷ []) x) (sym (plain_kind b x e)) (b, refl)
+pub plain_token : (m : Mode) (b : ℕ) (x : List ℕ) → is_plain b ≡ true → IsToken m (b ∷ []) x
+plain_token m b x e = subst (λ k. HasShape m k (b ∷ []) x) (sym (plain_kind b x e)) (b, refl)
 
 -- and no placeholder
 pub plain_no_place : (b : ℕ) → is_plain b ≡ true → is_place (b ∷ []) ≡ false
@@ -42,13 +43,13 @@ place_stays (b ∷ x) r h = elim (place_begins b x h) [
   | inr e ↦ (ap (λ c. kind_of (c ∷ (x ++ r))) e ∙ sym (ap (λ c. kind_of (c ∷ x)) e))
 ]
 
-no_place_kind : (t r : List ℕ) (k : Kind) → kind_of (t ++ r) ≡ k → HasShape k t r → is_place t ≡ false → is_place_kind k ≡ false
-no_place_kind t r (Quoted q) e i h = refl
-no_place_kind t r LineComment e i h = refl
-no_place_kind t r BlockComment e i h = refl
-no_place_kind t r Name e i h = let f : true ≡ false = sym (name_is_place t r e i) ∙ h in cc
-no_place_kind t r Mark e i h = let f : true ≡ false = subst (λ y. is_place y ≡ false) i h in cc
-no_place_kind t r Plain e i h = refl
+no_place_kind : (m : Mode) (t r : List ℕ) (k : Kind) → kind_of (t ++ r) ≡ k → HasShape m k t r → is_place t ≡ false → is_place_kind k ≡ false
+no_place_kind m t r (Quoted q) e i h = refl
+no_place_kind m t r LineComment e i h = refl
+no_place_kind m t r BlockComment e i h = refl
+no_place_kind m t r Name e i h = let f : true ≡ false = sym (name_is_place t r e i) ∙ h in cc
+no_place_kind m t r Mark e i h = let f : true ≡ false = subst (λ y. is_place y ≡ false) i h in cc
+no_place_kind m t r Plain e i h = refl
 
 no_name_kind : (k : Kind) → is_place_kind k ≡ false → is_name_kind k ≡ false
 no_name_kind (Quoted q) h = refl
@@ -59,14 +60,14 @@ no_name_kind Mark h = refl
 no_name_kind Plain h = refl
 
 -- whether a token is a placeholder, by its kind where it stands
-pub token_place : (t r : List ℕ) → IsToken t r → is_place t ≡ is_place_kind (kind_of (t ++ r))
-token_place t r i = elim (bool_tells (is_place t)) [
+pub token_place : (m : Mode) (t r : List ℕ) → IsToken m t r → is_place t ≡ is_place_kind (kind_of (t ++ r))
+token_place m t r i = elim (bool_tells (is_place t)) [
   | inl p ↦ ap is_place_kind (sym (place_stays t r p))
-  | inr p ↦ (p ∙ sym (no_place_kind t r (kind_of (t ++ r)) refl i p))
+  | inr p ↦ (p ∙ sym (no_place_kind m t r (kind_of (t ++ r)) refl i p))
 ]
 
-pub token_name : (t r : List ℕ) → IsToken t r → is_name t ≡ is_name_kind (kind_of (t ++ r))
-token_name t r i = elim (bool_tells (is_place t)) [
+pub token_name : (m : Mode) (t r : List ℕ) → IsToken m t r → is_name t ≡ is_name_kind (kind_of (t ++ r))
+token_name m t r i = elim (bool_tells (is_place t)) [
   | inl p ↦ ap is_name_kind (sym (place_stays t r p))
-  | inr p ↦ (no_name_token t p ∙ sym (no_name_kind (kind_of (t ++ r)) (no_place_kind t r (kind_of (t ++ r)) refl i p)))
+  | inr p ↦ (no_name_token t p ∙ sym (no_name_kind (kind_of (t ++ r)) (no_place_kind m t r (kind_of (t ++ r)) refl i p)))
 ]

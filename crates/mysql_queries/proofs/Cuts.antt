@@ -1,10 +1,9 @@
 -- Parts of a text by places.
-use Rattle.std.proofs.Common.{append-nil, length-drop, ◌≡◌, ◌≢◌, ℕ, ◌+◌, ◌≤◌, ◌<◌, true, false, not, List, [], ◌∷◌, ◌++◌, length, take, drop, get_or, refl, sym, ap, ◌∙◌, arith, add-one, drop-cons, take-append-drop, append_assoc, subst, drop_of_length-le, flat_map, inl, inr}
+use Rattle.std.proofs.Common.{append-nil, length-drop, ◌≡◌, ◌≢◌, ℕ, ◌+◌, ◌≤◌, ◌<◌, Bool, true, false, List, [], ◌∷◌, ◌++◌, length, take, drop, get_or, refl, sym, ap, ◌∙◌, arith, add-one, drop-cons, take-append-drop, append_assoc, subst, drop_of_length-le, flat_map, inl, inr}
 use Rattle.std.specs.List.{AllByRecursion}
 use Rattle.std.proofs.lemmas.List.{append_cancel_right, take_more}
-use Rattle.mysql_queries.specs.Tokens.{Inside, Byte, Escape, inside_bytes, IsInside, IsQuoted, Closes, has_escapes, backslash, backtick, AtLineEnd, IsName, AtNameEnd, is_name_byte, line_feed, colon, star, slash, IsBlockComment}
+use Rattle.mysql_queries.specs.Tokens.{Inside, Byte, Escape, inside_bytes, IsInside, IsQuoted, Closes, backslash, AtLineEnd, IsName, AtNameEnd, is_name_byte, line_feed, colon, star, slash, IsBlockComment}
 use Rattle.mysql_queries.specs.Scanning.{PartAt, ClosesAt}
-use Rattle.mysql_queries.proofs.Follow.{not_equal}
 use Rattle.mysql_queries.specs.Tokens.{EndsBlock, HasNoEnd}
 use Rattle.mysql_queries.proofs.SomeToken.{one_more}
 
@@ -24,25 +23,22 @@ front_is t front n e = append_cancel_right (take n t) front (drop n t) (take-app
 pub drop_end : (t : List ℕ) (n : ℕ) → length t ≤ n → drop n t ≡ []
 drop_end t n h = drop_of_length-le t h
 
-escapes : (q : ℕ) → q ≢ backtick → has_escapes q ≡ true
-escapes q n = ap not (not_equal q backtick n)
+pub escape_at : (escapes : Bool) (q : ℕ) (t : List ℕ) (i : ℕ) → get_or t i 0 ≡ backslash → escapes ≡ true → i + 1 < length t → PartAt escapes q t i 2
+escape_at escapes q t i e n h = (Escape (get_or t (i + 1) 0), n, refl, drop_two t i h ∙ ap (λ b. b ∷ get_or t (i + 1) 0 ∷ drop (i + 2) t) e, omega arith)
 
-pub escape_at : (q : ℕ) (t : List ℕ) (i : ℕ) → get_or t i 0 ≡ backslash → q ≢ backtick → i + 1 < length t → PartAt q t i 2
-escape_at q t i e n h = (Escape (get_or t (i + 1) 0), escapes q n, refl, drop_two t i h ∙ ap (λ b. b ∷ get_or t (i + 1) 0 ∷ drop (i + 2) t) e, omega arith)
-
-pub byte_at : (q : ℕ) (t : List ℕ) (i : ℕ) → get_or t i 0 ≢ q → (has_escapes q ≡ true → get_or t i 0 ≢ backslash) → i < length t → PartAt q t i 1
-byte_at q t i n m h = (Byte (get_or t i 0), (n, m), refl, drop_one t i h, omega arith)
+pub byte_at : (escapes : Bool) (q : ℕ) (t : List ℕ) (i : ℕ) → get_or t i 0 ≢ q → (escapes ≡ true → get_or t i 0 ≢ backslash) → i < length t → PartAt escapes q t i 1
+byte_at escapes q t i n m h = (Byte (get_or t i 0), (n, m), refl, drop_one t i h, omega arith)
 
 -- parts and what closes them, up to a rest
-pub record InsideTo (q : ℕ) (text rest : List ℕ) : Type 0 where
+pub record InsideTo (escapes : Bool) (q : ℕ) (text rest : List ℕ) : Type 0 where
   pub parts : List Inside
   pub closing : List ℕ
-  pub inside : AllByRecursion (IsInside q) parts
+  pub inside : AllByRecursion (IsInside escapes q) parts
   pub joined : text ≡ flat_map (inside_bytes q) parts ++ (closing ++ rest)
-  pub closes : Closes q closing rest
+  pub closes : Closes escapes q closing rest
 
-one_part_more : (q : ℕ) (u : Inside) (x y rest : List ℕ) → IsInside q u → y ≡ inside_bytes q u ++ x → InsideTo q x rest → InsideTo q y rest
-one_part_more q u x y rest i e o = record {
+one_part_more : (escapes : Bool) (q : ℕ) (u : Inside) (x y rest : List ℕ) → IsInside escapes q u → y ≡ inside_bytes q u ++ x → InsideTo escapes q x rest → InsideTo escapes q y rest
+one_part_more escapes q u x y rest i e o = record {
   parts = u ∷ o.parts;
   closing = o.closing;
   inside = (i, o.inside);
@@ -51,25 +47,25 @@ one_part_more q u x y rest i e o = record {
 }
 
 -- what goes on at a place so far goes on from the start
-abbrev pub GoesOn : ℕ → List ℕ → ℕ → Type 0
-GoesOn q t at = (rest : List ℕ) → InsideTo q (drop at t) rest → InsideTo q (drop 1 t) rest
+abbrev pub GoesOn : (escapes : Bool) → ℕ → List ℕ → ℕ → Type 0
+GoesOn escapes q t at = (rest : List ℕ) → InsideTo escapes q (drop at t) rest → InsideTo escapes q (drop 1 t) rest
 
-pub goes_on_more : (q : ℕ) (t : List ℕ) (at n : ℕ) → GoesOn q t at → PartAt q t at n → GoesOn q t (at + n)
-goes_on_more q t at n g h rest o = g rest (one_part_more q h.0 (drop (at + n) t) (drop at t) rest h.1 h.3 o)
+pub goes_on_more : (escapes : Bool) (q : ℕ) (t : List ℕ) (at n : ℕ) → GoesOn escapes q t at → PartAt escapes q t at n → GoesOn escapes q t (at + n)
+goes_on_more escapes q t at n g h rest o = g rest (one_part_more escapes q h.0 (drop (at + n) t) (drop at t) rest h.1 h.3 o)
 
 -- a quoted token, from its parts
-quoted_from : (q : ℕ) (t : List ℕ) (n : ℕ) → 0 < length t → get_or t 0 0 ≡ q → InsideTo q (drop 1 t) (drop n t) → IsQuoted q (take n t) (drop n t)
-quoted_from q [] n h e o = absurd (omega arith)
-quoted_from q (b ∷ x) n h e o =
+quoted_from : (escapes : Bool) (q : ℕ) (t : List ℕ) (n : ℕ) → 0 < length t → get_or t 0 0 ≡ q → InsideTo escapes q (drop 1 t) (drop n t) → IsQuoted escapes q (take n t) (drop n t)
+quoted_from escapes q [] n h e o = absurd (omega arith)
+quoted_from escapes q (b ∷ x) n h e o =
     let body : List ℕ = flat_map (inside_bytes q) o.parts in
     let j : b ∷ x ≡ (q ∷ (body ++ o.closing)) ++ drop n (b ∷ x) = ap (λ y. y ∷ x) e ∙ ap (λ y. q ∷ y) (o.joined ∙ sym (append_assoc body o.closing (drop n (b ∷ x)))) in
     record { parts = o.parts; closing = o.closing; inside = o.inside; spelled = front_is (b ∷ x) (q ∷ (body ++ o.closing)) n j; closes = o.closes }
 
-pub quoted_closed : (q : ℕ) (t : List ℕ) (i : ℕ) → 0 < length t → get_or t 0 0 ≡ q → i < length t → GoesOn q t i → ClosesAt q t i → IsQuoted q (take (i + 1) t) (drop (i + 1) t)
-quoted_closed q t i h e l g k = quoted_from q t (i + 1) h e (g (drop (i + 1) t) (record { parts = []; closing = get_or t i 0 ∷ []; inside = tt; joined = drop_one t i l; closes = k }))
+pub quoted_closed : (escapes : Bool) (q : ℕ) (t : List ℕ) (i : ℕ) → 0 < length t → get_or t 0 0 ≡ q → i < length t → GoesOn escapes q t i → ClosesAt escapes q t i → IsQuoted escapes q (take (i + 1) t) (drop (i + 1) t)
+quoted_closed escapes q t i h e l g k = quoted_from escapes q t (i + 1) h e (g (drop (i + 1) t) (record { parts = []; closing = get_or t i 0 ∷ []; inside = tt; joined = drop_one t i l; closes = k }))
 
-pub quoted_open : (q : ℕ) (t : List ℕ) (i : ℕ) → 0 < length t → get_or t 0 0 ≡ q → length t ≤ i → GoesOn q t i → IsQuoted q (take i t) (drop i t)
-quoted_open q t i h e l g = quoted_from q t i h e (g (drop i t) (record { parts = []; closing = []; inside = tt; joined = refl; closes = inr (drop_end t i l, inl refl) }))
+pub quoted_open : (escapes : Bool) (q : ℕ) (t : List ℕ) (i : ℕ) → 0 < length t → get_or t 0 0 ≡ q → length t ≤ i → GoesOn escapes q t i → IsQuoted escapes q (take i t) (drop i t)
+quoted_open escapes q t i h e l g = quoted_from escapes q t i h e (g (drop i t) (record { parts = []; closing = []; inside = tt; joined = refl; closes = inr (drop_end t i l, inl refl) }))
 
 pub all_more : (P : ℕ → Type 0) (xs : List ℕ) (x : ℕ) → AllByRecursion P xs → P x → AllByRecursion P (xs ++ x ∷ [])
 all_more P [] x h k = (k, tt)

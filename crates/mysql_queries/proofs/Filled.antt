@@ -3,6 +3,8 @@ use Rattle.std.proofs.Common.{◌≡◌, ◌≢◌, ℕ, Bool, true, false, not,
 use Rattle.std.specs.List.{concat, AllByRecursion}
 use Rattle.mysql_queries.specs.Tokens.{Kind, Quoted, LineComment, BlockComment, Name, Mark, Plain, kind_of, IsName, HasShape, IsToken, AreTokens, HasTokens, AtNameEnd, colon, question, dash, is_name_start, is_name_byte}
 use Rattle.mysql_queries.specs.Literals.{IsLiteral}
+use Rattle.mysql_queries.specs.Sql.{Sql}
+use Rattle.mysql_queries.specs.declared.mode.Mode.{Mode}
 use Rattle.mysql_queries.specs.declared.content.Content.{Content}
 use Rattle.mysql_queries.specs.Queries.{is_name_kind, is_mark_kind, is_place, Replaces, is_joining, stands_alone, place_at, places_from, AllAlone}
 use Rattle.std.proofs.Common.{◌+◌, ◌-◌, length, get_or, slice_index, length-append}
@@ -14,12 +16,12 @@ use Rattle.mysql_queries.proofs.Follow.{IsApart, Agrees, last_of, agree_front, I
 use Rattle.mysql_queries.proofs.Spellings.{LiteralStart, literal_start, LiteralTokens, literal_tokens}
 
 -- a text that is tokens with literals for the placeholders
-abbrev pub Spells : List (List ℕ) → List Content → List ℕ → Type 0
-Spells [] contents text = (contents ≡ []) × (text ≡ [])
-Spells (token ∷ tokens) contents text =
-    ((is_place token ≡ false) × (rest : List ℕ) × (text ≡ token ++ rest) × Spells tokens contents rest)
+abbrev pub Spells : Mode → List (List ℕ) → List Content → List ℕ → Type 0
+Spells m [] contents text = (contents ≡ []) × (text ≡ [])
+Spells m (token ∷ tokens) contents text =
+    ((is_place token ≡ false) × (rest : List ℕ) × (text ≡ token ++ rest) × Spells m tokens contents rest)
     ⊎ ((is_place token ≡ true) × (content : Content) × (next : List Content) × (spelling : List ℕ) × (rest : List ℕ)
-    × (contents ≡ content ∷ next) × IsLiteral spelling content × (text ≡ spelling ++ rest) × Spells tokens next rest)
+    × (contents ≡ content ∷ next) × IsLiteral m spelling content × (text ≡ spelling ++ rest) × Spells m tokens next rest)
 
 -- a placeholder begins with a colon or is a question mark
 place_kind : (b : ℕ) (x : List ℕ) (k : Kind) → Tells b x k → is_name_kind k || is_mark_kind k ≡ true → (b ≡ colon) ⊎ (b ≡ question)
@@ -52,17 +54,17 @@ name_alone (c ∷ name) r e h =
 pub name_is_place : (t r : List ℕ) → kind_of (t ++ r) ≡ Name → IsName t r → is_place t ≡ true
 name_is_place t r e n = subst (λ y. is_place y ≡ true) (sym n.spelled) (name_alone n.name r (subst (λ y. kind_of (y ++ r) ≡ Name) n.spelled e) n.ends)
 
-no_name_kind : (t r : List ℕ) (k : Kind) → kind_of (t ++ r) ≡ k → HasShape k t r → is_place t ≡ false → IsNoName k
-no_name_kind t r (Quoted q) e i h = tt
-no_name_kind t r LineComment e i h = tt
-no_name_kind t r BlockComment e i h = tt
-no_name_kind t r Name e i h = let f : true ≡ false = sym (name_is_place t r e i) ∙ h in cc
-no_name_kind t r Mark e i h = tt
-no_name_kind t r Plain e i h = tt
+no_name_kind : (m : Mode) (t r : List ℕ) (k : Kind) → kind_of (t ++ r) ≡ k → HasShape m k t r → is_place t ≡ false → IsNoName k
+no_name_kind m t r (Quoted q) e i h = tt
+no_name_kind m t r LineComment e i h = tt
+no_name_kind m t r BlockComment e i h = tt
+no_name_kind m t r Name e i h = let f : true ≡ false = sym (name_is_place t r e i) ∙ h in cc
+no_name_kind m t r Mark e i h = tt
+no_name_kind m t r Plain e i h = tt
 
 -- a token that is no placeholder is no name where it stands
-pub no_name : (t r : List ℕ) → IsToken t r → is_place t ≡ false → IsNoName (kind_of (t ++ r))
-no_name t r i h = no_name_kind t r (kind_of (t ++ r)) refl i h
+pub no_name : (m : Mode) (t r : List ℕ) → IsToken m t r → is_place t ≡ false → IsNoName (kind_of (t ++ r))
+no_name m t r i h = no_name_kind m t r (kind_of (t ++ r)) refl i h
 
 -- before the first byte of a text stands, as it were, a space
 abbrev pub space : ℕ
@@ -140,20 +142,20 @@ alone_after before q (t ∷ ts) e h =
           ((λ r. absurd (let g : true ≡ false = sym r ∙ p in cc)), subst (λ b. AloneFrom b ts) last (alone_after (before ++ t) q ts f (subst (λ m. AllByRecursion (λ place. place.alone ≡ true) (places_from q m ts)) n k))))
     ]
 
-pub alone_from : (q : List ℕ) (ts : List (List ℕ)) → HasTokens q ts → AllAlone q → AloneFrom space ts
-alone_from q ts h a = alone_after [] q ts (sym h.joined) (a (places_from q 0 ts) (ts, h, refl))
+pub alone_from : (q : Sql) (ts : List (List ℕ)) → HasTokens q.mode q.text ts → AllAlone q → AloneFrom space ts
+alone_from q ts h a = alone_after [] q.text ts (sym h.joined) (a (places_from q.text 0 ts) (ts, h, refl))
 
 -- the query and the text go on alike up to a placeholder
-place_agrees : (last : ℕ) (t x s y : List ℕ) → IsToken t x → is_place t ≡ true → IsApart last → LiteralStart s → Agrees last (t ++ x) (s ++ y)
-place_agrees last [] x s y i p a l = absurd (not_empty x i)
-place_agrees last (b ∷ t) x s y i p a l = subst (λ z. Agrees last ((b ∷ t) ++ x) (z ++ y)) (sym l.joined) (inr (record { apart = a; place = place_begins b t p; no_star = l.no_star; no_mark = l.no_mark; no_plus = l.no_plus }))
+place_agrees : (m : Mode) (last : ℕ) (t x s y : List ℕ) → IsToken m t x → is_place t ≡ true → IsApart last → LiteralStart s → Agrees last (t ++ x) (s ++ y)
+place_agrees m last [] x s y i p a l = absurd (not_empty m x i)
+place_agrees m last (b ∷ t) x s y i p a l = subst (λ z. Agrees last ((b ∷ t) ++ x) (z ++ y)) (sym l.joined) (inr (record { apart = a; place = place_begins b t p; no_star = l.no_star; no_mark = l.no_mark; no_plus = l.no_plus }))
 
-pub text_agrees : (ts : List (List ℕ)) (last : ℕ) (cs : List Content) (text : List ℕ) → AreTokens ts → AloneFrom last ts → Spells ts cs text → Agrees last (concat ts) text
-text_agrees [] last cs text i a h = subst (Agrees last []) (sym h.1) tt
-text_agrees (t ∷ ts) last cs text i a (inl (p, r, e, h)) =
-    subst (Agrees last (t ++ concat ts)) (sym e) (agree_front last t (concat ts) r (text_agrees ts (last_of last t) cs r i.1 a.1 h))
-text_agrees (t ∷ ts) last cs text i a (inr (p, c, next, s, r, e, l, f, h)) =
-    subst (Agrees last (t ++ concat ts)) (sym f) (place_agrees last t (concat ts) s r i.0 p (a.0 p).0 (literal_start s c l))
+pub text_agrees : (m : Mode) (ts : List (List ℕ)) (last : ℕ) (cs : List Content) (text : List ℕ) → AreTokens m ts → AloneFrom last ts → Spells m ts cs text → Agrees last (concat ts) text
+text_agrees m [] last cs text i a h = subst (Agrees last []) (sym h.1) tt
+text_agrees m (t ∷ ts) last cs text i a (inl (p, r, e, h)) =
+    subst (Agrees last (t ++ concat ts)) (sym e) (agree_front last t (concat ts) r (text_agrees m ts (last_of last t) cs r i.1 a.1 h))
+text_agrees m (t ∷ ts) last cs text i a (inr (p, c, next, s, r, e, l, f, h)) =
+    subst (Agrees last (t ++ concat ts)) (sym f) (place_agrees m last t (concat ts) s r i.0 p (a.0 p).0 (literal_start m s c l))
 
 -- what follows a placeholder begins apart, in the query and in the text
 apart_same : (last : ℕ) (x y : List ℕ) → Agrees last x y → BeginsApart x → BeginsApart y
@@ -166,30 +168,30 @@ apart_same last (b ∷ x) (c ∷ y) (inr h) a = elim h.place [
   | inr e ↦ (let f : true ≡ false = sym (ap is_joining e) ∙ a in cc)
 ]
 
-pub rest_apart : (ts : List (List ℕ)) (last : ℕ) (cs : List Content) (text : List ℕ) → AreTokens ts → AloneFrom last ts → Spells ts cs text → BeginsApart (concat ts) → BeginsApart text
-rest_apart ts last cs text i a h b = apart_same last (concat ts) text (text_agrees ts last cs text i a h) b
+pub rest_apart : (m : Mode) (ts : List (List ℕ)) (last : ℕ) (cs : List Content) (text : List ℕ) → AreTokens m ts → AloneFrom last ts → Spells m ts cs text → BeginsApart (concat ts) → BeginsApart text
+rest_apart m ts last cs text i a h b = apart_same last (concat ts) text (text_agrees m ts last cs text i a h) b
 
 -- the tokens of the text
-pub record Lexed (ts : List (List ℕ)) (cs : List Content) (text : List ℕ) : Type 0 where
+pub record Lexed (m : Mode) (ts : List (List ℕ)) (cs : List Content) (text : List ℕ) : Type 0 where
   pub tokens : List (List ℕ)
-  pub has : HasTokens text tokens
-  pub replaces : Replaces ts cs tokens
+  pub has : HasTokens m text tokens
+  pub replaces : Replaces m ts cs tokens
 
-lexed_token : (t : List ℕ) (ts : List (List ℕ)) (last : ℕ) (cs : List Content) (text r : List ℕ) → AreTokens (t ∷ ts) → AloneFrom last (t ∷ ts) → is_place t ≡ false → text ≡ t ++ r → Spells ts cs r → Lexed ts cs r → Lexed (t ∷ ts) cs text
-lexed_token t ts last cs text r i a p e h o = record {
+lexed_token : (m : Mode) (t : List ℕ) (ts : List (List ℕ)) (last : ℕ) (cs : List Content) (text r : List ℕ) → AreTokens m (t ∷ ts) → AloneFrom last (t ∷ ts) → is_place t ≡ false → text ≡ t ++ r → Spells m ts cs r → Lexed m ts cs r → Lexed m (t ∷ ts) cs text
+lexed_token m t ts last cs text r i a p e h o = record {
   tokens = t ∷ o.tokens;
   has = record {
     joined = ap (λ y. t ++ y) o.has.joined ∙ sym e;
-    each = (token_same last t (concat ts) (concat o.tokens) (no_name t (concat ts) i.0 p) (subst (Agrees (last_of last t) (concat ts)) (sym o.has.joined) (text_agrees ts (last_of last t) cs r i.1 a.1 h)) i.0, o.has.each);
+    each = (token_same m last t (concat ts) (concat o.tokens) (no_name m t (concat ts) i.0 p) (subst (Agrees (last_of last t) (concat ts)) (sym o.has.joined) (text_agrees m ts (last_of last t) cs r i.1 a.1 h)) i.0, o.has.each);
   };
   replaces = inl (p, o.tokens, refl, o.replaces);
 }
 
-lexed_place : (t : List ℕ) (ts : List (List ℕ)) (last : ℕ) (cs : List Content) (text : List ℕ) (c : Content) (next : List Content) (s r : List ℕ) → AreTokens (t ∷ ts) → AloneFrom last (t ∷ ts) → is_place t ≡ true
-    → cs ≡ c ∷ next → IsLiteral s c → text ≡ s ++ r → Spells ts next r → Lexed ts next r → Lexed (t ∷ ts) cs text
-lexed_place t ts last cs text c next s r i a p e l f h o =
-    let k : LiteralTokens s = literal_tokens s c l in
-    let b : BeginsApart r = rest_apart ts (last_of last t) next r i.1 a.1 h (a.0 p).1 in
+lexed_place : (m : Mode) (t : List ℕ) (ts : List (List ℕ)) (last : ℕ) (cs : List Content) (text : List ℕ) (c : Content) (next : List Content) (s r : List ℕ) → AreTokens m (t ∷ ts) → AloneFrom last (t ∷ ts) → is_place t ≡ true
+    → cs ≡ c ∷ next → IsLiteral m s c → text ≡ s ++ r → Spells m ts next r → Lexed m ts next r → Lexed m (t ∷ ts) cs text
+lexed_place m t ts last cs text c next s r i a p e l f h o =
+    let k : LiteralTokens m s = literal_tokens m s c l in
+    let b : BeginsApart r = rest_apart m ts (last_of last t) next r i.1 a.1 h (a.0 p).1 in
     record {
       tokens = k.tokens ++ o.tokens;
       has = record {
@@ -199,14 +201,14 @@ lexed_place t ts last cs text c next s r i a p e l f h o =
       replaces = inr (p, c, next, s, k.tokens, o.tokens, e, l, k.has, refl, o.replaces);
     }
 
-pub lexed : (ts : List (List ℕ)) (last : ℕ) (cs : List Content) (text : List ℕ) → AreTokens ts → AloneFrom last ts → Spells ts cs text → Lexed ts cs text
-lexed [] last cs text i a h = record { tokens = []; has = record { joined = sym h.1; each = tt }; replaces = (h.0, refl) }
-lexed (t ∷ ts) last cs text i a (inl (p, r, e, h)) = lexed_token t ts last cs text r i a p e h (lexed ts (last_of last t) cs r i.1 a.1 h)
-lexed (t ∷ ts) last cs text i a (inr (p, c, next, s, r, e, l, f, h)) = lexed_place t ts last cs text c next s r i a p e l f h (lexed ts (last_of last t) next r i.1 a.1 h)
+pub lexed : (m : Mode) (ts : List (List ℕ)) (last : ℕ) (cs : List Content) (text : List ℕ) → AreTokens m ts → AloneFrom last ts → Spells m ts cs text → Lexed m ts cs text
+lexed m [] last cs text i a h = record { tokens = []; has = record { joined = sym h.1; each = tt }; replaces = (h.0, refl) }
+lexed m (t ∷ ts) last cs text i a (inl (p, r, e, h)) = lexed_token m t ts last cs text r i a p e h (lexed m ts (last_of last t) cs r i.1 a.1 h)
+lexed m (t ∷ ts) last cs text i a (inr (p, c, next, s, r, e, l, f, h)) = lexed_place m t ts last cs text c next s r i a p e l f h (lexed m ts (last_of last t) next r i.1 a.1 h)
 
 -- the text joins what replaces the tokens
-pub spells_joined : (ts : List (List ℕ)) (cs : List Content) (us : List (List ℕ)) → Replaces ts cs us → Spells ts cs (concat us)
-spells_joined [] cs us h = (h.0, ap concat h.1)
-spells_joined (t ∷ ts) cs us (inl (p, others, e, h)) = inl (p, concat others, ap concat e, spells_joined ts cs others h)
-spells_joined (t ∷ ts) cs us (inr (p, c, next, s, ls, others, e, l, k, f, h)) =
-    inr (p, c, next, s, concat others, e, l, ap concat f ∙ concat_append ls others ∙ ap (λ y. y ++ concat others) k.joined, spells_joined ts next others h)
+pub spells_joined : (m : Mode) (ts : List (List ℕ)) (cs : List Content) (us : List (List ℕ)) → Replaces m ts cs us → Spells m ts cs (concat us)
+spells_joined m [] cs us h = (h.0, ap concat h.1)
+spells_joined m (t ∷ ts) cs us (inl (p, others, e, h)) = inl (p, concat others, ap concat e, spells_joined m ts cs others h)
+spells_joined m (t ∷ ts) cs us (inr (p, c, next, s, ls, others, e, l, k, f, h)) =
+    inr (p, c, next, s, concat others, e, l, ap concat f ∙ concat_append ls others ∙ ap (λ y. y ++ concat others) k.joined, spells_joined m ts next others h)

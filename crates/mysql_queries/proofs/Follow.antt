@@ -1,8 +1,9 @@
 -- A token stays a token when a placeholder behind it is replaced by a literal.
 use Rattle.std.proofs.Common.{◌≡◌, ◌≢◌, ℕ, Bool, true, false, not, ◌&&◌, ◌||◌, ◌==◌, ◌⊎◌, List, [], ◌∷◌, ◌++◌, refl, sym, ap, ◌∙◌, inl, inr, arith, subst, flat_map}
 use Rattle.std.proofs.lemmas.Bool.Decides.{nat_tests, eqb_tells}
-use Rattle.mysql_queries.specs.Tokens.{Kind, Quoted, LineComment, BlockComment, Name, Mark, Plain, kind_of, is_quote, HasShape, IsToken, AtLineEnd, BeginsOtherwise, Closes, star, slash, colon, question, dash, inside_bytes, goes_on_as_dashes, goes_on_as_block, goes_on_as_name, is_name_start}
+use Rattle.mysql_queries.specs.Tokens.{Kind, Quoted, LineComment, BlockComment, Name, Mark, Plain, kind_of, is_quote, has_escapes, HasShape, IsToken, AtLineEnd, BeginsOtherwise, Closes, star, slash, colon, question, dash, inside_bytes, goes_on_as_dashes, goes_on_as_block, goes_on_as_name, is_name_start}
 use Rattle.mysql_queries.specs.Queries.{is_joining}
+use Rattle.mysql_queries.specs.declared.mode.Mode.{Mode}
 use Rattle.mysql_queries.proofs.FirstBytes.{HasQuote, kind_has_quote}
 use Rattle.mysql_queries.proofs.OneToken.{not_empty}
 
@@ -140,11 +141,11 @@ last_append : (last q : ℕ) (x : List ℕ) → last_of last (x ++ q ∷ []) ≡
 last_append last q [] = refl
 last_append last q (b ∷ x) = last_append b q x
 
-closes_same : (q last : ℕ) (t u c x y : List ℕ) → is_quote q ≡ true → t ≡ q ∷ (u ++ c) → Agrees (last_of last t) x y → Closes q c x → Closes q c y
-closes_same q last t u c x y i s h (inl k) =
+closes_same : (escapes : Bool) (q last : ℕ) (t u c x y : List ℕ) → is_quote q ≡ true → t ≡ q ∷ (u ++ c) → Agrees (last_of last t) x y → Closes escapes q c x → Closes escapes q c y
+closes_same escapes q last t u c x y i s h (inl k) =
     let e : last_of last t ≡ q = rw (s, k.0) (last_append q q u) in
     inl (k.0, otherwise_same q x y i (subst (λ d. Agrees d x y) e h) k.1)
-closes_same q last t u c x y i s h (inr k) = inr (nil_same (last_of last t) x y h k.0, k.1)
+closes_same escapes q last t u c x y i s h (inr k) = inr (nil_same (last_of last t) x y h k.0, k.1)
 
 -- a kind that is no name
 abbrev pub IsNoName : Kind → Type 0
@@ -155,17 +156,17 @@ IsNoName Name = ⊥
 IsNoName Mark = Unit {0}
 IsNoName Plain = Unit {0}
 
-shape_same : (k : Kind) → HasQuote k → IsNoName k → (last : ℕ) (t x y : List ℕ) → Agrees (last_of last t) x y → HasShape k t x → HasShape k t y
-shape_same (Quoted q) hq n last t x y h i = record { parts = i.parts; closing = i.closing; inside = i.inside; spelled = i.spelled; closes = closes_same q last t (flat_map (inside_bytes q) i.parts) i.closing x y hq i.spelled h i.closes }
-shape_same LineComment hq n last t x y h i = (i.0, line_same (last_of last t) x y h i.1)
-shape_same BlockComment hq n last t x y h i = record { inside = i.inside; closing = i.closing; spelled = i.spelled; ends = elim i.ends [ inl k ↦ inl k | inr k ↦ inr (k.0, k.1, nil_same (last_of last t) x y h k.2) ] }
-shape_same Name hq n last t x y h i = absurd n
-shape_same Mark hq n last t x y h i = i
-shape_same Plain hq n last t x y h i = i
+shape_same : (m : Mode) (k : Kind) → HasQuote k → IsNoName k → (last : ℕ) (t x y : List ℕ) → Agrees (last_of last t) x y → HasShape m k t x → HasShape m k t y
+shape_same m (Quoted q) hq n last t x y h i = record { parts = i.parts; closing = i.closing; inside = i.inside; spelled = i.spelled; closes = closes_same (has_escapes m q) q last t (flat_map (inside_bytes q) i.parts) i.closing x y hq i.spelled h i.closes }
+shape_same m LineComment hq n last t x y h i = (i.0, line_same (last_of last t) x y h i.1)
+shape_same m BlockComment hq n last t x y h i = record { inside = i.inside; closing = i.closing; spelled = i.spelled; ends = elim i.ends [ inl k ↦ inl k | inr k ↦ inr (k.0, k.1, nil_same (last_of last t) x y h k.2) ] }
+shape_same m Name hq n last t x y h i = absurd n
+shape_same m Mark hq n last t x y h i = i
+shape_same m Plain hq n last t x y h i = i
 
 -- A token that is no name stays a token before a text that agrees with what follows it.
-pub token_same : (last : ℕ) (t x y : List ℕ) → IsNoName (kind_of (t ++ x)) → Agrees (last_of last t) x y → IsToken t x → IsToken t y
-token_same last [] x y n h i = absurd (not_empty x i)
-token_same last (b ∷ t) x y n h i =
+pub token_same : (m : Mode) (last : ℕ) (t x y : List ℕ) → IsNoName (kind_of (t ++ x)) → Agrees (last_of last t) x y → IsToken m t x → IsToken m t y
+token_same m last [] x y n h i = absurd (not_empty m x i)
+token_same m last (b ∷ t) x y n h i =
     let e : kind_of (b ∷ (t ++ x)) ≡ kind_of (b ∷ (t ++ y)) = kind_same b (t ++ x) (t ++ y) (agree_front b t x y h) in
-    subst (λ k. HasShape k (b ∷ t) y) e (shape_same (kind_of (b ∷ (t ++ x))) (kind_has_quote (b ∷ (t ++ x))) n last (b ∷ t) x y h i)
+    subst (λ k. HasShape m k (b ∷ t) y) e (shape_same m (kind_of (b ∷ (t ++ x))) (kind_has_quote (b ∷ (t ++ x))) n last (b ∷ t) x y h i)

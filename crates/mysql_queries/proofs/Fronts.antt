@@ -1,18 +1,19 @@
 -- Which literal stands at the front of a text.
-use Rattle.std.proofs.Common.{◌≡◌, ◌≢◌, ℕ, ◌≤◌, ◌<◌, true, false, List, [], ◌∷◌, ◌++◌, length, take, get_or, map, codes, refl, sym, ap, ◌∙◌, inl, inr, arith, subst, ℤ}
-use Rattle.mysql_queries.specs.Tokens.{IsQuoted, single_quote, dash}
+use Rattle.std.proofs.Common.{◌≡◌, ◌≢◌, ℕ, Bool, ◌≤◌, ◌<◌, true, false, List, [], ◌∷◌, ◌++◌, length, take, get_or, map, codes, refl, sym, ap, ◌∙◌, inl, inr, arith, subst, ℤ}
+use Rattle.mysql_queries.specs.Tokens.{has_escapes, IsQuoted, single_quote, dash}
 use Rattle.mysql_queries.specs.Literals.{lower, is_digit, AreDigits, IsNumber, IsString, IsHexLiteral, IsLiteral}
 use Rattle.mysql_queries.specs.declared.content.Content.{Content}
 use Rattle.mysql_queries.specs.declared.content.Content.TheVariants.{Null, Number, Bytes}
+use Rattle.mysql_queries.specs.declared.mode.Mode.{Mode}
 use Rattle.mysql_queries.specs.LiteralRuns.{begins_hex, IsDigitRun, IsHexRun, IsLiteralRun}
 use Rattle.mysql_queries.specs.LiteralViews.{IsNoLiteral}
 use Rattle.mysql_queries.proofs.OneContent.{sort_of, second_sort, null_sort, string_sort, hex_sort, number_sort, digits_sort, dash_sort}
 use Rattle.mysql_queries.proofs.HexDigits.{IsNoHex}
 use Rattle.mysql_queries.proofs.StringParts.{IsNoString}
 
-quoted_sort : (run rest : List ℕ) → IsQuoted single_quote run rest → sort_of run ≡ 0
+quoted_sort : (escapes : Bool) (run rest : List ℕ) → IsQuoted escapes single_quote run rest → sort_of run ≡ 0
 unfolding sort_of
-quoted_sort run rest q = rw q.spelled refl
+quoted_sort escapes run rest q = rw q.spelled refl
 
 hex_run_sort : (run rest : List ℕ) → IsHexRun run rest → sort_of run ≡ 2
 unfolding sort_of second_sort
@@ -25,29 +26,29 @@ digit_run_sort run rest h = elim h.spelled [
 ]
 
 -- a run and the literal that it is
-pub data Front : List ℕ → List ℕ → Type 0 where
-  null : {run rest : List ℕ} → map lower run ≡ codes "null" → Front run rest
-  string : {run rest : List ℕ} (bytes : List ℕ) → IsQuoted single_quote run rest → IsString run bytes → Front run rest
-  hexadecimal : {run rest : List ℕ} (bytes : List ℕ) → IsHexRun run rest → IsHexLiteral run bytes → Front run rest
-  number : {run rest : List ℕ} (z : ℤ) → IsDigitRun run rest → IsNumber run z → Front run rest
+pub data Front (escapes : Bool) : List ℕ → List ℕ → Type 0 where
+  null : {run rest : List ℕ} → map lower run ≡ codes "null" → Front escapes run rest
+  string : {run rest : List ℕ} (bytes : List ℕ) → IsQuoted escapes single_quote run rest → IsString escapes run bytes → Front escapes run rest
+  hexadecimal : {run rest : List ℕ} (bytes : List ℕ) → IsHexRun run rest → IsHexLiteral run bytes → Front escapes run rest
+  number : {run rest : List ℕ} (z : ℤ) → IsDigitRun run rest → IsNumber run z → Front escapes run rest
 
-apart : {run rest : List ℕ} (m n : ℕ) → sort_of run ≡ m → sort_of run ≡ n → m ≢ n → Front run rest
+apart : {escapes : Bool} {run rest : List ℕ} (m n : ℕ) → sort_of run ≡ m → sort_of run ≡ n → m ≢ n → Front escapes run rest
 apart m n e f k = absurd (k (sym e ∙ f))
 
-pub front : (run rest : List ℕ) (content : Content) → IsLiteralRun run rest → IsLiteral run content → Front run rest
-front run rest Null h l = null l
-front run rest (Number z) (inl h) l = apart 1 3 (null_sort run h) (number_sort run z l) (λ e. absurd (omega arith))
-front run rest (Number z) (inr (inl h)) l = apart 0 3 (quoted_sort run rest h) (number_sort run z l) (λ e. absurd (omega arith))
-front run rest (Number z) (inr (inr (inl h))) l = apart 2 3 (hex_run_sort run rest h) (number_sort run z l) (λ e. absurd (omega arith))
-front run rest (Number z) (inr (inr (inr h))) l = number z h l
-front run rest (Bytes b) (inl h) (inl l) = apart 1 0 (null_sort run h) (string_sort run b l) (λ e. absurd (omega arith))
-front run rest (Bytes b) (inl h) (inr l) = apart 1 2 (null_sort run h) (hex_sort run b l) (λ e. absurd (omega arith))
-front run rest (Bytes b) (inr (inl h)) (inl l) = string b h l
-front run rest (Bytes b) (inr (inl h)) (inr l) = apart 0 2 (quoted_sort run rest h) (hex_sort run b l) (λ e. absurd (omega arith))
-front run rest (Bytes b) (inr (inr (inl h))) (inl l) = apart 2 0 (hex_run_sort run rest h) (string_sort run b l) (λ e. absurd (omega arith))
-front run rest (Bytes b) (inr (inr (inl h))) (inr l) = hexadecimal b h l
-front run rest (Bytes b) (inr (inr (inr h))) (inl l) = apart 3 0 (digit_run_sort run rest h) (string_sort run b l) (λ e. absurd (omega arith))
-front run rest (Bytes b) (inr (inr (inr h))) (inr l) = apart 3 2 (digit_run_sort run rest h) (hex_sort run b l) (λ e. absurd (omega arith))
+pub front : (mode : Mode) (run rest : List ℕ) (content : Content) → IsLiteralRun mode run rest → IsLiteral mode run content → Front (has_escapes mode single_quote) run rest
+front mode run rest Null h l = null l
+front mode run rest (Number z) (inl h) l = apart 1 3 (null_sort run h) (number_sort run z l) (λ e. absurd (omega arith))
+front mode run rest (Number z) (inr (inl h)) l = apart 0 3 (quoted_sort (has_escapes mode single_quote) run rest h) (number_sort run z l) (λ e. absurd (omega arith))
+front mode run rest (Number z) (inr (inr (inl h))) l = apart 2 3 (hex_run_sort run rest h) (number_sort run z l) (λ e. absurd (omega arith))
+front mode run rest (Number z) (inr (inr (inr h))) l = number z h l
+front mode run rest (Bytes b) (inl h) (inl l) = apart 1 0 (null_sort run h) (string_sort (has_escapes mode single_quote) run b l) (λ e. absurd (omega arith))
+front mode run rest (Bytes b) (inl h) (inr l) = apart 1 2 (null_sort run h) (hex_sort run b l) (λ e. absurd (omega arith))
+front mode run rest (Bytes b) (inr (inl h)) (inl l) = string b h l
+front mode run rest (Bytes b) (inr (inl h)) (inr l) = apart 0 2 (quoted_sort (has_escapes mode single_quote) run rest h) (hex_sort run b l) (λ e. absurd (omega arith))
+front mode run rest (Bytes b) (inr (inr (inl h))) (inl l) = apart 2 0 (hex_run_sort run rest h) (string_sort (has_escapes mode single_quote) run b l) (λ e. absurd (omega arith))
+front mode run rest (Bytes b) (inr (inr (inl h))) (inr l) = hexadecimal b h l
+front mode run rest (Bytes b) (inr (inr (inr h))) (inl l) = apart 3 0 (digit_run_sort run rest h) (string_sort (has_escapes mode single_quote) run b l) (λ e. absurd (omega arith))
+front mode run rest (Bytes b) (inr (inr (inr h))) (inr l) = apart 3 2 (digit_run_sort run rest h) (hex_sort run b l) (λ e. absurd (omega arith))
 
 -- the four letters come first
 null_text : (t run rest : List ℕ) → t ≡ run ++ rest → map lower run ≡ codes "null" → (4 ≤ length t) × (map lower (take 4 t) ≡ codes "null")
@@ -58,8 +59,8 @@ null_text t (a ∷ b ∷ c ∷ []) rest e h = cc
 null_text t (a ∷ b ∷ c ∷ d ∷ []) rest e h = subst (λ y. (4 ≤ length y) × (map lower (take 4 y) ≡ codes "null")) (sym e) (omega arith, h)
 null_text t (a ∷ b ∷ c ∷ d ∷ f ∷ x) rest e h = cc
 
-quoted_text : (t run rest : List ℕ) → t ≡ run ++ rest → IsQuoted single_quote run rest → (0 < length t) × (get_or t 0 0 ≡ single_quote)
-quoted_text t run rest e q = subst (λ y. (0 < length y) × (get_or y 0 0 ≡ single_quote)) (sym (e ∙ ap (λ y. y ++ rest) q.spelled)) (omega arith, refl)
+quoted_text : (escapes : Bool) (t run rest : List ℕ) → t ≡ run ++ rest → IsQuoted escapes single_quote run rest → (0 < length t) × (get_or t 0 0 ≡ single_quote)
+quoted_text escapes t run rest e q = subst (λ y. (0 < length y) × (get_or y 0 0 ≡ single_quote)) (sym (e ∙ ap (λ y. y ++ rest) q.spelled)) (omega arith, refl)
 
 hex_text : (t run rest : List ℕ) → t ≡ run ++ rest → IsHexRun run rest → begins_hex t ≡ true
 hex_text t run rest e h = subst (λ y. begins_hex y ≡ true) (sym (e ∙ ap (λ y. y ++ rest) h.spelled)) refl
@@ -83,26 +84,26 @@ hex_no_quote (a ∷ b ∷ x) h q = let e : begins_hex (single_quote ∷ b ∷ x)
 abbrev pub IsNoNull : List ℕ → Type 0
 IsNoNull t = (4 ≤ length t) × (map lower (take 4 t) ≡ codes "null") → ⊥
 
-pub no_quoted : (t : List ℕ) → IsNoNull t → get_or t 0 0 ≡ single_quote → IsNoString t → IsNoLiteral t
-no_quoted t n q h run rest content e r l = elim (front run rest content r l) [
+pub no_quoted : (mode : Mode) (t : List ℕ) → IsNoNull t → get_or t 0 0 ≡ single_quote → IsNoString (has_escapes mode single_quote) t → IsNoLiteral mode t
+no_quoted mode t n q h run rest content e r l = elim (front mode run rest content r l) [
   | null k ↦ n (null_text t run rest e k)
   | string bytes k s ↦ h run rest bytes e k s
   | hexadecimal bytes k s ↦ hex_no_quote t (hex_text t run rest e k) q
   | number z k s ↦ number_text t run rest z e s q
 ]
 
-pub no_hexadecimal : (t : List ℕ) → IsNoNull t → (0 < length t → get_or t 0 0 ≢ single_quote) → begins_hex t ≡ true → IsNoHex t → IsNoLiteral t
-no_hexadecimal t n q b h run rest content e r l = elim (front run rest content r l) [
+pub no_hexadecimal : (mode : Mode) (t : List ℕ) → IsNoNull t → (0 < length t → get_or t 0 0 ≢ single_quote) → begins_hex t ≡ true → IsNoHex t → IsNoLiteral mode t
+no_hexadecimal mode t n q b h run rest content e r l = elim (front mode run rest content r l) [
   | null k ↦ n (null_text t run rest e k)
-  | string bytes k s ↦ q (quoted_text t run rest e k).0 (quoted_text t run rest e k).1
+  | string bytes k s ↦ q (quoted_text (has_escapes mode single_quote) t run rest e k).0 (quoted_text (has_escapes mode single_quote) t run rest e k).1
   | hexadecimal bytes k s ↦ h run rest bytes e k s
   | number z k s ↦ (let f : true ≡ false = sym b ∙ ap begins_hex e ∙ k.other in cc)
 ]
 
-pub no_number : (t : List ℕ) → IsNoNull t → (0 < length t → get_or t 0 0 ≢ single_quote) → begins_hex t ≡ false → ((run rest : List ℕ) (z : ℤ) → t ≡ run ++ rest → IsDigitRun run rest → IsNumber run z → ⊥) → IsNoLiteral t
-no_number t n q b h run rest content e r l = elim (front run rest content r l) [
+pub no_number : (mode : Mode) (t : List ℕ) → IsNoNull t → (0 < length t → get_or t 0 0 ≢ single_quote) → begins_hex t ≡ false → ((run rest : List ℕ) (z : ℤ) → t ≡ run ++ rest → IsDigitRun run rest → IsNumber run z → ⊥) → IsNoLiteral mode t
+no_number mode t n q b h run rest content e r l = elim (front mode run rest content r l) [
   | null k ↦ n (null_text t run rest e k)
-  | string bytes k s ↦ q (quoted_text t run rest e k).0 (quoted_text t run rest e k).1
+  | string bytes k s ↦ q (quoted_text (has_escapes mode single_quote) t run rest e k).0 (quoted_text (has_escapes mode single_quote) t run rest e k).1
   | hexadecimal bytes k s ↦ (let f : true ≡ false = sym (hex_text t run rest e k) ∙ b in cc)
   | number z k s ↦ h run rest z e k s
 ]

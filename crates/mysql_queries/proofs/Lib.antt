@@ -1,3 +1,5 @@
+pub mod Modes
+pub mod SqlModes
 pub mod QuerySlices
 pub mod TextReading
 pub mod TextDecided

@@ -3,8 +3,9 @@ use Rattle.std.proofs.Common.{◌≡◌, ◌≢◌, ℕ, ◌+◌, ◌*◌, ◌^�
 use Rattle.std.specs.List.{AllByRecursion}
 use Rattle.std.specs.Cmp.Lexicographic.{pointwise, same_text, other_text}
 use Rattle.std.proofs.lemmas.Bool.Decides.{nat_tests, eqb_tells}
-use Rattle.mysql_queries.specs.Tokens.{inside_bytes, single_quote, backslash, dash}
+use Rattle.mysql_queries.specs.Tokens.{has_escapes, inside_bytes, single_quote, backslash, dash}
 use Rattle.mysql_queries.specs.Literals.{lower, is_digit, is_hex, hex_value, digits_value, inside_content, AreDigits, IsNumber, IsHexLiteral, SpellsInHex, IsLiteral}
+use Rattle.mysql_queries.specs.declared.mode.Mode.{Mode}
 use Rattle.mysql_queries.specs.LiteralRuns.{EndsBefore, begins_hex, IsDigitRun, IsHexRun, IsLiteralRun}
 use Rattle.mysql_queries.specs.LiteralViews.{IsNoLiteral}
 use Rattle.mysql_queries.specs.declared.content.Content.{Content}
@@ -20,13 +21,13 @@ use Rattle.mysql_queries.proofs.OneRead.{one_hex_run}
 use Rattle.mysql_queries.proofs.QuerySlices.{drop_front, take_all_front}
 
 -- the literal at the front of a text
-pub record LiteralAt (text : List ℕ) : Type 0 where
+pub record LiteralAt (mode : Mode) (text : List ℕ) : Type 0 where
   pub run : List ℕ
   pub rest : List ℕ
   pub content : Content
   pub joined : text ≡ run ++ rest
-  pub is_run : IsLiteralRun run rest
-  pub literal : IsLiteral run content
+  pub is_run : IsLiteralRun mode run rest
+  pub literal : IsLiteral mode run content
 
 pub list_tells : (x y : List ℕ) → (x ≡ y) ⊎ (x ≢ y)
 list_tells x y = elim (bool_tells (pointwise nat_eq x y)) [ inl h ↦ inl (same_text x y (sym h)) | inr h ↦ inr (other_text x y (sym h)) ]
@@ -39,13 +40,13 @@ ends_before test [] h = tt
 ends_before test (b ∷ r) h = h
 
 -- a text that begins with a single quote
-string_tells : (x : List ℕ) → LiteralAt (single_quote ∷ x) ⊎ IsNoString (single_quote ∷ x)
-string_tells x =
-    let o : InsideOf single_quote x = some_inside single_quote (length x) x (omega arith) in
+string_tells : (mode : Mode) (x : List ℕ) → LiteralAt mode (single_quote ∷ x) ⊎ IsNoString (has_escapes mode single_quote) (single_quote ∷ x)
+string_tells mode x =
+    let o : InsideOf (has_escapes mode single_quote) single_quote x = some_inside (has_escapes mode single_quote) single_quote (length x) x (omega arith) in
     let body : List ℕ = flat_map (inside_bytes single_quote) o.parts in
     let front : List ℕ = single_quote ∷ body in
     let text : single_quote ∷ x ≡ front ++ (o.closing ++ o.rest) = ap (λ y. single_quote ∷ y) o.joined in
-    let read : StringTo (single_quote ∷ x) (length front) (flat_map inside_content o.parts) = record {
+    let read : StringTo (has_escapes mode single_quote) (single_quote ∷ x) (length front) (flat_map inside_content o.parts) = record {
       parts = o.parts;
       inside = o.inside;
       front = ap (take (length front)) text ∙ take_all_front front (o.closing ++ o.rest);
@@ -60,7 +61,7 @@ string_tells x =
         is_run = inr (inl (record { parts = o.parts; closing = single_quote ∷ []; inside = o.inside; spelled = refl; closes = inl (refl, k.1) }));
         literal = inl (record { parts = o.parts; inside = o.inside; spelled = refl; read = refl });
       })
-      | inr k ↦ inr (no_string (single_quote ∷ x) (length front) (flat_map inside_content o.parts) read o.closing
+      | inr k ↦ inr (no_string (has_escapes mode single_quote) (single_quote ∷ x) (length front) (flat_map inside_content o.parts) read o.closing
           (ap (drop (length front)) text ∙ drop_front front (o.closing ++ o.rest) ∙ ap (λ y. o.closing ++ y) k.0)
           (inr (refl, k.1))
           (λ e. elim k.1 [ inl c ↦ (let f : [] ≡ single_quote ∷ [] = sym c ∙ e in cc) | inr c ↦ (let f : backslash ∷ [] ≡ single_quote ∷ [] = sym c.0 ∙ e in let g : backslash ≡ single_quote = cc in absurd (omega (arith, g))) ]))
@@ -80,8 +81,8 @@ pairs_tell (a ∷ b ∷ digits) h = elim (pairs_tell digits h.1.1) [
     none a b digits k (c ∷ bytes) s = k bytes s.3
 
 -- a text that begins with `0x`
-hex_tells : (t : List ℕ) → begins_hex t ≡ true → LiteralAt t ⊎ IsNoHex t
-hex_tells t b =
+hex_tells : (mode : Mode) (t : List ℕ) → begins_hex t ≡ true → LiteralAt mode t ⊎ IsNoHex t
+hex_tells mode t b =
     let o : RunOf (λ c. is_hex c ≡ true) (λ c. is_hex c ≡ false) (drop 2 t) = some_run _ _ (λ c. bool_tells (is_hex c)) (drop 2 t) in
     let run : List ℕ = 0x30 ∷ 0x78 ∷ o.run in
     let text : t ≡ run ++ o.rest = (hex_front t b).0 ∙ ap (λ y. 0x30 ∷ 0x78 ∷ y) o.joined in
@@ -119,8 +120,8 @@ no_dash_digit : (others after x : List ℕ) → AreDigits others → dash ∷ x 
 no_dash_digit [] after x h e = h.some refl
 no_dash_digit (b ∷ others) after x h e = let f : b ≡ dash = cc in let g : true ≡ false = sym h.each.0 ∙ ap is_digit f in cc
 
-negative_tells : (x : List ℕ) → begins_hex (dash ∷ x) ≡ false → LiteralAt (dash ∷ x) ⊎ IsNoNumber (dash ∷ x)
-negative_tells x b =
+negative_tells : (mode : Mode) (x : List ℕ) → begins_hex (dash ∷ x) ≡ false → LiteralAt mode (dash ∷ x) ⊎ IsNoNumber (dash ∷ x)
+negative_tells mode x b =
     let o : RunOf (λ c. is_digit c ≡ true) (λ c. is_digit c ≡ false) x = some_run _ _ (λ c. bool_tells (is_digit c)) x in
     let ends : EndsBefore is_digit o.rest = ends_before is_digit o.rest o.ends in
     let text : dash ∷ x ≡ (dash ∷ o.run) ++ o.rest = ap (λ y. dash ∷ y) o.joined in
@@ -146,8 +147,8 @@ negative_tells x b =
       ]
     ]
 
-positive_tells : (t : List ℕ) → begins_hex t ≡ false → ((x : List ℕ) → t ≡ dash ∷ x → ⊥) → LiteralAt t ⊎ IsNoNumber t
-positive_tells t b d =
+positive_tells : (mode : Mode) (t : List ℕ) → begins_hex t ≡ false → ((x : List ℕ) → t ≡ dash ∷ x → ⊥) → LiteralAt mode t ⊎ IsNoNumber t
+positive_tells mode t b d =
     let o : RunOf (λ c. is_digit c ≡ true) (λ c. is_digit c ≡ false) t = some_run _ _ (λ c. bool_tells (is_digit c)) t in
     let ends : EndsBefore is_digit o.rest = ends_before is_digit o.rest o.ends in
     let only : (run rest : List ℕ) (z : ℤ) → t ≡ run ++ rest → IsDigitRun run rest → IsNumber run z → (o.run ≢ []) × (digits_value o.run < 2 ^ 64) = λ run rest z e r h. elim h.value [
@@ -170,32 +171,32 @@ positive_tells t b d =
       ]
     ]
 
-number_tells : (t : List ℕ) → begins_hex t ≡ false → LiteralAt t ⊎ IsNoNumber t
-number_tells [] b = positive_tells [] b (λ x e. cc)
-number_tells (c ∷ x) b = elim (eqb_tells c dash) [
-  | inl e ↦ subst (λ y. LiteralAt (y ∷ x) ⊎ IsNoNumber (y ∷ x)) (sym e.1) (negative_tells x (subst (λ y. begins_hex (y ∷ x) ≡ false) e.1 b))
-  | inr e ↦ positive_tells (c ∷ x) b (λ y f. e.1 (cc))
+number_tells : (mode : Mode) (t : List ℕ) → begins_hex t ≡ false → LiteralAt mode t ⊎ IsNoNumber t
+number_tells mode [] b = positive_tells mode [] b (λ x e. cc)
+number_tells mode (c ∷ x) b = elim (eqb_tells c dash) [
+  | inl e ↦ subst (λ y. LiteralAt mode (y ∷ x) ⊎ IsNoNumber (y ∷ x)) (sym e.1) (negative_tells mode x (subst (λ y. begins_hex (y ∷ x) ≡ false) e.1 b))
+  | inr e ↦ positive_tells mode (c ∷ x) b (λ y f. e.1 (cc))
 ]
 
-other_tells : (t : List ℕ) → IsNoNull t → (0 < length t → get_or t 0 0 ≢ single_quote) → LiteralAt t ⊎ IsNoLiteral t
-other_tells t n q = elim (bool_tells (begins_hex t)) [
-  | inl b ↦ elim (hex_tells t b) [ inl k ↦ inl k | inr k ↦ inr (no_hexadecimal t n q b k) ]
-  | inr b ↦ elim (number_tells t b) [ inl k ↦ inl k | inr k ↦ inr (no_number t n q b k) ]
+other_tells : (mode : Mode) (t : List ℕ) → IsNoNull t → (0 < length t → get_or t 0 0 ≢ single_quote) → LiteralAt mode t ⊎ IsNoLiteral mode t
+other_tells mode t n q = elim (bool_tells (begins_hex t)) [
+  | inl b ↦ elim (hex_tells mode t b) [ inl k ↦ inl k | inr k ↦ inr (no_hexadecimal mode t n q b k) ]
+  | inr b ↦ elim (number_tells mode t b) [ inl k ↦ inl k | inr k ↦ inr (no_number mode t n q b k) ]
 ]
 
-no_null_tells : (t : List ℕ) → IsNoNull t → LiteralAt t ⊎ IsNoLiteral t
-no_null_tells [] n = other_tells [] n (λ h. absurd (omega arith))
-no_null_tells (c ∷ x) n = elim (eqb_tells c single_quote) [
-  | inl e ↦ elim (string_tells x) [
-    | inl k ↦ inl (subst (λ y. LiteralAt (y ∷ x)) (sym e.1) k)
-    | inr k ↦ inr (no_quoted (c ∷ x) n e.1 (subst (λ y. IsNoString (y ∷ x)) (sym e.1) k))
+no_null_tells : (mode : Mode) (t : List ℕ) → IsNoNull t → LiteralAt mode t ⊎ IsNoLiteral mode t
+no_null_tells mode [] n = other_tells mode [] n (λ h. absurd (omega arith))
+no_null_tells mode (c ∷ x) n = elim (eqb_tells c single_quote) [
+  | inl e ↦ elim (string_tells mode x) [
+    | inl k ↦ inl (subst (λ y. LiteralAt mode (y ∷ x)) (sym e.1) k)
+    | inr k ↦ inr (no_quoted mode (c ∷ x) n e.1 (subst (λ y. IsNoString (has_escapes mode single_quote) (y ∷ x)) (sym e.1) k))
   ]
-  | inr e ↦ other_tells (c ∷ x) n (λ _. e.1)
+  | inr e ↦ other_tells mode (c ∷ x) n (λ _. e.1)
 ]
 
 -- what stands at the front of a text is a literal, or none is
-pub literal_tells : (t : List ℕ) → LiteralAt t ⊎ IsNoLiteral t
-literal_tells t = elim (list_tells (map lower (take 4 t)) (codes "null")) [
+pub literal_tells : (mode : Mode) (t : List ℕ) → LiteralAt mode t ⊎ IsNoLiteral mode t
+literal_tells mode t = elim (list_tells (map lower (take 4 t)) (codes "null")) [
   | inl e ↦ inl (record { run = take 4 t; rest = drop 4 t; content = Null; joined = sym (take-append-drop 4 t); is_run = inl e; literal = e })
-  | inr e ↦ no_null_tells t (λ h. e h.1)
+  | inr e ↦ no_null_tells mode t (λ h. e h.1)
 ]

@@ -6,6 +6,7 @@ use Rattle.mysql_queries.specs.Literals.{is_digit, is_hex, AreDigits, IsNumber, 
 use Rattle.mysql_queries.specs.declared.content.Content.{Content}
 use Rattle.mysql_queries.specs.declared.content.Content.TheVariants.{Null, Number, Bytes}
 use Rattle.mysql_queries.specs.LiteralRuns.{EndsBefore, begins_hex, IsDigitRun, IsLiteralRun}
+use Rattle.mysql_queries.specs.declared.mode.Mode.{Mode}
 use Rattle.mysql_queries.specs.Queries.{is_joining}
 use Rattle.mysql_queries.proofs.Follow.{BeginsApart, not_equal}
 use Rattle.mysql_queries.proofs.Spellings.{is_word, digit_word, hex_word, apart_bytes, apart_otherwise}
@@ -55,8 +56,8 @@ all_hex (a ∷ []) bytes h = elim h [ ]
 all_hex (a ∷ c ∷ digits) [] h = elim h [ ]
 all_hex (a ∷ c ∷ digits) (b ∷ bytes) h = (h.0, (h.1, all_hex digits bytes h.3))
 
-pub literal_is_run : (s : List ℕ) (c : Content) (r : List ℕ) → IsLiteral s c → BeginsApart r → IsLiteralRun s r
-literal_is_run s Null r h a = inl h
-literal_is_run s (Number z) r h a = inr (inr (inr (number_run s z r h a)))
-literal_is_run s (Bytes bytes) r (inl h) a = inr (inl (record { parts = h.parts; closing = single_quote ∷ []; inside = h.inside; spelled = h.spelled; closes = inl (refl, apart_otherwise r a) }))
-literal_is_run s (Bytes bytes) r (inr h) a = inr (inr (inl (record { digits = h.digits; each = all_hex h.digits bytes h.spells; spelled = h.spelled; ends = ends_before is_hex hex_word r a })))
+pub literal_is_run : (mode : Mode) (s : List ℕ) (c : Content) (r : List ℕ) → IsLiteral mode s c → BeginsApart r → IsLiteralRun mode s r
+literal_is_run mode s Null r h a = inl h
+literal_is_run mode s (Number z) r h a = inr (inr (inr (number_run s z r h a)))
+literal_is_run mode s (Bytes bytes) r (inl h) a = inr (inl (record { parts = h.parts; closing = single_quote ∷ []; inside = h.inside; spelled = h.spelled; closes = inl (refl, apart_otherwise r a) }))
+literal_is_run mode s (Bytes bytes) r (inr h) a = inr (inr (inl (record { digits = h.digits; each = all_hex h.digits bytes h.spells; spelled = h.spelled; ends = ends_before is_hex hex_word r a })))

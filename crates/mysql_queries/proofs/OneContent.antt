@@ -1,11 +1,12 @@
 -- A literal is its longest run, and has one content.
-use Rattle.std.proofs.Common.{◌≡◌, ◌≢◌, ℕ, true, false, ◌==◌, ◌⊎◌, List, [], ◌∷◌, ◌++◌, map, refl, sym, ap, ◌∙◌, inl, inr, append_assoc, arith, subst, flat_map, codes, ℤ, pos, neg_ℤ, if◌then◌else◌}
+use Rattle.std.proofs.Common.{◌≡◌, ◌≢◌, ℕ, Bool, true, false, ◌==◌, ◌⊎◌, List, [], ◌∷◌, ◌++◌, map, refl, sym, ap, ◌∙◌, inl, inr, append_assoc, arith, subst, flat_map, codes, ℤ, pos, neg_ℤ, if◌then◌else◌}
 use Rattle.std.specs.List.{AllByRecursion}
 use Rattle.std.proofs.lemmas.Bool.Decides.{nat_tests}
-use Rattle.mysql_queries.specs.Tokens.{AreTokens, BeginsOtherwise, single_quote, dash, inside_bytes, backslash}
+use Rattle.mysql_queries.specs.Tokens.{has_escapes, AreTokens, BeginsOtherwise, single_quote, dash, inside_bytes, backslash}
 use Rattle.mysql_queries.specs.Literals.{lower, is_digit, digits_value, IsNumber, IsString, inside_content, SpellsInHex, IsHexLiteral, IsLiteral}
 use Rattle.mysql_queries.specs.declared.content.Content.{Content}
 use Rattle.mysql_queries.specs.declared.content.Content.TheVariants.{Null, Number, Bytes}
+use Rattle.mysql_queries.specs.declared.mode.Mode.{Mode}
 use Rattle.mysql_queries.specs.Queries.{is_joining}
 use Rattle.mysql_queries.proofs.Quotes.{one_inside}
 use Rattle.mysql_queries.proofs.Runs.{one_run, EndsRun}
@@ -24,12 +25,12 @@ pub no_backslash : single_quote ≢ backslash
 no_backslash e = absurd (omega arith)
 
 -- two strings that begin one text are one
-one_string : (s u bs ds r q : List ℕ) → IsString s bs → IsString u ds → BeginsOtherwise single_quote r → BeginsOtherwise single_quote q → s ++ r ≡ u ++ q → (s ≡ u) × (r ≡ q) × (bs ≡ ds)
-one_string s u bs ds r q i j a b h =
+one_string : (escapes : Bool) (s u bs ds r q : List ℕ) → IsString escapes s bs → IsString escapes u ds → BeginsOtherwise single_quote r → BeginsOtherwise single_quote q → s ++ r ≡ u ++ q → (s ≡ u) × (r ≡ q) × (bs ≡ ds)
+one_string escapes s u bs ds r q i j a b h =
     let c : List ℕ = single_quote ∷ [] in
     let h' : single_quote ∷ ((flat_map (inside_bytes single_quote) i.parts ++ single_quote ∷ []) ++ r) ≡ single_quote ∷ ((flat_map (inside_bytes single_quote) j.parts ++ single_quote ∷ []) ++ q) = rw (i.spelled, j.spelled) at h in
     let h2 : (flat_map (inside_bytes single_quote) i.parts ++ single_quote ∷ []) ++ r ≡ (flat_map (inside_bytes single_quote) j.parts ++ single_quote ∷ []) ++ q = cc in
-    let o : (i.parts ≡ j.parts) × (single_quote ∷ [] ≡ single_quote ∷ []) × (r ≡ q) = one_inside single_quote no_backslash i.parts j.parts i.inside j.inside (single_quote ∷ []) r (single_quote ∷ []) q (inl (refl, a)) (inl (refl, b))
+    let o : (i.parts ≡ j.parts) × (single_quote ∷ [] ≡ single_quote ∷ []) × (r ≡ q) = one_inside escapes single_quote no_backslash i.parts j.parts i.inside j.inside (single_quote ∷ []) r (single_quote ∷ []) q (inl (refl, a)) (inl (refl, b))
     (sym (append_assoc (flat_map (inside_bytes single_quote) i.parts) (single_quote ∷ []) r) ∙ h2 ∙ append_assoc (flat_map (inside_bytes single_quote) j.parts) (single_quote ∷ []) q) in
     (i.spelled ∙ ap (λ x. single_quote ∷ (flat_map (inside_bytes single_quote) x ++ single_quote ∷ [])) o.0 ∙ sym j.spelled, o.2, i.read ∙ ap (flat_map inside_content) o.0 ∙ sym j.read)
 
@@ -59,13 +60,13 @@ one_word s u r q v w a b h = elim v.spelled [
 ]
 
 -- two literals that begin one text and before which it goes on apart are one
-pub one_spelling : (s u r q : List ℕ) (c d : Content) → IsLiteral s c → IsLiteral u d → BeginsApart r → BeginsApart q → s ++ r ≡ u ++ q → (s ≡ u) × (r ≡ q)
-one_spelling s u r q c d i j a b h = elim (literal_form s c i) [
-  | inl m ↦ elim (literal_form u d j) [
-    | inl n ↦ (let o : (s ≡ u) × (r ≡ q) × (m.0 ≡ n.0) = one_string s u m.0 n.0 r q m.1 n.1 (apart_otherwise r a) (apart_otherwise q b) h in (o.0, o.1))
+pub one_spelling : (mode : Mode) (s u r q : List ℕ) (c d : Content) → IsLiteral mode s c → IsLiteral mode u d → BeginsApart r → BeginsApart q → s ++ r ≡ u ++ q → (s ≡ u) × (r ≡ q)
+one_spelling mode s u r q c d i j a b h = elim (literal_form mode s c i) [
+  | inl m ↦ elim (literal_form mode u d j) [
+    | inl n ↦ (let o : (s ≡ u) × (r ≡ q) × (m.0 ≡ n.0) = one_string (has_escapes mode single_quote) s u m.0 n.0 r q m.1 n.1 (apart_otherwise r a) (apart_otherwise q b) h in (o.0, o.1))
     | inr n ↦ absurd (word_no_quote u q ((flat_map (inside_bytes single_quote) m.1.parts ++ single_quote ∷ []) ++ r) n (sym h ∙ ap (λ y. y ++ r) m.1.spelled))
   ]
-  | inr m ↦ elim (literal_form u d j) [
+  | inr m ↦ elim (literal_form mode u d j) [
     | inl n ↦ absurd (word_no_quote s r ((flat_map (inside_bytes single_quote) n.1.parts ++ single_quote ∷ []) ++ q) m (h ∙ ap (λ y. y ++ q) n.1.spelled))
     | inr n ↦ one_word s u r q m n a b h
   ]
@@ -88,9 +89,9 @@ null_sort (a ∷ x) h =
     let f : (a == 0x27) ≡ false = not_equal a 0x27 (λ k. let g : lower 0x27 ≡ 0x6e = subst (λ y. lower y ≡ 0x6e) k e in absurd (omega arith)) in
     rw (f, e) refl
 
-pub string_sort : (s bytes : List ℕ) → IsString s bytes → sort_of s ≡ 0
+pub string_sort : (escapes : Bool) (s bytes : List ℕ) → IsString escapes s bytes → sort_of s ≡ 0
 unfolding sort_of
-string_sort s bytes h = rw h.spelled refl
+string_sort escapes s bytes h = rw h.spelled refl
 
 pub hex_sort : (s bytes : List ℕ) → IsHexLiteral s bytes → sort_of s ≡ 2
 unfolding sort_of second_sort
@@ -147,49 +148,49 @@ one_hex (m ∷ n ∷ d) [] c h k = elim h [ ]
 one_hex (m ∷ n ∷ d) (x ∷ b) [] h k = elim k [ ]
 one_hex (m ∷ n ∷ d) (x ∷ b) (y ∷ c) h k = let e : b ≡ c = one_hex d b c h.3 k.3 in let f : x ≡ y = h.2 ∙ sym k.2 in cc
 
-one_bytes : (s b c : List ℕ) → IsString s b ⊎ IsHexLiteral s b → IsString s c ⊎ IsHexLiteral s c → b ≡ c
-one_bytes s b c (inl h) (inl k) = (one_string s s b c [] [] h k tt tt refl).2
-one_bytes s b c (inl h) (inr k) = absurd (two_sorts s 0 2 (string_sort s b h) (hex_sort s c k) (λ e. absurd (omega arith)))
-one_bytes s b c (inr h) (inl k) = absurd (two_sorts s 2 0 (hex_sort s b h) (string_sort s c k) (λ e. absurd (omega arith)))
-one_bytes s b c (inr h) (inr k) =
+one_bytes : (escapes : Bool) (s b c : List ℕ) → IsString escapes s b ⊎ IsHexLiteral s b → IsString escapes s c ⊎ IsHexLiteral s c → b ≡ c
+one_bytes escapes s b c (inl h) (inl k) = (one_string escapes s s b c [] [] h k tt tt refl).2
+one_bytes escapes s b c (inl h) (inr k) = absurd (two_sorts s 0 2 (string_sort escapes s b h) (hex_sort s c k) (λ e. absurd (omega arith)))
+one_bytes escapes s b c (inr h) (inl k) = absurd (two_sorts s 2 0 (hex_sort s b h) (string_sort escapes s c k) (λ e. absurd (omega arith)))
+one_bytes escapes s b c (inr h) (inr k) =
     let e : 0x30 ∷ 0x78 ∷ h.digits ≡ 0x30 ∷ 0x78 ∷ k.digits = sym h.spelled ∙ k.spelled in
     let f : h.digits ≡ k.digits = cc in
     one_hex k.digits b c (subst (λ d. SpellsInHex d b) f h.spells) k.spells
 
-bytes_sort : (s b : List ℕ) → IsString s b ⊎ IsHexLiteral s b → (sort_of s ≡ 0) ⊎ (sort_of s ≡ 2)
-bytes_sort s b (inl h) = inl (string_sort s b h)
-bytes_sort s b (inr h) = inr (hex_sort s b h)
+bytes_sort : (escapes : Bool) (s b : List ℕ) → IsString escapes s b ⊎ IsHexLiteral s b → (sort_of s ≡ 0) ⊎ (sort_of s ≡ 2)
+bytes_sort escapes s b (inl h) = inl (string_sort escapes s b h)
+bytes_sort escapes s b (inr h) = inr (hex_sort s b h)
 
-no_bytes : (s b : List ℕ) (n : ℕ) → sort_of s ≡ n → n ≢ 0 → n ≢ 2 → IsString s b ⊎ IsHexLiteral s b → ⊥
-no_bytes s b n e p q h = elim (bytes_sort s b h) [ inl f ↦ p (sym e ∙ f) | inr f ↦ q (sym e ∙ f) ]
+no_bytes : (escapes : Bool) (s b : List ℕ) (n : ℕ) → sort_of s ≡ n → n ≢ 0 → n ≢ 2 → IsString escapes s b ⊎ IsHexLiteral s b → ⊥
+no_bytes escapes s b n e p q h = elim (bytes_sort escapes s b h) [ inl f ↦ p (sym e ∙ f) | inr f ↦ q (sym e ∙ f) ]
 
 -- a spelling has at most one content
-pub one_content : (s : List ℕ) (c d : Content) → IsLiteral s c → IsLiteral s d → c ≡ d
-one_content s Null Null h k = refl
-one_content s Null (Number z) h k = absurd (two_sorts s 1 3 (null_sort s h) (number_sort s z k) (λ e. absurd (omega arith)))
-one_content s Null (Bytes b) h k = absurd (no_bytes s b 1 (null_sort s h) (λ e. absurd (omega arith)) (λ e. absurd (omega arith)) k)
-one_content s (Number z) Null h k = absurd (two_sorts s 3 1 (number_sort s z h) (null_sort s k) (λ e. absurd (omega arith)))
-one_content s (Number z) (Number y) h k = ap Number (one_number s z y h k)
-one_content s (Number z) (Bytes b) h k = absurd (no_bytes s b 3 (number_sort s z h) (λ e. absurd (omega arith)) (λ e. absurd (omega arith)) k)
-one_content s (Bytes b) Null h k = absurd (no_bytes s b 1 (null_sort s k) (λ e. absurd (omega arith)) (λ e. absurd (omega arith)) h)
-one_content s (Bytes b) (Number z) h k = absurd (no_bytes s b 3 (number_sort s z k) (λ e. absurd (omega arith)) (λ e. absurd (omega arith)) h)
-one_content s (Bytes b) (Bytes c) h k = ap Bytes (one_bytes s b c h k)
+pub one_content : (mode : Mode) (s : List ℕ) (c d : Content) → IsLiteral mode s c → IsLiteral mode s d → c ≡ d
+one_content mode s Null Null h k = refl
+one_content mode s Null (Number z) h k = absurd (two_sorts s 1 3 (null_sort s h) (number_sort s z k) (λ e. absurd (omega arith)))
+one_content mode s Null (Bytes b) h k = absurd (no_bytes (has_escapes mode single_quote) s b 1 (null_sort s h) (λ e. absurd (omega arith)) (λ e. absurd (omega arith)) k)
+one_content mode s (Number z) Null h k = absurd (two_sorts s 3 1 (number_sort s z h) (null_sort s k) (λ e. absurd (omega arith)))
+one_content mode s (Number z) (Number y) h k = ap Number (one_number s z y h k)
+one_content mode s (Number z) (Bytes b) h k = absurd (no_bytes (has_escapes mode single_quote) s b 3 (number_sort s z h) (λ e. absurd (omega arith)) (λ e. absurd (omega arith)) k)
+one_content mode s (Bytes b) Null h k = absurd (no_bytes (has_escapes mode single_quote) s b 1 (null_sort s k) (λ e. absurd (omega arith)) (λ e. absurd (omega arith)) h)
+one_content mode s (Bytes b) (Number z) h k = absurd (no_bytes (has_escapes mode single_quote) s b 3 (number_sort s z k) (λ e. absurd (omega arith)) (λ e. absurd (omega arith)) h)
+one_content mode s (Bytes b) (Bytes c) h k = ap Bytes (one_bytes (has_escapes mode single_quote) s b c h k)
 
 pub same_rest : (t r q : List ℕ) → t ++ r ≡ t ++ q → r ≡ q
 same_rest [] r q h = h
 same_rest (b ∷ t) r q h = same_rest t r q (cc)
 
 -- a text has at most one list of contents
-pub one_filling : (ts : List (List ℕ)) (last : ℕ) (cs ds : List Content) (text : List ℕ) → AreTokens ts → AloneFrom last ts → Spells ts cs text → Spells ts ds text → cs ≡ ds
-one_filling [] last cs ds text i a h k = h.0 ∙ sym k.0
-one_filling (t ∷ ts) last cs ds text i a (inl (p, r, e, h)) (inl (q, r', e', k)) =
-    one_filling ts (last_of last t) cs ds r i.1 a.1 h (subst (Spells ts ds) (sym (same_rest t r r' (sym e ∙ e'))) k)
-one_filling (t ∷ ts) last cs ds text i a (inl m) (inr n) = absurd (let f : true ≡ false = sym n.0 ∙ m.0 in cc)
-one_filling (t ∷ ts) last cs ds text i a (inr m) (inl n) = absurd (let f : true ≡ false = sym m.0 ∙ n.0 in cc)
-one_filling (t ∷ ts) last cs ds text i a (inr (p, c, cs', s, r, e, l, f, h)) (inr (q, d, ds', u, r', e', m, f', k)) =
-    let b : BeginsApart r = rest_apart ts (last_of last t) cs' r i.1 a.1 h (a.0 p).1 in
-    let b' : BeginsApart r' = rest_apart ts (last_of last t) ds' r' i.1 a.1 k (a.0 p).1 in
-    let o : (s ≡ u) × (r ≡ r') = one_spelling s u r r' c d l m b b' (sym f ∙ f') in
-    let n : c ≡ d = one_content u c d (subst (λ y. IsLiteral y c) o.0 l) m in
-    let g : cs' ≡ ds' = one_filling ts (last_of last t) cs' ds' r i.1 a.1 h (subst (Spells ts ds') (sym o.1) k) in
+pub one_filling : (mode : Mode) (ts : List (List ℕ)) (last : ℕ) (cs ds : List Content) (text : List ℕ) → AreTokens mode ts → AloneFrom last ts → Spells mode ts cs text → Spells mode ts ds text → cs ≡ ds
+one_filling mode [] last cs ds text i a h k = h.0 ∙ sym k.0
+one_filling mode (t ∷ ts) last cs ds text i a (inl (p, r, e, h)) (inl (q, r', e', k)) =
+    one_filling mode ts (last_of last t) cs ds r i.1 a.1 h (subst (Spells mode ts ds) (sym (same_rest t r r' (sym e ∙ e'))) k)
+one_filling mode (t ∷ ts) last cs ds text i a (inl m) (inr n) = absurd (let f : true ≡ false = sym n.0 ∙ m.0 in cc)
+one_filling mode (t ∷ ts) last cs ds text i a (inr m) (inl n) = absurd (let f : true ≡ false = sym m.0 ∙ n.0 in cc)
+one_filling mode (t ∷ ts) last cs ds text i a (inr (p, c, cs', s, r, e, l, f, h)) (inr (q, d, ds', u, r', e', m, f', k)) =
+    let b : BeginsApart r = rest_apart mode ts (last_of last t) cs' r i.1 a.1 h (a.0 p).1 in
+    let b' : BeginsApart r' = rest_apart mode ts (last_of last t) ds' r' i.1 a.1 k (a.0 p).1 in
+    let o : (s ≡ u) × (r ≡ r') = one_spelling mode s u r r' c d l m b b' (sym f ∙ f') in
+    let n : c ≡ d = one_content mode u c d (subst (λ y. IsLiteral mode y c) o.0 l) m in
+    let g : cs' ≡ ds' = one_filling mode ts (last_of last t) cs' ds' r i.1 a.1 h (subst (Spells mode ts ds') (sym o.1) k) in
     e ∙ ap (λ y. c ∷ y) g ∙ ap (λ y. y ∷ ds') n ∙ sym e'

@@ -1,9 +1,10 @@
 -- What is read at the front of a text is one run and one content.
-use Rattle.std.proofs.Common.{◌≡◌, ◌≢◌, ℕ, true, false, List, [], ◌∷◌, ◌++◌, take, map, codes, ◌==◌, if◌then◌else◌, refl, sym, ap, ◌∙◌, inl, inr, arith, subst, ℤ}
+use Rattle.std.proofs.Common.{◌≡◌, ◌≢◌, ℕ, Bool, true, false, List, [], ◌∷◌, ◌++◌, take, map, codes, ◌==◌, if◌then◌else◌, refl, sym, ap, ◌∙◌, inl, inr, arith, subst, ℤ}
 use Rattle.std.specs.List.{AllByRecursion}
-use Rattle.mysql_queries.specs.Tokens.{IsQuoted, Quoted, single_quote, dash}
+use Rattle.mysql_queries.specs.Tokens.{has_escapes, IsQuoted, Quoted, single_quote, dash}
 use Rattle.mysql_queries.specs.Literals.{lower, is_digit, is_hex, AreDigits, IsNumber, IsLiteral}
 use Rattle.mysql_queries.specs.declared.content.Content.{Content}
+use Rattle.mysql_queries.specs.declared.mode.Mode.{Mode}
 use Rattle.mysql_queries.specs.LiteralRuns.{begins_hex, EndsBefore, IsDigitRun, IsHexRun, IsLiteralRun}
 use Rattle.mysql_queries.proofs.Runs.{one_run}
 use Rattle.mysql_queries.proofs.OneToken.{one_shape}
@@ -66,9 +67,9 @@ null_front (a ∷ x) q h =
     let f : (a == 0x27) ≡ false = not_equal a 0x27 (λ k. let g : lower 0x27 ≡ 0x6e = subst (λ y. lower y ≡ 0x6e) k e in absurd (omega arith)) in
     rw (f, e) refl
 
-string_front : (r q : List ℕ) → IsQuoted single_quote r q → front_sort (r ++ q) ≡ 0
+string_front : (escapes : Bool) (r q : List ℕ) → IsQuoted escapes single_quote r q → front_sort (r ++ q) ≡ 0
 unfolding front_sort
-string_front r q h = rw h.spelled refl
+string_front escapes r q h = rw h.spelled refl
 
 hex_front_sort : (r q : List ℕ) → IsHexRun r q → front_sort (r ++ q) ≡ 2
 unfolding front_sort
@@ -93,26 +94,26 @@ number_front r q z h k = elim k.value [
 other : (t u : List ℕ) (m n : ℕ) {r s : List ℕ} → front_sort t ≡ m → front_sort u ≡ n → t ≡ u → m ≢ n → r ≡ s
 other t u m n e f g k = absurd (k (sym e ∙ ap front_sort g ∙ f))
 
-one_front : (r q s p : List ℕ) → Front r q → Front s p → r ++ q ≡ s ++ p → r ≡ s
-one_front r q s p (null h) (null k) e = one_null r q s p e h k
-one_front r q s p (null h) (string b k j) e = other (r ++ q) (s ++ p) 1 0 (null_front r q h) (string_front s p k) e (λ x. absurd (omega arith))
-one_front r q s p (null h) (hexadecimal b k j) e = other (r ++ q) (s ++ p) 1 2 (null_front r q h) (hex_front_sort s p k) e (λ x. absurd (omega arith))
-one_front r q s p (null h) (number z k j) e = other (r ++ q) (s ++ p) 1 3 (null_front r q h) (number_front s p z k j) e (λ x. absurd (omega arith))
-one_front r q s p (string a h i) (null k) e = other (r ++ q) (s ++ p) 0 1 (string_front r q h) (null_front s p k) e (λ x. absurd (omega arith))
-one_front r q s p (string a h i) (string b k j) e = (one_shape (Quoted single_quote) refl r q s p h k e).0
-one_front r q s p (string a h i) (hexadecimal b k j) e = other (r ++ q) (s ++ p) 0 2 (string_front r q h) (hex_front_sort s p k) e (λ x. absurd (omega arith))
-one_front r q s p (string a h i) (number z k j) e = other (r ++ q) (s ++ p) 0 3 (string_front r q h) (number_front s p z k j) e (λ x. absurd (omega arith))
-one_front r q s p (hexadecimal a h i) (null k) e = other (r ++ q) (s ++ p) 2 1 (hex_front_sort r q h) (null_front s p k) e (λ x. absurd (omega arith))
-one_front r q s p (hexadecimal a h i) (string b k j) e = other (r ++ q) (s ++ p) 2 0 (hex_front_sort r q h) (string_front s p k) e (λ x. absurd (omega arith))
-one_front r q s p (hexadecimal a h i) (hexadecimal b k j) e = one_hex_run r q s p e h k
-one_front r q s p (hexadecimal a h i) (number z k j) e = other (r ++ q) (s ++ p) 2 3 (hex_front_sort r q h) (number_front s p z k j) e (λ x. absurd (omega arith))
-one_front r q s p (number y h i) (null k) e = other (r ++ q) (s ++ p) 3 1 (number_front r q y h i) (null_front s p k) e (λ x. absurd (omega arith))
-one_front r q s p (number y h i) (string b k j) e = other (r ++ q) (s ++ p) 3 0 (number_front r q y h i) (string_front s p k) e (λ x. absurd (omega arith))
-one_front r q s p (number y h i) (hexadecimal b k j) e = other (r ++ q) (s ++ p) 3 2 (number_front r q y h i) (hex_front_sort s p k) e (λ x. absurd (omega arith))
-one_front r q s p (number y h i) (number z k j) e = one_number_run r q s p y z e h i k j
+one_front : (mode : Mode) (r q s p : List ℕ) → Front (has_escapes mode single_quote) r q → Front (has_escapes mode single_quote) s p → r ++ q ≡ s ++ p → r ≡ s
+one_front mode r q s p (null h) (null k) e = one_null r q s p e h k
+one_front mode r q s p (null h) (string b k j) e = other (r ++ q) (s ++ p) 1 0 (null_front r q h) (string_front (has_escapes mode single_quote) s p k) e (λ x. absurd (omega arith))
+one_front mode r q s p (null h) (hexadecimal b k j) e = other (r ++ q) (s ++ p) 1 2 (null_front r q h) (hex_front_sort s p k) e (λ x. absurd (omega arith))
+one_front mode r q s p (null h) (number z k j) e = other (r ++ q) (s ++ p) 1 3 (null_front r q h) (number_front s p z k j) e (λ x. absurd (omega arith))
+one_front mode r q s p (string a h i) (null k) e = other (r ++ q) (s ++ p) 0 1 (string_front (has_escapes mode single_quote) r q h) (null_front s p k) e (λ x. absurd (omega arith))
+one_front mode r q s p (string a h i) (string b k j) e = (one_shape mode (Quoted single_quote) refl r q s p h k e).0
+one_front mode r q s p (string a h i) (hexadecimal b k j) e = other (r ++ q) (s ++ p) 0 2 (string_front (has_escapes mode single_quote) r q h) (hex_front_sort s p k) e (λ x. absurd (omega arith))
+one_front mode r q s p (string a h i) (number z k j) e = other (r ++ q) (s ++ p) 0 3 (string_front (has_escapes mode single_quote) r q h) (number_front s p z k j) e (λ x. absurd (omega arith))
+one_front mode r q s p (hexadecimal a h i) (null k) e = other (r ++ q) (s ++ p) 2 1 (hex_front_sort r q h) (null_front s p k) e (λ x. absurd (omega arith))
+one_front mode r q s p (hexadecimal a h i) (string b k j) e = other (r ++ q) (s ++ p) 2 0 (hex_front_sort r q h) (string_front (has_escapes mode single_quote) s p k) e (λ x. absurd (omega arith))
+one_front mode r q s p (hexadecimal a h i) (hexadecimal b k j) e = one_hex_run r q s p e h k
+one_front mode r q s p (hexadecimal a h i) (number z k j) e = other (r ++ q) (s ++ p) 2 3 (hex_front_sort r q h) (number_front s p z k j) e (λ x. absurd (omega arith))
+one_front mode r q s p (number y h i) (null k) e = other (r ++ q) (s ++ p) 3 1 (number_front r q y h i) (null_front s p k) e (λ x. absurd (omega arith))
+one_front mode r q s p (number y h i) (string b k j) e = other (r ++ q) (s ++ p) 3 0 (number_front r q y h i) (string_front (has_escapes mode single_quote) s p k) e (λ x. absurd (omega arith))
+one_front mode r q s p (number y h i) (hexadecimal b k j) e = other (r ++ q) (s ++ p) 3 2 (number_front r q y h i) (hex_front_sort s p k) e (λ x. absurd (omega arith))
+one_front mode r q s p (number y h i) (number z k j) e = one_number_run r q s p y z e h i k j
 
 -- what is read is one run and one content
-pub one_read : (r q s p : List ℕ) (c d : Content) → r ++ q ≡ s ++ p → IsLiteralRun r q → IsLiteral r c → IsLiteralRun s p → IsLiteral s d → (r ≡ s) × (c ≡ d)
-one_read r q s p c d e i l j m =
-    let f : r ≡ s = one_front r q s p (front r q c i l) (front s p d j m) e in
-    (f, one_content s c d (subst (λ y. IsLiteral y c) f l) m)
+pub one_read : (mode : Mode) (r q s p : List ℕ) (c d : Content) → r ++ q ≡ s ++ p → IsLiteralRun mode r q → IsLiteral mode r c → IsLiteralRun mode s p → IsLiteral mode s d → (r ≡ s) × (c ≡ d)
+one_read mode r q s p c d e i l j m =
+    let f : r ≡ s = one_front mode r q s p (front mode r q c i l) (front mode s p d j m) e in
+    (f, one_content mode s c d (subst (λ y. IsLiteral mode y c) f l) m)

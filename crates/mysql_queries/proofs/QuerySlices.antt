@@ -6,6 +6,7 @@ use Rattle.mysql_queries.specs.Tokens.{IsToken, AreTokens}
 use Rattle.mysql_queries.specs.Queries.{BeginsPlace, InOrder, before_first, is_name, is_place, pieces_of, places_from, slices_between}
 use Rattle.mysql_queries.specs.Laws.{NamesAreSlices, PiecesAreSlices, PlacesInOrder}
 use Rattle.mysql_queries.specs.Parsed.{names_of, names_at}
+use Rattle.mysql_queries.specs.declared.mode.Mode.{Mode}
 use Rattle.mysql_queries.specs.declared.placeholders.Place.{Place}
 use Rattle.mysql_queries.proofs.FirstBytes.{bool_tells}
 use Rattle.mysql_queries.proofs.OneToken.{not_empty}
@@ -23,14 +24,14 @@ begins_there : (before t y : List ℕ) → t ≢ [] → is_place t ≡ true → 
 begins_there before [] y n h = absurd (n refl)
 begins_there before (b ∷ t) y n h = subst BeginsPlace (sym (get_or-append_seam before b (t ++ y) 0)) (place_begins b t h)
 
-pub in_order : (before q : List ℕ) (ts : List (List ℕ)) → q ≡ before ++ concat ts → AreTokens ts → InOrder q (length before) (places_from q (length before) ts)
-in_order before q [] e i = tt
-in_order before q (t ∷ ts) e i =
+pub in_order : (mode : Mode) (before q : List ℕ) (ts : List (List ℕ)) → q ≡ before ++ concat ts → AreTokens mode ts → InOrder q (length before) (places_from q (length before) ts)
+in_order mode before q [] e i = tt
+in_order mode before q (t ∷ ts) e i =
     let f : q ≡ (before ++ t) ++ concat ts = e ∙ sym (append_assoc before t (concat ts)) in
     let n : length (before ++ t) ≡ length before + length t = length-append before t in
-    let k : InOrder q (length before + length t) (places_from q (length before + length t) ts) = subst (λ m. InOrder q m (places_from q m ts)) n (in_order (before ++ t) q ts f i.1) in
+    let k : InOrder q (length before + length t) (places_from q (length before + length t) ts) = subst (λ m. InOrder q m (places_from q m ts)) n (in_order mode (before ++ t) q ts f i.1) in
     let size : length q ≡ length before + (length t + length (concat ts)) = ap length e ∙ length-append before (t ++ concat ts) ∙ ap (λ m. length before + m) (length-append t (concat ts)) in
-    let some : t ≢ [] = λ h. not_empty (concat ts) (subst (λ y. IsToken y (concat ts)) h i.0) in
+    let some : t ≢ [] = λ h. not_empty mode (concat ts) (subst (λ y. IsToken mode y (concat ts)) h i.0) in
     let more : 0 < length t = nonempty t some in
     elim (bool_tells (is_place t)) [
       | inl p ↦ (rw p (omega arith, omega arith, omega (arith, size), subst (λ y. BeginsPlace (get_or y (length before) 0)) (sym e) (begins_there before t (concat ts) some p), refl, k))
@@ -58,14 +59,14 @@ first_slice q t n m (p ∷ ps) e l h =
 behind : (before y q : List ℕ) → q ≡ before ++ y → drop (length before) q ≡ y
 behind before y q e = ap (drop (length before)) e ∙ drop_front before y
 
-pub pieces_at : (before q : List ℕ) (ts : List (List ℕ)) → q ≡ before ++ concat ts → AreTokens ts → pieces_of ts ≡ slices_between q (length before) (places_from q (length before) ts)
-pieces_at before q [] e i = ap (λ y. y ∷ []) (sym (behind before [] q e))
-pieces_at before q (t ∷ ts) e i =
+pub pieces_at : (mode : Mode) (before q : List ℕ) (ts : List (List ℕ)) → q ≡ before ++ concat ts → AreTokens mode ts → pieces_of ts ≡ slices_between q (length before) (places_from q (length before) ts)
+pieces_at mode before q [] e i = ap (λ y. y ∷ []) (sym (behind before [] q e))
+pieces_at mode before q (t ∷ ts) e i =
     let f : q ≡ (before ++ t) ++ concat ts = e ∙ sym (append_assoc before t (concat ts)) in
     let n : length (before ++ t) ≡ length before + length t = length-append before t in
     let m : ℕ = length before + length t in
-    let k : pieces_of ts ≡ slices_between q m (places_from q m ts) = subst (λ j. pieces_of ts ≡ slices_between q j (places_from q j ts)) n (pieces_at (before ++ t) q ts f i.1) in
-    let o : InOrder q m (places_from q m ts) = subst (λ j. InOrder q j (places_from q j ts)) n (in_order (before ++ t) q ts f i.1) in
+    let k : pieces_of ts ≡ slices_between q m (places_from q m ts) = subst (λ j. pieces_of ts ≡ slices_between q j (places_from q j ts)) n (pieces_at mode (before ++ t) q ts f i.1) in
+    let o : InOrder q m (places_from q m ts) = subst (λ j. InOrder q j (places_from q j ts)) n (in_order mode (before ++ t) q ts f i.1) in
     let later : drop m q ≡ concat ts = ap (λ j. drop j q) (sym n) ∙ behind (before ++ t) (concat ts) q f in
     let here : drop (length before) q ≡ t ++ drop m q = behind before (t ++ concat ts) q e ∙ ap (λ y. t ++ y) (sym later) in
     elim (bool_tells (is_place t)) [
@@ -88,13 +89,13 @@ token_slice q t rest n e = ap (λ j. take j (drop n q)) (omega-minus n (length t
     omega-minus : (a b : ℕ) → a + b - a ≡ b
     omega-minus a b = omega arith
 
-pub names_there : (before q : List ℕ) (ts : List (List ℕ)) → q ≡ before ++ concat ts → AreTokens ts → names_of ts ≡ names_at q (places_from q (length before) ts)
-names_there before q [] e i = refl
-names_there before q (t ∷ ts) e i =
+pub names_there : (mode : Mode) (before q : List ℕ) (ts : List (List ℕ)) → q ≡ before ++ concat ts → AreTokens mode ts → names_of ts ≡ names_at q (places_from q (length before) ts)
+names_there mode before q [] e i = refl
+names_there mode before q (t ∷ ts) e i =
     let f : q ≡ (before ++ t) ++ concat ts = e ∙ sym (append_assoc before t (concat ts)) in
     let n : length (before ++ t) ≡ length before + length t = length-append before t in
     let m : ℕ = length before + length t in
-    let k : names_of ts ≡ names_at q (places_from q m ts) = subst (λ j. names_of ts ≡ names_at q (places_from q j ts)) n (names_there (before ++ t) q ts f i.1) in
+    let k : names_of ts ≡ names_at q (places_from q m ts) = subst (λ j. names_of ts ≡ names_at q (places_from q j ts)) n (names_there mode (before ++ t) q ts f i.1) in
     let here : drop 1 (slice_range q (length before) m) ≡ drop 1 t = ap (drop 1) (token_slice q t (concat ts) (length before) (behind before (t ++ concat ts) q e)) in
     elim (bool_tells (is_place t)) [
       | inl p ↦ elim (bool_tells (is_name t)) [
@@ -129,7 +130,7 @@ next_in_order query at places k h o =
     record { from = n.0; some = n.1; in_range = n.2; before = omega arith; rest = n.5 }
 
 pub places_in_order : PlacesInOrder
-places_in_order query places h = subst (InOrder query 0) (sym h.2) (in_order [] query h.0 (sym h.1.joined) h.1.each)
+places_in_order query places h = subst (InOrder query.text 0) (sym h.2) (in_order query.mode [] query.text h.0 (sym h.1.joined) h.1.each)
 
 pub no_places_left : (places : List Place) (k : ℕ) → length places ≤ k → drop k places ≡ []
 no_places_left [] zero h = refl
@@ -138,7 +139,7 @@ no_places_left (p ∷ places) zero h = absurd (omega arith)
 no_places_left (p ∷ places) (suc k) h = no_places_left places k (omega arith)
 
 pub pieces_are_slices : PiecesAreSlices
-pieces_are_slices query tokens h = pieces_at [] query tokens (sym h.joined) h.each
+pieces_are_slices query tokens h = pieces_at query.mode [] query.text tokens (sym h.joined) h.each
 
 pub names_are_slices : NamesAreSlices
-names_are_slices query tokens h = names_there [] query tokens (sym h.joined) h.each
+names_are_slices query tokens h = names_there query.mode [] query.text tokens (sym h.joined) h.each

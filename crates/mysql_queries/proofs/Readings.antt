@@ -14,10 +14,10 @@ use Rattle.mysql_queries.proofs.Pieces.{pieces_spell, spelled_pieces}
 use Rattle.mysql_queries.proofs.OneContent.{one_content, one_filling}
 
 pub some_tokens : SomeTokens
-some_tokens text = some_list (length text) text (le_refl (length text))
+some_tokens m text = some_list m (length text) text (le_refl (length text))
 
 pub one_tokens : OneTokens
-one_tokens text tokens others h k = one_list tokens others h.each k.each (h.joined ∙ sym k.joined)
+one_tokens m text tokens others h k = one_list m tokens others h.each k.each (h.joined ∙ sym k.joined)
 
 pub content_once : OneContent
 content_once = one_content
@@ -26,26 +26,26 @@ pub lexed_is_sliced : LexedIsSliced
 lexed_is_sliced query text contents h = record {
   tokens = h.tokens;
   has = h.has;
-  alternates = spelled_pieces h.tokens contents text (subst (Spells h.tokens contents) h.text_has.joined (spells_joined h.tokens contents h.replaced h.replaces));
+  alternates = spelled_pieces query.mode h.tokens contents text (subst (Spells query.mode h.tokens contents) h.text_has.joined (spells_joined query.mode h.tokens contents h.replaced h.replaces));
 }
 
 pub sliced_is_lexed : SlicedIsLexed
 sliced_is_lexed query text contents a h =
-    let o : Lexed h.tokens contents text = lexed h.tokens space contents text h.has.each (alone_from query h.tokens h.has a) (pieces_spell h.tokens contents text h.alternates) in
+    let o : Lexed query.mode h.tokens contents text = lexed query.mode h.tokens space contents text h.has.each (alone_from query h.tokens h.has a) (pieces_spell query.mode h.tokens contents text h.alternates) in
     record { tokens = h.tokens; has = h.has; replaced = o.tokens; text_has = o.has; replaces = o.replaces }
 
 pub read_once : OneReading
 read_once query text contents others a h k =
-    let e : k.tokens ≡ h.tokens = one_tokens query k.tokens h.tokens k.has h.has in
-    one_filling h.tokens space contents others text h.has.each (alone_from query h.tokens h.has a) (pieces_spell h.tokens contents text h.alternates)
-    (subst (λ t. Spells t others text) e (pieces_spell k.tokens others text k.alternates))
+    let e : k.tokens ≡ h.tokens = one_tokens query.mode query.text k.tokens h.tokens k.has h.has in
+    one_filling query.mode h.tokens space contents others text h.has.each (alone_from query h.tokens h.has a) (pieces_spell query.mode h.tokens contents text h.alternates)
+    (subst (λ t. Spells query.mode t others text) e (pieces_spell query.mode k.tokens others text k.alternates))
 
 pub one_places : OnePlaces
-one_places query places others h k = h.2 ∙ ap (places_from query 0) (one_tokens query h.0 k.0 h.1 k.1) ∙ sym k.2
+one_places query places others h k = h.2 ∙ ap (places_from query.text 0) (one_tokens query.mode query.text h.0 k.0 h.1 k.1) ∙ sym k.2
 
 begins_apart : (r : List ℕ) → EndsBefore is_joining r → BeginsApart r
 begins_apart [] h = tt
 begins_apart (b ∷ r) h = h
 
 pub runs_are_read : LiteralIsRun
-runs_are_read spelling rest content h a = literal_is_run spelling content rest h (begins_apart rest a)
+runs_are_read m spelling rest content h a = literal_is_run m spelling content rest h (begins_apart rest a)

@@ -2,10 +2,11 @@
 use Rattle.std.proofs.Common.{◌≡◌, ◌≢◌, ℕ, Bool, true, false, ◌||◌, ◌==◌, ◌⊎◌, List, [], ◌∷◌, ◌++◌, map, refl, sym, ap, ◌∙◌, inl, inr, append-nil, arith, subst, flat_map, codes, ℤ}
 use Rattle.std.specs.List.{concat, AllByRecursion}
 use Rattle.std.proofs.lemmas.Bool.Decides.{nat_tests}
-use Rattle.mysql_queries.specs.Tokens.{Quoted, Plain, kind_of, is_within, IsQuoted, HasShape, IsToken, AreTokens, HasTokens, BeginsOtherwise, single_quote, star, dash, inside_bytes}
+use Rattle.mysql_queries.specs.Tokens.{has_escapes, Quoted, Plain, kind_of, is_within, IsQuoted, HasShape, IsToken, AreTokens, HasTokens, BeginsOtherwise, single_quote, star, dash, inside_bytes}
 use Rattle.mysql_queries.specs.Literals.{lower, is_digit, IsNumber, IsString, is_hex, SpellsInHex, IsHexLiteral, IsLiteral}
 use Rattle.mysql_queries.specs.declared.content.Content.{Content}
 use Rattle.mysql_queries.specs.declared.content.Content.TheVariants.{Null, Number, Bytes}
+use Rattle.mysql_queries.specs.declared.mode.Mode.{Mode}
 use Rattle.mysql_queries.specs.Queries.{is_joining}
 use Rattle.mysql_queries.proofs.FirstBytes.{bool_tells}
 use Rattle.mysql_queries.proofs.Follow.{BeginsApart, or_true, or_first, not_equal}
@@ -73,11 +74,11 @@ hex_literal_word : (spelling bytes : List ℕ) → IsHexLiteral spelling bytes �
 hex_literal_word spelling bytes h = record { run = 0x30 ∷ 0x78 ∷ h.digits; each = (refl, (refl, spells_word h.digits bytes h.spells)); some = λ e. cc; spelled = inl h.spelled }
 
 -- a literal is a quoted string, or a word
-pub literal_form : (spelling : List ℕ) (content : Content) → IsLiteral spelling content → ((bytes : List ℕ) × IsString spelling bytes) ⊎ IsWord spelling
-literal_form spelling Null h = inr (null_word spelling h)
-literal_form spelling (Number z) h = inr (number_word spelling z h)
-literal_form spelling (Bytes bytes) (inl h) = inl (bytes, h)
-literal_form spelling (Bytes bytes) (inr h) = inr (hex_literal_word spelling bytes h)
+pub literal_form : (mode : Mode) (spelling : List ℕ) (content : Content) → IsLiteral mode spelling content → ((bytes : List ℕ) × IsString (has_escapes mode single_quote) spelling bytes) ⊎ IsWord spelling
+literal_form mode spelling Null h = inr (null_word spelling h)
+literal_form mode spelling (Number z) h = inr (number_word spelling z h)
+literal_form mode spelling (Bytes bytes) (inl h) = inl (bytes, h)
+literal_form mode spelling (Bytes bytes) (inr h) = inr (hex_literal_word spelling bytes h)
 
 -- a byte in the set is none outside it
 pub apart_bytes : (p : ℕ → Bool) (b c : ℕ) → p b ≡ true → p c ≡ false → b ≢ c
@@ -99,8 +100,8 @@ word_start spelling w = elim w.spelled [ inl e ↦ of_run spelling w.run w.each 
     of_run spelling [] h n e = absurd (n refl)
     of_run spelling (b ∷ run) h n e = record { first = b; others = run; joined = e; no_star = apart_bytes is_word b star h.0 refl; no_mark = apart_bytes is_word b 0x21 h.0 refl; no_plus = apart_bytes is_word b 0x2b h.0 refl }
 
-pub literal_start : (spelling : List ℕ) (content : Content) → IsLiteral spelling content → LiteralStart spelling
-literal_start spelling content h = elim (literal_form spelling content h) [
+pub literal_start : (mode : Mode) (spelling : List ℕ) (content : Content) → IsLiteral mode spelling content → LiteralStart spelling
+literal_start mode spelling content h = elim (literal_form mode spelling content h) [
   | inl s ↦ record { first = single_quote; others = flat_map (inside_bytes single_quote) s.1.parts ++ single_quote ∷ []; joined = s.1.spelled; no_star = λ k. absurd (omega arith); no_mark = λ k. absurd (omega arith); no_plus = λ k. absurd (omega arith) }
   | inr w ↦ word_start spelling w
 ]
@@ -131,55 +132,55 @@ pub concat_singles : (x : List ℕ) (us : List (List ℕ)) → concat (singles x
 concat_singles [] us = refl
 concat_singles (b ∷ x) us = ap (λ y. b ∷ y) (concat_singles x us)
 
-plain_token : (b : ℕ) (x : List ℕ) → kind_of (b ∷ x) ≡ Plain → IsToken (b ∷ []) x
-plain_token b x e = subst (λ k. HasShape k (b ∷ []) x) (sym e) (b, refl)
+plain_token : (mode : Mode) (b : ℕ) (x : List ℕ) → kind_of (b ∷ x) ≡ Plain → IsToken mode (b ∷ []) x
+plain_token mode b x e = subst (λ k. HasShape mode k (b ∷ []) x) (sym e) (b, refl)
 
-word_tokens : (run : List ℕ) → AreWord run → (us : List (List ℕ)) → AreTokens us → AreTokens (singles run ++ us)
-word_tokens [] h us k = k
-word_tokens (b ∷ run) h us k = (plain_token b (concat (singles run ++ us)) (word_kind b (concat (singles run ++ us)) h.0), word_tokens run h.1 us k)
+word_tokens : (mode : Mode) (run : List ℕ) → AreWord run → (us : List (List ℕ)) → AreTokens mode us → AreTokens mode (singles run ++ us)
+word_tokens mode [] h us k = k
+word_tokens mode (b ∷ run) h us k = (plain_token mode b (concat (singles run ++ us)) (word_kind b (concat (singles run ++ us)) h.0), word_tokens mode run h.1 us k)
 
-dash_tokens : (run : List ℕ) → AreWord run → run ≢ [] → (us : List (List ℕ)) → AreTokens us → AreTokens (singles (dash ∷ run) ++ us)
-dash_tokens [] h n us k = absurd (n refl)
-dash_tokens (b ∷ run) h n us k = (plain_token dash (b ∷ concat (singles run ++ us)) (dash_kind b (concat (singles run ++ us)) h.0), word_tokens (b ∷ run) h us k)
+dash_tokens : (mode : Mode) (run : List ℕ) → AreWord run → run ≢ [] → (us : List (List ℕ)) → AreTokens mode us → AreTokens mode (singles (dash ∷ run) ++ us)
+dash_tokens mode [] h n us k = absurd (n refl)
+dash_tokens mode (b ∷ run) h n us k = (plain_token mode dash (b ∷ concat (singles run ++ us)) (dash_kind b (concat (singles run ++ us)) h.0), word_tokens mode (b ∷ run) h us k)
 
 -- the tokens of a literal, which stay its tokens before what begins apart
-pub record LiteralTokens (spelling : List ℕ) : Type 0 where
+pub record LiteralTokens (mode : Mode) (spelling : List ℕ) : Type 0 where
   pub tokens : List (List ℕ)
-  pub has : HasTokens spelling tokens
-  pub stay : (us : List (List ℕ)) → AreTokens us → BeginsApart (concat us) → AreTokens (tokens ++ us)
+  pub has : HasTokens mode spelling tokens
+  pub stay : (us : List (List ℕ)) → AreTokens mode us → BeginsApart (concat us) → AreTokens mode (tokens ++ us)
 
 append_nil_lists : (xs : List (List ℕ)) → xs ++ [] ≡ xs
 append_nil_lists xs = append-nil xs
 
-singles_tokens : (spelling : List ℕ) → ((us : List (List ℕ)) → AreTokens us → AreTokens (singles spelling ++ us)) → LiteralTokens spelling
-singles_tokens spelling h = record {
+singles_tokens : (mode : Mode) (spelling : List ℕ) → ((us : List (List ℕ)) → AreTokens mode us → AreTokens mode (singles spelling ++ us)) → LiteralTokens mode spelling
+singles_tokens mode spelling h = record {
   tokens = singles spelling;
-  has = record { joined = ap concat (sym (append_nil_lists (singles spelling))) ∙ concat_singles spelling [] ∙ append-nil spelling; each = subst AreTokens (append_nil_lists (singles spelling)) (h [] tt) };
+  has = record { joined = ap concat (sym (append_nil_lists (singles spelling))) ∙ concat_singles spelling [] ∙ append-nil spelling; each = subst (AreTokens mode) (append_nil_lists (singles spelling)) (h [] tt) };
   stay = λ us k _. h us k;
 }
 
-word_literal : (spelling : List ℕ) → IsWord spelling → LiteralTokens spelling
-word_literal spelling w = elim w.spelled [
-  | inl e ↦ subst LiteralTokens (sym e) (singles_tokens w.run (word_tokens w.run w.each))
-  | inr e ↦ subst LiteralTokens (sym e) (singles_tokens (dash ∷ w.run) (dash_tokens w.run w.each w.some))
+word_literal : (mode : Mode) (spelling : List ℕ) → IsWord spelling → LiteralTokens mode spelling
+word_literal mode spelling w = elim w.spelled [
+  | inl e ↦ subst (LiteralTokens mode) (sym e) (singles_tokens mode w.run (word_tokens mode w.run w.each))
+  | inr e ↦ subst (LiteralTokens mode) (sym e) (singles_tokens mode (dash ∷ w.run) (dash_tokens mode w.run w.each w.some))
 ]
 
 pub apart_otherwise : (r : List ℕ) → BeginsApart r → BeginsOtherwise single_quote r
 apart_otherwise [] h = tt
 apart_otherwise (b ∷ r) h = λ e. let f : true ≡ false = sym (ap is_joining e) ∙ h in cc
 
-string_token : (spelling bytes : List ℕ) → IsString spelling bytes → (r : List ℕ) → BeginsOtherwise single_quote r → IsToken spelling r
-string_token spelling bytes s r h =
-    let q : IsQuoted single_quote spelling r = record { parts = s.parts; closing = single_quote ∷ []; inside = s.inside; spelled = s.spelled; closes = inl (refl, h) } in
+string_token : (mode : Mode) (spelling bytes : List ℕ) → IsString (has_escapes mode single_quote) spelling bytes → (r : List ℕ) → BeginsOtherwise single_quote r → IsToken mode spelling r
+string_token mode spelling bytes s r h =
+    let q : IsQuoted (has_escapes mode single_quote) single_quote spelling r = record { parts = s.parts; closing = single_quote ∷ []; inside = s.inside; spelled = s.spelled; closes = inl (refl, h) } in
     let e : kind_of (spelling ++ r) ≡ Quoted single_quote = ap (λ y. kind_of (y ++ r)) s.spelled in
-    subst (λ k. HasShape k spelling r) (sym e) q
+    subst (λ k. HasShape mode k spelling r) (sym e) q
 
-string_literal : (spelling bytes : List ℕ) → IsString spelling bytes → LiteralTokens spelling
-string_literal spelling bytes s = record {
+string_literal : (mode : Mode) (spelling bytes : List ℕ) → IsString (has_escapes mode single_quote) spelling bytes → LiteralTokens mode spelling
+string_literal mode spelling bytes s = record {
   tokens = spelling ∷ [];
-  has = record { joined = append-nil spelling; each = (string_token spelling bytes s [] tt, tt) };
-  stay = λ us k a. (string_token spelling bytes s (concat us) (apart_otherwise (concat us) a), k);
+  has = record { joined = append-nil spelling; each = (string_token mode spelling bytes s [] tt, tt) };
+  stay = λ us k a. (string_token mode spelling bytes s (concat us) (apart_otherwise (concat us) a), k);
 }
 
-pub literal_tokens : (spelling : List ℕ) (content : Content) → IsLiteral spelling content → LiteralTokens spelling
-literal_tokens spelling content h = elim (literal_form spelling content h) [ inl s ↦ string_literal spelling s.0 s.1 | inr w ↦ word_literal spelling w ]
+pub literal_tokens : (mode : Mode) (spelling : List ℕ) (content : Content) → IsLiteral mode spelling content → LiteralTokens mode spelling
+literal_tokens mode spelling content h = elim (literal_form mode spelling content h) [ inl s ↦ string_literal mode spelling s.0 s.1 | inr w ↦ word_literal mode spelling w ]

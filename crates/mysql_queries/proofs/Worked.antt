@@ -1,10 +1,11 @@
 -- Some spellings.
-use Rattle.std.proofs.Common.{◌≢◌, flat_map, ◌≡◌, ℕ, List, [], ◌∷◌, true, false, refl, inl, inr, arith, codes, ◌⊎◌, ◌++◌, ap, ◌∙◌, sym}
+use Rattle.std.proofs.Common.{◌≢◌, flat_map, ◌≡◌, ℕ, Bool, List, [], ◌∷◌, true, false, refl, inl, inr, arith, codes, ◌⊎◌, ◌++◌, ap, ◌∙◌, sym}
 use Rattle.std.specs.List.{AllByRecursion}
-use Rattle.mysql_queries.specs.Tokens.{Byte, Escape, Doubled, inside_bytes}
+use Rattle.mysql_queries.specs.Tokens.{has_escapes, single_quote, Byte, Escape, Doubled, inside_bytes}
 use Rattle.mysql_queries.specs.Literals.{IsLiteral, IsString, is_digit, SpellsInHex}
 use Rattle.mysql_queries.specs.declared.content.Content.{Content}
 use Rattle.mysql_queries.specs.declared.content.Content.TheVariants.{Null, Number, Bytes}
+use Rattle.mysql_queries.specs.declared.mode.Mode.{Mode}
 use Rattle.mysql_queries.specs.Laws.{WorkedSpellings}
 use Rattle.mysql_queries.proofs.Spellings.{IsWord, literal_form, AreWord, is_word}
 
@@ -21,12 +22,12 @@ no_word s e w = elim w.spelled [
 other_first : (a b : ℕ) (x y : List ℕ) → a ∷ x ≡ b ∷ y → a ≢ b → ⊥
 other_first a b x y e n = n (cc)
 
-plus_quote : (s : List ℕ) → s ≡ codes "+5" → (bytes : List ℕ) → IsString s bytes → ⊥
-plus_quote s e bytes h = other_first 0x2b 0x27 (0x35 ∷ []) (flat_map (inside_bytes 0x27) h.parts ++ 0x27 ∷ []) (sym e ∙ h.spelled) (λ k. absurd (omega arith))
+plus_quote : (escapes : Bool) (s : List ℕ) → s ≡ codes "+5" → (bytes : List ℕ) → IsString escapes s bytes → ⊥
+plus_quote escapes s e bytes h = other_first 0x2b 0x27 (0x35 ∷ []) (flat_map (inside_bytes 0x27) h.parts ++ 0x27 ∷ []) (sym e ∙ h.spelled) (λ k. absurd (omega arith))
 
-plus_form : (s : List ℕ) → s ≡ codes "+5" → ((bytes : List ℕ) × IsString s bytes) ⊎ IsWord s → ⊥
-plus_form s e (inl h) = plus_quote s e h.0 h.1
-plus_form s e (inr w) = no_word s e w
+plus_form : (escapes : Bool) (s : List ℕ) → s ≡ codes "+5" → ((bytes : List ℕ) × IsString escapes s bytes) ⊎ IsWord s → ⊥
+plus_form escapes s e (inl h) = plus_quote escapes s e h.0 h.1
+plus_form escapes s e (inr w) = no_word s e w
 
 odd_number : (d : List ℕ) → AllByRecursion (λ b. is_digit b ≡ true) d → d ≡ 0x30 ∷ 0x78 ∷ 0x34 ∷ [] → ⊥
 odd_number [] h e = cc
@@ -38,26 +39,27 @@ odd_hex [] bytes e h = cc
 odd_hex (a ∷ []) bytes e h = h
 odd_hex (a ∷ b ∷ d) bytes e h = cc
 
-odd : (content : Content) → IsLiteral (codes "0x4") content → ⊥
-odd Null h = cc
-odd (Number z) h = elim h.value [
+odd : (mode : Mode) (content : Content) → IsLiteral mode (codes "0x4") content → ⊥
+odd mode Null h = cc
+odd mode (Number z) h = elim h.value [
   | inl k ↦ odd_number h.digits h.are.each (sym k.0)
   | inr k ↦ (let g : 0x30 ∷ 0x78 ∷ 0x34 ∷ [] ≡ 0x2d ∷ h.digits = k.0 in let n : ◌≡◌ {A = ℕ} 0x30 0x2d = cc in absurd (omega arith))
 ]
-odd (Bytes bytes) (inl h) = other_first 0x30 0x27 (0x78 ∷ 0x34 ∷ []) (flat_map (inside_bytes 0x27) h.parts ++ 0x27 ∷ []) h.spelled (λ k. absurd (omega arith))
-odd (Bytes bytes) (inr h) = let g : 0x30 ∷ 0x78 ∷ 0x34 ∷ [] ≡ 0x30 ∷ 0x78 ∷ h.digits = h.spelled in odd_hex h.digits bytes (cc) h.spells
+odd mode (Bytes bytes) (inl h) = other_first 0x30 0x27 (0x78 ∷ 0x34 ∷ []) (flat_map (inside_bytes 0x27) h.parts ++ 0x27 ∷ []) h.spelled (λ k. absurd (omega arith))
+odd mode (Bytes bytes) (inr h) = let g : 0x30 ∷ 0x78 ∷ 0x34 ∷ [] ≡ 0x30 ∷ 0x78 ∷ h.digits = h.spelled in odd_hex h.digits bytes (cc) h.spells
 
 pub worked_spellings : WorkedSpellings
 worked_spellings = record {
-  null = refl;
-  zeros = record { digits = codes "007"; are = record { each = (refl, (refl, (refl, tt))); some = λ e. cc }; value = inr (refl, refl, omega arith) };
-  hexadecimal = inr (record { digits = codes "4a6B"; spelled = refl; spells = (refl, refl, refl, (refl, refl, refl, tt)); some = λ e. cc });
+  null = λ mode. refl;
+  zeros = λ mode. record { digits = codes "007"; are = record { each = (refl, (refl, (refl, tt))); some = λ e. cc }; value = inr (refl, refl, omega arith) };
+  hexadecimal = λ mode. inr (record { digits = codes "4a6B"; spelled = refl; spells = (refl, refl, refl, (refl, refl, refl, tt)); some = λ e. cc });
   quotes = inl (record {
     parts = Byte 0x61 ∷ Doubled ∷ Byte 0x62 ∷ Escape 0x78 ∷ [];
     inside = ((λ e. absurd (omega arith), λ _ e. absurd (omega arith)), (tt, ((λ e. absurd (omega arith), λ _ e. absurd (omega arith)), (refl, tt))));
     spelled = refl;
     read = refl;
   });
-  plus = λ content h. plus_form (codes "+5") refl (literal_form (codes "+5") content h);
+  backslash = λ ansi_quotes. inl (record { parts = Byte 0x5c ∷ []; inside = ((λ e. absurd (omega arith), λ k. let f : false ≡ true = k in cc), tt); spelled = refl; read = refl });
+  plus = λ mode content h. plus_form (has_escapes mode single_quote) (codes "+5") refl (literal_form mode (codes "+5") content h);
   odd = odd;
 }

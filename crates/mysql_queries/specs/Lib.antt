@@ -1,4 +1,6 @@
 pub mod Tokens
+pub mod Sql
+pub mod Modes
 pub mod Literals
 pub mod Queries
 pub mod Written
@@ -11,3 +13,4 @@ pub mod Parsed
 pub mod PlaceKinds
 pub mod Query
 pub mod ParsedQuery
+pub mod TextViews

@@ -2,7 +2,8 @@
 -- MySQL Reference Manual, "Literal Values".
 use Rattle.std.specs.Prelude.{◌≡◌, ℕ, Bool, true, false, ◌&&◌, ◌==◌, ◌⊎◌, List, [], ◌∷◌, ◌++◌, map, codes}
 use Rattle.std.specs.List.{AllByRecursion}
-use Rattle.mysql_queries.specs.Tokens.{IsQuoted, single_quote, dash}
+use Rattle.mysql_queries.specs.Tokens.{IsQuoted, has_escapes, single_quote, dash}
+use Rattle.mysql_queries.specs.declared.mode.Mode.{Mode}
 use Rattle.mysql_queries.specs.Literals.{lower, is_digit, is_hex}
 
 -- no byte that passes the test comes first
@@ -32,6 +33,6 @@ pub record IsHexRun (run rest : List ℕ) : Type 0 where
   pub ends : EndsBefore is_hex rest
 
 -- the four letters of NULL, the body to its closing quote, or all digits
-abbrev pub IsLiteralRun : List ℕ → List ℕ → Type 0
-IsLiteralRun run rest = (map lower run ≡ codes "null") ⊎
-    (IsQuoted single_quote run rest ⊎ (IsHexRun run rest ⊎ IsDigitRun run rest))
+abbrev pub IsLiteralRun : Mode → List ℕ → List ℕ → Type 0
+IsLiteralRun mode run rest = (map lower run ≡ codes "null") ⊎
+    (IsQuoted (has_escapes mode single_quote) single_quote run rest ⊎ (IsHexRun run rest ⊎ IsDigitRun run rest))

@@ -4,6 +4,7 @@ use Rattle.std.specs.Prelude.{◌≡◌, ◌++◌, ℕ, List, []}
 use Rattle.mysql_queries.specs.LiteralRuns.{IsLiteralRun}
 use Rattle.mysql_queries.specs.Literals.{IsLiteral}
 use Rattle.mysql_queries.specs.declared.content.Content.{Content}
+use Rattle.mysql_queries.specs.declared.mode.Mode.{Mode}
 use Rattle.mysql_queries.specs.declared.content.Content.TheVariants as content
 use Rattle.mysql_queries.specs.declared.literals.Literal.{Literal}
 use Rattle.mysql_queries.specs.declared.literals.Literal.TheVariants.{Null, Number, Bytes}
@@ -20,7 +21,13 @@ IsHeld Null items = items ≡ []
 IsHeld (Number z) items = items ≡ []
 IsHeld Bytes items = Unit {0}
 
+-- a literal stands at the front of the text before the rest: all of its form that stands there, and
+-- it spells what was read
+abbrev pub ReadsLiteral : Mode → List ℕ → Literal → List ℕ → List ℕ → Type 0
+ReadsLiteral mode text literal items rest = (run : List ℕ) × (text ≡ run ++ rest) ×
+    IsLiteralRun mode run rest × IsLiteral mode run (literal_content literal items)
+
 -- no run at the front of the text is a literal
-abbrev pub IsNoLiteral : List ℕ → Type 0
-IsNoLiteral text = (run rest : List ℕ) (content : Content) → text ≡ run ++ rest →
-    IsLiteralRun run rest → IsLiteral run content → ⊥
+abbrev pub IsNoLiteral : Mode → List ℕ → Type 0
+IsNoLiteral mode text = (run rest : List ℕ) (content : Content) → text ≡ run ++ rest →
+    IsLiteralRun mode run rest → IsLiteral mode run content → ⊥

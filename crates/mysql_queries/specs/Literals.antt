@@ -1,12 +1,14 @@
--- The literals of a SQL text and their contents. MySQL Reference Manual, "Literal Values": "String
--- Literals", "Numeric Literals", "Hexadecimal Literals", "NULL Values".
+-- The literals of a SQL text and their contents, by the mode of the server that reads it. MySQL
+-- Reference Manual, "Literal Values": "String Literals", "Numeric Literals", "Hexadecimal Literals",
+-- "NULL Values"; "Server SQL Modes" (NO_BACKSLASH_ESCAPES).
 use Rattle.std.specs.Prelude.{◌≡◌, ◌≢◌, ℕ, ◌+◌, ◌-◌, ◌*◌, ◌^◌, ◌<◌, ◌≤◌, Bool, true, ◌||◌, ◌==◌, nat_le, if◌then◌else◌}
 use Rattle.std.specs.Prelude.{◌⊎◌, List, [], ◌∷◌, ◌++◌, map, fold, flat_map, codes, ℤ, pos, neg_ℤ}
 use Rattle.std.specs.List.{AllByRecursion}
 use Rattle.mysql_queries.specs.declared.content.Content.{Content}
 use Rattle.mysql_queries.specs.declared.content.Content.TheVariants.{Null, Number, Bytes}
 use Rattle.mysql_queries.specs.Tokens.{is_within, single_quote, backslash, dash, Inside, Byte, Escape, Doubled}
-use Rattle.mysql_queries.specs.Tokens.{inside_bytes, IsInside}
+use Rattle.mysql_queries.specs.Tokens.{inside_bytes, IsInside, has_escapes}
+use Rattle.mysql_queries.specs.declared.mode.Mode.{Mode}
 
 -- an ASCII letter in lower case
 abbrev pub lower : ℕ → ℕ
@@ -51,10 +53,10 @@ inside_content (Byte b) = b ∷ []
 inside_content (Escape b) = escaped b
 inside_content Doubled = single_quote ∷ []
 
--- bytes between single quotes
-pub record IsString (spelling bytes : List ℕ) : Type 0 where
+-- bytes between single quotes, with escapes by backslashes or without
+pub record IsString (escapes : Bool) (spelling bytes : List ℕ) : Type 0 where
   pub parts : List Inside
-  pub inside : AllByRecursion (IsInside single_quote) parts
+  pub inside : AllByRecursion (IsInside escapes single_quote) parts
   pub spelled : spelling ≡ single_quote ∷ (flat_map (inside_bytes single_quote) parts ++ single_quote ∷ [])
   pub read : bytes ≡ flat_map inside_content parts
 
@@ -81,7 +83,8 @@ pub record IsHexLiteral (spelling bytes : List ℕ) : Type 0 where
   pub some : bytes ≢ []
 
 -- the spellings of each content: NULL in any case, a number, bytes in quotes or in hexadecimal
-abbrev pub IsLiteral : List ℕ → Content → Type 0
-IsLiteral spelling Null = map lower spelling ≡ codes "null"
-IsLiteral spelling (Number z) = IsNumber spelling z
-IsLiteral spelling (Bytes bytes) = IsString spelling bytes ⊎ IsHexLiteral spelling bytes
+abbrev pub IsLiteral : Mode → List ℕ → Content → Type 0
+IsLiteral mode spelling Null = map lower spelling ≡ codes "null"
+IsLiteral mode spelling (Number z) = IsNumber spelling z
+IsLiteral mode spelling (Bytes bytes) =
+    IsString (has_escapes mode single_quote) spelling bytes ⊎ IsHexLiteral spelling bytes

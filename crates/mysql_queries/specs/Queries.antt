@@ -1,6 +1,6 @@
--- Placeholders of a query, the pieces between them, and the texts that a query and contents make.
--- MySQL Reference Manual, "PREPARE Statement" (parameter markers); names as placeholders are a form
--- of client libraries.
+-- Placeholders of a query, the pieces between them, and the texts that a query and contents make,
+-- all of them as a server in the query's mode reads them. MySQL Reference Manual, "PREPARE
+-- Statement" (parameter markers); names as placeholders are a form of client libraries.
 use Rattle.std.specs.Prelude.{◌≡◌, ℕ, ◌+◌, ◌-◌, ◌≤◌, ◌<◌, Bool, true, false, not, ◌&&◌, ◌||◌, ◌==◌, nat_le}
 use Rattle.std.specs.Prelude.{if◌then◌else◌, ◌⊎◌, List, [], ◌∷◌, ◌++◌, length, drop, slice_index, slice_range, Option}
 use Rattle.std.specs.List.{AllByRecursion, concat, list_any, join_with_byte, position_from}
@@ -8,7 +8,9 @@ use Rattle.mysql_queries.specs.declared.placeholders.Place.{Place}
 use Rattle.mysql_queries.specs.Tokens.{is_within, is_quote, dash, colon, question, backslash, kind_of, Kind, Quoted}
 use Rattle.mysql_queries.specs.Tokens.{LineComment, BlockComment, Name, Mark, Plain, HasTokens}
 use Rattle.mysql_queries.specs.Literals.{IsLiteral}
+use Rattle.mysql_queries.specs.Sql.{Sql}
 use Rattle.mysql_queries.specs.declared.content.Content.{Content}
+use Rattle.mysql_queries.specs.declared.mode.Mode.{Mode}
 
 abbrev pub is_name_kind : Kind → Bool
 is_name_kind Name = true
@@ -44,40 +46,40 @@ pieces_of [] = [] ∷ []
 pieces_of (token ∷ tokens) = if is_place token then [] ∷ pieces_of tokens else before_first token (pieces_of tokens)
 
 -- a piece, a literal of a content, the next piece, and so on to the last piece
-abbrev pub Alternates : List (List ℕ) → List Content → List ℕ → Type 0
-Alternates [] contents text = ⊥
-Alternates (piece ∷ []) [] text = text ≡ piece
-Alternates (piece ∷ []) (content ∷ contents) text = ⊥
-Alternates (piece ∷ next ∷ pieces) [] text = ⊥
-Alternates (piece ∷ next ∷ pieces) (content ∷ contents) text =
-    (spelling : List ℕ) × (rest : List ℕ) × IsLiteral spelling content ×
-    (text ≡ piece ++ (spelling ++ rest)) × Alternates (next ∷ pieces) contents rest
+abbrev pub Alternates : Mode → List (List ℕ) → List Content → List ℕ → Type 0
+Alternates mode [] contents text = ⊥
+Alternates mode (piece ∷ []) [] text = text ≡ piece
+Alternates mode (piece ∷ []) (content ∷ contents) text = ⊥
+Alternates mode (piece ∷ next ∷ pieces) [] text = ⊥
+Alternates mode (piece ∷ next ∷ pieces) (content ∷ contents) text =
+    (spelling : List ℕ) × (rest : List ℕ) × IsLiteral mode spelling content ×
+    (text ≡ piece ++ (spelling ++ rest)) × Alternates mode (next ∷ pieces) contents rest
 
 -- the text is the query's pieces with literals of the contents between them
-pub record Slices (query text : List ℕ) (contents : List Content) : Type 0 where
+pub record Slices (query : Sql) (text : List ℕ) (contents : List Content) : Type 0 where
   pub tokens : List (List ℕ)
-  pub has : HasTokens query tokens
-  pub alternates : Alternates (pieces_of tokens) contents text
+  pub has : HasTokens query.mode query.text tokens
+  pub alternates : Alternates query.mode (pieces_of tokens) contents text
 
 -- Tokens with each placeholder replaced by the tokens of a literal of its content. A token that is
 -- no placeholder is kept.
-abbrev pub Replaces : List (List ℕ) → List Content → List (List ℕ) → Type 0
-Replaces [] contents replaced = (contents ≡ []) × (replaced ≡ [])
-Replaces (token ∷ tokens) contents replaced =
+abbrev pub Replaces : Mode → List (List ℕ) → List Content → List (List ℕ) → Type 0
+Replaces mode [] contents replaced = (contents ≡ []) × (replaced ≡ [])
+Replaces mode (token ∷ tokens) contents replaced =
     ((is_place token ≡ false) × (others : List (List ℕ)) × (replaced ≡ token ∷ others) ×
-    Replaces tokens contents others)
+    Replaces mode tokens contents others)
     ⊎ ((is_place token ≡ true) × (content : Content) × (next : List Content) × (spelling : List ℕ) ×
     (literal : List (List ℕ)) × (others : List (List ℕ))
-    × (contents ≡ content ∷ next) × IsLiteral spelling content × HasTokens spelling literal ×
-    (replaced ≡ literal ++ others) × Replaces tokens next others)
+    × (contents ≡ content ∷ next) × IsLiteral mode spelling content × HasTokens mode spelling literal ×
+    (replaced ≡ literal ++ others) × Replaces mode tokens next others)
 
 -- the text's tokens are the query's with each placeholder replaced by the tokens of a literal of its content
-pub record Lexes (query text : List ℕ) (contents : List Content) : Type 0 where
+pub record Lexes (query : Sql) (text : List ℕ) (contents : List Content) : Type 0 where
   pub tokens : List (List ℕ)
-  pub has : HasTokens query tokens
+  pub has : HasTokens query.mode query.text tokens
   pub replaced : List (List ℕ)
-  pub text_has : HasTokens text replaced
-  pub replaces : Replaces tokens contents replaced
+  pub text_has : HasTokens query.mode text replaced
+  pub replaces : Replaces query.mode tokens contents replaced
 
 -- a byte that could run together with a literal: a letter, a digit, one of `_$.@:?\`, a quote, or from 0x80 on
 abbrev pub is_joining : ℕ → Bool
@@ -113,11 +115,12 @@ slices_between query start (place ∷ places) = slice_range query start place.st
     slices_between query place.end places
 
 -- the placeholders of the query are these
-abbrev pub HasPlaces : List ℕ → List Place → Type 0
-HasPlaces query places = (tokens : List (List ℕ)) × HasTokens query tokens × (places ≡ places_from query 0 tokens)
+abbrev pub HasPlaces : Sql → List Place → Type 0
+HasPlaces query places = (tokens : List (List ℕ)) × HasTokens query.mode query.text tokens ×
+    (places ≡ places_from query.text 0 tokens)
 
 -- each placeholder of the query stands alone
-abbrev pub AllAlone : List ℕ → Type 0
+abbrev pub AllAlone : Sql → Type 0
 AllAlone query = (places : List Place) → HasPlaces query places → AllByRecursion (λ place. place.alone ≡ true) places
 
 -- both kinds of placeholder occur
@@ -125,12 +128,12 @@ abbrev pub is_mixed : List Place → Bool
 is_mixed places = list_any (λ place. place.name) places && list_any (λ place. not place.name) places
 
 -- whether both kinds of placeholder occur in the query
-abbrev pub HasMixed : List ℕ → Bool → Type 0
+abbrev pub HasMixed : Sql → Bool → Type 0
 HasMixed query mixed = (places : List Place) × HasPlaces query places × (mixed ≡ is_mixed places)
 
 -- the query with a question mark for each placeholder: its pieces joined by question marks
-abbrev pub IsParsed : List ℕ → List ℕ → Type 0
-IsParsed query parsed = (tokens : List (List ℕ)) × HasTokens query tokens ×
+abbrev pub IsParsed : Sql → List ℕ → Type 0
+IsParsed query parsed = (tokens : List (List ℕ)) × HasTokens query.mode query.text tokens ×
     (parsed ≡ join_with_byte question (pieces_of tokens))
 
 -- the first placeholder that doesn't stand alone
@@ -157,8 +160,9 @@ interleaved [] (literal ∷ literals) = []
 interleaved (piece ∷ pieces) (literal ∷ literals) = piece ++ (literal ++ interleaved pieces literals)
 
 -- each of these is a literal of the content beside it
-abbrev pub AreLiterals : List (List ℕ) → List Content → Type 0
-AreLiterals [] [] = Unit {0}
-AreLiterals [] (content ∷ contents) = ⊥
-AreLiterals (literal ∷ literals) [] = ⊥
-AreLiterals (literal ∷ literals) (content ∷ contents) = IsLiteral literal content × AreLiterals literals contents
+abbrev pub AreLiterals : Mode → List (List ℕ) → List Content → Type 0
+AreLiterals mode [] [] = Unit {0}
+AreLiterals mode [] (content ∷ contents) = ⊥
+AreLiterals mode (literal ∷ literals) [] = ⊥
+AreLiterals mode (literal ∷ literals) (content ∷ contents) =
+    IsLiteral mode literal content × AreLiterals mode literals contents

@@ -1,9 +1,10 @@
--- A query as contracts see it: its text and its placeholders.
+-- A query as contracts see it: its text for a server in a mode, and its placeholders.
 -- MySQL Reference Manual, "PREPARE Statement" (parameter markers).
-use Rattle.std.specs.Prelude.{ℕ, List}
+use Rattle.std.specs.Prelude.{List}
+use Rattle.mysql_queries.specs.Sql.{Sql}
 use Rattle.mysql_queries.specs.declared.placeholders.Place.{Place}
 
--- its text, and its placeholders in order
+-- its text and the mode in which it is read, and its placeholders in order
 pub record Query : Type 0 where
-  pub text : List ℕ
+  pub sql : Sql
   pub places : List Place

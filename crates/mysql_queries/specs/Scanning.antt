@@ -1,6 +1,6 @@
 -- What stands at a place of a text.
 -- MySQL Reference Manual, "String Literals".
-use Rattle.std.specs.Prelude.{◌≡◌, ◌≢◌, ℕ, ◌+◌, ◌≤◌, Bool, not, ◌||◌, ◌==◌, List, [], ◌∷◌, ◌++◌, length, drop}
+use Rattle.std.specs.Prelude.{◌≡◌, ◌≢◌, ℕ, ◌+◌, ◌≤◌, Bool, true, not, ◌||◌, ◌==◌, List, [], ◌∷◌, ◌++◌, length, drop}
 use Rattle.std.specs.Prelude.{slice_index}
 use Rattle.std.specs.List.{AllByRecursion}
 use Rattle.mysql_queries.specs.Tokens.{Inside, Byte, Escape, Doubled, backslash, inside_bytes, IsInside, Closes}
@@ -9,14 +9,14 @@ use Rattle.mysql_queries.specs.declared.strings.Part.{Part}
 use Rattle.mysql_queries.specs.declared.strings.Part.TheVariants as parts
 
 -- between quotes, at this place, one part of so many bytes
-abbrev pub PartAt : ℕ → List ℕ → ℕ → ℕ → Type 0
-PartAt quote text at n = (part : Inside) × IsInside quote part ×
+abbrev pub PartAt : (escapes : Bool) → ℕ → List ℕ → ℕ → ℕ → Type 0
+PartAt escapes quote text at n = (part : Inside) × IsInside escapes quote part ×
     (n ≡ length (inside_bytes quote part)) ×
     (drop at text ≡ inside_bytes quote part ++ drop (at + n) text) × (at + n ≤ length text)
 
 -- the byte at this place closes a quoted token
-abbrev pub ClosesAt : ℕ → List ℕ → ℕ → Type 0
-ClosesAt quote text at = Closes quote (slice_index text at ∷ []) (drop (at + 1) text)
+abbrev pub ClosesAt : (escapes : Bool) → ℕ → List ℕ → ℕ → Type 0
+ClosesAt escapes quote text at = Closes escapes quote (slice_index text at ∷ []) (drop (at + 1) text)
 
 -- a part between single quotes as the definitions have it
 abbrev pub part_view : Part → Inside
@@ -25,16 +25,17 @@ part_view (parts.Escape b) = Escape b
 part_view parts.Doubled = Doubled
 
 -- between single quotes, at this place, this part
-abbrev pub IsPartAt : List ℕ → ℕ → Inside → Type 0
-IsPartAt text at part =
+abbrev pub IsPartAt : (escapes : Bool) → List ℕ → ℕ → Inside → Type 0
+IsPartAt escapes text at part =
     let n = length (inside_bytes single_quote part) in
-    IsInside single_quote part ×
+    IsInside escapes single_quote part ×
     (drop at text ≡ inside_bytes single_quote part ++ drop (at + n) text) ×
     (at + n ≤ length text)
 
--- bytes between single quotes that stand for themselves: neither the quote nor a backslash
-abbrev pub IsRun : List ℕ → Type 0
-IsRun bytes = AllByRecursion (λ b. (b ≢ single_quote) × (b ≢ backslash)) bytes
+-- bytes between single quotes that stand for themselves: neither the quote nor, where there are
+-- escapes, a backslash
+abbrev pub IsRun : (escapes : Bool) → List ℕ → Type 0
+IsRun escapes bytes = AllByRecursion (λ b. (b ≢ single_quote) × (escapes ≡ true → b ≢ backslash)) bytes
 
 -- a byte that is a token by itself whatever follows it: it begins no string, quoted identifier,
 -- comment or name, and is no question mark

@@ -1,11 +1,12 @@
--- The spellings that a writer chooses for bytes.
--- MySQL Reference Manual, "String Literals" (escape sequences), "Hexadecimal Literals".
-use Rattle.std.specs.Prelude.{ℕ, ◌+◌, ◌/◌, ◌%◌, ◌==◌, ◌||◌, nat_lt, if◌then◌else◌, List, [], ◌∷◌, ◌++◌, flat_map}
+-- The spellings that a writer chooses for bytes, by the mode of the server that reads them. MySQL
+-- Reference Manual, "String Literals" (escape sequences), "Hexadecimal Literals", "Server SQL Modes"
+-- (NO_BACKSLASH_ESCAPES).
+use Rattle.std.specs.Prelude.{Bool, ℕ, ◌+◌, ◌/◌, ◌%◌, ◌==◌, ◌||◌, nat_lt, if◌then◌else◌, List, [], ◌∷◌, ◌++◌, flat_map}
 use Rattle.mysql_queries.specs.Tokens.{single_quote, double_quote, backslash}
 
--- A byte inside quotes: `\0 \n \r \Z \\ \' \"`, and else the byte itself.
-abbrev pub written_byte : ℕ → List ℕ
-written_byte b =
+-- A byte inside quotes with escapes: `\0 \n \r \Z \\ \' \"`, and else the byte itself.
+abbrev pub escaped_byte : ℕ → List ℕ
+escaped_byte b =
     if b == 0x00 then backslash ∷ 0x30 ∷ []
     else (if b == 0x0a then backslash ∷ 0x6e ∷ []
     else (if b == 0x0d then backslash ∷ 0x72 ∷ []
@@ -13,9 +14,18 @@ written_byte b =
     else (if (b == backslash) || (b == single_quote) || (b == double_quote) then backslash ∷ b ∷ []
     else b ∷ []))))
 
+-- A byte inside quotes, for a server in NO_BACKSLASH_ESCAPES or for another: in that mode the quote
+-- is doubled, and each other byte is itself.
+abbrev pub written_byte : (no_backslash_escapes : Bool) → ℕ → List ℕ
+written_byte no_backslash_escapes b =
+    if no_backslash_escapes
+    then (if b == single_quote then single_quote ∷ single_quote ∷ [] else b ∷ [])
+    else escaped_byte b
+
 -- bytes in single quotes
-abbrev pub quoted : List ℕ → List ℕ
-quoted bytes = single_quote ∷ (flat_map written_byte bytes ++ single_quote ∷ [])
+abbrev pub quoted : (no_backslash_escapes : Bool) → List ℕ → List ℕ
+quoted no_backslash_escapes bytes =
+    single_quote ∷ (flat_map (written_byte no_backslash_escapes) bytes ++ single_quote ∷ [])
 
 -- a hexadecimal digit in upper case
 abbrev pub hex_digit : ℕ → ℕ

@@ -11,6 +11,7 @@ ghost use Rattle.mysql_queries.specs.Laws.{
   OneReading,
   OneTokens,
   PiecesAreSlices,
+  PlainIsRead,
   PlacesInOrder,
   SlicedIsLexed,
   SomeTokens,
@@ -40,6 +41,7 @@ pub fn content_of_a_spelling()
     ensures worked { WorkedSpellings }
     ensures read { OneRead }
     ensures written { WrittenIsRead }
+    ensures plain { PlainIsRead }
 {}
 
 /// Where placeholders stand alone, the two ways to read a text agree.

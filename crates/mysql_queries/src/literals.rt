@@ -6,8 +6,9 @@
 //!     }
 
 ghost use Rattle.mysql_queries.specs.LiteralRuns.{IsLiteralRun, begins_hex};
-ghost use Rattle.mysql_queries.specs.LiteralViews.{IsHeld, IsNoLiteral, literal_content};
+ghost use Rattle.mysql_queries.specs.LiteralViews.{IsHeld, IsNoLiteral, ReadsLiteral, literal_content};
 ghost use Rattle.mysql_queries.specs.Literals.{IsLiteral, lower};
+ghost use Rattle.mysql_queries.specs.Sql.{default_mode};
 ghost use Rattle.std.specs.Prelude.{
   ◌<◌,
   OnErr,
@@ -31,6 +32,7 @@ ghost use Rattle.std.specs.Prelude.{
 };
 
 use crate::hexadecimal::read_hex;
+use crate::mode::Mode;
 use crate::numbers::read_number;
 use crate::strings::read_string;
 use std::alloc::AllocError;
@@ -75,20 +77,24 @@ fn hex_first(text: &[u8]) -> bool
 }
 
 /// The literal at the front of a text, and how many bytes it takes.
-fn literal_len(text: &[u8], buf: &mut Vec<u8>) -> Result<Option<(Literal, usize)>, AllocError>
+fn literal_len(
+    text: &[u8],
+    mode: Mode,
+    buf: &mut Vec<u8>,
+) -> Result<Option<(Literal, usize)>, AllocError>
     ensures in_range { IfOk result (λ found. IfSome found (λ x. x.1 ≤ length text.now)) }
-    ensures run { IfOk result (λ found. IfSome found (λ x. IsLiteralRun (take x.1 text.now) (drop x.1 text.now))) }
+    ensures run { IfOk result (λ found. IfSome found (λ x. IsLiteralRun mode (take x.1 text.now) (drop x.1 text.now))) }
     ensures content { IfOk result
-        (λ found. IfSome found (λ x. IsLiteral (take x.1 text.now)
+        (λ found. IfSome found (λ x. IsLiteral mode (take x.1 text.now)
         (literal_content x.0 buf.new.items))) }
-    ensures none { IfOk result (λ found. IfNone found (IsNoLiteral text.now)) }
+    ensures none { IfOk result (λ found. IfNone found (IsNoLiteral mode text.now)) }
     ensures full { OnErr result (vec_capacity buf.old < length text.now) }
 {
     if null_first(text) {
         return Ok(Some((Literal::Null, 4)));
     }
     if !text.is_empty() && text[0] == b'\'' {
-        return match read_string(text, buf)? {
+        return match read_string(text, !mode.no_backslash_escapes, buf)? {
             Some(len) => Ok(Some((Literal::Bytes, len))),
             None => Ok(None),
         };
@@ -111,6 +117,8 @@ fn literal_len(text: &[u8], buf: &mut Vec<u8>) -> Result<Option<(Literal, usize)
 /// literal's form is read: all digits, `0x` with all hexadecimal digits, a body in single quotes to
 /// its closing quote. None where that is no literal.
 ///
+/// **Read as** by a server in the default mode: [`read_literal_in`] takes the mode.
+///
 /// Promise: the longest run of a literal's form is taken and its content answered, or that this run
 /// is no literal (`IsLiteralRun`, `IsNoLiteral`).
 ///
@@ -121,17 +129,49 @@ pub fn read_literal<'a>(
     buf: &mut Vec<u8>,
 ) -> Result<Option<(Literal, &'a [u8])>, AllocError>
     // What is read is all of its form that stands there, and spells the content.
-    ensures found { IfOk result (λ found. IfSome found (λ x. (run : List ℕ) × (text.entry.now ≡ run ++ x.1.now)
-        × IsLiteralRun run x.1.now × IsLiteral run (literal_content x.0 buf.new.items))) }
+    ensures found { IfOk result (λ found. IfSome found
+        (λ x. ReadsLiteral default_mode text.entry.now x.0 buf.new.items x.1.now)) }
     // Nothing is read only where that is no literal.
-    ensures none { IfOk result (λ found. IfNone found (IsNoLiteral text.entry.now)) }
+    ensures none { IfOk result (λ found. IfNone found (IsNoLiteral default_mode text.entry.now)) }
     // The buffer holds the bytes of a literal of bytes, else nothing.
     ensures held { IfOk result (λ found. IfSome found (λ x. IsHeld x.0 buf.new.items)) }
     ensures empty { IfOk result (λ found. IfNone found (buf.new.items ≡ [])) }
     ensures refused { OnErr result (buf.new.items ≡ []) }
     ensures full { OnErr result (vec_capacity buf.old < length text.entry.now) }
 {
-    let found = literal_len(text, buf);
+    read_literal_in(text, Mode::default(), buf)
+}
+
+/// Reads the literal at the front of a text for a server in this mode, and gives what follows it.
+///
+/// What the buffer held goes, and a literal's bytes are put into it. All that stands there of the
+/// literal's form is read: all digits, `0x` with all hexadecimal digits, a body in single quotes to
+/// its closing quote. None where that is no literal.
+///
+/// Promise: the longest run of a literal's form is taken and its content answered, or that this run
+/// is no literal (`IsLiteralRun`, `IsNoLiteral`).
+///
+/// # Errors
+/// - `AllocError`, only where the buffer has no room for as many bytes as the text.
+///
+/// (MySQL Reference Manual, "Literal Values", "Server SQL Modes" (NO_BACKSLASH_ESCAPES).)
+pub fn read_literal_in<'a>(
+    text: &'a [u8],
+    mode: Mode,
+    buf: &mut Vec<u8>,
+) -> Result<Option<(Literal, &'a [u8])>, AllocError>
+    // What is read is all of its form that stands there, and spells the content.
+    ensures found { IfOk result (λ found. IfSome found
+        (λ x. ReadsLiteral mode text.entry.now x.0 buf.new.items x.1.now)) }
+    // Nothing is read only where that is no literal.
+    ensures none { IfOk result (λ found. IfNone found (IsNoLiteral mode text.entry.now)) }
+    // The buffer holds the bytes of a literal of bytes, else nothing.
+    ensures held { IfOk result (λ found. IfSome found (λ x. IsHeld x.0 buf.new.items)) }
+    ensures empty { IfOk result (λ found. IfNone found (buf.new.items ≡ [])) }
+    ensures refused { OnErr result (buf.new.items ≡ []) }
+    ensures full { OnErr result (vec_capacity buf.old < length text.entry.now) }
+{
+    let found = literal_len(text, mode, buf);
     if !matches!(found, Ok(Some((Literal::Bytes, _)))) {
         buf.clear();
     }

@@ -5,7 +5,8 @@
 //!     let names = query.params();
 
 ghost use Rattle.mysql_queries.specs.Parsed.{HasNames, names_at};
-ghost use Rattle.mysql_queries.specs.Queries.{HasMixed, HasPlaces, IsParsed, slices_between};
+ghost use Rattle.mysql_queries.specs.Queries.{HasMixed, HasPlaces, InOrder, IsParsed, slices_between};
+ghost use Rattle.mysql_queries.specs.Sql.{read_by_default};
 ghost use Rattle.mysql_queries.specs.Tokens.{question};
 ghost use Rattle.std.specs.Cow.{cow_slice_items};
 ghost use Rattle.std.specs.List.{join_with_byte};
@@ -68,7 +69,9 @@ impl<'a> Model for ParsedNamedParams<'a> {
 }
 
 impl<'a> ParsedNamedParams<'a> {
-    /// Parses a query.
+    /// Parses a query as a server in the default mode reads it.
+    ///
+    /// [`ParsedQuery::new_in`](crate::ParsedQuery::new_in) takes the mode.
     ///
     /// Promise: the query has question marks for its names, which are listed in order; it is
     /// refused exactly where both kinds occur (`IsParsed`).
@@ -77,11 +80,11 @@ impl<'a> ParsedNamedParams<'a> {
     /// - `Mixed` where both names and question marks occur.
     /// - `Memory`.
     pub fn parse(alloc: Global, query: &'a [u8]) -> Result<ParsedNamedParams<'a>, NamedParamsError>
-        ensures query { IfOk result (λ parsed. IsParsed query.entry.now parsed.query) }
-        ensures names { IfOk result (λ parsed. HasNames query.entry.now parsed.names) }
-        ensures one_kind { OnOk result (HasMixed query.entry.now false) }
+        ensures query { IfOk result (λ parsed. IsParsed (read_by_default query.entry.now) parsed.query) }
+        ensures names { IfOk result (λ parsed. HasNames (read_by_default query.entry.now) parsed.names) }
+        ensures one_kind { OnOk result (HasMixed (read_by_default query.entry.now) false) }
         ensures mixed { IfErr result (λ e. (e ≡ named_params_error.Memory) ⊎
-            ((e ≡ named_params_error.Mixed (record {})) × HasMixed query.entry.now true)) }
+            ((e ≡ named_params_error.Mixed (record {})) × HasMixed (read_by_default query.entry.now) true)) }
     {
         let places = places(alloc, query)?;
         ParsedNamedParams::parse_at(alloc, query, &places)
@@ -100,12 +103,12 @@ impl<'a> ParsedNamedParams<'a> {
         query: &'a [u8],
         places: &[Place],
     ) -> Result<ParsedNamedParams<'a>, NamedParamsError>
-        requires { HasPlaces query.now places.now }
-        ensures query { IfOk result (λ parsed. IsParsed query.entry.now parsed.query) }
-        ensures names { IfOk result (λ parsed. HasNames query.entry.now parsed.names) }
-        ensures one_kind { OnOk result (HasMixed query.entry.now false) }
+        requires { HasPlaces (read_by_default query.now) places.now }
+        ensures query { IfOk result (λ parsed. IsParsed (read_by_default query.entry.now) parsed.query) }
+        ensures names { IfOk result (λ parsed. HasNames (read_by_default query.entry.now) parsed.names) }
+        ensures one_kind { OnOk result (HasMixed (read_by_default query.entry.now) false) }
         ensures mixed { IfErr result (λ e. (e ≡ named_params_error.Memory) ⊎
-            ((e ≡ named_params_error.Mixed (record {})) × HasMixed query.entry.now true)) }
+            ((e ≡ named_params_error.Mixed (record {})) × HasMixed (read_by_default query.entry.now) true)) }
     {
         if is_mixed(places) {
             return Err(NamedParamsError::Mixed(MixedParamsError));
@@ -173,7 +176,7 @@ pub fn names_among<'a>(
     query: &'a [u8],
     places: &[Place],
 ) -> Result<Vec<CowSlice<'a, u8>>, AllocError>
-    requires { HasPlaces query.now places.now }
+    requires { InOrder query.now 0 places.now }
     ensures { IfOk result (λ names. map cow_slice_items names.items ≡ names_at query.entry.now places.now) }
 {
     let mut names = Vec::new(alloc);
@@ -191,7 +194,7 @@ pub(crate) fn with_marks(
     query: &[u8],
     places: &[Place],
 ) -> Result<Vec<u8>, AllocError>
-    requires { HasPlaces query.now places.now }
+    requires { InOrder query.now 0 places.now }
     ensures { IfOk result (λ parsed. parsed.items ≡ join_with_byte question (slices_between query.now 0 places.now)) }
 {
     let mut parsed = Vec::with_capacity(alloc, query.len())?;

@@ -7,24 +7,28 @@
 ghost use Rattle.mysql_queries.specs.Parsed.{HasNames, names_at};
 ghost use Rattle.mysql_queries.specs.Queries.{HasMixed, HasPlaces, IsParsed, first_not_alone as first_apart};
 ghost use Rattle.mysql_queries.specs.Queries.{is_mixed as has_both_kinds};
+ghost use Rattle.mysql_queries.specs.Sql.{read_by_default, read_in};
 ghost use Rattle.std.specs.Cow.{cow_slice_items};
 ghost use Rattle.std.specs.List.{AllByRecursion};
 ghost use Rattle.std.specs.Prelude.{◌≡◌, IfNone, IfOk, map, true};
 
+use crate::mode::Mode;
 use crate::named_params::{copied_names, names_among, with_marks};
-use crate::placeholders::{Place, first_not_alone, is_mixed, places};
+use crate::placeholders::{Place, first_not_alone, is_mixed, places_in};
 use std::alloc::{AllocError, Global};
 use std::borrow::CowSlice;
 use std::marker::Model;
 
 /// A query's text with its placeholders and what they say of the whole.
 ///
-/// That is the names among them, whether both kinds occur, and which is the first that doesn't
-/// stand alone. It is found once, and serves each call that sends, binds or reads parameter sets of
-/// the query. Contracts see the text and the placeholders.
+/// All of it is as a server in the query's mode reads it. What they say is the names among them,
+/// whether both kinds occur, and which is the first that doesn't stand alone. It is found once, and
+/// serves each call that sends, binds or reads parameter sets of the query. Contracts see the text
+/// and the placeholders.
 #[derive(Drop)]
 pub struct ParsedQuery<'q> {
     text: CowSlice<'q, u8>,
+    mode: Mode,
     places: Vec<Place>,
     names: Vec<CowSlice<'q, u8>>,
     mixed: bool,
@@ -44,7 +48,7 @@ impl<'q> Model for ParsedQuery<'q> {
 }
 
 impl<'q> ParsedQuery<'q> {
-    /// Finds the placeholders of a query and what they say of it.
+    /// Finds the placeholders of a query and what they say of it, for a server in the default mode.
     ///
     /// Promise: the placeholders are exactly those of the text, which is kept as it is
     /// (`HasPlaces`).
@@ -54,15 +58,32 @@ impl<'q> ParsedQuery<'q> {
     ///
     /// (MySQL Reference Manual, "PREPARE Statement" (parameter markers).)
     pub fn new(alloc: Global, text: &'q [u8]) -> Result<ParsedQuery<'q>, AllocError>
-        ensures text { IfOk result (λ query. query.text ≡ text.entry.now) }
-        ensures places { IfOk result (λ query. HasPlaces text.entry.now query.places) }
+        ensures text { IfOk result (λ query. query.sql ≡ read_by_default text.entry.now) }
+        ensures places { IfOk result (λ query. HasPlaces (read_by_default text.entry.now) query.places) }
     {
-        let places = places(alloc, text)?;
+        ParsedQuery::new_in(alloc, text, Mode::default())
+    }
+
+    /// Finds the placeholders of a query and what they say of it, for a server in this mode.
+    ///
+    /// Promise: the placeholders are exactly those of the text, which is kept as it is
+    /// (`HasPlaces`).
+    ///
+    /// # Errors
+    /// - `AllocError` for want of memory.
+    ///
+    /// (MySQL Reference Manual, "PREPARE Statement" (parameter markers), "Server SQL Modes".)
+    pub fn new_in(alloc: Global, text: &'q [u8], mode: Mode) -> Result<ParsedQuery<'q>, AllocError>
+        ensures text { IfOk result (λ query. query.sql ≡ read_in mode text.entry.now) }
+        ensures places { IfOk result (λ query. HasPlaces (read_in mode text.entry.now) query.places) }
+    {
+        let places = places_in(alloc, text, mode)?;
         let names = names_among(alloc, text, &places)?;
         let mixed = is_mixed(&places);
         let not_alone = first_not_alone(&places);
         Ok(ParsedQuery {
             text: CowSlice::Borrowed(text),
+            mode,
             places,
             names,
             mixed,
@@ -72,23 +93,30 @@ impl<'q> ParsedQuery<'q> {
 
     /// The text.
     pub fn text(&self) -> &[u8]
-        ensures { result.now ≡ self.now.text }
+        ensures { result.now ≡ self.now.sql.text }
     {
         self.text.as_slice()
+    }
+
+    /// The mode of the server that it is for.
+    pub fn mode(&self) -> Mode
+        ensures { result ≡ self.now.sql.mode }
+    {
+        self.mode
     }
 
     /// The placeholders, in order.
     pub fn places(&self) -> &[Place]
         ensures places { result.now ≡ self.now.places }
-        ensures of_text { HasPlaces self.now.text self.now.places }
+        ensures of_text { HasPlaces self.now.sql self.now.places }
     {
         self.places.as_slice()
     }
 
     /// The names among the placeholders, in order, without their colons.
     pub fn names(&self) -> &[CowSlice<'q, u8>]
-        ensures names { map cow_slice_items result.now ≡ names_at self.now.text self.now.places }
-        ensures of_text { HasNames self.now.text (map cow_slice_items result.now) }
+        ensures names { map cow_slice_items result.now ≡ names_at self.now.sql.text self.now.places }
+        ensures of_text { HasNames self.now.sql (map cow_slice_items result.now) }
     {
         self.names.as_slice()
     }
@@ -96,7 +124,7 @@ impl<'q> ParsedQuery<'q> {
     /// Whether both kinds of placeholder occur, names and question marks.
     pub fn is_mixed(&self) -> bool
         ensures mixed { result ≡ has_both_kinds self.now.places }
-        ensures of_text { HasMixed self.now.text result }
+        ensures of_text { HasMixed self.now.sql result }
     {
         self.mixed
     }
@@ -120,7 +148,7 @@ impl<'q> ParsedQuery<'q> {
     ///
     /// (MySQL Reference Manual, "PREPARE Statement" (parameter markers).)
     pub fn with_marks(&self, alloc: Global) -> Result<CowSlice<'q, u8>, AllocError>
-        ensures { IfOk result (λ marked. IsParsed self.now.text (cow_slice_items marked)) }
+        ensures { IfOk result (λ marked. IsParsed self.now.sql (cow_slice_items marked)) }
     {
         if self.names.is_empty() {
             if let CowSlice::Borrowed(text) = &self.text {
@@ -139,6 +167,7 @@ impl<'q> ParsedQuery<'q> {
     {
         Ok(ParsedQuery {
             text: CowSlice::Owned(Vec::from_slice(alloc, self.text.as_slice())?),
+            mode: self.mode,
             places: Vec::from_slice(alloc, self.places.as_slice())?,
             names: copied_names(alloc, self.names.as_slice())?,
             mixed: self.mixed,

@@ -7,10 +7,12 @@
 ghost use Rattle.mysql_queries.specs.PlaceKinds.{is_place_kind, place_of_kind};
 ghost use Rattle.mysql_queries.specs.Queries.{HasPlaces, first_not_alone as first_apart, is_joining};
 ghost use Rattle.mysql_queries.specs.Queries.{is_mixed as has_both_kinds, is_name_kind, stands_alone};
+ghost use Rattle.mysql_queries.specs.Sql.{read_by_default, read_in};
 ghost use Rattle.mysql_queries.specs.TokenKinds.{kind_view};
 ghost use Rattle.std.specs.List.{AllByRecursion, list_any};
 ghost use Rattle.std.specs.Prelude.{◌≡◌, ◌≤◌, IfNone, IfOk, IfSome, false, length, not, true};
 
+use crate::mode::Mode;
 use crate::tokens::{TokenKind, kind_at, plain_end, token_end};
 use std::alloc::{AllocError, Global};
 
@@ -90,16 +92,32 @@ fn place_of(query: &[u8], kind: TokenKind, start: usize, end: usize) -> Option<P
 /// Strings, quoted identifiers and comments hold none. What stands between `/*!` or `/*+` and its
 /// end is read as the query's own.
 ///
+/// **Read as** by a server in the default mode: [`places_in`] takes the mode.
+///
 /// Promise: exactly the placeholders of the query are listed (`HasPlaces`).
 pub fn places(alloc: Global, query: &[u8]) -> Result<Vec<Place>, AllocError>
-    ensures { IfOk result (λ v. HasPlaces query.now v.items) }
+    ensures { IfOk result (λ v. HasPlaces (read_by_default query.now) v.items) }
+{
+    places_in(alloc, query, Mode::default())
+}
+
+/// The placeholders of a query as a server in this mode reads it, in order.
+///
+/// Strings, quoted identifiers and comments hold none. What stands between `/*!` or `/*+` and its
+/// end is read as the query's own.
+///
+/// Promise: exactly the placeholders of the query are listed (`HasPlaces`).
+///
+/// (MySQL Reference Manual, "PREPARE Statement" (parameter markers), "Server SQL Modes".)
+pub fn places_in(alloc: Global, query: &[u8], mode: Mode) -> Result<Vec<Place>, AllocError>
+    ensures { IfOk result (λ v. HasPlaces (read_in mode query.now) v.items) }
 {
     let mut found = Vec::new(alloc);
     let mut at = plain_end(query, 0);
     while at < query.len() {
         let rest = &query[at..];
         let kind = kind_at(rest);
-        let end = at + token_end(rest, kind);
+        let end = at + token_end(rest, kind, mode);
         if let Some(place) = place_of(query, kind, at, end) {
             found.push(place)?;
         }

@@ -29,7 +29,7 @@ ghost use Rattle.std.specs.Prelude.{
   ℕ,
 };
 
-use memchr::memchr2;
+use memchr::{memchr, memchr2};
 use std::alloc::AllocError;
 
 /// What stands between single quotes: a byte for itself, a backslash with the byte after it, the quote doubled.
@@ -52,10 +52,10 @@ fn part_len(part: Part) -> usize
 }
 
 /// The part at a place; None where the literal closes there.
-fn part_at(text: &[u8], at: usize) -> Option<Part>
+fn part_at(text: &[u8], at: usize, escapes: bool) -> Option<Part>
     requires { at < length text.now }
-    ensures part { IfSome result (λ part. IsPartAt text.now at (part_view part)) }
-    ensures closed { IfNone result (ClosesAt single_quote text.now at) }
+    ensures part { IfSome result (λ part. IsPartAt escapes text.now at (part_view part)) }
+    ensures closed { IfNone result (ClosesAt escapes single_quote text.now at) }
 {
     let b = text[at];
     if b == b'\'' {
@@ -64,7 +64,7 @@ fn part_at(text: &[u8], at: usize) -> Option<Part>
         } else {
             None
         }
-    } else if b == b'\\' {
+    } else if b == b'\\' && escapes {
         if at + 1 < text.len() {
             Some(Part::Escape(text[at + 1]))
         } else {
@@ -130,24 +130,29 @@ fn push_content(out: &mut Vec<u8>, part: Part) -> Result<(), AllocError>
     Ok(())
 }
 
-/// How many bytes stand before the first quote or backslash.
-fn run_len(text: &[u8]) -> usize
+/// How many bytes stand before the first quote or, where there are escapes, the first backslash.
+fn run_len(text: &[u8], escapes: bool) -> usize
     ensures in_range { result ≤ length text.now }
-    ensures run { IsRun (take result text.now) }
+    ensures run { IsRun escapes (take result text.now) }
 {
-    memchr2(b'\'', b'\\', text).unwrap_or(text.len())
+    if escapes {
+        memchr2(b'\'', b'\\', text).unwrap_or(text.len())
+    } else {
+        memchr(b'\'', text).unwrap_or(text.len())
+    }
 }
 
-/// Appends the bytes before the first quote or backslash; how many they are.
-fn push_run(out: &mut Vec<u8>, text: &[u8]) -> Result<usize, AllocError>
+/// Appends the bytes before the first quote or, where there are escapes, the first backslash; how
+/// many they are.
+fn push_run(out: &mut Vec<u8>, text: &[u8], escapes: bool) -> Result<usize, AllocError>
     ensures in_range { IfOk result (λ n. n ≤ length text.now) }
-    ensures run { IfOk result (λ n. IsRun (take n text.now)) }
+    ensures run { IfOk result (λ n. IsRun escapes (take n text.now)) }
     ensures ok { IfOk result (λ n. out.new.items ≡ out.old.items ++ take n text.now) }
     ensures len { IfOk result (λ n. vec_len out.new ≤ vec_len out.old + n) }
     ensures capacity { vec_capacity out.old ≤ vec_capacity out.new }
     ensures full { OnErr result (vec_capacity out.old < vec_len out.old + length text.now) }
 {
-    let run = run_len(text);
+    let run = run_len(text, escapes);
     out.extend_from_slice(&text[..run])?;
     Ok(run)
 }
@@ -155,25 +160,30 @@ fn push_run(out: &mut Vec<u8>, text: &[u8]) -> Result<usize, AllocError>
 /// Reads a literal that begins with a single quote, and puts its content into the buffer.
 ///
 /// The answer is how many bytes it takes, or None where nothing closes it.
-pub fn read_string(text: &[u8], buf: &mut Vec<u8>) -> Result<Option<usize>, AllocError>
+pub fn read_string(
+    text: &[u8],
+    escapes: bool,
+    buf: &mut Vec<u8>,
+) -> Result<Option<usize>, AllocError>
     requires some { 0 < length text.now }
     requires begins { slice_index text.now 0 ≡ single_quote }
     ensures in_range { IfOk result (λ found. IfSome found (λ n. n ≤ length text.now)) }
-    ensures run { IfOk result (λ found. IfSome found (λ n. IsQuoted single_quote (take n text.now) (drop n text.now))) }
-    ensures content { IfOk result (λ found. IfSome found (λ n. IsString (take n text.now) buf.new.items)) }
+    ensures run { IfOk result
+        (λ found. IfSome found (λ n. IsQuoted escapes single_quote (take n text.now) (drop n text.now))) }
+    ensures content { IfOk result (λ found. IfSome found (λ n. IsString escapes (take n text.now) buf.new.items)) }
     ensures none { IfOk result
         (λ found. IfNone found ((run rest bytes : List ℕ) → text.now ≡ run ++ rest →
-        IsQuoted single_quote run rest → IsString run bytes → ⊥)) }
+        IsQuoted escapes single_quote run rest → IsString escapes run bytes → ⊥)) }
     ensures full { OnErr result (vec_capacity buf.old < length text.now) }
 {
     buf.clear();
-    let mut i = 1 + push_run(buf, &text[1..])?;
+    let mut i = 1 + push_run(buf, &text[1..], escapes)?;
     while i < text.len() {
-        match part_at(text, i) {
+        match part_at(text, i, escapes) {
             Some(part) => {
                 push_content(buf, part)?;
                 i += part_len(part);
-                i += push_run(buf, &text[i..])?;
+                i += push_run(buf, &text[i..], escapes)?;
             }
             None => {
                 if text[i] == b'\'' {

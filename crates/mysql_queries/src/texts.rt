@@ -6,14 +6,16 @@
 ghost use Rattle.mysql_queries.specs.LiteralRuns.{IsLiteralRun};
 ghost use Rattle.mysql_queries.specs.LiteralViews.{IsNoLiteral};
 ghost use Rattle.mysql_queries.specs.Literals.{IsLiteral};
-ghost use Rattle.mysql_queries.specs.Queries.{HasPlaces, Lexes, Slices};
-ghost use Rattle.mysql_queries.specs.declared.content.Content.{Content as ContentOf};
+ghost use Rattle.mysql_queries.specs.Queries.{HasPlaces};
+ghost use Rattle.mysql_queries.specs.Sql.{read_by_default, read_in};
+ghost use Rattle.mysql_queries.specs.TextViews.{TellsContents};
 ghost use Rattle.std.specs.List.{AllByRecursion};
 ghost use Rattle.std.specs.Prelude.{◌++◌, ◌≡◌, IfNone, IfOk, IfSome, List, true, ℕ};
 
 use crate::byte_string::ByteString;
 use crate::content::Content;
-use crate::literals::{Literal, read_literal};
+use crate::literals::{Literal, read_literal_in};
+use crate::mode::Mode;
 use crate::placeholders::Place;
 use std::alloc::{AllocError, Global};
 
@@ -21,13 +23,14 @@ use std::alloc::{AllocError, Global};
 fn read_content<'a>(
     alloc: Global,
     text: &'a [u8],
+    mode: Mode,
 ) -> Result<Option<(Content, &'a [u8])>, AllocError>
     ensures found { IfOk result (λ found. IfSome found (λ x. (run : List ℕ) × (text.entry.now ≡ run ++ x.1.now)
-        × IsLiteralRun run x.1.now × IsLiteral run x.0)) }
-    ensures none { IfOk result (λ found. IfNone found (IsNoLiteral text.entry.now)) }
+        × IsLiteralRun mode run x.1.now × IsLiteral mode run x.0)) }
+    ensures none { IfOk result (λ found. IfNone found (IsNoLiteral mode text.entry.now)) }
 {
     let mut buf = Vec::new(alloc);
-    match read_literal(text, &mut buf)? {
+    match read_literal_in(text, mode, &mut buf)? {
         Some((Literal::Null, rest)) => Ok(Some((Content::Null, rest))),
         Some((Literal::Number(number), rest)) => Ok(Some((Content::Number(number), rest))),
         Some((Literal::Bytes, rest)) => {
@@ -43,6 +46,8 @@ fn read_content<'a>(
 /// and each of them stands alone. None where the text is not the query's pieces with literals
 /// between them.
 ///
+/// **Read as** by a server in the default mode: [`read_text_in`] takes the mode.
+///
 /// Promise: the contents are those of the text over the query, by its pieces and by its tokens, and
 /// None says that no contents satisfy it (`Slices`, `Lexes`).
 ///
@@ -54,13 +59,38 @@ pub fn read_text(
     places: &[Place],
     text: &[u8],
 ) -> Result<Option<Vec<Content>>, AllocError>
-    requires places { HasPlaces query.now places.now }
+    requires places { HasPlaces (read_by_default query.now) places.now }
     requires alone { AllByRecursion (λ place. place.alone ≡ true) places.now }
-    ensures sliced { IfOk result (λ found. IfSome found (λ contents. Slices query.now text.now contents.items)) }
-    ensures lexed { IfOk result (λ found. IfSome found (λ contents. Lexes query.now text.now contents.items)) }
-    ensures none { IfOk result
-        (λ found. IfNone found ((contents : List ContentOf) → Slices query.now text.now contents →
-        ⊥)) }
+    ensures { IfOk result (λ found. TellsContents (read_by_default query.now) text.now found) }
+{
+    read_text_in(alloc, query, places, text, Mode::default())
+}
+
+/// Reads a text as the query with literals in its places, for a server in this mode.
+///
+/// It gives their contents in order.
+///
+/// `places` are the query's placeholders, as [`places_in`](crate::placeholders::places_in) lists
+/// them for the mode, and each of them stands alone. None where the text is not the query's pieces
+/// with literals between them.
+///
+/// Promise: the contents are those of the text over the query, by its pieces and by its tokens, and
+/// None says that no contents satisfy it (`Slices`, `Lexes`).
+///
+/// # Errors
+/// - `AllocError` for want of memory.
+///
+/// (MySQL Reference Manual, "Literal Values", "Server SQL Modes".)
+pub fn read_text_in(
+    alloc: Global,
+    query: &[u8],
+    places: &[Place],
+    text: &[u8],
+    mode: Mode,
+) -> Result<Option<Vec<Content>>, AllocError>
+    requires places { HasPlaces (read_in mode query.now) places.now }
+    requires alone { AllByRecursion (λ place. place.alone ≡ true) places.now }
+    ensures { IfOk result (λ found. TellsContents (read_in mode query.now) text.now found) }
 {
     let mut contents = Vec::new(alloc);
     let mut at = 0;
@@ -69,7 +99,7 @@ pub fn read_text(
         let Some(behind) = rest.strip_prefix(&query[at..place.start]) else {
             return Ok(None);
         };
-        let Some((content, after)) = read_content(alloc, behind)? else {
+        let Some((content, after)) = read_content(alloc, behind, mode)? else {
             return Ok(None);
         };
         contents.push(content)?;

@@ -10,6 +10,7 @@ ghost use Rattle.mysql_queries.specs.Tokens.{
   goes_on_as_block,
   goes_on_as_dashes,
   goes_on_as_name,
+  has_escapes,
   is_name_byte,
   is_name_start,
   is_quote,
@@ -39,6 +40,8 @@ ghost use Rattle.std.specs.Prelude.{
   take,
 };
 
+use crate::mode::Mode;
+
 fn name_start(b: u8) -> bool
     ensures { result ≡ is_name_start b }
 {
@@ -51,11 +54,19 @@ fn name_byte(b: u8) -> bool
     name_start(b) || (b'0' <= b && b <= b'9')
 }
 
+/// Whether a backslash escapes the byte behind it in a token with this quote.
+fn escapes_in(mode: Mode, quote: u8) -> bool
+    ensures { result ≡ has_escapes mode quote }
+{
+    let identifier = quote == b'`' || (quote == b'"' && mode.ansi_quotes);
+    !identifier && !mode.no_backslash_escapes
+}
+
 /// How many bytes of a part stand between quotes at a place; None where the token closes there.
-fn part_len(text: &[u8], at: usize, quote: u8) -> Option<usize>
+fn part_len(text: &[u8], at: usize, quote: u8, escapes: bool) -> Option<usize>
     requires { at < length text.now }
-    ensures part { IfSome result (λ n. PartAt quote text.now at n) }
-    ensures closed { IfNone result (ClosesAt quote text.now at) }
+    ensures part { IfSome result (λ n. PartAt escapes quote text.now at n) }
+    ensures closed { IfNone result (ClosesAt escapes quote text.now at) }
 {
     let b = text[at];
     if b == quote {
@@ -64,7 +75,7 @@ fn part_len(text: &[u8], at: usize, quote: u8) -> Option<usize>
         } else {
             None
         }
-    } else if b == b'\\' && quote != b'`' {
+    } else if b == b'\\' && escapes {
         if at + 1 < text.len() { Some(2) } else { None }
     } else {
         Some(1)
@@ -72,15 +83,15 @@ fn part_len(text: &[u8], at: usize, quote: u8) -> Option<usize>
 }
 
 /// Where a string or a quoted identifier ends.
-fn quoted_end(text: &[u8], quote: u8) -> usize
+fn quoted_end(text: &[u8], quote: u8, escapes: bool) -> usize
     requires some { 0 < length text.now }
     requires begins { slice_index text.now 0 ≡ quote }
     ensures in_range { result ≤ length text.now }
-    ensures shape { IsQuoted quote (take result text.now) (drop result text.now) }
+    ensures shape { IsQuoted escapes quote (take result text.now) (drop result text.now) }
 {
     let mut i = 1;
     while i < text.len() {
-        match part_len(text, i, quote) {
+        match part_len(text, i, quote, escapes) {
             Some(n) => i += n,
             None => return i + 1,
         }
@@ -195,16 +206,16 @@ pub fn kind_at(text: &[u8]) -> TokenKind
     }
 }
 
-/// Where the first token of a text ends, which is of this kind.
-pub fn token_end(text: &[u8], kind: TokenKind) -> usize
+/// Where the first token of a text ends, which is of this kind, for a server in this mode.
+pub fn token_end(text: &[u8], kind: TokenKind, mode: Mode) -> usize
     requires some { 0 < length text.now }
     requires kind { kind_view kind ≡ kind_of text.now }
     ensures some { 0 < result }
     ensures in_range { result ≤ length text.now }
-    ensures token { IsToken (take result text.now) (drop result text.now) }
+    ensures token { IsToken mode (take result text.now) (drop result text.now) }
 {
     match kind {
-        TokenKind::Quoted(quote) => quoted_end(text, quote),
+        TokenKind::Quoted(quote) => quoted_end(text, quote, escapes_in(mode, quote)),
         TokenKind::LineComment => line_end(text),
         TokenKind::BlockComment => block_end(text),
         TokenKind::Name => name_end(text),

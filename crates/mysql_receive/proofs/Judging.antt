@@ -48,7 +48,7 @@ module _ (c : Statement) (s : StatementState) (readable : IsReadable c.query) wh
   text_or body (inr fails) = inr (NotAlone, inl (fails, refl))
   text_or body (inl holds) = decided (readable.decided holds body)
     where
-      decided : (((contents : Set) × TextReadsAs c.query.text body contents) ⊎ ((contents : Set) → Slices c.query.text body contents → ⊥)) → ((sets : List Set) × CommandReadsAs c s layout.Text body sets) ⊎ ((f : StreamFault) × CommandFaulty c s layout.Text body f)
+      decided : (((contents : Set) × TextReadsAs c.query.sql body contents) ⊎ ((contents : Set) → Slices c.query.sql body contents → ⊥)) → ((sets : List Set) × CommandReadsAs c s layout.Text body sets) ⊎ ((f : StreamFault) × CommandFaulty c s layout.Text body f)
       decided (inl h) = inl (h.0 ∷ [], (holds, (h.0, h.1, refl)))
       decided (inr fails) = inr (TextMismatch, inr (holds, (λ contents h. fails contents h.0), refl))
 

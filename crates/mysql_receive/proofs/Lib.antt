@@ -18,3 +18,4 @@ pub mod Fronts
 pub mod Cuttings
 pub mod WrittenCells
 pub mod Nulls
+pub mod Making

@@ -3,6 +3,7 @@
 use Rattle.std.specs.Prelude.{◌≡◌, ℕ, ◌+◌, ◌≤◌, List, [], ◌∷◌, ◌++◌, length}
 use Rattle.std.specs.Prelude.{if◌then◌else◌}
 use Rattle.std.specs.List.{concat, flat_map}
+use Rattle.mysql_values.specs.Sql.{Sql}
 use Rattle.mysql_values.specs.Tokens.{HasTokens}
 use Rattle.mysql_receive.specs.declared.fault.StreamFault.{StreamFault}
 use Rattle.mysql_receive.specs.declared.fault.StreamFault.TheVariants.{TooLarge, OutOfSync, Memory}
@@ -100,16 +101,17 @@ IsNoFault UnfinishedPacket = Unit {0}
 IsNoFault Whole = Unit {0}
 
 -- the statement is the query's, with this id
-abbrev pub IsAbout : Statement → List ℕ → ℕ → Type 0
-IsAbout statement query id = (tokens : List (List ℕ)) × HasTokens query tokens ×
+abbrev pub IsAbout : Statement → Sql → ℕ → Type 0
+IsAbout statement query id = (tokens : List (List ℕ)) × HasTokens query.mode query.text tokens ×
     (statement ≡ statement_of query tokens id)
 
 -- The audit of a stream of commands: what the bytes say of the query's parameter sets, with packets up to the limit.
-abbrev pub AuditOf : List ℕ → ℕ → ℕ → List ℕ → Audit → Type 0
-AuditOf query id limit bytes audit = (tokens : List (List ℕ)) × HasTokens query tokens ×
+abbrev pub AuditOf : Sql → ℕ → ℕ → List ℕ → Audit → Type 0
+AuditOf query id limit bytes audit = (tokens : List (List ℕ)) × HasTokens query.mode query.text tokens ×
     Audited (statement_of query tokens id) limit bytes audit
 
 -- as much of it as was read of the pieces that the stream came in, where memory ran out over one of them
-abbrev pub OutOfMemoryIn : List ℕ → ℕ → ℕ → List (List ℕ) → Audit → Type 0
+abbrev pub OutOfMemoryIn : Sql → ℕ → ℕ → List (List ℕ) → Audit → Type 0
 OutOfMemoryIn query id limit pieces audit =
-    (tokens : List (List ℕ)) × HasTokens query tokens × OutOfMemory (statement_of query tokens id) limit pieces audit
+    (tokens : List (List ℕ)) × HasTokens query.mode query.text tokens ×
+    OutOfMemory (statement_of query tokens id) limit pieces audit

@@ -3,6 +3,7 @@
 use Rattle.std.specs.Prelude.{◌≡◌, ◌≢◌, ◌⊎◌, ℕ, ◌+◌, ◌<◌, ◌≤◌, ◌^◌, List, [], ◌∷◌, ◌++◌, length, take, Option, Some}
 use Rattle.std.specs.Prelude.{None, Ok}
 use Rattle.std.specs.List.{All, AllByRecursion, flat_map, concat}
+use Rattle.mysql_values.specs.Sql.{Sql}
 use Rattle.mysql_receive.specs.declared.fault.StreamFault.{StreamFault}
 use Rattle.mysql_receive.specs.Query.{IsQuery, Statement}
 use Rattle.mysql_receive.specs.Layout.{Types}
@@ -84,7 +85,7 @@ StreamHasOneAudit =
 -- Two cuttings of the same bytes have equal audits.
 abbrev pub CuttingsAgree : Type 0
 CuttingsAgree =
-    (query : List ℕ) (id limit : ℕ) (pieces others : List (List ℕ)) (a b : Audit) →
+    (query : Sql) (id limit : ℕ) (pieces others : List (List ℕ)) (a b : Audit) →
     AreBytes (concat pieces) → concat pieces ≡ concat others
     → AuditOf query id limit (concat pieces) a → AuditOf query id limit (concat others) b → a ≡ b
 
@@ -135,7 +136,7 @@ PiecesAreTaken =
 -- stream's first payloads, as many as the end counts.
 abbrev pub TakenSetsAreTheAudit : Type 0
 TakenSetsAreTheAudit =
-    (query : List ℕ) (id : ℕ) (statement : Statement) (limit : ℕ) (pieces : List (List ℕ))
+    (query : Sql) (id : ℕ) (statement : Statement) (limit : ℕ) (pieces : List (List ℕ))
     (taken : List Set) (state : ReceiverState) (a : Audit)
     → IsAbout statement query id → Run statement limit pieces taken state → ReceiverDecides statement limit state [] a
     → ((IsMemory a.ending → ⊥) → AuditOf query id limit (concat pieces) (with_sets taken a))

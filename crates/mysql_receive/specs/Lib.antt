@@ -14,3 +14,4 @@ pub mod Steps
 pub mod Parts
 pub mod Received
 pub mod Inside
+pub mod Making

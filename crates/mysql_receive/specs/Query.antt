@@ -4,11 +4,13 @@ use Rattle.std.specs.Prelude.{ℕ, Bool, List, length}
 use Rattle.std.specs.List.{join_with_byte, list_all}
 use Rattle.mysql_values.specs.Place.{Place}
 use Rattle.mysql_values.specs.Queries.{HasPlaces, IsParsed, pieces_of, places_from}
+use Rattle.mysql_values.specs.Sql.{Sql}
 use Rattle.mysql_values.specs.Tokens.{question}
 
--- the query's text, the text with a question mark for each placeholder, and the placeholders
+-- the query's text and the mode in which the server reads it, the text with a question mark for
+-- each placeholder, and the placeholders
 pub record Query : Type 0 where
-  pub text : List ℕ
+  pub sql : Sql
   pub parsed : List ℕ
   pub places : List Place
 
@@ -18,22 +20,22 @@ pub record Statement : Type 0 where
   pub id : ℕ
 
 -- the statement of a query with these tokens
-abbrev pub statement_of : List ℕ → List (List ℕ) → ℕ → Statement
+abbrev pub statement_of : Sql → List (List ℕ) → ℕ → Statement
 statement_of query tokens id =
     record {
       query = record {
-        text = query;
+        sql = query;
         parsed =
             join_with_byte question (pieces_of tokens);
-        places = places_from query 0 tokens;
+        places = places_from query.text 0 tokens;
       };
       id = id;
     }
 
--- the parsed text and the placeholders are those of the query's text
+-- the parsed text and the placeholders are those of the query
 pub record IsQuery (query : Query) : Type 0 where
-  pub parsed : IsParsed query.text query.parsed
-  pub places : HasPlaces query.text query.places
+  pub parsed : IsParsed query.sql query.parsed
+  pub places : HasPlaces query.sql query.places
 
 -- the most placeholders that a statement can have: they are counted in two bytes
 abbrev pub max_places : ℕ

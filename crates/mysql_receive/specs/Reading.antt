@@ -17,6 +17,7 @@ use Rattle.mysql_values.specs.Content.{Content}
 use Rattle.mysql_values.specs.Content.TheVariants as content
 use Rattle.mysql_values.specs.Values.{content_of}
 use Rattle.mysql_values.specs.Queries.{Slices, Lexes}
+use Rattle.mysql_values.specs.Sql.{Sql}
 use Rattle.mysql_values.specs.Cells.{is_float, cell_at}
 use Rattle.mysql_field_lists.specs.NullBitmap.{is_null_at}
 use Rattle.mysql_wire.specs.WireError.{WireError}
@@ -160,16 +161,16 @@ statement_alone_at statement state body = do
   must WrongId (length rest == 0)
   Ok []
 
--- A text reads as these contents over a query: it is the query's pieces with a literal of each
+-- A text reads as these contents over a query, in the query's mode: it is the query's pieces with a literal of each
 -- content between, and its tokens are those of the query and of the literals. Where each place
 -- stands alone, the two are one.
-abbrev pub TextReadsAs : List ℕ → List ℕ → Set → Type 0
+abbrev pub TextReadsAs : Sql → List ℕ → Set → Type 0
 TextReadsAs query text contents = Slices query text contents × Lexes query text contents
 
 -- The body of a command reads as these sets. A text is one set where each place stands alone.
 abbrev pub CommandReadsAs : Statement → StatementState → Command → List ℕ → List Set → Type 0
 CommandReadsAs statement state layout.Text body sets = IsTrue (all_alone statement.query) ×
-    ((contents : Set) × TextReadsAs statement.query.text body contents × (sets ≡ contents ∷ []))
+    ((contents : Set) × TextReadsAs statement.query.sql body contents × (sets ≡ contents ∷ []))
 CommandReadsAs statement state layout.Prepare body sets = (body ≡ statement.query.parsed) ×
     (place_count statement.query ≤ max_places) × (sets ≡ [])
 CommandReadsAs statement state layout.LongData body sets = long_data_at statement state body ≡ Ok sets
@@ -185,7 +186,7 @@ abbrev pub CommandFaulty : Statement → StatementState → Command → List ℕ
 CommandFaulty statement state layout.Text body f =
     (IsFalse (all_alone statement.query) × (f ≡ NotAlone))
     ⊎ (IsTrue (all_alone statement.query) ×
-    ((contents : Set) → TextReadsAs statement.query.text body contents → ⊥) × (f ≡ TextMismatch))
+    ((contents : Set) → TextReadsAs statement.query.sql body contents → ⊥) × (f ≡ TextMismatch))
 CommandFaulty statement state layout.Prepare body f =
     ((body ≢ statement.query.parsed) × (f ≡ PrepareMismatch))
     ⊎ ((body ≡ statement.query.parsed) × (max_places < place_count statement.query) × (f ≡ TooManyPlaces))

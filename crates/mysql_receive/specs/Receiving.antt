@@ -2,6 +2,7 @@
 -- MySQL: Client/Server Protocol, "MySQL Packets" and "Command Phase".
 use Rattle.std.specs.Prelude.{◌≡◌, ℕ, List, Option, Some, None, Result, Ok, Err}
 use Rattle.std.specs.List.{concat}
+use Rattle.mysql_values.specs.Sql.{Sql}
 use Rattle.mysql_receive.specs.declared.fault.StreamFault.{StreamFault}
 use Rattle.mysql_receive.specs.declared.fault.StreamFault.TheVariants.{Memory}
 use Rattle.mysql_receive.specs.declared.audit.End.{End}
@@ -24,6 +25,6 @@ audit_of a = record { sets = sets_of a.sets.items; ending = a.end }
 
 -- What is answered of a stream that came in these pieces: the audit of its bytes, but where its end
 -- says that memory ran out; then as much of it as was read.
-pub record IsReceived (query : List ℕ) (id limit : ℕ) (pieces : List (List ℕ)) (answer : Audit) : Type 0 where
+pub record IsReceived (query : Sql) (id limit : ℕ) (pieces : List (List ℕ)) (answer : Audit) : Type 0 where
   pub audit : (IsMemory answer.ending → ⊥) → AuditOf query id limit (concat pieces) answer
   pub memory : IsMemory answer.ending → OutOfMemoryIn query id limit pieces answer

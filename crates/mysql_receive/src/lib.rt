@@ -22,4 +22,4 @@ pub use audit::{Audit, End};
 pub use fault::StreamFault;
 pub use mysql_values::Content;
 pub use receiver::{Receiver, ReceiverError};
-pub use whole::receive;
+pub use whole::{receive, receive_in};

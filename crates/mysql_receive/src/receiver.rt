@@ -5,6 +5,7 @@ ghost use Rattle.std.specs.List.{list_all};
 ghost use Rattle.mysql_wire.specs.Bytes.{AreBytes};
 ghost use Rattle.mysql_wire.specs.Incoming.{bytes_kept};
 ghost use Rattle.mysql_values.specs.Queries.{HasMixed, HasPlaces, IsParsed};
+ghost use Rattle.mysql_values.specs.Sql.{read_by_default, read_in};
 ghost use Rattle.mysql_receive.specs.declared.fault.StreamFault.TheVariants.{Memory};
 ghost use Rattle.mysql_receive.specs.declared.receiver.ReceiverError.TheVariants as receiver_error;
 ghost use Rattle.mysql_receive.specs.Query.{IsQuery};
@@ -12,6 +13,7 @@ ghost use Rattle.mysql_receive.specs.Audit.{IsAbout};
 ghost use Rattle.mysql_receive.specs.GoingOn.{HasFoundNoFault, ReceiverGoesOn, ReceiverDecides, RunsShort, TakesAll};
 ghost use Rattle.mysql_receive.specs.GoingOn.{fresh_receiver};
 ghost use Rattle.mysql_receive.specs.Receiving.{answer_by, audit_of};
+ghost use Rattle.mysql_receive.specs.Making.{IsFresh, IsReceiverError};
 ghost use Rattle.mysql_receive.specs.Parts.{end_by, fault_from, state_of_parts};
 ghost use Rattle.mysql_receive.specs.Received.{receiver_state};
 ghost use Rattle.mysql_receive.specs.Taking.{HandsOut, most_kept};
@@ -26,7 +28,7 @@ use crate::reading::has_waiting_data;
 use crate::statement::{Statement, StatementState};
 use mysql_queries::ParsedQuery;
 use mysql_values::laws::tokens_of_a_text;
-use mysql_values::{Content, Place};
+use mysql_values::{Content, Mode, Place};
 use mysql_wire::PacketReader;
 use mysql_wire::laws::reader_laws;
 use std::alloc::{AllocError, Global};
@@ -60,39 +62,25 @@ fn all_alone(places: &[Place]) -> bool
     places.iter().all(|place| place.alone)
 }
 
-/// The statement of a query, with this id.
-fn make_statement(alloc: Global, query: &[u8], stmt_id: u32) -> Result<Statement, ReceiverError>
-    ensures query { IfOk result (λ statement. IsQuery (statement_view statement).query) }
-    ensures about { IfOk result (λ statement. IsAbout (statement_view statement) query.now stmt_id) }
-    ensures one_kind { OnOk result (HasMixed query.now false) }
-    ensures mixed { IfErr result (λ e. (e ≡ receiver_error.Memory) ⊎
-        ((e ≡ receiver_error.Mixed) × HasMixed query.now true)) }
-{
-    let found = ParsedQuery::new(alloc, query)?;
-    if found.is_mixed() {
-        return Err(ReceiverError::Mixed);
-    }
-    let parsed = found.with_marks(alloc)?;
-    Ok(copied_statement(alloc, query, parsed.as_slice(), found.places(), stmt_id)?)
-}
-
-/// The statement of a query with this parsed text and these placeholders, which are copied.
+/// The statement of a query with this text and these placeholders, which are copied.
 fn copied_statement(
     alloc: Global,
     query: &[u8],
+    mode: Mode,
     parsed: &[u8],
     places: &[Place],
     stmt_id: u32,
 ) -> Result<Statement, AllocError>
-    requires parsed { IsParsed query.now parsed.now }
-    requires places { HasPlaces query.now places.now }
+    requires parsed { IsParsed (read_in mode query.now) parsed.now }
+    requires places { HasPlaces (read_in mode query.now) places.now }
     ensures query { IfOk result (λ statement. IsQuery (statement_view statement).query) }
-    ensures about { IfOk result (λ statement. IsAbout (statement_view statement) query.now stmt_id) }
+    ensures about { IfOk result (λ statement. IsAbout (statement_view statement) (read_in mode query.now) stmt_id) }
 {
     tokens_of_a_text();
     let places = Vec::from_slice(alloc, places)?;
     Ok(Statement {
         query: Vec::from_slice(alloc, query)?,
+        mode,
         parsed: Vec::from_slice(alloc, parsed)?,
         alone: all_alone(&places),
         places,
@@ -166,7 +154,9 @@ fn end_now(
 impl Receiver {
     /// A receiver of a stream of commands about this query, whose statement was given this id.
     ///
-    /// `limit` is the most bytes of a payload: the `max_allowed_packet` of this side, at least 4.
+    /// The server that they were sent to is in the default mode: [`Receiver::new_in`] takes the
+    /// mode. `limit` is the most bytes of a payload: the `max_allowed_packet` of this side, at least
+    /// 4.
     ///
     /// # Errors
     /// - `Mixed` where both names and question marks occur in the query.
@@ -178,14 +168,64 @@ impl Receiver {
         limit: usize,
     ) -> Result<Receiver, ReceiverError>
         requires { 4 ≤ limit }
-        ensures fresh { IfOk result (λ r. receiver_state r ≡ fresh_receiver) }
-        ensures about { IfOk result (λ r. IsAbout r.statement query.now stmt_id) }
-        ensures limit { IfOk result (λ r. r.limit ≡ limit) }
-        ensures one_kind { OnOk result (HasMixed query.now false) }
-        ensures mixed { IfErr result (λ e. (e ≡ receiver_error.Memory) ⊎
-            ((e ≡ receiver_error.Mixed) × HasMixed query.now true)) }
+        ensures fresh { IfOk result (IsFresh (read_by_default query.now) stmt_id limit) }
+        ensures one_kind { OnOk result (HasMixed (read_by_default query.now) false) }
+        ensures mixed { IfErr result (IsReceiverError (read_by_default query.now)) }
     {
-        let statement = make_statement(alloc, query, stmt_id)?;
+        Receiver::new_in(alloc, query, stmt_id, limit, Mode::default())
+    }
+
+    /// A receiver of a stream of commands about this query, which were sent to a server in this mode.
+    ///
+    /// `Mode::of` reads the mode from the status that a server tells in each OK packet.
+    ///
+    /// # Errors
+    /// - `Mixed` where both names and question marks occur in the query.
+    /// - `Memory`.
+    ///
+    /// (MySQL Reference Manual, "Server SQL Modes".)
+    pub fn new_in(
+        alloc: Global,
+        query: &[u8],
+        stmt_id: u32,
+        limit: usize,
+        mode: Mode,
+    ) -> Result<Receiver, ReceiverError>
+        requires { 4 ≤ limit }
+        ensures fresh { IfOk result (IsFresh (read_in mode query.now) stmt_id limit) }
+        ensures one_kind { OnOk result (HasMixed (read_in mode query.now) false) }
+        ensures mixed { IfErr result (IsReceiverError (read_in mode query.now)) }
+    {
+        let query = ParsedQuery::new_in(alloc, query, mode)?;
+        if query.is_mixed() {
+            return Err(ReceiverError::Mixed);
+        }
+        Ok(Receiver::of_query(alloc, &query, stmt_id, limit)?)
+    }
+
+    /// A receiver of a stream of commands about a query that was parsed before, in the query's mode.
+    ///
+    /// # Errors
+    /// - `AllocError` for want of memory.
+    pub fn of_query(
+        alloc: Global,
+        query: &ParsedQuery<'_>,
+        stmt_id: u32,
+        limit: usize,
+    ) -> Result<Receiver, AllocError>
+        requires limit { 4 ≤ limit }
+        requires one_kind { HasMixed query.now.sql false }
+        ensures { IfOk result (IsFresh query.now.sql stmt_id limit) }
+    {
+        let parsed = query.with_marks(alloc)?;
+        let statement = copied_statement(
+            alloc,
+            query.text(),
+            query.mode(),
+            parsed.as_slice(),
+            query.places(),
+            stmt_id,
+        )?;
         Ok(Receiver::of_statement(alloc, statement, limit))
     }
 
@@ -205,14 +245,12 @@ impl Receiver {
         limit: usize,
     ) -> Result<Receiver, AllocError>
         requires limit { 4 ≤ limit }
-        requires parsed { IsParsed query.now parsed.now }
-        requires places { HasPlaces query.now places.now }
-        requires one_kind { HasMixed query.now false }
-        ensures fresh { IfOk result (λ r. receiver_state r ≡ fresh_receiver) }
-        ensures about { IfOk result (λ r. IsAbout r.statement query.now stmt_id) }
-        ensures limit { IfOk result (λ r. r.limit ≡ limit) }
+        requires parsed { IsParsed (read_by_default query.now) parsed.now }
+        requires places { HasPlaces (read_by_default query.now) places.now }
+        requires one_kind { HasMixed (read_by_default query.now) false }
+        ensures { IfOk result (IsFresh (read_by_default query.now) stmt_id limit) }
     {
-        let statement = copied_statement(alloc, query, parsed, places, stmt_id)?;
+        let statement = copied_statement(alloc, query, Mode::default(), parsed, places, stmt_id)?;
         Ok(Receiver::of_statement(alloc, statement, limit))
     }
 

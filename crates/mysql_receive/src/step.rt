@@ -20,7 +20,7 @@ use crate::read_error::ReadError;
 use crate::reading::{read_bulk, read_execute};
 use crate::statement::{Statement, StatementState};
 use mysql_const::Command;
-use mysql_values::read_text;
+use mysql_values::read_text_in;
 use std::alloc::{AllocError, Global};
 
 impl StatementState {
@@ -80,7 +80,13 @@ fn read_text_query(alloc: Global, statement: &Statement, body: &[u8]) -> Result<
     if !statement.alone {
         return Err(ReadError::Fault(StreamFault::NotAlone));
     }
-    match read_text(alloc, &statement.query, &statement.places, body)? {
+    match read_text_in(
+        alloc,
+        &statement.query,
+        &statement.places,
+        body,
+        statement.mode,
+    )? {
         Some(set) => Ok(Carried::One(set)),
         None => Err(ReadError::Fault(StreamFault::TextMismatch)),
     }

@@ -2,6 +2,7 @@
 use Rattle.std.proofs.Common.{◌≡◌, ℕ, List, ◌∷◌, ◌++◌, ◌∙◌, ap}
 use Rattle.std.specs.List.{flat_map}
 use Rattle.std.proofs.lemmas.List.{append_cancel_left}
+use Rattle.mysql_values.specs.Sql.{Sql}
 use Rattle.mysql_wire.specs.Stream.{framings}
 use Rattle.mysql_wire.specs.Stream.Numbering.{EachFromZero}
 use Rattle.mysql_receive.specs.Reading.{Set}
@@ -14,12 +15,12 @@ use Rattle.mysql_recoding.specs.Recoding.{Recodes}
 abbrev pub canonical : Statement → List Set → List ℕ
 canonical statement sets = framings (payloads_of (prepare_of statement ∷ flat_map (as_execution statement) (values_of_sets sets))) EachFromZero
 
-pub recoded : (query : List ℕ) (id limit : ℕ) (stream old new : List ℕ) (is : Recodes query id limit stream old new) → new ≡ old ++ canonical (statement_of query is.tokens id) is.audit.sets
+pub recoded : (query : Sql) (id limit : ℕ) (stream old new : List ℕ) (is : Recodes query id limit stream old new) → new ≡ old ++ canonical (statement_of query is.tokens id) is.audit.sets
 recoded query id limit stream old new is = is.appended ∙ ap (λ sent. old ++ framings (payloads_of sent) EachFromZero) is.are_sent
 
 -- what stands behind what stood before
-pub appended : (query : List ℕ) (id limit : ℕ) (stream old new : List ℕ) (is : Recodes query id limit stream old (old ++ new)) → new ≡ framings (payloads_of is.sent) EachFromZero
+pub appended : (query : Sql) (id limit : ℕ) (stream old new : List ℕ) (is : Recodes query id limit stream old (old ++ new)) → new ≡ framings (payloads_of is.sent) EachFromZero
 appended query id limit stream old new is = append_cancel_left old new (framings (payloads_of is.sent) EachFromZero) is.appended
 
-pub appended_form : (query : List ℕ) (id limit : ℕ) (stream old new : List ℕ) (is : Recodes query id limit stream old (old ++ new)) → new ≡ canonical (statement_of query is.tokens id) is.audit.sets
+pub appended_form : (query : Sql) (id limit : ℕ) (stream old new : List ℕ) (is : Recodes query id limit stream old (old ++ new)) → new ≡ canonical (statement_of query is.tokens id) is.audit.sets
 appended_form query id limit stream old new is = append_cancel_left old new (canonical (statement_of query is.tokens id) is.audit.sets) (recoded query id limit stream old (old ++ new) is)

@@ -5,11 +5,12 @@ use Rattle.std.specs.Int.{w64}
 use Rattle.std.specs.List.{AllByRecursion}
 use Rattle.std.proofs.lemmas.Bool.Decides.{nat_tests}
 use Rattle.mysql_wire.specs.Bytes.{AreBytes}
+use Rattle.mysql_values.specs.Mode.{Mode}
 use Rattle.mysql_values.specs.Content.{Content}
 use Rattle.mysql_values.specs.Content.TheVariants as content
 use Rattle.mysql_values.specs.Queries.{Alternates, before_first, is_place, pieces_of, places_from}
 use Rattle.mysql_values.specs.Literals.{IsLiteral, IsNumber, IsString, SpellsInHex, digits_value, escaped, hex_value, inside_content, is_hex}
-use Rattle.mysql_values.specs.Tokens.{Byte, Doubled, Escape, Inside, backslash, inside_bytes, single_quote}
+use Rattle.mysql_values.specs.Tokens.{Byte, Doubled, Escape, Inside, backslash, has_escapes, inside_bytes, single_quote}
 use Rattle.mysql_recoding.specs.Laws.{IsCarried}
 use Rattle.mysql_recoding.proofs.ByteLists.{bytes_append, bytes_behind, bytes_cons, bytes_front, bytes_tail, no_bytes, one_byte}
 
@@ -52,8 +53,8 @@ parts_bytes (part ∷ parts) h =
     let behind = bytes_behind (inside_bytes single_quote part) (flat_map (inside_bytes single_quote) parts) h in
     bytes_append (inside_content part) (flat_map inside_content parts) (part_bytes part front) (parts_bytes parts behind)
 
-string_carried : (spelling bytes : List ℕ) → AreBytes spelling → IsString spelling bytes → AreBytes bytes
-string_carried spelling bytes h is =
+string_carried : (e : Bool) (spelling bytes : List ℕ) → AreBytes spelling → IsString e spelling bytes → AreBytes bytes
+string_carried e spelling bytes h is =
     let inside : List ℕ = flat_map (inside_bytes single_quote) is.parts in
     let quoted : AreBytes (single_quote ∷ (inside ++ single_quote ∷ [])) = subst AreBytes is.spelled h in
     subst AreBytes (sym is.read) (parts_bytes is.parts (bytes_front inside (single_quote ∷ []) (bytes_tail single_quote (inside ++ single_quote ∷ []) quoted)))
@@ -73,29 +74,29 @@ hex_bytes (x ∷ y ∷ digits) (b ∷ bytes) h =
 
 -- ---- literals
 
-pub literal_carried : (spelling : List ℕ) (held : Content) → AreBytes spelling → IsLiteral spelling held → IsCarried held
-literal_carried spelling content.Null h is = tt
-literal_carried spelling (content.Number z) h is = number_carried spelling z is
-literal_carried spelling (content.Bytes bytes) h is = elim is [
-  | inl string ↦ string_carried spelling bytes h string
+pub literal_carried : (m : Mode) (spelling : List ℕ) (held : Content) → AreBytes spelling → IsLiteral m spelling held → IsCarried held
+literal_carried m spelling content.Null h is = tt
+literal_carried m spelling (content.Number z) h is = number_carried spelling z is
+literal_carried m spelling (content.Bytes bytes) h is = elim is [
+  | inl string ↦ string_carried (has_escapes m single_quote) spelling bytes h string
   | inr hexadecimal ↦ hex_bytes hexadecimal.digits bytes hexadecimal.spells
 ]
 
 -- ---- texts
 
 -- one content fewer than pieces, each of a literal in the text
-pub text_carried : (pieces : List (List ℕ)) (contents : List Content) (text : List ℕ) → AreBytes text → Alternates pieces contents text → (length pieces ≡ length contents + 1) × AllByRecursion IsCarried contents
-text_carried [] contents text h is = elim is [ ]
-text_carried (piece ∷ []) [] text h is = (omega arith, tt)
-text_carried (piece ∷ []) (held ∷ contents) text h is = elim is [ ]
-text_carried (piece ∷ next ∷ pieces) [] text h is = elim is [ ]
-text_carried (piece ∷ next ∷ pieces) (held ∷ contents) text h is =
+pub text_carried : (m : Mode) (pieces : List (List ℕ)) (contents : List Content) (text : List ℕ) → AreBytes text → Alternates m pieces contents text → (length pieces ≡ length contents + 1) × AllByRecursion IsCarried contents
+text_carried m [] contents text h is = elim is [ ]
+text_carried m (piece ∷ []) [] text h is = (omega arith, tt)
+text_carried m (piece ∷ []) (held ∷ contents) text h is = elim is [ ]
+text_carried m (piece ∷ next ∷ pieces) [] text h is = elim is [ ]
+text_carried m (piece ∷ next ∷ pieces) (held ∷ contents) text h is =
     let spelling : List ℕ = is.0 in
     let rest : List ℕ = is.1 in
     let behind : AreBytes (spelling ++ rest) = bytes_behind piece (spelling ++ rest) (subst AreBytes is.3 h) in
-    let later = text_carried (next ∷ pieces) contents rest (bytes_behind spelling rest behind) is.4 in
+    let later = text_carried m (next ∷ pieces) contents rest (bytes_behind spelling rest behind) is.4 in
     let count = later.0 in
-    (omega (arith, count), (literal_carried spelling held (bytes_front spelling rest behind) is.2, later.1))
+    (omega (arith, count), (literal_carried m spelling held (bytes_front spelling rest behind) is.2, later.1))
 
 -- ---- placeholders
 

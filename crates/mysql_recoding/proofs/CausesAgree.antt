@@ -3,13 +3,14 @@ use Rattle.std.proofs.Common.{◌≡◌, ◌⊎◌, inl, inr, ℕ, ◌-◌, List
 use Rattle.std.specs.Prelude.{if◌then◌else◌}
 use Rattle.std.specs.Option.{option_map, option_or}
 use Rattle.mysql_wire.specs.Bytes.{AreBytes}
+use Rattle.mysql_values.specs.Sql.{Sql}
 use Rattle.mysql_values.specs.Queries.{is_mixed}
 use Rattle.mysql_bulk_builder.specs.Causes.{first_some}
 use Rattle.mysql_receive.specs.Audit.{Audit}
 use Rattle.mysql_receive.specs.Laws.{StreamHasOneAudit}
 use Rattle.mysql_receive.specs.Query.{Statement, statement_of}
 use Rattle.mysql_command_rules.specs.declared.refusal.Refusal.{Refusal}
-use Rattle.mysql_command_rules.specs.declared.road.Road.TheVariants.{Execute}
+use Rattle.mysql_command_rules.specs.SpelledRoad.{Execute}
 use Rattle.mysql_command_rules.specs.Cause.{cause_of, query_cause}
 use Rattle.mysql_values.specs.Laws.{OneTokens}
 use Rattle.mysql_recoding.specs.declared.errors.RecodeError.{RecodeError}
@@ -63,7 +64,7 @@ first_speaks None rest ending error first = absurd (cc)
 first_speaks (Some refusal) rest ending error first = first
 
 -- a query that can't be prepared is the first cause against each stream
-pub query_refused : StreamHasOneAudit → (query : List ℕ) (id limit : ℕ) (stream : List ℕ) (error : RecodeError) → AreBytes stream → RefusesQuery query id limit error
+pub query_refused : StreamHasOneAudit → (query : Sql) (id limit : ℕ) (stream : List ℕ) (error : RecodeError) → AreBytes stream → RefusesQuery query id limit error
     → (error ≡ errors.Memory) ⊎ IsCauseAsItComes query id limit stream error
 query_refused one_audit query id limit stream error bytes (inl memory) = inl memory
 query_refused one_audit query id limit stream error bytes (inr why) =
@@ -79,10 +80,10 @@ query_refused one_audit query id limit stream error bytes (inr why) =
 -- ---- streams that are recoded
 
 -- against one that is recoded there is no cause
-pub recoded_passes : StreamHasOneAudit → OneTokens → (query : List ℕ) (id limit : ℕ) (stream old new : List ℕ) (error : RecodeError) → AreBytes stream
+pub recoded_passes : StreamHasOneAudit → OneTokens → (query : Sql) (id limit : ℕ) (stream old new : List ℕ) (error : RecodeError) → AreBytes stream
     → Recodes query id limit stream old new → IsCauseAsItComes query id limit stream error → ⊥
 recoded_passes once tokens_once query id limit stream old new error bytes first second =
-    let tokens : second.tokens ≡ first.tokens = tokens_once query second.tokens first.tokens second.has first.has in
+    let tokens : second.tokens ≡ first.tokens = tokens_once query.mode query.text second.tokens first.tokens second.has first.has in
     let audit : second.audit ≡ first.audit = one_audit once tokens_once query id limit stream second.audit first.audit bytes second.says first.says in
     let none : cause_as_it_comes (statement_of query first.tokens id) limit first.audit ≡ None = (agree (statement_of query first.tokens id) limit first.audit).none first.none in
     let same : cause_as_it_comes (statement_of query second.tokens id) limit second.audit ≡ cause_as_it_comes (statement_of query first.tokens id) limit first.audit =

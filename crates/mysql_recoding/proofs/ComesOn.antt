@@ -9,6 +9,7 @@ use Rattle.mysql_wire.specs.GoingOn.{RestsAreTold}
 use Rattle.mysql_wire.specs.Laws.{HasOneSplit}
 use Rattle.mysql_wire.specs.Stream.{framings}
 use Rattle.mysql_wire.specs.Stream.Numbering.{EachFromZero}
+use Rattle.mysql_values.specs.Sql.{Sql}
 use Rattle.mysql_values.specs.Queries.{places_from}
 use Rattle.mysql_bulk_builder.specs.Causes.{first_some}
 use Rattle.mysql_receive.specs.Audit.{Audit, AuditOf, Audited}
@@ -19,7 +20,7 @@ use Rattle.mysql_receive.specs.Taking.{with_sets}
 use Rattle.mysql_receive.specs.declared.audit.End.{End}
 use Rattle.mysql_receive.specs.Query.{IsQuery, Statement, statement_of}
 use Rattle.mysql_command_rules.specs.declared.refusal.Refusal.{Refusal}
-use Rattle.mysql_command_rules.specs.declared.road.Road.TheVariants.{Execute}
+use Rattle.mysql_command_rules.specs.SpelledRoad.{Execute}
 use Rattle.mysql_command_rules.specs.Cause.{cause_of}
 use Rattle.mysql_command_rules.specs.Commands.{prepare_command}
 use Rattle.mysql_command_rules.specs.Sent.{as_execution, payloads_of, prepare_of}
@@ -125,7 +126,7 @@ all_pieces terms prepare bytes sets appended old now (piece ∷ pieces) rest s a
 -- ---- the whole stream
 
 -- a new recoder has recoded nothing
-at_start : StartDecidesTheAudit → RestsAreTold → (query : List ℕ) (id limit : ℕ) (start : RecoderState) (n : IsNewRecoder query id limit start)
+at_start : StartDecidesTheAudit → RestsAreTold → (query : Sql) (id limit : ℕ) (start : RecoderState) (n : IsNewRecoder query id limit start)
     → Sofar start.terms (framing (prepare_command (statement_of query n.tokens id).query.parsed) 0) [] [] [] start
 at_start start_decides told query id limit start n = record {
   terms_are = refl;
@@ -152,16 +153,16 @@ all_of_it : (statement : Statement) (sets : List Set)
 all_of_it statement [] = sym (append-nil (framing (prepare_command statement.query.parsed) 0))
 all_of_it statement (set ∷ sets) = append-nil _ ∙ sym (canonical_parts statement (set ∷ sets))
 
-module _ (one_split : HasOneSplit) (one_audit : ThereIsOneAudit) (query : List ℕ) (id limit : ℕ) (start now : RecoderState) (n : IsNewRecoder query id limit start) (bytes appended : List ℕ) (are : AreBytes bytes)
+module _ (one_split : HasOneSplit) (one_audit : ThereIsOneAudit) (query : Sql) (id limit : ℕ) (start now : RecoderState) (n : IsNewRecoder query id limit start) (bytes appended : List ℕ) (are : AreBytes bytes)
     (sets : List Set) (s : Sofar start.terms (framing (prepare_command (statement_of query n.tokens id).query.parsed) 0) bytes sets appended now) where
   -- the recoder's statement has the id
   id_is : start.terms.statement.id ≡ id
   id_is = ap (λ (statement : Statement). statement.id) n.about.2
 
   -- what was said over the recoder's terms is said over the query's
-  over_query : (P : ℕ → ℕ → ℕ → Type 0) → P start.terms.statement.id start.terms.places start.terms.limit → P id (length (places_from query 0 n.tokens)) limit
+  over_query : (P : ℕ → ℕ → ℕ → Type 0) → P start.terms.statement.id start.terms.places start.terms.limit → P id (length (places_from query.text 0 n.tokens)) limit
   over_query P holds =
-      subst (λ (l : ℕ). P id (length (places_from query 0 n.tokens)) l) n.limit_is
+      subst (λ (l : ℕ). P id (length (places_from query.text 0 n.tokens)) l) n.limit_is
       (subst (λ (places : ℕ). P id places start.terms.limit) n.places
       (subst (λ (i : ℕ). P i start.terms.places start.terms.limit) id_is holds))
 
@@ -182,11 +183,11 @@ module _ (one_split : HasOneSplit) (one_audit : ThereIsOneAudit) (query : List �
   -- what speaks against the sets of the stream speaks against those to come
   cause_on : (more : List Set) → cause_of Execute (statement_of query n.tokens id) limit (map Ok (values_of_sets (sets ++ more))) ≡ sets_cause start.terms now.count more
   cause_on more =
-      let here : executions_cause id (length (places_from query 0 n.tokens)) limit 0 (sets ++ more) ≡ sets_cause start.terms now.count more =
+      let here : executions_cause id (length (places_from query.text 0 n.tokens)) limit 0 (sets ++ more) ≡ sets_cause start.terms now.count more =
       sym (over_query (λ i places l. executions_cause start.terms.statement.id start.terms.places start.terms.limit 0 (sets ++ more) ≡ executions_cause i places l 0 (sets ++ more)) refl)
       ∙ causes_join start.terms sets more s.none ∙ ap (λ (k : ℕ). sets_cause start.terms k more) (sym s.count) in
-      ap (λ (c : Option Refusal). first_some (c ∷ executions_cause id (length (places_from query 0 n.tokens)) limit 0 (sets ++ more) ∷ None ∷ [])) n.none
-      ∙ or_none (executions_cause id (length (places_from query 0 n.tokens)) limit 0 (sets ++ more)) ∙ here
+      ap (λ (c : Option Refusal). first_some (c ∷ executions_cause id (length (places_from query.text 0 n.tokens)) limit 0 (sets ++ more) ∷ None ∷ [])) n.none
+      ∙ or_none (executions_cause id (length (places_from query.text 0 n.tokens)) limit 0 (sets ++ more)) ∙ here
 
   -- nothing speaks against those that came
   free : (ending : End) → sets_refused (statement_of query n.tokens id) limit (record { sets = sets; ending = ending }) ≡ None
@@ -256,7 +257,7 @@ module _ (one_split : HasOneSplit) (one_audit : ThereIsOneAudit) (query : List �
             subst (λ (l : List ℕ). (error ≡ errors.Memory) ⊎ IsCauseAsItComes query id limit (l ++ (piece ++ behind)) error) joined (refused_here piece behind error piece_bytes behind_bytes why);
       }
 
-pub pieces_recode : HasOneSplit → RestsAreTold → ThereIsOneAudit → StartDecidesTheAudit → (query : List ℕ) (id limit : ℕ) (start now : RecoderState) (pieces : List (List ℕ)) (appended : List ℕ)
+pub pieces_recode : HasOneSplit → RestsAreTold → ThereIsOneAudit → StartDecidesTheAudit → (query : Sql) (id limit : ℕ) (start now : RecoderState) (pieces : List (List ℕ)) (appended : List ℕ)
     → IsNewRecoder query id limit start → AreBytes (concat pieces) → RecodesPieces start pieces appended now → RecodesTheSame query id limit pieces appended now
 pieces_recode one_split told one_audit start_decides query id limit start now pieces appended n are recoded =
     let all = all_pieces start.terms (framing (prepare_command (statement_of query n.tokens id).query.parsed) 0) [] [] [] start now pieces appended (at_start start_decides told query id limit start n) are recoded in

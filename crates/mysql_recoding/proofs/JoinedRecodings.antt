@@ -16,7 +16,7 @@ use Rattle.mysql_receive.specs.declared.audit.End.TheVariants.{Whole}
 use Rattle.mysql_values.specs.Laws.{OneTokens}
 use Rattle.mysql_command_rules.specs.Cause.{query_cause}
 use Rattle.mysql_command_rules.specs.Sent.{AreSent, SentPayload, as_execution, payloads_of, prepare_of}
-use Rattle.mysql_command_rules.specs.declared.road.Road.TheVariants.{Execute}
+use Rattle.mysql_command_rules.specs.SpelledRoad.{Execute}
 use Rattle.mysql_values.specs.Contents.{content_value}
 use Rattle.mysql_recoding.specs.Causes.{recoding_cause, values_of_sets}
 use Rattle.mysql_recoding.specs.Laws.{JoinedStreamsRecode, both}
@@ -108,7 +108,7 @@ pub joined : WholeStreamsJoin → OneTokens → FramedComeFirst → JoinedStream
 joined join one come_first query tokens id limit stream behind front back first second has front_split back_split few first_says second_says first_whole second_whole =
     let statement : Statement = statement_of query tokens id in
     let c : Statement = statement_of query first_says.0 id in
-    let same : second_says.0 ≡ first_says.0 = one query second_says.0 first_says.0 second_says.1 first_says.1 in
+    let same : second_says.0 ≡ first_says.0 = one query.mode query.text second_says.0 first_says.0 second_says.1 first_says.1 in
     let here : Audited c limit stream first = first_says.2 in
     let there : Audited c limit behind second = subst (λ (t : List (List ℕ)). Audited (statement_of query t id) limit behind second) same second_says.2 in
     let payloads : length here.0.payloads + length there.0.payloads < 2 ^ 64 =

@@ -1,3 +1,4 @@
+pub mod Modes
 pub mod ByteLists
 pub mod Carried
 pub mod CarriedCells

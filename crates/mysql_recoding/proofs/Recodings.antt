@@ -9,6 +9,7 @@ use Rattle.std.proofs.lemmas.List.Concat.{concat_is}
 use Rattle.std.proofs.lemmas.List.Folds.{flat_map-map}
 use Rattle.std.specs.Option.{option_map, option_or}
 use Rattle.mysql_wire.specs.Bytes.{AreBytes}
+use Rattle.mysql_values.specs.Sql.{Sql}
 use Rattle.mysql_values.specs.Place.{Place}
 use Rattle.mysql_values.specs.Queries.{HasMixed, is_mixed, places_from}
 use Rattle.mysql_values.specs.Tokens.{HasTokens}
@@ -23,7 +24,7 @@ use Rattle.mysql_receive.specs.declared.fault.StreamFault.TheVariants.{Memory}
 use Rattle.mysql_receive.specs.declared.receiver.ReceiverError.{ReceiverError}
 use Rattle.mysql_receive.specs.declared.receiver.ReceiverError.TheVariants as receiver_error
 use Rattle.mysql_command_rules.specs.declared.refusal.Refusal.{Refusal}
-use Rattle.mysql_command_rules.specs.declared.road.Road.TheVariants.{Execute}
+use Rattle.mysql_command_rules.specs.SpelledRoad.{Execute}
 use Rattle.mysql_bulk_builder.specs.Causes.{first_some}
 use Rattle.mysql_command_rules.specs.Cause.{cause_of}
 use Rattle.mysql_command_rules.specs.Sending.{RefusesGiven, SendsGiven}
@@ -51,10 +52,10 @@ one_more_piece f pieces i d within before next =
     subst (λ (l : List ℕ). AreBytes l) (sym more) (bytes_append (flat_map f (take i pieces)) (f (get_or pieces i d)) before next)
 
 -- where both kinds of placeholder occur, that is the cause
-pub mixed_is_cause : StreamHasOneAudit → (query : List ℕ) (id limit : ℕ) (stream : List ℕ) → AreBytes stream → HasMixed query true → IsRecodingCause query id limit stream errors.Mixed
+pub mixed_is_cause : StreamHasOneAudit → (query : Sql) (id limit : ℕ) (stream : List ℕ) → AreBytes stream → HasMixed query true → IsRecodingCause query id limit stream errors.Mixed
 mixed_is_cause one_audit query id limit stream bytes mixed =
     let tokens : List (List ℕ) = mixed.1.0 in
-    let has : HasTokens query tokens = mixed.1.1 in
+    let has : HasTokens query.mode query.text tokens = mixed.1.1 in
     let found = one_audit (statement_of query tokens id) limit stream (query_is query tokens id has) bytes in
     record {
       tokens = tokens;
@@ -64,11 +65,11 @@ mixed_is_cause one_audit query id limit stream bytes mixed =
       first = first found.0 (mixed.2 ∙ ap is_mixed mixed.1.2);
     }
   where
-    first : (audit : Audit) → true ≡ is_mixed (places_from query 0 mixed.1.0) → recoding_cause (statement_of query mixed.1.0 id) limit audit ≡ Some errors.Mixed
+    first : (audit : Audit) → true ≡ is_mixed (places_from query.text 0 mixed.1.0) → recoding_cause (statement_of query mixed.1.0 id) limit audit ≡ Some errors.Mixed
     first audit is = rw (sym is)
 
 -- the audit that was received of pieces is that of the bytes that they make one after another
-pub received_audit : {X : Type 0} (f : X → List ℕ) (pieces : List X) (query : List ℕ) (id limit : ℕ) (answer : Audit) → IsReceived query id limit (map f pieces) answer
+pub received_audit : {X : Type 0} (f : X → List ℕ) (pieces : List X) (query : Sql) (id limit : ℕ) (answer : Audit) → IsReceived query id limit (map f pieces) answer
     → (IsMemory answer.ending → ⊥) → AuditOf query id limit (flat_map f pieces) answer
 received_audit f pieces query id limit answer is known = subst (λ (bytes : List ℕ). AuditOf query id limit bytes answer) (concat_is (map f pieces) ∙ flat_map-map (λ l. l) f pieces) (is.audit known)
 
@@ -78,12 +79,12 @@ whole_is_known ending whole memory =
     let same : ends.Whole ≡ ends.Fault memory.0 Memory = sym whole ∙ memory.1 in cc
 
 -- a stream of one kind of placeholder is refused for how it ends
-pub end_is_cause : (query : List ℕ) (id limit : ℕ) (stream : List ℕ) (audit : Audit) (error : RecodeError) → HasMixed query false → ((IsMemory audit.ending → ⊥) → AuditOf query id limit stream audit)
+pub end_is_cause : (query : Sql) (id limit : ℕ) (stream : List ℕ) (audit : Audit) (error : RecodeError) → HasMixed query false → ((IsMemory audit.ending → ⊥) → AuditOf query id limit stream audit)
     → ((error ≡ errors.Memory) × IsMemory audit.ending) ⊎ ((ending_cause audit.ending ≡ Some error) × (IsMemory audit.ending → ⊥)) → RefusesRecoding query id limit stream error
 end_is_cause query id limit stream audit error one says (inl memory) = inl memory.0
 end_is_cause query id limit stream audit error one says (inr cause) =
     let tokens : List (List ℕ) = one.1.0 in
-    let places : List Place = places_from query 0 tokens in
+    let places : List Place = places_from query.text 0 tokens in
     let sets : Option RecodeError = option_map error_for (cause_of Execute (statement_of query tokens id) limit (map Ok (values_of_sets audit.sets))) in
     let alone : is_mixed places ≡ false = sym (one.2 ∙ ap is_mixed one.1.2) in
     inr record {
@@ -96,7 +97,7 @@ end_is_cause query id limit stream audit error one says (inr cause) =
     }
 
 -- what a receiver that can't be made is answered by
-pub refused_before : StreamHasOneAudit → (query : List ℕ) (id limit : ℕ) (stream : List ℕ) → AreBytes stream → {T : Type 0} (result : Result T RecodeError) (why : ReceiverError)
+pub refused_before : StreamHasOneAudit → (query : Sql) (id limit : ℕ) (stream : List ℕ) → AreBytes stream → {T : Type 0} (result : Result T RecodeError) (why : ReceiverError)
     → IsErrAnd result (λ error. ((why ≡ receiver_error.Mixed) × (error ≡ errors.Mixed)) ⊎ ((why ≡ receiver_error.Memory) × (error ≡ errors.Memory)))
     → (why ≡ receiver_error.Memory) ⊎ ((why ≡ receiver_error.Mixed) × HasMixed query true) → IfErr result (RefusesRecoding query id limit stream)
 refused_before one_audit query id limit stream bytes (Ok found) why from is = tt
@@ -122,7 +123,7 @@ same_values (set ∷ sets) (other ∷ others) same =
     let later : sets ≡ others = same_values sets others rest in
     cc
 
-module _ (query : List ℕ) (id limit : ℕ) (stream : List ℕ) (audit : Audit) (says : AuditOf query id limit stream audit) (whole : audit.ending ≡ ends.Whole) where
+module _ (query : Sql) (id limit : ℕ) (stream : List ℕ) (audit : Audit) (says : AuditOf query id limit stream audit) (whole : audit.ending ≡ ends.Whole) where
   -- what was sent of the stream's contents is its recoding
   pub sent_is_recoded : (old new : List ℕ) → SendsGiven Execute query (all_given_in_places (values_of_sets audit.sets)) id limit old new → Recodes query id limit stream old new
   sent_is_recoded old new sends = record {

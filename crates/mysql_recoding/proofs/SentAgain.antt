@@ -3,6 +3,7 @@ use Rattle.std.proofs.Common.{◌≡◌, ℕ, ◌-◌, ◌<◌, ◌^◌, List, [
 use Rattle.std.specs.List.{AllByRecursion}
 use Rattle.mysql_wire.specs.Stream.{framings}
 use Rattle.mysql_wire.specs.Stream.Numbering.{EachFromZero}
+use Rattle.mysql_values.specs.Sql.{Sql}
 use Rattle.mysql_values.specs.Queries.{places_from}
 use Rattle.mysql_receive.specs.Audit.{Audit, AuditOf}
 use Rattle.mysql_receive.specs.Reading.{Set}
@@ -14,7 +15,7 @@ use Rattle.mysql_command_rules.specs.Reading.{SentReadable}
 use Rattle.mysql_command_rules.specs.Cause.{cause_of}
 use Rattle.mysql_command_rules.specs.Sent.{payloads_of}
 use Rattle.mysql_command_rules.specs.Sets.{all_given_in_places}
-use Rattle.mysql_command_rules.specs.declared.road.Road.TheVariants.{Execute}
+use Rattle.mysql_command_rules.specs.SpelledRoad.{Execute}
 use Rattle.mysql_recoding.specs.Causes.{values_of_sets}
 use Rattle.mysql_recoding.specs.Laws.{CarriedSetsFillPlaces, FillsPlaces, RecodingsAreSent, RecodingsCarryTheSame, RecodingsRecodeToThemselves}
 use Rattle.mysql_recoding.specs.Recoding.{Recodes}
@@ -23,8 +24,8 @@ use Rattle.mysql_recoding.proofs.Causes.{free_of_causes, no_cause, recodable}
 use Rattle.mysql_recoding.proofs.SentContents.{one_contents, sets_fit, sets_held}
 
 -- wherever what is sent of them stands, the sets are sent by execute, and can be read back
-sent_where : ExecutionsHaveSizes → (query : List ℕ) (id limit : ℕ) (stream old new : List ℕ) → limit < 2 ^ 64 → (is : Recodes query id limit stream old new)
-    → AllByRecursion (FillsPlaces (places_from query 0 is.tokens)) is.audit.sets → (before behind : List ℕ) → behind ≡ before ++ framings (payloads_of is.sent) EachFromZero
+sent_where : ExecutionsHaveSizes → (query : Sql) (id limit : ℕ) (stream old new : List ℕ) → limit < 2 ^ 64 → (is : Recodes query id limit stream old new)
+    → AllByRecursion (FillsPlaces (places_from query.text 0 is.tokens)) is.audit.sets → (before behind : List ℕ) → behind ≡ before ++ framings (payloads_of is.sent) EachFromZero
     → SentReadable Execute query (all_given_in_places (values_of_sets is.audit.sets)) id limit before behind
 sent_where sizes query id limit stream old new small is fill before behind there =
     let statement : Statement = statement_of query is.tokens id in
@@ -60,7 +61,7 @@ carry_the_same fill_places are_carried sizes query id limit stream old recoded f
     (sent_where sizes query id limit stream old (old ++ recoded) small is fill [] recoded (appended query id limit stream old recoded is)) in
     let audit : AuditOf query id limit recoded (record { sets = carried.contents; ending = Whole }) =
     subst (λ (bytes : List ℕ). AuditOf query id limit bytes (record { sets = carried.contents; ending = Whole })) (sym carried.appended) carried.audit in
-    let same : carried.contents ≡ sets = one_contents carried.contents sets (sym carried.each ∙ sets_held (places_from query 0 is.tokens) sets fill) in
+    let same : carried.contents ≡ sets = one_contents carried.contents sets (sym carried.each ∙ sets_held (places_from query.text 0 is.tokens) sets fill) in
     subst (λ (l : List Set). AuditOf query id limit recoded (record { sets = l; ending = Whole })) same audit
 
 -- the same sets, to the end of a whole stream

@@ -9,6 +9,7 @@ use Rattle.mysql_wire.specs.Bytes.{AreBytes}
 use Rattle.mysql_wire.specs.Framing.{framing}
 use Rattle.mysql_wire.specs.Stream.{framings}
 use Rattle.mysql_wire.specs.Stream.Numbering.{EachFromZero}
+use Rattle.mysql_values.specs.Sql.{Sql}
 use Rattle.mysql_values.specs.Queries.{places_from}
 use Rattle.mysql_values.specs.Tokens.{HasTokens}
 use Rattle.mysql_bulk_builder.specs.Causes.{first_some}
@@ -23,7 +24,7 @@ use Rattle.mysql_command_rules.specs.Cause.{cause_of, first_of_sets, query_cause
 use Rattle.mysql_command_rules.specs.Commands.{prepare_command}
 use Rattle.mysql_command_rules.specs.Sent.{as_execution, payloads_of, prepare_of}
 use Rattle.mysql_command_rules.specs.declared.refusal.Refusal.{Refusal}
-use Rattle.mysql_command_rules.specs.declared.road.Road.TheVariants.{Execute}
+use Rattle.mysql_command_rules.specs.SpelledRoad.{Execute}
 use Rattle.mysql_send_execute.specs.Executions.{execution_payloads, whole_execution}
 use Rattle.mysql_recoding.specs.declared.errors.RecodeError.{RecodeError}
 use Rattle.mysql_recoding.specs.declared.errors.RecodeError.TheVariants as recode_error
@@ -76,12 +77,12 @@ answer_by (Some error) = Err error
 -- ---- a new recoder
 
 -- A recoder of streams about a query that can be prepared: it has read and recoded nothing, and holds the prepare.
-pub record IsNewRecoder (query : List ℕ) (id limit : ℕ) (r : RecoderState) : Type 0 where
+pub record IsNewRecoder (query : Sql) (id limit : ℕ) (r : RecoderState) : Type 0 where
   pub tokens : List (List ℕ)
-  pub has : HasTokens query tokens
+  pub has : HasTokens query.mode query.text tokens
   pub about : IsAbout r.terms.statement query id
   pub limit_is : r.terms.limit ≡ limit
-  pub places : r.terms.places ≡ length (places_from query 0 tokens)
+  pub places : r.terms.places ≡ length (places_from query.text 0 tokens)
   pub none : query_cause Execute (statement_of query tokens id) (limit - 4) ≡ None
   pub received : r.received ≡ fresh_receiver
   pub count : r.count ≡ 0
@@ -89,13 +90,13 @@ pub record IsNewRecoder (query : List ℕ) (id limit : ℕ) (r : RecoderState) :
   pub refused : r.refused ≡ None
 
 -- the error for the first cause for which the query can't be prepared
-pub record IsQueryCause (query : List ℕ) (id limit : ℕ) (error : RecodeError) : Type 0 where
+pub record IsQueryCause (query : Sql) (id limit : ℕ) (error : RecodeError) : Type 0 where
   pub tokens : List (List ℕ)
-  pub has : HasTokens query tokens
+  pub has : HasTokens query.mode query.text tokens
   pub first : option_map error_for (query_cause Execute (statement_of query tokens id) (limit - 4)) ≡ Some error
 
 -- why none is made: Memory, or that cause
-abbrev pub RefusesQuery : List ℕ → ℕ → ℕ → RecodeError → Type 0
+abbrev pub RefusesQuery : Sql → ℕ → ℕ → RecodeError → Type 0
 RefusesQuery query id limit error = (error ≡ recode_error.Memory) ⊎ IsQueryCause query id limit error
 
 -- ---- pieces
@@ -180,9 +181,9 @@ cause_as_it_comes statement limit audit = first_some (
     ending_cause audit.ending ∷ [])
 
 -- the first cause in that order for which the stream is not recoded
-pub record IsCauseAsItComes (query : List ℕ) (id limit : ℕ) (stream : List ℕ) (error : RecodeError) : Type 0 where
+pub record IsCauseAsItComes (query : Sql) (id limit : ℕ) (stream : List ℕ) (error : RecodeError) : Type 0 where
   pub tokens : List (List ℕ)
-  pub has : HasTokens query tokens
+  pub has : HasTokens query.mode query.text tokens
   pub audit : Audit
   pub says : AuditOf query id limit stream audit
   pub first : cause_as_it_comes (statement_of query tokens id) limit audit ≡ Some error
@@ -207,10 +208,10 @@ RecodesPieces old (piece ∷ pieces) appended new =
 -- recoding appends; where it isn't, the end is refused as recoding it is. A piece is refused for
 -- the first cause, in the order of the stream, against the pieces before it, it and whatever comes
 -- behind it.
-pub record RecodesTheSame (query : List ℕ) (id limit : ℕ) (pieces : List (List ℕ))
+pub record RecodesTheSame (query : Sql) (id limit : ℕ) (pieces : List (List ℕ))
     (appended : List ℕ) (now : RecoderState) : Type 0 where
   pub tokens : List (List ℕ)
-  pub has : HasTokens query tokens
+  pub has : HasTokens query.mode query.text tokens
   pub audit : Audit
   pub says : AuditOf query id limit (concat pieces) audit
   pub front : appended ≡ recoded_front (statement_of query tokens id) audit.sets
@@ -235,14 +236,14 @@ pub record CausesAgree (statement : Statement) (limit : ℕ) (audit : Audit) : T
 -- prepared is the first cause against any stream, and against a stream that can be recoded there is
 -- none.
 pub record RecodedAsItComes : Type 0 where
-  pub pieces_recode : (query : List ℕ) (id limit : ℕ) (start now : RecoderState)
+  pub pieces_recode : (query : Sql) (id limit : ℕ) (start now : RecoderState)
       (pieces : List (List ℕ)) (appended : List ℕ) → IsNewRecoder query id limit start
       → AreBytes (concat pieces) → RecodesPieces start pieces appended now →
       RecodesTheSame query id limit pieces appended now
-  pub queries_refuse : (query : List ℕ) (id limit : ℕ) (stream : List ℕ) (error : RecodeError) →
+  pub queries_refuse : (query : Sql) (id limit : ℕ) (stream : List ℕ) (error : RecodeError) →
       AreBytes stream → RefusesQuery query id limit error
       → (error ≡ recode_error.Memory) ⊎ IsCauseAsItComes query id limit stream error
-  pub recoded_pass : (query : List ℕ) (id limit : ℕ) (stream old new : List ℕ)
+  pub recoded_pass : (query : Sql) (id limit : ℕ) (stream old new : List ℕ)
       (error : RecodeError) → AreBytes stream → Recodes query id limit stream old new
       → IsCauseAsItComes query id limit stream error → ⊥
   pub causes_agree : (statement : Statement) (limit : ℕ) (audit : Audit) → CausesAgree statement limit audit

@@ -6,6 +6,7 @@ use Rattle.std.specs.Int.{w64}
 use Rattle.mysql_wire.specs.Bytes.{AreBytes}
 use Rattle.mysql_wire.specs.Stream.{IsSplit, Split, framings}
 use Rattle.mysql_wire.specs.Stream.Numbering.{EachFromZero}
+use Rattle.mysql_values.specs.Sql.{Sql}
 use Rattle.mysql_values.specs.Content.{Content}
 use Rattle.mysql_values.specs.Content.TheVariants as content
 use Rattle.mysql_values.specs.Contents.{content_value}
@@ -21,7 +22,7 @@ use Rattle.mysql_receive.specs.Query.{Statement, statement_of}
 use Rattle.mysql_command_rules.specs.Reading.{SentReadable}
 use Rattle.mysql_command_rules.specs.Sent.{AreSent, SentPayload, payloads_of, prepare_of}
 use Rattle.mysql_command_rules.specs.Sets.{all_given_in_places}
-use Rattle.mysql_command_rules.specs.declared.road.Road.TheVariants.{Execute}
+use Rattle.mysql_command_rules.specs.SpelledRoad.{Execute}
 use Rattle.mysql_recoding.specs.declared.errors.RecodeError.{RecodeError}
 use Rattle.mysql_recoding.specs.Causes.{recoding_cause, values_of_sets}
 use Rattle.mysql_recoding.specs.Recoding.{IsRecodingCause, Recodes}
@@ -44,14 +45,14 @@ pub record FillsPlaces (places : List Place) (set : Set) : Type 0 where
 -- Each set that a stream carries fills the query's placeholders.
 abbrev pub CarriedSetsFillPlaces : Type 0
 CarriedSetsFillPlaces =
-    (query : List ℕ) (tokens : List (List ℕ)) (id limit : ℕ) (stream : List ℕ) (audit : Audit) →
-    HasTokens query tokens → AreBytes stream
-    → AuditOf query id limit stream audit → AllByRecursion (FillsPlaces (places_from query 0 tokens)) audit.sets
+    (query : Sql) (tokens : List (List ℕ)) (id limit : ℕ) (stream : List ℕ) (audit : Audit) →
+    HasTokens query.mode query.text tokens → AreBytes stream
+    → AuditOf query id limit stream audit → AllByRecursion (FillsPlaces (places_from query.text 0 tokens)) audit.sets
 
 -- What recoding appends, in fewer than 2 ^ 64 bytes, carries the sets of the stream that was recoded, to its end.
 abbrev pub RecodingsCarryTheSame : Type 0
 RecodingsCarryTheSame =
-    (query : List ℕ) (id limit : ℕ) (stream old recoded : List ℕ) → id < 2 ^ 32 → 4 ≤ limit →
+    (query : Sql) (id limit : ℕ) (stream old recoded : List ℕ) → id < 2 ^ 32 → 4 ≤ limit →
     limit < 2 ^ 64 → length recoded < 2 ^ 64 → AreBytes stream
     → (is : Recodes query id limit stream old (old ++ recoded)) →
     AuditOf query id limit recoded (record { sets = is.audit.sets; ending = Whole })
@@ -59,7 +60,7 @@ RecodingsCarryTheSame =
 -- What recoding appends is what execute sends of the values of the stream's contents, in a form that can be read back.
 abbrev pub RecodingsAreSent : Type 0
 RecodingsAreSent =
-    (query : List ℕ) (id limit : ℕ) (stream old new : List ℕ) → limit < 2 ^ 64 → AreBytes stream
+    (query : Sql) (id limit : ℕ) (stream old new : List ℕ) → limit < 2 ^ 64 → AreBytes stream
     → (is : Recodes query id limit stream old new) →
     SentReadable Execute query (all_given_in_places (values_of_sets is.audit.sets)) id limit old
     new
@@ -67,7 +68,7 @@ RecodingsAreSent =
 -- What recoding appends, in fewer than 2 ^ 64 bytes, recodes to the same bytes.
 abbrev pub RecodingsRecodeToThemselves : Type 0
 RecodingsRecodeToThemselves =
-    (query : List ℕ) (id limit : ℕ) (stream old other recoded : List ℕ) → id < 2 ^ 32 → 4 ≤ limit →
+    (query : Sql) (id limit : ℕ) (stream old other recoded : List ℕ) → id < 2 ^ 32 → 4 ≤ limit →
     limit < 2 ^ 64 → length recoded < 2 ^ 64 → AreBytes stream
     → Recodes query id limit stream old (old ++ recoded) → Recodes query id limit recoded other (other ++ recoded)
 
@@ -78,7 +79,7 @@ pub record RecodeEqually (sets others : List Set) (recoded other : List ℕ) : T
 
 abbrev pub EqualSetsRecodeEqually : Type 0
 EqualSetsRecodeEqually =
-    (query : List ℕ) (id limit : ℕ) (stream behind old recoded after other : List ℕ) → id < 2 ^ 32 →
+    (query : Sql) (id limit : ℕ) (stream behind old recoded after other : List ℕ) → id < 2 ^ 32 →
     4 ≤ limit → limit < 2 ^ 64 → length recoded < 2 ^ 64 → AreBytes stream → AreBytes behind →
     AreBytes recoded
     → (first : Recodes query id limit stream old (old ++ recoded)) →
@@ -86,7 +87,7 @@ EqualSetsRecodeEqually =
     → RecodeEqually first.audit.sets second.audit.sets recoded other
 
 -- A stream is recoded in one way, or refused for one cause, and never both.
-pub record IsDecided (query : List ℕ) (id limit : ℕ) (stream old : List ℕ) : Type 0 where
+pub record IsDecided (query : Sql) (id limit : ℕ) (stream old : List ℕ) : Type 0 where
   pub one : (new other : List ℕ) → Recodes query id limit stream old new →
       Recodes query id limit stream old other → new ≡ other
   pub cause_one : (error other : RecodeError) → IsRecodingCause query id limit stream error →
@@ -95,7 +96,7 @@ pub record IsDecided (query : List ℕ) (id limit : ℕ) (stream old : List ℕ)
       IsRecodingCause query id limit stream error → ⊥
 
 abbrev pub RecodingsAreDecided : Type 0
-RecodingsAreDecided = (query : List ℕ) (id limit : ℕ) (stream old : List ℕ) → AreBytes stream →
+RecodingsAreDecided = (query : Sql) (id limit : ℕ) (stream old : List ℕ) → AreBytes stream →
     IsDecided query id limit stream old
 
 -- the sets of two whole streams one behind the other
@@ -105,7 +106,7 @@ both first second = record { sets = first.sets ++ second.sets; ending = Whole }
 -- Two whole streams one behind the other carry the sets of both; they can be recoded exactly where
 -- each of them can, and then what is sent of the second one behind the prepare is sent behind what
 -- is sent of the first one, and so stand their bytes.
-pub record RecodesJoined (query : List ℕ) (id limit : ℕ) (statement : Statement)
+pub record RecodesJoined (query : Sql) (id limit : ℕ) (statement : Statement)
     (stream behind : List ℕ) (first second : Audit) : Type 0 where
   pub says : AuditOf query id limit (stream ++ behind) (both first second)
   pub from_each : recoding_cause statement limit first ≡ None →
@@ -123,8 +124,8 @@ pub record RecodesJoined (query : List ℕ) (id limit : ℕ) (statement : Statem
 
 abbrev pub JoinedStreamsRecode : Type 0
 JoinedStreamsRecode =
-    (query : List ℕ) (tokens : List (List ℕ)) (id limit : ℕ) (stream behind : List ℕ)
-    (front back : Split) (first second : Audit) → HasTokens query tokens
+    (query : Sql) (tokens : List (List ℕ)) (id limit : ℕ) (stream behind : List ℕ)
+    (front back : Split) (first second : Audit) → HasTokens query.mode query.text tokens
     → IsSplit limit EachFromZero stream front → IsSplit limit EachFromZero behind back →
     length front.payloads + length back.payloads < 2 ^ 64
     → AuditOf query id limit stream first → AuditOf query id limit behind second → first.ending ≡

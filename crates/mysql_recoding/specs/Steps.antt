@@ -4,6 +4,7 @@ use Rattle.std.specs.Prelude.{◌≡◌, ◌⊎◌, ℕ, ◌+◌, ◌-◌, List,
 use Rattle.std.specs.Option.{option_map}
 use Rattle.mysql_wire.specs.Bytes.{AreBytes}
 use Rattle.mysql_wire.specs.Framing.{framing}
+use Rattle.mysql_values.specs.Sql.{Sql}
 use Rattle.mysql_values.specs.Queries.{places_from}
 use Rattle.mysql_values.specs.Tokens.{HasTokens}
 use Rattle.mysql_receive.specs.declared.fault.StreamFault.{StreamFault}
@@ -15,7 +16,7 @@ use Rattle.mysql_receive.specs.Taking.{with_sets}
 use Rattle.mysql_receive.specs.Query.{statement_of}
 use Rattle.mysql_command_rules.specs.Cause.{query_cause}
 use Rattle.mysql_command_rules.specs.Commands.{prepare_command}
-use Rattle.mysql_command_rules.specs.declared.road.Road.TheVariants.{Execute}
+use Rattle.mysql_command_rules.specs.SpelledRoad.{Execute}
 use Rattle.mysql_recoding.specs.declared.errors.RecodeError.{RecodeError}
 use Rattle.mysql_recoding.specs.declared.errors.RecodeError.TheVariants as recode_error
 use Rattle.mysql_recoding.specs.Causes.{error_for}
@@ -23,10 +24,10 @@ use Rattle.mysql_recoding.specs.AsItComes.{Recoded, appended_of, executions, exe
 use Rattle.mysql_recoding.specs.AsItComes.{recoder_state, sets_cause, with_taken}
 
 -- a query that can be prepared, with so many placeholders, and its framed prepare
-pub record CanBePrepared (query : List ℕ) (id limit places : ℕ) (prepare : List ℕ) : Type 0 where
+pub record CanBePrepared (query : Sql) (id limit places : ℕ) (prepare : List ℕ) : Type 0 where
   pub tokens : List (List ℕ)
-  pub has : HasTokens query tokens
-  pub places_are : places ≡ length (places_from query 0 tokens)
+  pub has : HasTokens query.mode query.text tokens
+  pub places_are : places ≡ length (places_from query.text 0 tokens)
   pub none : query_cause Execute (statement_of query tokens id) (limit - 4) ≡ None
   pub prepare_is : prepare ≡ framing (prepare_command (statement_of query tokens id).query.parsed) 0
 

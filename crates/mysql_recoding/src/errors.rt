@@ -16,22 +16,22 @@ use thiserror::Error;
 #[derive(Clone, Copy, Debug, PartialEq, Eq, Error)]
 pub enum RecodeError {
     /// The query has both names and question marks.
-    #[error("the query has both named and positional parameters")]
+    #[error("the query has both named and positional parameters: use one kind")]
     Mixed,
     /// The payload of this number is refused, or the bytes behind the payloads are.
     #[error("payload {0}: {1}")]
     Stream(u64, StreamFault),
     /// The stream ends before it is whole: where long data waits, or inside a packet.
-    #[error("{0}")]
+    #[error("{0}: give the rest of the stream too")]
     Unfinished(End),
     /// The query has more than 65535 placeholders.
-    #[error("the query has more than 65535 placeholders")]
+    #[error("the query has more than 65535 placeholders: split it")]
     TooManyPlaces,
     /// The prepare is longer than a payload within the limit.
-    #[error("the prepare is larger than max_allowed_packet")]
+    #[error("the prepare is larger than max_allowed_packet: raise it, or shorten the query")]
     PrepareTooLarge,
     /// The execution of a set, with all its byte strings in it, is longer than a payload within the limit.
-    #[error("set {0}: its execution is larger than max_allowed_packet")]
+    #[error("set {0}: its execution is larger than max_allowed_packet: raise it")]
     PacketTooLarge(usize),
     #[error("out of memory")]
     Memory,

@@ -8,4 +8,4 @@ mod whole;
 
 pub use errors::RecodeError;
 pub use recoder::Recoder;
-pub use whole::{recode, send_contents};
+pub use whole::{recode, recode_in, send_contents, send_contents_in};

@@ -3,6 +3,7 @@
 ghost use Rattle.std.specs.Prelude.{◌≡◌, ◌≤◌, ◌++◌, ◌⊎◌, ℕ, List, Err, IfErr, IfOk, IfSome, None, OnErr, OnOk, Some};
 ghost use Rattle.std.specs.Prelude.{length, take};
 ghost use Rattle.std.specs.Option.{option_map};
+ghost use Rattle.mysql_values.specs.Sql.{read_by_default, read_in};
 ghost use Rattle.mysql_receive.specs.Views.{sets_of};
 ghost use Rattle.mysql_recoding.specs.declared.errors.RecodeError.TheVariants as recode_error;
 ghost use Rattle.mysql_recoding.specs.Causes.{error_for};
@@ -15,6 +16,7 @@ use crate::whole::{refused, values_of_all};
 use mysql_receive::laws::there_is_one_audit;
 use mysql_receive::{Content, Receiver, StreamFault};
 use mysql_send_execute::{Statement, put_more_executions, put_prepare};
+use mysql_values::Mode;
 use mysql_values::laws::tokens_of_a_text;
 use mysql_wire::laws::one_split;
 use std::alloc::Global;
@@ -53,14 +55,15 @@ fn prepared(
     query: &[u8],
     stmt_id: u32,
     limit: usize,
+    mode: Mode,
 ) -> Result<(usize, Vec<u8>), RecodeError>
     requires { 4 ≤ limit }
-    ensures ok { IfOk result (λ found. CanBePrepared query.now stmt_id limit found.0 found.1.items) }
+    ensures ok { IfOk result (λ found. CanBePrepared (read_in mode query.now) stmt_id limit found.0 found.1.items) }
     ensures few { IfOk result (λ found. found.0 ≤ 65535) }
-    ensures err { IfErr result (RefusesQuery query.now stmt_id limit) }
+    ensures err { IfErr result (RefusesQuery (read_in mode query.now) stmt_id limit) }
 {
     tokens_of_a_text();
-    let statement = match Statement::new(alloc, query, stmt_id) {
+    let statement = match Statement::new_in(alloc, query, stmt_id, mode) {
         Ok(statement) => statement,
         Err(refusal) => return Err(refused(refusal)),
     };
@@ -151,11 +154,36 @@ impl Recoder {
         limit: usize,
     ) -> Result<Recoder, RecodeError>
         requires { 4 ≤ limit }
-        ensures new { IfOk result (λ recoder. IsNewRecoder query.now stmt_id limit (recoder_state recoder)) }
-        ensures refused { IfErr result (RefusesQuery query.now stmt_id limit) }
+        ensures new { IfOk result
+            (λ recoder. IsNewRecoder (read_by_default query.now) stmt_id limit (recoder_state recoder)) }
+        ensures refused { IfErr result (RefusesQuery (read_by_default query.now) stmt_id limit) }
     {
-        let (places, prepare) = prepared(alloc, query, stmt_id, limit)?;
-        let receiver = match Receiver::new(alloc, query, stmt_id, limit) {
+        Recoder::new_in(alloc, query, stmt_id, limit, Mode::default())
+    }
+
+    /// A recoder of a stream that was sent to a server in this mode, else as [`Recoder::new`] makes
+    /// it.
+    ///
+    /// Promise: it is refused for the first cause against preparing the query (`RefusesQuery`).
+    ///
+    /// # Errors
+    /// - Those of [`Recoder::new`], in its order.
+    ///
+    /// (MySQL Reference Manual, "Server SQL Modes".)
+    pub fn new_in(
+        alloc: Global,
+        query: &[u8],
+        stmt_id: u32,
+        limit: usize,
+        mode: Mode,
+    ) -> Result<Recoder, RecodeError>
+        requires { 4 ≤ limit }
+        ensures new { IfOk result
+            (λ recoder. IsNewRecoder (read_in mode query.now) stmt_id limit (recoder_state recoder)) }
+        ensures refused { IfErr result (RefusesQuery (read_in mode query.now) stmt_id limit) }
+    {
+        let (places, prepare) = prepared(alloc, query, stmt_id, limit, mode)?;
+        let receiver = match Receiver::new_in(alloc, query, stmt_id, limit, mode) {
             Ok(receiver) => receiver,
             // A query that can be prepared has one kind of placeholder.
             Err(_) => return Err(RecodeError::Memory),

@@ -10,19 +10,21 @@ ghost use Rattle.mysql_command_rules.specs.declared.refusal.Refusal.TheVariants 
 ghost use Rattle.mysql_command_rules.specs.Reading.{SentReadable};
 ghost use Rattle.mysql_command_rules.specs.Sending.{RefusesGiven};
 ghost use Rattle.mysql_command_rules.specs.Sets.{all_given_in_places};
-ghost use Rattle.mysql_command_rules.specs.declared.road.Road.TheVariants as roads;
+ghost use Rattle.mysql_command_rules.specs.SpelledRoad as roads;
 ghost use Rattle.mysql_receive.specs.Views.{sets_of};
+ghost use Rattle.mysql_values.specs.Sql.{read_by_default, read_in};
 ghost use Rattle.mysql_recoding.specs.Causes.{error_for, values_of_sets};
 ghost use Rattle.mysql_recoding.specs.Recoding.{Recodes, RefusesRecoding};
 
 use crate::errors::RecodeError;
+use mysql_buf::laws::are_bytes;
 use mysql_command_rules::Refusal;
 use mysql_command_rules::in_turn::sent_in_turn;
 use mysql_receive::laws::stream_has_one_audit;
-use mysql_receive::{Audit, Content, receive};
+use mysql_receive::{Audit, Content, receive_in};
 use mysql_send_execute::{Statement, put_executions_of_values};
 use mysql_to_values::ToValue;
-use mysql_values::Value;
+use mysql_values::{Mode, Value};
 use std::alloc::Global;
 
 /// The value that a content is sent as. Its bytes are moved.
@@ -69,10 +71,10 @@ pub(crate) fn values_of_all(
 
 /// Appends to `out` the commands that carry sets of contents of a query to a server.
 ///
-/// They are one prepare, also where there are no sets, and an execution of the statement `stmt_id`
-/// for each set, its contents in the order of the placeholders, as [`recode`] has them: nothing as
-/// NULL, a number as `Int` where it fits, else as `UInt`, bytes as `Bytes`. No bytes are copied but
-/// into `out`.
+/// [`send_contents_in`] for a server in the default mode. They are one prepare, also where there
+/// are no sets, and an execution of the statement `stmt_id` for each set, its contents in the order
+/// of the placeholders, as [`recode`] has them: nothing as NULL, a number as `Int` where it fits,
+/// else as `UInt`, bytes as `Bytes`. No bytes are copied but into `out`.
 ///
 /// `limit` is the `max_allowed_packet` of the server, at least 4: a payload has at most `limit - 4`
 /// bytes.
@@ -102,18 +104,51 @@ pub fn send_contents(
 ) -> Result<(), Refusal>
     requires { 4 ≤ limit }
     ensures sent { OnOk result
-        (SentReadable roads.Execute query.now
+        (SentReadable roads.Execute (read_by_default query.now)
         (all_given_in_places (values_of_sets (sets_of sets.items))) stmt_id limit out.old.items
         out.new.items) }
     ensures refused { IfErr result
-        (RefusesGiven roads.Execute query.now
+        (RefusesGiven roads.Execute (read_by_default query.now)
+        (all_given_in_places (values_of_sets (sets_of sets.items))) stmt_id limit) }
+    ensures kept { OnErr result (out.new.items ≡ out.old.items) }
+{
+    send_contents_in(alloc, query, sets, stmt_id, limit, Mode::default(), out)
+}
+
+/// Appends what [`send_contents`] appends, where the query is for a server in this mode.
+///
+/// No value stands in a text: the mode tells where the query's placeholders are.
+///
+/// Promise: what is appended is the same form of the sets as execute sends, or the first cause of
+/// sending them is answered (`SentReadable`, `RefusesGiven`).
+///
+/// # Errors
+/// Those of [`send_contents`], in its order. `out` is as it was after an error.
+///
+/// (MySQL: Client/Server Protocol, "COM_STMT_EXECUTE"; MySQL Reference Manual, "Server SQL Modes".)
+pub fn send_contents_in(
+    alloc: Global,
+    query: &[u8],
+    sets: Vec<Vec<Content>>,
+    stmt_id: u32,
+    limit: usize,
+    mode: Mode,
+    out: &mut Vec<u8>,
+) -> Result<(), Refusal>
+    requires { 4 ≤ limit }
+    ensures sent { OnOk result
+        (SentReadable roads.Execute (read_in mode query.now)
+        (all_given_in_places (values_of_sets (sets_of sets.items))) stmt_id limit out.old.items
+        out.new.items) }
+    ensures refused { IfErr result
+        (RefusesGiven roads.Execute (read_in mode query.now)
         (all_given_in_places (values_of_sets (sets_of sets.items))) stmt_id limit) }
     ensures kept { OnErr result (out.new.items ≡ out.old.items) }
 {
     sent_in_turn();
     let start = out.len();
     let values = values_of_all(alloc, sets)?;
-    let statement = Statement::new(alloc, query, stmt_id)?;
+    let statement = Statement::new_in(alloc, query, stmt_id, mode)?;
     match put_executions_of_values(alloc, &statement, &values, limit, out) {
         Ok(()) => Ok(()),
         Err(refusal) => {
@@ -123,14 +158,7 @@ pub fn send_contents(
     }
 }
 
-/// A piece holds bytes: a fact that the proofs below use.
-fn are_bytes(piece: &[u8])
-    ensures { AreBytes piece.now }
-{
-    let _first = piece.first();
-}
-
-/// So does what the pieces make one after another.
+/// What pieces make one after another holds bytes: a fact that the proofs below use.
 fn all_are_bytes(pieces: &[&[u8]])
     ensures { AreBytes (flat_map (λ piece. piece.now) pieces.now) }
 {
@@ -145,19 +173,20 @@ fn whole_audit(
     query: &[u8],
     stmt_id: u32,
     limit: usize,
+    mode: Mode,
     pieces: &[&[u8]],
 ) -> Result<Audit, RecodeError>
     requires { 4 ≤ limit }
     ensures says { IfOk result
-        (λ audit. AuditOf query.now stmt_id limit (flat_map (λ piece. piece.now) pieces.now)
+        (λ audit. AuditOf (read_in mode query.now) stmt_id limit (flat_map (λ piece. piece.now) pieces.now)
         (audit_of audit)) }
     ensures whole { IfOk result (λ audit. audit.end ≡ ends.Whole) }
     ensures refused { IfErr result
-        (RefusesRecoding query.now stmt_id limit (flat_map (λ piece. piece.now) pieces.now)) }
+        (RefusesRecoding (read_in mode query.now) stmt_id limit (flat_map (λ piece. piece.now) pieces.now)) }
 {
     stream_has_one_audit();
     all_are_bytes(pieces);
-    let audit = receive(alloc, query, stmt_id, limit, pieces)?;
+    let audit = receive_in(alloc, query, stmt_id, limit, mode, pieces)?;
     match RecodeError::of_end(audit.end) {
         Some(error) => Err(error),
         None => Ok(audit),
@@ -217,14 +246,46 @@ pub fn recode(
 ) -> Result<(), RecodeError>
     requires { 4 ≤ limit }
     ensures recoded { OnOk result
-        (Recodes query.now stmt_id limit (flat_map (λ piece. piece.now) pieces.now) out.old.items
-        out.new.items) }
+        (Recodes (read_by_default query.now) stmt_id limit (flat_map (λ piece. piece.now) pieces.now)
+        out.old.items out.new.items) }
     ensures refused { IfErr result
-        (RefusesRecoding query.now stmt_id limit (flat_map (λ piece. piece.now) pieces.now)) }
+        (RefusesRecoding (read_by_default query.now) stmt_id limit (flat_map (λ piece. piece.now) pieces.now)) }
     ensures kept { OnErr result (out.new.items ≡ out.old.items) }
 {
-    let audit = whole_audit(alloc, query, stmt_id, limit, pieces)?;
-    match send_contents(alloc, query, audit.sets, stmt_id, limit, out) {
+    recode_in(alloc, query, stmt_id, limit, Mode::default(), pieces, out)
+}
+
+/// Appends what [`recode`] appends of a stream that was sent to a server in this mode.
+///
+/// What is appended carries no texts with values, so that it is for a server in any mode in which
+/// the query's own text is the same.
+///
+/// Promise: one prepare and an execution of each set that the stream carries in this mode are
+/// appended, or the first cause is answered and `out` is as it was (`Recodes`, `RefusesRecoding`).
+///
+/// # Errors
+/// Those of [`recode`], in its order. `out` is as it was after an error.
+///
+/// (MySQL Reference Manual, "Server SQL Modes".)
+pub fn recode_in(
+    alloc: Global,
+    query: &[u8],
+    stmt_id: u32,
+    limit: usize,
+    mode: Mode,
+    pieces: &[&[u8]],
+    out: &mut Vec<u8>,
+) -> Result<(), RecodeError>
+    requires { 4 ≤ limit }
+    ensures recoded { OnOk result
+        (Recodes (read_in mode query.now) stmt_id limit (flat_map (λ piece. piece.now) pieces.now)
+        out.old.items out.new.items) }
+    ensures refused { IfErr result
+        (RefusesRecoding (read_in mode query.now) stmt_id limit (flat_map (λ piece. piece.now) pieces.now)) }
+    ensures kept { OnErr result (out.new.items ≡ out.old.items) }
+{
+    let audit = whole_audit(alloc, query, stmt_id, limit, mode, pieces)?;
+    match send_contents_in(alloc, query, audit.sets, stmt_id, limit, mode, out) {
         Ok(()) => Ok(()),
         Err(refusal) => Err(refused(refusal)),
     }

@@ -1,14 +1,17 @@
 -- Text rows that are appended cell by cell.
 use Rattle.std.proofs.Common.{◌≡◌, ℕ, ◌+◌, ◌-◌, ◌*◌, ◌^◌, ◌<◌, ◌≤◌, Bool, true, false, List, [], ◌∷◌, ◌++◌, length, map, take, set, Option, Some, Result, Ok, Err, refl, subst, sym, ap, ◌∙◌, append_assoc, length-append, arith}
-use Rattle.std.specs.Prelude.{◌&&◌, ◌==◌, not, if◌then◌else◌, replicate, unwrap_or, IsSome, IsSomeAnd, OnOk, is_err, flat_map}
+use Rattle.std.specs.Prelude.{◌&&◌, ◌==◌, not, if◌then◌else◌, replicate, unwrap_or, IsSome, is_err, flat_map}
 use Rattle.std.specs.Fmt.{decimal, sign_text}
 use Rattle.std.proofs.lemmas.Bool.{lt-ltb}
 use Rattle.std.proofs.lemmas.Fmt.{length-decimal-le}
 use Rattle.std.proofs.lemmas.List.{length-replicate, take_all, take_at}
 use Rattle.mysql_buf.specs.Writing.{lenenc_str}
 use Rattle.mysql_queries.specs.Tokens.{single_quote}
-use Rattle.mysql_cells.specs.AsSql.{FitsFields}
+use Rattle.mysql_queries.specs.Sql.{default_mode}
+use Rattle.mysql_cells.specs.AsSql.{FitsFields, PutsLiteral}
 use Rattle.mysql_cells.specs.Values.{clock_text, day_text, digits_in, in_quotes, is_zero_time, literal_of, micros_text}
+use Rattle.mysql_cells.specs.declared.as_sql.AsSqlError.{AsSqlError}
+use Rattle.mysql_cells.specs.declared.spelling.Spelling.TheVariants.{Quoted}
 use Rattle.mysql_cells.specs.declared.value.Value.{Value}
 use Rattle.mysql_cells.specs.declared.value.Value.TheVariants.{NULL, Bytes, Int, UInt, Float, Double, Date, Time}
 use Rattle.mysql_rows.specs.CellsWritten.{temporal_text}
@@ -69,7 +72,7 @@ temporal_short (Time negative days hours minutes seconds micros) h =
 -- DATES AND TIMES
 
 -- the literal of a date or a time is its text between quotes
-pub temporal_literal : (value : Value) → IsSome (temporal_text value) → literal_of value ≡ Some (in_quotes (unwrap_or (temporal_text value) []))
+pub temporal_literal : (value : Value) → IsSome (temporal_text value) → literal_of default_mode Quoted value ≡ Some (in_quotes (unwrap_or (temporal_text value) []))
 temporal_literal NULL h = absurd (cc)
 temporal_literal (Bytes bytes) h = absurd (cc)
 temporal_literal (Int z) h = absurd (cc)
@@ -80,9 +83,9 @@ temporal_literal (Date year month day hour minute second micros) h = refl
 temporal_literal (Time negative days hours minutes seconds micros) h = refl
 
 -- what the literal is appended as, where it is
-pub temporal_put : {E : Type 0} (value : Value) (result : Result (Unit {0}) E) (old new : List ℕ) → IsSome (temporal_text value) → is_err result ≡ false
-    → OnOk result (IsSomeAnd (literal_of value) (λ text. new ≡ old ++ text)) → new ≡ old ++ in_quotes (unwrap_or (temporal_text value) [])
-temporal_put value (Ok done) old new some ok put = subst (λ (found : Option (List ℕ)). IsSomeAnd found (λ text. new ≡ old ++ text)) (temporal_literal value some) put
+pub temporal_put : (value : Value) (result : Result (Unit {0}) AsSqlError) (old new : List ℕ) → IsSome (temporal_text value) → is_err result ≡ false
+    → PutsLiteral (literal_of default_mode Quoted value) old new result → new ≡ old ++ in_quotes (unwrap_or (temporal_text value) [])
+temporal_put value (Ok done) old new some ok put = subst (λ (found : Option (List ℕ)). PutsLiteral found old new (Ok done)) (temporal_literal value some) put
 temporal_put value (Err e) old new some ok put = absurd (cc)
 
 set_behind : (old text : List ℕ) (q n : ℕ) → set (old ++ q ∷ text) (length old) n ≡ old ++ n ∷ text

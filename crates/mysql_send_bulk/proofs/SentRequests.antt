@@ -1,20 +1,21 @@
 -- The requests of sets by bulk, part by part, and behind their prepare.
 use Rattle.std.proofs.Common.{◌≡◌, ◌≢◌, ℕ, ◌+◌, ◌-◌, ◌≤◌, ◌==◌, inl, inr, Bool, true, false, List, [], ◌∷◌, ◌++◌, length, map, take, drop, Option, Some, None, Ok, refl, sym, ◌∙◌, ap, subst, arith, append_assoc, Bor}
-use Rattle.std.specs.Prelude.{nat_lt, sum_by}
+use Rattle.std.specs.Prelude.{sum_by}
 use Rattle.std.specs.List.{range_with_len}
 use Rattle.std.specs.Option.{option_or}
-use Rattle.std.proofs.lemmas.Bool.{le-ltb, ne_eqb}
+use Rattle.std.proofs.lemmas.Bool.{ne_eqb}
 use Rattle.std.proofs.lemmas.List.{append-nil, drop-map, drop-take, take-append-drop, take-append-le, take-map, take-take}
 use Rattle.std.proofs.lemmas.List.Sums.{sum_by-cons}
 use Rattle.std.proofs.lemmas.Simd.{map-map}
 use Rattle.mysql_wire.specs.Framing.{framing}
 use Rattle.mysql_wire.specs.Stream.{framings}
 use Rattle.mysql_wire.specs.Stream.Numbering.{EachFromZero}
+use Rattle.mysql_values.specs.Sql.{Sql}
 use Rattle.mysql_values.specs.declared.params.Params.{Params}
 use Rattle.mysql_values.specs.declared.params.SetError.{SetError}
 use Rattle.mysql_values.specs.Laws.{OneTokens}
 use Rattle.mysql_values.specs.Parsed.{Parsed, names_of}
-use Rattle.mysql_values.specs.Queries.{is_mixed, places_from}
+use Rattle.mysql_values.specs.Queries.{places_from}
 use Rattle.mysql_values.specs.Value.{Value}
 use Rattle.mysql_bulk.specs.Bulk.{bulk_command, type_of_value}
 use Rattle.mysql_bulk_builder.specs.declared.search.BulkPart.{BulkPart}
@@ -26,11 +27,11 @@ use Rattle.mysql_bulk_builder.specs.ValueTypes.{first_in_column, first_values}
 use Rattle.mysql_receive.specs.Query.{statement_of}
 use Rattle.mysql_command_rules.specs.declared.refusal.Refusal.{Refusal}
 use Rattle.mysql_command_rules.specs.declared.refusal.Refusal.TheVariants as refusals
-use Rattle.mysql_command_rules.specs.declared.road.Road.TheVariants.{Bulk}
+use Rattle.mysql_command_rules.specs.SpelledRoad.{Bulk}
 use Rattle.mysql_command_rules.specs.Commands.{bulk_request, prepare_command}
 use Rattle.mysql_command_rules.specs.Sets.{Given, given_up_to, values_of}
 use Rattle.mysql_command_rules.specs.Sent.{as_requests, payloads_of, prepare_of, stream_of}
-use Rattle.mysql_command_rules.specs.Cause.{bulk_cause, cause_if, first_of_sets, max_places, prepare_cause, query_cause, set_cause}
+use Rattle.mysql_command_rules.specs.Cause.{bulk_cause, cause_if, first_of_sets, prepare_cause, query_cause, set_cause}
 use Rattle.mysql_command_rules.specs.Sending.{RefusesGiven}
 use Rattle.mysql_command_rules.specs.Reading.{SentReadable}
 use Rattle.mysql_send_execute.specs.Executions.{limits_of}
@@ -135,23 +136,23 @@ pub said_over : (P : ℕ → ℕ → List (List ℕ) → Type 0) (number id coun
 said_over P number id count places names those one many named holds = subst (λ (l : List (List ℕ)). P id places l) named (subst (λ (n : ℕ). P id n names) many (subst (λ (n : ℕ). P n count names) one holds))
 
 -- what speaks against the prepare is the first cause
-pub refused_prepare : (query : List ℕ) (sets : List (List ℕ) → List Given) (id limit : ℕ) (refusal : Refusal) → RefusesPrepare query id (limit - 4) refusal → RefusesGiven Bulk query sets id limit refusal
+pub refused_prepare : (query : Sql) (sets : List (List ℕ) → List Given) (id limit : ℕ) (refusal : Refusal) → RefusesPrepare query id (limit - 4) refusal → RefusesGiven Bulk query sets id limit refusal
 refused_prepare query sets id limit refusal (inl memory) = inl memory
 refused_prepare query sets id limit refusal (inr why) =
     inr (record {
       tokens = why.0;
       has = why.1;
       first = first_is (query_cause Bulk (statement_of query why.0 id) (limit - 4)) _ refusal
-          (first_is (prepare_cause (statement_of query why.0 id).query (limit - 4)) (cause_if (length (places_from query 0 why.0) == 0) refusals.NoPlaces) refusal why.2);
+          (first_is (prepare_cause (statement_of query why.0 id).query (limit - 4)) (cause_if (length (places_from query.text 0 why.0) == 0) refusals.NoPlaces) refusal why.2);
     })
 
 -- no placeholders are the cause where nothing speaks against the prepare
 no_places_cause : (prepare : Option Refusal) (none : Bool) → prepare ≡ None → none ≡ true → option_or prepare (cause_if none refusals.NoPlaces) ≡ Some refusals.NoPlaces
 no_places_cause prepare none prepared empty = rw (prepared, empty) refl
 
-module _ (once : OneTokens) (query : List ℕ) (parsed : Parsed) (places : ℕ) (s : IsStatement query parsed places) (sets : List Params) (stop : Option SetError) (id limit : ℕ) (old mid : List ℕ) (p : AppendsPrepare query id (limit - 4) old mid) where
+module _ (once : OneTokens) (query : Sql) (parsed : Parsed) (places : ℕ) (s : IsStatement query parsed places) (sets : List Params) (stop : Option SetError) (id limit : ℕ) (old mid : List ℕ) (p : AppendsPrepare query id (limit - 4) old mid) where
   same : p.0 ≡ s.tokens
-  same = once query p.0 s.tokens p.1 s.has
+  same = once query.mode query.text p.0 s.tokens p.1 s.has
 
   -- nothing speaks against the prepare, which is appended
   prepared : prepare_cause (statement_of query s.tokens id).query (limit - 4) ≡ None
@@ -169,24 +170,24 @@ module _ (once : OneTokens) (query : List ℕ) (parsed : Parsed) (places : ℕ) 
         tokens = s.tokens;
         has = s.has;
         first = first_is (query_cause Bulk (statement_of query s.tokens id) (limit - 4)) _ refusals.NoPlaces
-            (no_places_cause (prepare_cause (statement_of query s.tokens id).query (limit - 4)) (length (places_from query 0 s.tokens) == 0) prepared (subst (λ (n : ℕ). (n == 0) ≡ true) (sym none ∙ s.count) refl));
+            (no_places_cause (prepare_cause (statement_of query s.tokens id).query (limit - 4)) (length (places_from query.text 0 s.tokens) == 0) prepared (subst (λ (n : ℕ). (n == 0) ≡ true) (sym none ∙ s.count) refl));
       })
 
   -- nothing speaks against the query
   no_query_cause : places ≢ 0 → query_cause Bulk (statement_of query s.tokens id) (limit - 4) ≡ None
-  no_query_cause some = query_none (prepare_cause (statement_of query s.tokens id).query (limit - 4)) (length (places_from query 0 s.tokens) == 0) prepared (subst (λ (n : ℕ). (n == 0) ≡ false) s.count (ne_eqb places 0 some))
+  no_query_cause some = query_none (prepare_cause (statement_of query s.tokens id).query (limit - 4)) (length (places_from query.text 0 s.tokens) == 0) prepared (subst (λ (n : ℕ). (n == 0) ≡ false) s.count (ne_eqb places 0 some))
 
   -- what was said over the statement's names and count is said over the tokens'
-  over_tokens : (P : ℕ → List Given → Type 0) → P places (given_up_to sets stop parsed.names) → P (length (places_from query 0 s.tokens)) (given_up_to sets stop (names_of s.tokens))
+  over_tokens : (P : ℕ → List Given → Type 0) → P places (given_up_to sets stop parsed.names) → P (length (places_from query.text 0 s.tokens)) (given_up_to sets stop (names_of s.tokens))
   over_tokens P holds =
-      subst (λ (names : List (List ℕ)). P (length (places_from query 0 s.tokens)) (given_up_to sets stop names)) s.names_are
+      subst (λ (names : List (List ℕ)). P (length (places_from query.text 0 s.tokens)) (given_up_to sets stop names)) s.names_are
       (subst (λ (n : ℕ). P n (given_up_to sets stop parsed.names)) s.count holds)
 
   -- a set is refused
   refused_sets : places ≢ 0 → (refusal : Refusal) → RefusesSets (record { places = places; bytes = limit - 4 }) (given_up_to sets stop parsed.names) refusal → RefusesGiven Bulk query (given_up_to sets stop) id limit refusal
   refused_sets some refusal (inl memory) = inl memory
   refused_sets some refusal (inr this) =
-      let cause : first_of_sets (set_cause no_command (length (places_from query 0 s.tokens)) (limit - 4)) 0 (given_up_to sets stop (names_of s.tokens)) ≡ Some refusal =
+      let cause : first_of_sets (set_cause no_command (length (places_from query.text 0 s.tokens)) (limit - 4)) 0 (given_up_to sets stop (names_of s.tokens)) ≡ Some refusal =
       over_tokens (λ n given. first_of_sets (set_cause no_command n (limit - 4)) 0 given ≡ Some refusal) this in
       inr (record {
         tokens = s.tokens;
@@ -196,7 +197,7 @@ module _ (once : OneTokens) (query : List ℕ) (parsed : Parsed) (places : ℕ) 
 
   module _ (rows : List Row) (g : GivesRows (record { places = places; bytes = limit - 4 }) (given_up_to sets stop parsed.names) rows) where
     -- the rows are given over the tokens
-    given : GivesRows (limits_of (places_from query 0 s.tokens) limit) (given_up_to sets stop (names_of s.tokens)) rows
+    given : GivesRows (limits_of (places_from query.text 0 s.tokens) limit) (given_up_to sets stop (names_of s.tokens)) rows
     given = over_tokens (λ n given. GivesRows (record { places = n; bytes = limit - 4 }) given rows) g
 
     -- the values of the sets are the rows
@@ -207,8 +208,8 @@ module _ (once : OneTokens) (query : List ℕ) (parsed : Parsed) (places : ℕ) 
     refused_rows : places ≢ 0 → (refusal : Refusal) → RefusesRows places (limit - 4) rows refusal → RefusesGiven Bulk query (given_up_to sets stop) id limit refusal
     refused_rows some refusal (inl memory) = inl memory
     refused_rows some refusal (inr this) =
-        let cause : bulk_cause (length (places_from query 0 s.tokens)) (limit - 4) (values_of (given_up_to sets stop (names_of s.tokens))) ≡ Some refusal =
-        ap (λ l. bulk_cause (length (places_from query 0 s.tokens)) (limit - 4) l) values ∙ ap (λ n. bulk_cause n (limit - 4) rows) (sym s.count) ∙ this in
+        let cause : bulk_cause (length (places_from query.text 0 s.tokens)) (limit - 4) (values_of (given_up_to sets stop (names_of s.tokens))) ≡ Some refusal =
+        ap (λ l. bulk_cause (length (places_from query.text 0 s.tokens)) (limit - 4) l) values ∙ ap (λ n. bulk_cause n (limit - 4) rows) (sym s.count) ∙ this in
         inr (record {
           tokens = s.tokens;
           has = s.has;
@@ -218,8 +219,8 @@ module _ (once : OneTokens) (query : List ℕ) (parsed : Parsed) (places : ℕ) 
     -- the prepare and the requests of all rows were sent
     pub all_requested : places ≢ 0 → (new : List ℕ) → AppendsRequests id places (limit - 4) rows mid new → SentReadable Bulk query (given_up_to sets stop) id limit old new
     all_requested some new sent =
-        let a : AppendsRequests id (length (places_from query 0 s.tokens)) (limit - 4) rows mid new = subst (λ (n : ℕ). AppendsRequests id n (limit - 4) rows mid new) s.count sent in
-        let columns = length (places_from query 0 s.tokens) in
+        let a : AppendsRequests id (length (places_from query.text 0 s.tokens)) (limit - 4) rows mid new = subst (λ (n : ℕ). AppendsRequests id n (limit - 4) rows mid new) s.count sent in
+        let columns = length (places_from query.text 0 s.tokens) in
         let requests = framings (requests_from id columns rows 0 a.cut) EachFromZero in
         record {
           sends = record {

@@ -1,7 +1,8 @@
 //! Parameter sets as one bulk request, whose rows are written while they are looked at. Sets that
 //! need more requests, and sets that are refused, are left to the general way.
 
-ghost use Rattle.std.specs.Prelude.{◌≡◌, ◌+◌, ◌*◌, ◌<◌, ◌≤◌, ◌++◌, IfErr, IfOk, None, OnErr, OnOk, [], drop, false};
+ghost use Rattle.std.specs.Prelude.{◌≡◌, ◌+◌, ◌*◌, ◌<◌, ◌≤◌, ◌++◌, IfErr, IfOk, IfSome, None, OnErr, OnOk, [], drop};
+ghost use Rattle.std.specs.Prelude.{false};
 ghost use Rattle.std.specs.Cow.{cow_slice_items};
 ghost use Rattle.std.specs.Prelude.{length, map, replicate, take, true};
 ghost use Rattle.std.specs.Prelude.{Ok as Gives};
@@ -23,11 +24,12 @@ use mysql_bulk_builder::laws::{one_more_mixes_none, whole_is_tight};
 use mysql_bulk_builder::{no_first_values, place_of_other};
 use mysql_command_rules::Refusal;
 use mysql_command_rules::laws::requests_have_their_size;
-use mysql_send_execute::set_values::{check_values, values_fit, values_in_order};
+use mysql_send_execute::set_values::{check_values, values_fit};
 use mysql_values::params::list_values_over_names;
 use mysql_values::{Params, ParamsError, SetError, Value};
 use mysql_wire::frame_in_place;
 use std::alloc::{AllocError, Global};
+use std::borrow::CowSlice;
 
 /// What a request has up to its types, with the header of its packet: the header, the command's
 /// number, the statement's id, the flags.
@@ -120,6 +122,20 @@ fn put_row_looked_up<'a>(
     }
     put_row(row, out)?;
     Ok(true)
+}
+
+/// The values of a set that is a list, where the statement has no names.
+///
+/// They lie in the order of its placeholders.
+#[inline(always)]
+fn values_in_order<'a>(names: &[CowSlice<'_, u8>], params: &'a Params) -> Option<&'a [Value]>
+    ensures { IfSome result (λ values. values_over (map cow_slice_items names.now)
+        params.entry.now ≡ Gives values.now) }
+{
+    match params {
+        Params::Positional(values) if names.is_empty() => Some(values.as_slice()),
+        _ => None,
+    }
 }
 
 /// Appends the row that a set gives the statement, and says whether nothing speaks against it, and

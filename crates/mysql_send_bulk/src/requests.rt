@@ -16,7 +16,7 @@ ghost use Rattle.mysql_command_rules.specs.Reading.{SentReadable};
 ghost use Rattle.mysql_command_rules.specs.Sending.{RefusesGiven};
 ghost use Rattle.mysql_command_rules.specs.Sets.{given_up_to};
 ghost use Rattle.mysql_command_rules.specs.declared.refusal.Refusal.TheVariants as refusals;
-ghost use Rattle.mysql_command_rules.specs.declared.road.Road.TheVariants as roads;
+ghost use Rattle.mysql_command_rules.specs.SpelledRoad as roads;
 ghost use Rattle.mysql_command_rules.specs.MadeSets.{is_want_of_memory};
 ghost use Rattle.mysql_send_bulk.specs.BulkSets.{AppendsAll, AppendsRequests, RefusesAll, RefusesRows, requests_from};
 
@@ -228,10 +228,10 @@ pub fn put_requests(
     requires limit { 4 ≤ limit }
     requires stop { IfSome stop (λ error. is_want_of_memory error ≡ false) }
     ensures ok { OnOk result
-        (SentReadable roads.Bulk statement.now.text (given_up_to sets.now stop) statement.now.id
+        (SentReadable roads.Bulk statement.now.sql (given_up_to sets.now stop) statement.now.id
         limit out.old.items out.new.items) }
     ensures err { IfErr result
-        (RefusesGiven roads.Bulk statement.now.text (given_up_to sets.now stop) statement.now.id limit) }
+        (RefusesGiven roads.Bulk statement.now.sql (given_up_to sets.now stop) statement.now.id limit) }
     ensures kept { take (length out.old.items) out.new.items ≡ out.old.items }
 {
     tokens_of_a_text();

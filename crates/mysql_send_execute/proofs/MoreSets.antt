@@ -1,5 +1,5 @@
 -- The steps of sending sets of values one after another, of which the first has any number.
-use Rattle.std.proofs.Common.{◌≡◌, ℕ, ◌+◌, ◌≤◌, List, [], ◌∷◌, ◌++◌, length, map, take, drop, Option, None, Ok, refl, sym, ◌∙◌, ap, subst, arith, inl, inr, append_assoc, Global, Vec}
+use Rattle.std.proofs.Common.{◌≡◌, ℕ, ◌+◌, ◌≤◌, List, [], ◌∷◌, ◌++◌, length, map, take, drop, Option, Ok, refl, sym, ◌∙◌, ap, subst, arith, inl, inr, append_assoc, Global, Vec}
 use Rattle.std.specs.List.{AllByRecursion, flat_map}
 use Rattle.std.specs.Option.{option_or}
 use Rattle.std.proofs.lemmas.List.{append-nil, drop-map, drop_all, take-append-le, take_all}

@@ -1,9 +1,8 @@
 -- The byte strings of a set as long data, and the size by which it is refused.
-use Rattle.std.proofs.Common.{◌≡◌, ℕ, ◌+◌, ◌/◌, ◌<◌, ◌≤◌, ◌==◌, nat_lt, Bool, true, false, List, [], ◌∷◌, ◌++◌, length, map, take, drop, get_or, Option, Some, None, refl, sym, ◌∙◌, ap, inl, inr, arith, append_assoc, if◌then◌else◌, ◌-◌, length-append, length-drop, length-take}
+use Rattle.std.proofs.Common.{◌≡◌, ℕ, ◌+◌, ◌/◌, ◌<◌, ◌≤◌, ◌==◌, nat_lt, Bool, true, false, List, [], ◌∷◌, ◌++◌, length, map, take, drop, get_or, Option, Some, None, refl, sym, ◌∙◌, ap, inl, inr, arith, append_assoc, if◌then◌else◌}
 use Rattle.std.specs.Prelude.{IfSome, SomeIff, is_none}
 use Rattle.std.proofs.lemmas.Bool.{cases_lt, eqb-false, le-ltb, lt-ltb}
-use Rattle.std.proofs.lemmas.List.{append-nil, drop_all, take-append-le, take-take, take_all, take_at}
-use borrow.Rule.Slice.PartMut.{Post-is, post_of}
+use Rattle.std.proofs.lemmas.List.{append-nil, drop_all, take-append-le, take_all}
 use Rattle.byteorder.specs.Endian.{little_bytes}
 use Rattle.mysql_wire.specs.Framing.{chunk, chunks, framing}
 use Rattle.mysql_wire.specs.Stream.{framings}
@@ -11,7 +10,7 @@ use Rattle.mysql_wire.specs.Stream.Numbering.{EachFromZero}
 use Rattle.mysql_values.specs.Value.{Value}
 use Rattle.mysql_stmt.specs.Executions.{execute_command, needs_long_data, whole_size}
 use Rattle.mysql_stmt.specs.Statements.{ExecutionsHaveSizes}
-use Rattle.mysql_command_rules.specs.Commands.{piece_of, pieces_from, prepare_command}
+use Rattle.mysql_command_rules.specs.Commands.{piece_of, pieces_from}
 use Rattle.mysql_send_execute.specs.Executions.{execution_payloads, whole_execution}
 use Rattle.mysql_send_execute.proofs.Lists.{framings-append, front_length, next_set}
 

@@ -28,11 +28,6 @@ plain_fits : ExecutionsHaveSizes → {T : Type 0} (lent : T → Value) (values :
 plain_fits sizes lent [] room some fits id = absurd (omega (arith, some))
 plain_fits sizes lent (value ∷ values) room some fits id = ap (λ n. nat_lt room n) (sizes.1 id (lent value) (map lent values)) ∙ le-ltb room (whole_size (map lent (value ∷ values))) fits
 
--- it is below one packet's most
-pub plain_short : {T : Type 0} (lent : T → Value) (values : List T) (within : ℕ) → within < 16777215 → (found : Option ℕ) → FoundPlain lent values within found → IfSome found (λ size. size < 16777215)
-plain_short lent values within few None is = tt
-plain_short lent values within few (Some size) is = omega (arith, few, is.0.1, is.1)
-
 -- neither the count nor a float nor the size speaks against a set
 none_of_three : (same long : Bool) (float : Option ℕ) (wrong large : Refusal) (at : ℕ → Refusal) → same ≡ true → float ≡ None → long ≡ false
     → option_or (if same then option_map (λ place. at place) float else Some wrong) (cause_if long large) ≡ None

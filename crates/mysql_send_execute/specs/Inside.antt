@@ -3,19 +3,18 @@
 use Rattle.std.specs.Prelude.{length}
 use Rattle.std.specs.Cow.{cow_slice_items}
 use Rattle.mysql_values.specs.Parsed.{names_at}
-use Rattle.mysql_values.specs.Queries.{HasPlaces}
 use Rattle.mysql_send_execute.specs.Statement.{IsStatement, SentStatement}
 use Rattle.mysql_send_execute.specs.declared.statement.Statement.TheInside.{Inside}
 
 -- what contracts see of it
 abbrev pub sent_statement : Inside → SentStatement
 sent_statement s = record {
-  text = s.query.text;
-  parsed = record { query = cow_slice_items s.marked; names = names_at s.query.text s.query.places };
+  sql = s.query.sql;
+  parsed = record { query = cow_slice_items s.marked; names = names_at s.query.sql.text s.query.places };
   places = length s.query.places;
   id = s.id;
 }
 
 -- it is the statement of its query
 abbrev pub IsFound : Inside → Type 0
-IsFound s = IsStatement (sent_statement s).text (sent_statement s).parsed (sent_statement s).places
+IsFound s = IsStatement (sent_statement s).sql (sent_statement s).parsed (sent_statement s).places

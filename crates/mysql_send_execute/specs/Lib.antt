@@ -2,3 +2,4 @@ pub mod Statement
 pub mod Inside
 pub mod Executions
 pub mod Laws
+pub mod Making

@@ -1,7 +1,7 @@
 //! Parameter sets as executions of a prepared statement.
 
 ghost use Rattle.std.specs.Prelude.{◌≡◌, ◌+◌, ◌-◌, ◌^◌, ◌++◌, ◌<◌, ◌≤◌, ℕ, IfErr, IfOk, IfSome, None};
-ghost use Rattle.std.specs.Prelude.{Ok, OnErr, OnOk, OnSome, Some, is_none, length, map, nat_lt, take};
+ghost use Rattle.std.specs.Prelude.{Ok, OnErr, OnOk, Some, is_none, length, map, nat_lt, take};
 ghost use Rattle.mysql_stmt.specs.Executions.{execute_command};
 ghost use Rattle.mysql_wire.specs.Framing.{framing};
 ghost use Rattle.mysql_wire.specs.Stream.{framings};
@@ -13,12 +13,12 @@ ghost use Rattle.mysql_command_rules.specs.Reading.{SentReadable};
 ghost use Rattle.mysql_command_rules.specs.Sending.{RefusesGiven};
 ghost use Rattle.mysql_command_rules.specs.Sets.{all_given, all_given_in_places, given_by};
 ghost use Rattle.mysql_command_rules.specs.declared.refusal.Refusal.TheVariants as refusals;
-ghost use Rattle.mysql_command_rules.specs.declared.road.Road.TheVariants as roads;
+ghost use Rattle.mysql_command_rules.specs.SpelledRoad as roads;
 ghost use Rattle.mysql_send_execute.specs.Executions.{AppendsExecution, AppendsMore, RefusesExecution};
 ghost use Rattle.mysql_send_execute.specs.Executions.{RefusesMore, execution_payloads, whole_execution};
 
 use crate::laws::further_sets_are_sent;
-use crate::set_values::{check_values, refused, values_fit, values_in_order};
+use crate::set_values::{check_values, refused, values_fit};
 use crate::statement::{Statement, put_prepare};
 use mysql_command_rules::Refusal;
 use mysql_command_rules::in_turn::sent_in_turn;
@@ -188,27 +188,6 @@ fn size_in<V: HasValue>(values: &[V], room: usize) -> Option<usize>
     size_within(values, room)
 }
 
-/// The bytes of a set's execution, found in one pass over values that nothing speaks against, where
-/// one packet holds it.
-#[inline(always)]
-fn short_size<V: HasValue>(values: &[V], places: usize, room: usize) -> Option<usize>
-    requires { places ≤ 65535 }
-    ensures count { OnSome result (length values.now ≡ places) }
-    ensures size { IfSome result (λ size. (id : ℕ) → length (whole_execution id (map V.value values.now)) ≡ size) }
-    ensures short { IfSome result (λ size. size < 16777215) }
-    ensures none { OnSome result ((set id : ℕ) →
-        set_cause (whole_execution id) places room set (Ok (map V.value values.now)) ≡ None) }
-{
-    executions_have_sizes();
-    if values.len() != places {
-        return None;
-    }
-    if values.is_empty() {
-        return None;
-    }
-    size_without_floats(values, room.min(MAX_PAYLOAD_LEN - 1))
-}
-
 /// The bytes of a set's execution, checked for one cause after another.
 #[inline(never)]
 fn size_or_cause<V: HasValue>(
@@ -277,40 +256,15 @@ fn put_values<V: HasValue>(
         (map V.value values.now)) }
     ensures kept { take (length out.old.items) out.new.items ≡ out.old.items }
 {
-    let Some(size) = short_size(values, places, room) else {
-        return put_checked(id, places, set, values, room, command, out);
-    };
-    values_fit(values);
-    Ok(put_short(id, values, size, out)?)
-}
-
-/// Appends the execution of the set of this number, whose values lie otherwise than the
-/// placeholders: they are listed in place of what the list holds.
-#[inline(never)]
-fn put_listed_set<'a>(
-    statement: &Statement<'_>,
-    set: usize,
-    params: &'a Params,
-    limit: usize,
-    values: &mut Vec<&'a Value>,
-    command: &mut Vec<u8>,
-    out: &mut Vec<u8>,
-) -> Result<(), Refusal>
-    requires limit { 4 ≤ limit }
-    requires few { statement.now.places ≤ 65535 }
-    ensures ok { OnOk result
-        (AppendsOne roads.Execute statement.now.text statement.now.id limit set
-        (λ names. given_by names params.entry.now) out.old.items out.new.items) }
-    ensures err { IfErr result
-        (RefusesOne roads.Execute statement.now.text statement.now.id limit set
-        (λ names. given_by names params.entry.now)) }
-    ensures kept { take (length out.old.items) out.new.items ≡ out.old.items }
-{
-    let (id, places) = (statement.id(), statement.place_count());
-    if let Err(error) = list_values_over_names(params, statement.names(), values) {
-        return Err(refused(set, error));
+    executions_have_sizes();
+    if values.len() == places && !values.is_empty() {
+        // Found in one pass over values that nothing speaks against, where one packet holds them.
+        if let Some(size) = size_without_floats(values, room.min(MAX_PAYLOAD_LEN - 1)) {
+            values_fit(values);
+            return Ok(put_short(id, values, size, out)?);
+        }
     }
-    put_values(id, places, set, values.as_slice(), limit - 4, command, out)
+    put_checked(id, places, set, values, room, command, out)
 }
 
 /// Appends the execution of the set of this number, framed and numbered from 0, to what stands: of
@@ -335,17 +289,24 @@ pub(crate) fn put_set<'a>(
     requires limit { 4 ≤ limit }
     requires few { statement.now.places ≤ 65535 }
     ensures ok { OnOk result
-        (AppendsOne roads.Execute statement.now.text statement.now.id limit set
+        (AppendsOne roads.Execute statement.now.sql statement.now.id limit set
         (λ names. given_by names params.entry.now) out.old.items out.new.items) }
     ensures err { IfErr result
-        (RefusesOne roads.Execute statement.now.text statement.now.id limit set
+        (RefusesOne roads.Execute statement.now.sql statement.now.id limit set
         (λ names. given_by names params.entry.now)) }
     ensures kept { take (length out.old.items) out.new.items ≡ out.old.items }
 {
-    let (id, places) = (statement.id(), statement.place_count());
-    match values_in_order(statement.names(), params) {
-        Some(list) => put_values(id, places, set, list, limit - 4, command, out),
-        None => put_listed_set(statement, set, params, limit, values, command, out),
+    let (id, places, names) = (statement.id(), statement.place_count(), statement.names());
+    match params {
+        Params::Positional(list) if names.is_empty() => {
+            put_values(id, places, set, list.as_slice(), limit - 4, command, out)
+        }
+        _ => {
+            if let Err(error) = list_values_over_names(params, names, values) {
+                return Err(refused(set, error));
+            }
+            put_values(id, places, set, values.as_slice(), limit - 4, command, out)
+        }
     }
 }
 
@@ -406,10 +367,10 @@ pub fn put_executions(
 ) -> Result<(), Refusal>
     requires { 4 ≤ limit }
     ensures ok { OnOk result
-        (SentReadable roads.Execute statement.now.text (all_given sets.now) statement.now.id limit
+        (SentReadable roads.Execute statement.now.sql (all_given sets.now) statement.now.id limit
         out.old.items out.new.items) }
     ensures err { IfErr result
-        (RefusesGiven roads.Execute statement.now.text (all_given sets.now) statement.now.id limit) }
+        (RefusesGiven roads.Execute statement.now.sql (all_given sets.now) statement.now.id limit) }
     ensures kept { take (length out.old.items) out.new.items ≡ out.old.items }
 {
     sent_in_turn();
@@ -446,11 +407,11 @@ pub fn put_executions_of_values(
 ) -> Result<(), Refusal>
     requires { 4 ≤ limit }
     ensures ok { OnOk result
-        (SentReadable roads.Execute statement.now.text
+        (SentReadable roads.Execute statement.now.sql
         (all_given_in_places (map (λ set. set.items) sets.now)) statement.now.id limit
         out.old.items out.new.items) }
     ensures err { IfErr result
-        (RefusesGiven roads.Execute statement.now.text
+        (RefusesGiven roads.Execute statement.now.sql
         (all_given_in_places (map (λ set. set.items) sets.now)) statement.now.id limit) }
     ensures kept { take (length out.old.items) out.new.items ≡ out.old.items }
 {

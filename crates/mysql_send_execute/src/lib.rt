@@ -11,5 +11,5 @@ mod writing;
 
 pub use executions::{put_executions, put_executions_of_values, put_more_executions};
 pub use made_executions::put_made_executions;
-pub use statement::{Statement, check_count, put_prepare};
+pub use statement::{Statement, put_prepare};
 pub use writing::write_executions;

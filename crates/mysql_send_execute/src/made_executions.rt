@@ -4,7 +4,7 @@ ghost use Rattle.std.specs.Prelude.{◌≡◌, ◌-◌, ◌≤◌, IfErr, OnOk, 
 ghost use Rattle.mysql_command_rules.specs.MadeSets.{AllMade};
 ghost use Rattle.mysql_command_rules.specs.Reading.{SentReadable};
 ghost use Rattle.mysql_command_rules.specs.Sending.{RefusesGiven};
-ghost use Rattle.mysql_command_rules.specs.declared.road.Road.TheVariants as roads;
+ghost use Rattle.mysql_command_rules.specs.SpelledRoad as roads;
 
 use crate::executions::put_set;
 use crate::statement::{Statement, put_prepare};
@@ -35,11 +35,11 @@ pub fn put_made_executions<S: SetMaker>(
 ) -> Result<(), Refusal>
     requires { 4 ≤ limit }
     ensures ok { OnOk result
-        (SentReadable roads.Execute statement.now.text (S.given sets.now) statement.now.id limit
+        (SentReadable roads.Execute statement.now.sql (S.given sets.now) statement.now.id limit
         out.old.items out.new.items) }
     ensures made { OnOk result (AllMade (S.given sets.now)) }
     ensures err { IfErr result
-        (RefusesGiven roads.Execute statement.now.text (S.given sets.now) statement.now.id limit) }
+        (RefusesGiven roads.Execute statement.now.sql (S.given sets.now) statement.now.id limit) }
     ensures kept { take (length out.old.items) out.new.items ≡ out.old.items }
 {
     sent_in_turn();

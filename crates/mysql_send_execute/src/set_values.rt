@@ -1,13 +1,10 @@
 //! The values that a set gives a statement.
 
-ghost use Rattle.std.specs.Prelude.{◌≡◌, ◌⊎◌, Err, IfErr, IfOk, IfSome, None, Ok, OnOk, Some, is_none, map};
-ghost use Rattle.std.specs.Cow.{cow_slice_items};
+ghost use Rattle.std.specs.Prelude.{◌≡◌, IfErr, None, OnOk, Some, map};
 ghost use Rattle.std.specs.List.{AllByRecursion};
 ghost use Rattle.mysql_values.specs.AsSql.{FitsFields};
 ghost use Rattle.mysql_values.specs.Binding.{values_cause};
-ghost use Rattle.mysql_values.specs.Params.{values_over};
-ghost use Rattle.mysql_values.specs.Values.{content_of, first_float as float_at};
-ghost use Rattle.mysql_values.specs.declared.params.ParamsError.{ParamsError as ParamsErrorOf};
+ghost use Rattle.mysql_values.specs.Values.{first_float as float_at};
 ghost use Rattle.mysql_command_rules.specs.declared.refusal.Refusal.TheVariants as refusals;
 ghost use Rattle.mysql_send_execute.specs.Executions.{refusal_of};
 
@@ -15,8 +12,7 @@ use mysql_cells::value::is_float;
 use mysql_command_rules::Refusal;
 use mysql_stmt::HasValue;
 use mysql_values::laws::fields_fit;
-use mysql_values::{Params, ParamsError, SetError, Value};
-use std::borrow::CowSlice;
+use mysql_values::{ParamsError, SetError};
 
 /// The first value that is a float.
 fn first_float<V: HasValue>(values: &[V]) -> Option<usize>
@@ -42,19 +38,6 @@ pub fn refused(set: usize, error: ParamsError) -> Refusal
         ParamsError::Confusion(confusion) => {
             Refusal::Params(set, SetError::Params(ParamsError::Confusion(confusion)))
         }
-    }
-}
-
-/// The values of a set that is a list, where the statement has no names.
-///
-/// They lie in the order of its placeholders.
-#[inline(always)]
-pub fn values_in_order<'a>(names: &[CowSlice<'_, u8>], params: &'a Params) -> Option<&'a [Value]>
-    ensures { IfSome result (λ values. values_over (map cow_slice_items names.now) params.entry.now ≡ Ok values.now) }
-{
-    match params {
-        Params::Positional(values) if names.is_empty() => Some(values.as_slice()),
-        _ => None,
     }
 }
 

@@ -1,19 +1,15 @@
 //! A query as a statement, and its prepare.
 
 ghost use Rattle.std.specs.Cow.{cow_slice_items};
-ghost use Rattle.std.specs.Prelude.{◌≡◌, ◌<◌, ◌≤◌, ◌⊎◌, ℕ, IfErr, IfOk, List, OnErr, OnOk, false, length, map, take};
-ghost use Rattle.std.specs.Prelude.{true};
-ghost use Rattle.mysql_values.specs.Queries.{HasMixed, HasPlaces};
-ghost use Rattle.mysql_command_rules.specs.Sending.{RefusesGiven};
-ghost use Rattle.mysql_command_rules.specs.Sets.{Given};
-ghost use Rattle.mysql_command_rules.specs.declared.refusal.Refusal.TheVariants as refusals;
-ghost use Rattle.mysql_command_rules.specs.declared.road.Road.TheVariants as roads;
+ghost use Rattle.std.specs.Prelude.{◌≡◌, ◌≤◌, IfErr, IfOk, OnOk, length, map, take};
+ghost use Rattle.mysql_values.specs.Sql.{read_by_default, read_in};
+ghost use Rattle.mysql_send_execute.specs.Making.{IsMade, IsNotMade};
 ghost use Rattle.mysql_send_execute.specs.Statement.{AppendsPrepare, IsStatement, RefusesPrepare};
 
 use mysql_command_rules::Refusal;
 use mysql_command_rules::in_turn::sent_in_turn;
 use mysql_const::Command;
-use mysql_queries::ParsedQuery;
+use mysql_queries::{Mode, ParsedQuery};
 use mysql_values::laws::tokens_of_a_text;
 use mysql_wire::frame_in_place;
 use std::alloc::Global;
@@ -44,27 +40,41 @@ impl<'q> Model for Statement<'q> {
 }
 
 impl<'q> Statement<'q> {
-    /// The query of this text as a statement with this id, whether it can be prepared or not.
+    /// The query of this text, for a server in the default mode, as a statement with this id.
+    ///
+    /// It may be one that can't be prepared.
     ///
     /// # Errors
     /// `Mixed`; `Memory` where a growth was refused.
     ///
     /// MySQL: Client/Server Protocol, "COM_STMT_PREPARE".
     pub fn new(alloc: Global, text: &'q [u8], id: u32) -> Result<Statement<'q>, Refusal>
-        ensures text { IfOk result (λ statement. statement.text ≡ text.entry.now) }
-        ensures id { IfOk result (λ statement. statement.id ≡ id) }
-        ensures one_kind { OnOk result (HasMixed text.entry.now false) }
-        ensures mixed { IfErr result (λ refusal. (refusal ≡ refusals.Memory) ⊎
-            ((refusal ≡ refusals.Mixed) × HasMixed text.entry.now true)) }
-        ensures err { IfErr result (λ refusal. (room : ℕ) → RefusesPrepare text.entry.now id room refusal) }
-        // So its sets are refused, whichever they are.
-        ensures refused { IfErr result (λ refusal. (sets : List (List ℕ) → List Given) (limit : ℕ) →
-            RefusesGiven roads.Execute text.entry.now sets id limit refusal ×
-            RefusesGiven roads.Bulk text.entry.now sets id limit refusal) }
+        ensures made { IfOk result (IsMade (read_by_default text.entry.now) id) }
+        ensures refused { IfErr result (IsNotMade (read_by_default text.entry.now) id) }
+    {
+        Statement::new_in(alloc, text, id, Mode::default())
+    }
+
+    /// The query of this text, for a server in this mode, as a statement with this id.
+    ///
+    /// It may be one that can't be prepared.
+    ///
+    /// # Errors
+    /// `Mixed`; `Memory` where a growth was refused.
+    ///
+    /// MySQL: Client/Server Protocol, "COM_STMT_PREPARE"; MySQL Reference Manual, "Server SQL Modes".
+    pub fn new_in(
+        alloc: Global,
+        text: &'q [u8],
+        id: u32,
+        mode: Mode,
+    ) -> Result<Statement<'q>, Refusal>
+        ensures made { IfOk result (IsMade (read_in mode text.entry.now) id) }
+        ensures refused { IfErr result (IsNotMade (read_in mode text.entry.now) id) }
     {
         tokens_of_a_text();
         sent_in_turn();
-        let query = ParsedQuery::new(alloc, text)?;
+        let query = ParsedQuery::new_in(alloc, text, mode)?;
         if query.is_mixed() {
             return Err(Refusal::Mixed);
         }
@@ -76,7 +86,7 @@ impl<'q> Statement<'q> {
 
     /// What was found of its query.
     pub fn query(&self) -> &ParsedQuery<'q>
-        ensures text { result.now.text ≡ self.now.text }
+        ensures text { result.now.sql ≡ self.now.sql }
         ensures count { length result.now.places ≡ self.now.places }
     {
         &self.query
@@ -84,8 +94,8 @@ impl<'q> Statement<'q> {
 
     /// The text of its query, in which not both names and question marks occur.
     pub fn text(&self) -> &[u8]
-        ensures text { result.now ≡ self.now.text }
-        ensures is { IsStatement self.now.text self.now.parsed self.now.places }
+        ensures text { result.now ≡ self.now.sql.text }
+        ensures is { IsStatement self.now.sql self.now.parsed self.now.places }
     {
         self.query.text()
     }
@@ -107,7 +117,7 @@ impl<'q> Statement<'q> {
     /// How many placeholders it has.
     pub fn place_count(&self) -> usize
         ensures count { result ≡ self.now.places }
-        ensures is { IsStatement self.now.text self.now.parsed self.now.places }
+        ensures is { IsStatement self.now.sql self.now.parsed self.now.places }
     {
         self.query.places().len()
     }
@@ -117,23 +127,6 @@ impl<'q> Statement<'q> {
         ensures { result ≡ self.now.id }
     {
         self.id
-    }
-}
-
-/// Whether a statement can have so many placeholders.
-///
-/// # Errors
-/// `TooManyPlaces` for more than 65535.
-///
-/// MySQL: Client/Server Protocol, "COM_STMT_PREPARE" (the number of parameters has two bytes).
-pub fn check_count(places: usize) -> Result<(), Refusal>
-    ensures ok { OnOk result (places ≤ 65535) }
-    ensures err { IfErr result (λ refusal. (refusal ≡ refusals.TooManyPlaces) × (65535 < places)) }
-{
-    if places > 65535 {
-        Err(Refusal::TooManyPlaces)
-    } else {
-        Ok(())
     }
 }
 
@@ -151,12 +144,15 @@ pub fn put_prepare(
     out: &mut Vec<u8>,
 ) -> Result<(), Refusal>
     ensures few { OnOk result (statement.now.places ≤ 65535) }
-    ensures ok { OnOk result (AppendsPrepare statement.now.text statement.now.id room out.old.items out.new.items) }
-    ensures err { IfErr result (RefusesPrepare statement.now.text statement.now.id room) }
+    ensures ok { OnOk result (AppendsPrepare statement.now.sql statement.now.id room out.old.items out.new.items) }
+    ensures err { IfErr result (RefusesPrepare statement.now.sql statement.now.id room) }
     ensures kept { take (length out.old.items) out.new.items ≡ out.old.items }
 {
     let marked = statement.marked.as_slice();
-    check_count(statement.place_count())?;
+    // The number of parameters has two bytes.
+    if statement.place_count() > 65535 {
+        return Err(Refusal::TooManyPlaces);
+    }
     if marked.len() >= room {
         return Err(Refusal::PrepareTooLarge);
     }

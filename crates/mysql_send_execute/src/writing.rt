@@ -3,7 +3,7 @@
 ghost use Rattle.std.specs.Prelude.{◌≤◌, IfErr, OnOk};
 ghost use Rattle.mysql_command_rules.specs.Sets.{all_given};
 ghost use Rattle.mysql_command_rules.specs.Writing.{Stops, Writes};
-ghost use Rattle.mysql_command_rules.specs.declared.road.Road.TheVariants as roads;
+ghost use Rattle.mysql_command_rules.specs.SpelledRoad as roads;
 
 use crate::executions::put_set;
 use crate::statement::{Statement, put_prepare};
@@ -37,10 +37,10 @@ pub fn write_executions<W: Write>(
 ) -> Result<(), SendToError>
     requires { 4 ≤ limit }
     ensures ok { OnOk result
-        (Writes roads.Execute statement.now.text (all_given sets.now) statement.now.id limit
+        (Writes roads.Execute statement.now.sql (all_given sets.now) statement.now.id limit
         (W.contents to.old) (W.contents to.new)) }
     ensures err { IfErr result
-        (Stops roads.Execute statement.now.text sets.now statement.now.id limit
+        (Stops roads.Execute statement.now.sql sets.now statement.now.id limit
         (W.contents to.old) (W.contents to.new)) }
 {
     sent_in_turn();

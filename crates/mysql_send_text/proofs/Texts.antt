@@ -9,7 +9,9 @@ use Rattle.std.specs.Result.{result_map_both}
 use Rattle.mysql_wire.specs.Framing.{framing}
 use Rattle.mysql_wire.specs.Stream.{framings}
 use Rattle.mysql_wire.specs.Stream.Numbering.{EachFromZero}
-use Rattle.mysql_values.specs.Content.{Content}
+use Rattle.mysql_values.specs.Sql.{Sql}
+use Rattle.mysql_values.specs.Mode.{Mode}
+use Rattle.mysql_values.specs.Spelling.{Spelling}
 use Rattle.mysql_values.specs.Value.{Value}
 use Rattle.mysql_values.specs.Values.{content_of, first_float, literal_of}
 use Rattle.mysql_values.specs.declared.params.Params.{Params}
@@ -20,16 +22,16 @@ use Rattle.mysql_values.specs.declared.bind.BindError.{BindError}
 use Rattle.mysql_values.specs.declared.bind.BindError.TheVariants as bind_error
 use Rattle.mysql_values.specs.Tokens.{HasTokens}
 use Rattle.mysql_values.specs.Place.{Place}
-use Rattle.mysql_values.specs.Queries.{HasPlaces, Lexes, Slices, first_not_alone, interleaved, is_mixed, pieces_of, places_from}
+use Rattle.mysql_values.specs.Queries.{HasPlaces, first_not_alone, interleaved, is_mixed, pieces_of, places_from}
 use Rattle.mysql_values.specs.Laws.{OneTokens, PiecesAreSlices}
 use Rattle.mysql_values.specs.Params.{IsMeaning, values_over}
 use Rattle.mysql_values.specs.Parsed.{names_of}
-use Rattle.mysql_values.specs.Binding.{IsBound, IsBindCause, alone_cause, given_cause as bound_cause, values_cause}
+use Rattle.mysql_values.specs.Binding.{Binds, IsBound, IsBindCause, alone_cause, given_cause as bound_cause, values_cause}
 use Rattle.mysql_receive.specs.Reading.{TextReadsAs}
 use Rattle.mysql_receive.specs.Query.{statement_of}
 use Rattle.mysql_command_rules.specs.declared.refusal.Refusal.{Refusal}
 use Rattle.mysql_command_rules.specs.declared.refusal.Refusal.TheVariants as refusals
-use Rattle.mysql_command_rules.specs.declared.road.Road.TheVariants.{Text}
+use Rattle.mysql_command_rules.specs.SpelledRoad.{Text}
 use Rattle.mysql_command_rules.specs.Cause.{cause_if, places_cause, set_cause}
 use Rattle.mysql_command_rules.specs.Commands.{query_command}
 use Rattle.mysql_command_rules.specs.InTurn.{SentInTurn}
@@ -59,27 +61,27 @@ where_put {P = P} answer was holds = subst (λ (r : Result (Unit {0}) _). OnOk r
 -- ---- a set that is not made
 
 -- why no set is made is a refusal of all
-pub not_made : SentInTurn → (query : List ℕ) (sets : List (List ℕ) → List Given) (id limit number : ℕ) (old out : List ℕ) → SentReadable Text query (first_sets number sets) id limit old out
-    → (refusal : Refusal) → (refusal ≡ refusals.Memory) ⊎ ((error : SetError) × IsSetAt sets number (Err error) × (refusal ≡ refusals.Params number error)) → RefusesGiven Text query sets id limit refusal
-not_made law query sets id limit number old out s refusal (inl memory) = inl memory
-not_made law query sets id limit number old out s refusal (inr why) =
-    (law.refused_more Text tt query sets id limit number old out (λ names. Err why.0) why.1 s refusal (inr (s.sends.tokens, s.sends.has, ap Some (sym why.2)))).0
+pub not_made : SentInTurn → (spelling : Spelling) (query : Sql) (sets : List (List ℕ) → List Given) (id limit number : ℕ) (old out : List ℕ) → SentReadable (Text spelling) query (first_sets number sets) id limit old out
+    → (refusal : Refusal) → (refusal ≡ refusals.Memory) ⊎ ((error : SetError) × IsSetAt sets number (Err error) × (refusal ≡ refusals.Params number error)) → RefusesGiven (Text spelling) query sets id limit refusal
+not_made law spelling query sets id limit number old out s refusal (inl memory) = inl memory
+not_made law spelling query sets id limit number old out s refusal (inr why) =
+    (law.refused_more (Text spelling) tt query sets id limit number old out (λ names. Err why.0) why.1 s refusal (inr (s.sends.tokens, s.sends.has, ap Some (sym why.2)))).0
 
 -- ---- placeholders
 
 -- placeholders of both kinds are the first cause
-pub mixed_cause : (query : List ℕ) (places : List Place) → HasPlaces query places → is_mixed places ≡ true
-    → (tokens : List (List ℕ)) × HasTokens query tokens × (places_cause (places_from query 0 tokens) ≡ Some refusals.Mixed)
+pub mixed_cause : (query : Sql) (places : List Place) → HasPlaces query places → is_mixed places ≡ true
+    → (tokens : List (List ℕ)) × HasTokens query.mode query.text tokens × (places_cause (places_from query.text 0 tokens) ≡ Some refusals.Mixed)
 mixed_cause query places has mixed = (has.0, has.1, ap (λ p. places_cause p) (sym has.2) ∙ rw mixed refl)
 
 -- then one that doesn't stand alone
-pub not_alone_cause : (query : List ℕ) (places : List Place) (place : ℕ) → HasPlaces query places → is_mixed places ≡ false → first_not_alone places ≡ Some place
-    → (tokens : List (List ℕ)) × HasTokens query tokens × (places_cause (places_from query 0 tokens) ≡ Some (refusals.NotAlone place))
+pub not_alone_cause : (query : Sql) (places : List Place) (place : ℕ) → HasPlaces query places → is_mixed places ≡ false → first_not_alone places ≡ Some place
+    → (tokens : List (List ℕ)) × HasTokens query.mode query.text tokens × (places_cause (places_from query.text 0 tokens) ≡ Some (refusals.NotAlone place))
 not_alone_cause query places place has one apart = (has.0, has.1, ap (λ p. places_cause p) (sym has.2) ∙ rw (one, apart) refl)
 
 -- and else there is none
-pub no_cause : (query : List ℕ) (places : List Place) → HasPlaces query places → is_mixed places ≡ false → first_not_alone places ≡ None
-    → (tokens : List (List ℕ)) × HasTokens query tokens × (places_cause (places_from query 0 tokens) ≡ None)
+pub no_cause : (query : Sql) (places : List Place) → HasPlaces query places → is_mixed places ≡ false → first_not_alone places ≡ None
+    → (tokens : List (List ℕ)) × HasTokens query.mode query.text tokens × (places_cause (places_from query.text 0 tokens) ≡ None)
 no_cause query places has one alone = (has.0, has.1, ap (λ p. places_cause p) (sym has.2) ∙ rw (one, alone) refl)
 
 -- ---- one set
@@ -101,15 +103,15 @@ first_is : (first rest : Option Refusal) (refusal : Refusal) → first ≡ Some 
 first_is first rest refusal some = rw some refl
 
 -- values that all have literals have these texts
-literal_texts : (values : List Value) (literals : List (List ℕ)) → map literal_of values ≡ map Some literals → map (λ value. unwrap_or (literal_of value) []) values ≡ literals
-literal_texts [] [] same = refl
-literal_texts [] (literal ∷ literals) same = cc
-literal_texts (value ∷ values) [] same = cc
-literal_texts (value ∷ values) (literal ∷ literals) same =
-    let first : literal_of value ≡ Some literal = cc in
-    let others : map literal_of values ≡ map Some literals = cc in
-    let here : unwrap_or (literal_of value) [] ≡ literal = ap (λ l. unwrap_or l []) first in
-    let rest : map (λ value. unwrap_or (literal_of value) []) values ≡ literals = literal_texts values literals others in
+literal_texts : (mode : Mode) (spelling : Spelling) (values : List Value) (literals : List (List ℕ)) → map (literal_of mode spelling) values ≡ map Some literals → map (λ value. unwrap_or (literal_of mode spelling value) []) values ≡ literals
+literal_texts mode spelling [] [] same = refl
+literal_texts mode spelling [] (literal ∷ literals) same = cc
+literal_texts mode spelling (value ∷ values) [] same = cc
+literal_texts mode spelling (value ∷ values) (literal ∷ literals) same =
+    let first : literal_of mode spelling value ≡ Some literal = cc in
+    let others : map (literal_of mode spelling) values ≡ map Some literals = cc in
+    let here : unwrap_or (literal_of mode spelling value) [] ≡ literal = ap (λ l. unwrap_or l []) first in
+    let rest : map (λ value. unwrap_or (literal_of mode spelling value) []) values ≡ literals = literal_texts mode spelling values literals others in
     cc
 
 -- what is wrong with values, by the refusals of sending
@@ -150,80 +152,65 @@ kept_on old piece mid new put stays =
     let shorter : length old ≤ length mid = omega (arith, length-take (length old) mid, ap length before) in
     sym (take-take (length old) (length mid) new shorter) ∙ ap (λ l. take (length old) l) stays ∙ before
 
--- what binding a set's text appends
-pub record BoundTo (query : List ℕ) (params : Params) (old new : List ℕ) : Type 0 where
-  pub text : List ℕ
-  pub appended : new ≡ old ++ text
-  pub bound : IsBound query params text
-  pub contents : List Content
-  pub meant : IsMeaning query params contents
-  pub reads : TextReadsAs query text contents
-
-pub bound_to : (query text : List ℕ) → text ≡ query → (params : Params) (old new : List ℕ) →
-    (bound : List ℕ) × (contents : List Content) × (new ≡ old ++ bound) × IsBound text params bound × IsMeaning text params contents × Slices text bound contents × Lexes text bound contents →
-    BoundTo query params old new
-bound_to query text same params old new b =
-    subst (λ (q : List ℕ). BoundTo q params old new) same (record { text = b.0; appended = b.2; bound = b.3; contents = b.1; meant = b.4; reads = (b.5, b.6) })
-
 -- room for a header, and the command's byte
 abbrev pub room_and_command : List ℕ
 room_and_command = 0 ∷ 0 ∷ 0 ∷ 0 ∷ 3 ∷ []
 
-module _ (slices : PiecesAreSlices) (once : OneTokens) (query : List ℕ) (places : List Place) (has : HasPlaces query places) (one : is_mixed places ≡ false) (alone : first_not_alone places ≡ None)
+module _ (slices : PiecesAreSlices) (once : OneTokens) (query : Sql) (spelling : Spelling) (places : List Place) (has : HasPlaces query places) (one : is_mixed places ≡ false) (alone : first_not_alone places ≡ None)
     (params : Params) (set limit id : ℕ) where
   abbrev pub given : List (List ℕ) → Given
   given names = given_by names params
 
   -- the placeholders that were found are those of the tokens
-  places_are : (tokens : List (List ℕ)) → HasTokens query tokens → places ≡ places_from query 0 tokens
-  places_are tokens are = has.2 ∙ ap (λ t. places_from query 0 t) (once query has.0 tokens has.1 are)
+  places_are : (tokens : List (List ℕ)) → HasTokens query.mode query.text tokens → places ≡ places_from query.text 0 tokens
+  places_are tokens are = has.2 ∙ ap (λ t. places_from query.text 0 t) (once query.mode query.text has.0 tokens has.1 are)
 
-  behind : (tokens : List (List ℕ)) → HasTokens query tokens → (rest : Option BindError) → (if is_mixed (places_from query 0 tokens) then Some bind_error.Mixed else alone_cause (first_not_alone (places_from query 0 tokens)) rest) ≡ rest
+  behind : (tokens : List (List ℕ)) → HasTokens query.mode query.text tokens → (rest : Option BindError) → (if is_mixed (places_from query.text 0 tokens) then Some bind_error.Mixed else alone_cause (first_not_alone (places_from query.text 0 tokens)) rest) ≡ rest
   behind tokens are rest =
-      behind_places (is_mixed (places_from query 0 tokens)) (first_not_alone (places_from query 0 tokens)) rest (ap is_mixed (sym (places_are tokens are)) ∙ one) (ap first_not_alone (sym (places_are tokens are)) ∙ alone)
+      behind_places (is_mixed (places_from query.text 0 tokens)) (first_not_alone (places_from query.text 0 tokens)) rest (ap is_mixed (sym (places_are tokens are)) ∙ one) (ap first_not_alone (sym (places_are tokens are)) ∙ alone)
 
   -- why no text is bound for a set is a refusal of it
-  pub refused : (error : BindError) → (error ≡ bind_error.Memory) ⊎ IsBindCause query params error → RefusesOne Text query id limit set given (refusal_by set error)
+  pub refused : (error : BindError) → (error ≡ bind_error.Memory) ⊎ IsBindCause query params error → RefusesOne (Text spelling) query id limit set given (refusal_by set error)
   refused error (inl memory) = inl (ap (λ e. refusal_by set e) memory)
   refused error (inr b) =
-      let count : ℕ = length (places_from query 0 b.0) in
+      let count : ℕ = length (places_from query.text 0 b.0) in
       let this : bound_cause count (values_over (names_of b.0) params) ≡ Some error = sym (behind b.0 b.1 (bound_cause count (values_over (names_of b.0) params))) ∙ b.2 in
-      inr (b.0, b.1, set_refusal (whole_command Text (statement_of query b.0 id)) count (limit - 4) set (values_over (names_of b.0) params) error this)
+      inr (b.0, b.1, set_refusal (whole_command (Text spelling) (statement_of query b.0 id)) count (limit - 4) set (values_over (names_of b.0) params) error this)
 
-  module _ (text : List ℕ) (b : IsBound query params text) where
+  module _ (text : List ℕ) (b : IsBound query spelling params text) where
     abbrev command : List Value → List ℕ
-    command = whole_command Text (statement_of query b.tokens id)
+    command = whole_command (Text spelling) (statement_of query b.tokens id)
 
     -- the text that was bound is the text of the query with the set's values
-    same_text : text ≡ query_text_of (statement_of query b.tokens id).query b.values
+    same_text : text ≡ query_text_of spelling (statement_of query b.tokens id).query b.values
     same_text =
-        b.spelled ∙ ap (λ l. interleaved (pieces_of b.tokens) l) (sym (literal_texts b.values b.literals b.each))
-        ∙ ap (λ pieces. interleaved pieces (map (λ value. unwrap_or (literal_of value) []) b.values)) (slices query b.tokens b.has)
+        b.spelled ∙ ap (λ l. interleaved (pieces_of b.tokens) l) (sym (literal_texts query.mode spelling b.values b.literals b.each))
+        ∙ ap (λ pieces. interleaved pieces (map (λ value. unwrap_or (literal_of query.mode spelling value) []) b.values)) (slices query b.tokens b.has)
 
     gives : given_by (names_of b.tokens) params ≡ Ok b.values
     gives = gives_values (names_of b.tokens) params b.values b.over
 
     -- its size alone can be a cause
-    set_by_size : cause_of_set Text (statement_of query b.tokens id) limit set (Ok b.values) ≡ cause_if (nat_lt (limit - 4) (length (command b.values))) (refusals.PacketTooLarge set)
+    set_by_size : cause_of_set (Text spelling) (statement_of query b.tokens id) limit set (Ok b.values) ≡ cause_if (nat_lt (limit - 4) (length (command b.values))) (refusals.PacketTooLarge set)
     set_by_size =
-        let count : ℕ = length (places_from query 0 b.tokens) in
+        let count : ℕ = length (places_from query.text 0 b.tokens) in
         let good : bound_cause count (Ok b.values) ≡ None = sym (behind b.tokens b.has (bound_cause count (Ok b.values))) ∙ b.none in
         by_size (values_cause (refusals.WrongCount set) (λ place. refusals.Float set place) count b.values) (nat_lt (limit - 4) (length (command b.values))) (refusals.PacketTooLarge set)
         (as_refusal set count b.values ∙ ap (λ c. option_map (λ error. refusal_by set error) c) good)
 
     -- a command within the limit has no cause
-    set_none : length (query_command text) ≤ limit - 4 → cause_of_set Text (statement_of query b.tokens id) limit set (Ok b.values) ≡ None
+    set_none : length (query_command text) ≤ limit - 4 → cause_of_set (Text spelling) (statement_of query b.tokens id) limit set (Ok b.values) ≡ None
     set_none short =
         let fits : nat_lt (limit - 4) (length (command b.values)) ≡ false = subst (λ (t : List ℕ). nat_lt (limit - 4) (length (query_command t)) ≡ false) same_text (le-ltb _ _ short) in
         set_by_size ∙ ap (λ long. cause_if long (refusals.PacketTooLarge set)) fits
 
     -- and one past it is too large
-    too_large : limit - 4 < length (query_command text) → RefusesOne Text query id limit set given (refusals.PacketTooLarge set)
+    too_large : limit - 4 < length (query_command text) → RefusesOne (Text spelling) query id limit set given (refusals.PacketTooLarge set)
     too_large long =
         let passes : nat_lt (limit - 4) (length (command b.values)) ≡ true = subst (λ (t : List ℕ). nat_lt (limit - 4) (length (query_command t)) ≡ true) same_text (lt-ltb _ _ long) in
-        inr (b.tokens, b.has, ap (λ g. cause_of_set Text (statement_of query b.tokens id) limit set g) gives ∙ set_by_size ∙ ap (λ long. cause_if long (refusals.PacketTooLarge set)) passes)
+        inr (b.tokens, b.has, ap (λ g. cause_of_set (Text spelling) (statement_of query b.tokens id) limit set g) gives ∙ set_by_size ∙ ap (λ long. cause_if long (refusals.PacketTooLarge set)) passes)
 
-  module _ (start : ℕ) (old mid new : List ℕ) (at : start ≡ length old) (room : mid ≡ old ++ room_and_command) (b : BoundTo query params mid new) where
+  module _ (start : ℕ) (old mid new : List ℕ) (at : start ≡ length old) (room : mid ≡ old ++ room_and_command) (b : Binds query spelling params mid new) where
     -- what is bound behind the room stands behind what stood before
     behind_room : new ≡ old ++ (0 ∷ 0 ∷ 0 ∷ 0 ∷ 3 ∷ b.text)
     behind_room = b.appended ∙ ap (λ l. l ++ b.text) room ∙ append_assoc old room_and_command b.text
@@ -239,18 +226,18 @@ module _ (slices : PiecesAreSlices) (once : OneTokens) (query : List ℕ) (place
     kept_before = ap (λ n. take n new) (sym at) ∙ front_kept
 
     -- what its text reads as is what its values hold
-    readable : IsReadable Text (statement_of query b.bound.tokens id).query b.bound.values
+    readable : IsReadable (Text spelling) (statement_of query b.bound.tokens id).query b.bound.values
     readable =
-        let m : IsMeaning query params b.contents = b.meant in
-        let over : values_over (names_of b.bound.tokens) params ≡ Ok m.values = ap (λ t. values_over (names_of t) params) (once query b.bound.tokens m.tokens b.bound.has m.has) ∙ m.over in
+        let m : IsMeaning query params b.contents = b.meaning in
+        let over : values_over (names_of b.bound.tokens) params ≡ Ok m.values = ap (λ t. values_over (names_of t) params) (once query.mode query.text b.bound.tokens m.tokens b.bound.has m.has) ∙ m.over in
         let same : m.values ≡ b.bound.values = one_value (values_over (names_of b.bound.tokens) params) m.values b.bound.values over b.bound.over in (
           b.contents,
           ap (λ v. map content_of v) (sym same) ∙ m.each,
-          subst (λ (l : List ℕ). TextReadsAs query l b.contents) (same_text b.text b.bound) b.reads,
+          subst (λ (l : List ℕ). TextReadsAs query l b.contents) (same_text b.text b.bound) (b.sliced, b.lexed),
         )
 
     -- the query of a set that is bound behind room for its header, and framed there
-    pub framed_query : length new - start ≤ limit → (out : List ℕ) → out ≡ take start new ++ framing (drop (start + 4) new) 0 → AppendsOne Text query id limit set given old out
+    pub framed_query : length new - start ≤ limit → (out : List ℕ) → out ≡ take start new ++ framing (drop (start + 4) new) 0 → AppendsOne (Text spelling) query id limit set given old out
     framed_query short out put =
         let fits : length (query_command b.text) ≤ limit - 4 = omega (arith, short, at, ap length (sym command_behind), length-drop (start + 4) new) in
         let whole : out ≡ old ++ framing (query_command b.text) 0 = put ∙ ap (λ l. l ++ framing (drop (start + 4) new) 0) front_kept ∙ ap (λ l. old ++ framing l 0) command_behind in (
@@ -261,10 +248,10 @@ module _ (slices : PiecesAreSlices) (once : OneTokens) (query : List ℕ) (place
             gives = gives b.text b.bound;
             none = set_none b.text b.bound fits;
             readable = readable;
-            appended = one_framed old out (whole_command Text (statement_of query b.bound.tokens id) b.bound.values) (whole ∙ ap (λ l. old ++ framing (query_command l) 0) (same_text b.text b.bound));
+            appended = one_framed old out (whole_command (Text spelling) (statement_of query b.bound.tokens id) b.bound.values) (whole ∙ ap (λ l. old ++ framing (query_command l) 0) (same_text b.text b.bound));
           },
         )
 
     -- one that is too long with its header
-    pub refused_behind : 4 ≤ limit → limit < length new - start → RefusesOne Text query id limit set given (refusals.PacketTooLarge set)
+    pub refused_behind : 4 ≤ limit → limit < length new - start → RefusesOne (Text spelling) query id limit set given (refusals.PacketTooLarge set)
     refused_behind some long = too_large b.text b.bound (omega (arith, some, long, at, ap length (sym command_behind), length-drop (start + 4) new))

@@ -3,19 +3,19 @@
 ghost use Rattle.std.specs.Prelude.{◌≤◌, ℕ, IfErr, OnOk};
 ghost use Rattle.mysql_command_rules.specs.Sets.{all_given};
 ghost use Rattle.mysql_command_rules.specs.Writing.{Stops, Writes};
-ghost use Rattle.mysql_command_rules.specs.declared.road.Road.TheVariants as roads;
+ghost use Rattle.mysql_command_rules.specs.SpelledRoad as roads;
 
 use crate::text_queries::{check_places, put_query};
 use mysql_command_rules::in_turn::{sent_in_turn, written_in_turn};
 use mysql_command_rules::{SendToError, flush, flush_set};
 use mysql_queries::ParsedQuery;
-use mysql_values::Params;
+use mysql_values::{Params, Spelling};
 use std::alloc::Global;
 use std::io::Write;
 
 /// Writes the text queries that [`put_queries`](crate::put_queries) appends, some at a time.
 ///
-/// Safe for the servers that `mysql_values::bind_text` names.
+/// Safe for a server in the query's mode, as `mysql_values::bind_text_in` says.
 ///
 /// Promise: the writer is given exactly the bytes that are appended else; where not all are, all
 /// sets before the refused one, each whole, or a front (`Writes`, `Stops`).
@@ -32,6 +32,7 @@ use std::io::Write;
 pub fn write_queries<W: Write>(
     alloc: Global,
     query: &ParsedQuery<'_>,
+    spelling: Spelling,
     sets: &[Params],
     limit: usize,
     to: &mut W,
@@ -39,10 +40,10 @@ pub fn write_queries<W: Write>(
     requires { 4 ≤ limit }
     // A text query carries no id: this holds of each.
     ensures ok { OnOk result ((id : ℕ) →
-        Writes roads.Text query.now.text (all_given sets.now) id limit (W.contents to.old)
+        Writes (roads.Text spelling) query.now.sql (all_given sets.now) id limit (W.contents to.old)
         (W.contents to.new)) }
     ensures err { IfErr result (λ e. (id : ℕ) →
-        Stops roads.Text query.now.text sets.now id limit (W.contents to.old) (W.contents to.new) e) }
+        Stops (roads.Text spelling) query.now.sql sets.now id limit (W.contents to.old) (W.contents to.new) e) }
 {
     written_in_turn();
     if let Err(refusal) = check_places(query) {
@@ -53,6 +54,7 @@ pub fn write_queries<W: Write>(
         let start = buffer.len();
         let put = put_query(
             query,
+            spelling,
             set,
             params,
             limit,

@@ -3,6 +3,7 @@ use Rattle.std.proofs.Common.{◌≡◌, ℕ, ◌+◌, ◌<◌, List, [], ◌∷
 use Rattle.std.specs.List.{AllByRecursion, concat}
 use Rattle.std.proofs.lemmas.List.{append-nil, append_cancel_left, get_or-append-add}
 use Rattle.mysql_wire.specs.Bytes.{AreBytes}
+use Rattle.mysql_values.specs.Sql.{Sql}
 use Rattle.mysql_values.specs.Laws.{OneTokens}
 use Rattle.mysql_values.specs.Parsed.{names_of}
 use Rattle.mysql_values.specs.Queries.{is_place, places_from}
@@ -18,8 +19,7 @@ use Rattle.mysql_command_rules.specs.Reading.{AreMeanings, HaveContents, IsReada
 use Rattle.mysql_command_rules.specs.Sending.{SendsGiven}
 use Rattle.mysql_command_rules.specs.Sent.{stream_of}
 use Rattle.mysql_command_rules.specs.Sets.{Given, all_given_in_places}
-use Rattle.mysql_command_rules.specs.declared.road.Road.{Road}
-use Rattle.mysql_command_rules.specs.declared.road.Road.TheVariants.{Execute}
+use Rattle.mysql_command_rules.specs.SpelledRoad.{SpelledRoad, Execute}
 use Rattle.mysql_send_execute.specs.Laws.{FurtherSetsAreSent}
 use Rattle.mysql_send_execute.specs.Executions.{AppendsMore, limits_of}
 use Rattle.mysql_recoding.specs.Causes.{values_of_sets}
@@ -38,7 +38,7 @@ bytes_behind : (front back : List ℕ) → AreBytes (front ++ back) → AreBytes
 bytes_behind front back bytes = λ i. subst (λ (n : ℕ). n < 256) (get_or-append-add front back i 0) (bytes (length front + i))
 
 -- a stream of bytes with such an audit has no other, in whichever pieces
-one_audit : CuttingsAgree → (query : List ℕ) (id limit : ℕ) (stream : List ℕ) (contents : List Set) → AreBytes stream → AuditOf query id limit stream (whole_of contents) → ReadsWholeAs query id limit stream contents
+one_audit : CuttingsAgree → (query : Sql) (id limit : ℕ) (stream : List ℕ) (contents : List Set) → AreBytes stream → AuditOf query id limit stream (whole_of contents) → ReadsWholeAs query id limit stream contents
 one_audit agree query id limit stream contents bytes is pieces audit joined =
     let there : AuditOf query id limit (concat pieces) (whole_of contents) = subst (λ (l : List ℕ). AuditOf query id limit l (whole_of contents)) (sym joined) is in
     let alone : concat pieces ≡ concat (concat pieces ∷ []) = sym (append-nil (concat pieces)) in (
@@ -71,10 +71,10 @@ counted : (tokens others : List (List ℕ)) (values same : List (List Value)) �
 counted tokens others values same one two counts = subst (λ (l : List (List Value)). Counts others l) two (subst (λ (t : List (List ℕ)). Counts t values) one counts)
 
 -- sets of values that can be read back
-abbrev AreReadable : Road → List ℕ → ℕ → List (List ℕ) → List (List Value) → Type 0
+abbrev AreReadable : SpelledRoad → Sql → ℕ → List (List ℕ) → List (List Value) → Type 0
 AreReadable road query id tokens values = AllByRecursion (IsReadable road (statement_of query tokens id).query) values
 
-readable_by : (road : Road) (query : List ℕ) (id : ℕ) (tokens others : List (List ℕ)) (values same : List (List Value)) → tokens ≡ others → values ≡ same → AreReadable road query id tokens values → AreReadable road query id others same
+readable_by : (road : SpelledRoad) (query : Sql) (id : ℕ) (tokens others : List (List ℕ)) (values same : List (List Value)) → tokens ≡ others → values ≡ same → AreReadable road query id tokens values → AreReadable road query id others same
 readable_by road query id tokens others values same one two readable =
     subst (λ (l : List (List Value)). AreReadable road query id others l) two (subst (λ (t : List (List ℕ)). AreReadable road query id t values) one readable)
 
@@ -86,9 +86,9 @@ delivered sent fit agree once road query sets id limit old new small room short 
     let s : SendsGiven road query sets id limit old new = d.whole.sends in
     let contents : List Set = d.read_back.contents in
     let m : AreMeanings query sets contents = d.read_back.reads.meanings in
-    let tokens : m.tokens ≡ s.tokens = once query m.tokens s.tokens m.has s.has in
+    let tokens : m.tokens ≡ s.tokens = once query.mode query.text m.tokens s.tokens m.has s.has in
     let values : m.values ≡ s.values = one_values m.values s.values (sym m.given ∙ ap (λ t. sets (names_of t)) tokens ∙ s.given) in
-    let same_tokens : q.sends.tokens ≡ s.tokens = once query q.sends.tokens s.tokens q.sends.has s.has in
+    let same_tokens : q.sends.tokens ≡ s.tokens = once query.mode query.text q.sends.tokens s.tokens q.sends.has s.has in
     let same_values : q.sends.values ≡ s.values = one_values q.sends.values s.values (sym q.sends.given ∙ ap (λ t. sets (names_of t)) same_tokens ∙ s.given) in
     let stream : d.read_back.stream ≡ stream_of s.sent = append_cancel_left old d.read_back.stream (stream_of s.sent) (sym d.read_back.appended ∙ s.appended) in
     let none : cause_of road (statement_of query s.tokens id) limit (map Ok s.values) ≡ None = ap (λ l. cause_of road (statement_of query s.tokens id) limit l) (sym s.given) ∙ s.none in
@@ -117,7 +117,7 @@ recoded sent delivers query id limit stream old new small least room short bytes
     delivers Execute query (all_given_in_places (values_of_sets is.audit.sets)) id limit old new small least short appended (sent query id limit stream old new room bytes is)
 
 -- what was sent of them
-abbrev sent_of : (road : Road) (query : List ℕ) (sets : List (List ℕ) → List Given) (id limit : ℕ) (old new : List ℕ) → Delivers road query sets id limit old new → SendsGiven road query sets id limit old new
+abbrev sent_of : (road : SpelledRoad) (query : Sql) (sets : List (List ℕ) → List Given) (id limit : ℕ) (old new : List ℕ) → Delivers road query sets id limit old new → SendsGiven road query sets id limit old new
 sent_of road query sets id limit old new d = record {
   tokens = d.tokens;
   has = d.has;
@@ -152,10 +152,10 @@ read_back road query sets id limit old new d =
 
 pub further : FurtherSetsAreSent → ReadableSetsAreDelivered → OneTokens → FurtherSetsAreDelivered
 further goes_on delivers once query sets limit first more old mid new small least short bytes d count a =
-    let tokens : a.tokens ≡ d.tokens = once query.text a.tokens d.tokens a.has d.has in
-    delivers Execute query.text (λ names. sets names ++ all_given_in_places more names) query.id limit old new small least short bytes
-    (goes_on query.text sets query.id limit first more old mid new (record { sends = sent_of Execute query.text sets query.id limit old mid d; readable = d.readable }) count
-    (subst (λ (t : List (List ℕ)). AppendsMore query.id (limits_of (places_from query.text 0 t) limit) first more mid new) tokens a.appends))
+    let tokens : a.tokens ≡ d.tokens = once query.sql.mode query.sql.text a.tokens d.tokens a.has d.has in
+    delivers Execute query.sql (λ names. sets names ++ all_given_in_places more names) query.id limit old new small least short bytes
+    (goes_on query.sql sets query.id limit first more old mid new (record { sends = sent_of Execute query.sql sets query.id limit old mid d; readable = d.readable }) count
+    (subst (λ (t : List (List ℕ)). AppendsMore query.id (limits_of (places_from query.sql.text 0 t) limit) first more mid new) tokens a.appends))
 
 pub received : DeliveriesAreReceived
 received road query sets id limit old new pieces answer d appended is known =

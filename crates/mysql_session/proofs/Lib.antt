@@ -1,3 +1,4 @@
+pub mod Modes
 pub mod OnAnswers
 pub mod ObjectSets
 pub mod Deliveries

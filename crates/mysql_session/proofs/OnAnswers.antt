@@ -1,5 +1,6 @@
 -- What holds of an answer is taken on.
-use Rattle.std.proofs.Common.{◌≡◌, List, Result, Ok, Err, subst, ℕ}
+use Rattle.std.proofs.Common.{◌≡◌, Result, Ok, Err, subst, ℕ}
+use Rattle.mysql_values.specs.Sql.{Sql}
 use Rattle.std.specs.Prelude.{IfErr, IfOk, OnOk}
 
 pub on_ok : {E P Q : Type 0} (answer : Result (Unit {0}) E) → (P → Q) → OnOk answer P → OnOk answer Q
@@ -15,5 +16,5 @@ on_err (Ok done) step holds = tt
 on_err (Err error) step holds = step error holds
 
 -- what is said over a text and an id is said over equal ones
-pub over_same : (P : List ℕ → ℕ → Type 0) (text other : List ℕ) (id number : ℕ) → text ≡ other → id ≡ number → P text id → P other number
-over_same P text other id number same one holds = subst (λ (n : ℕ). P other n) one (subst (λ (t : List ℕ). P t id) same holds)
+pub over_same : (P : Sql → ℕ → Type 0) (text other : Sql) (id number : ℕ) → text ≡ other → id ≡ number → P text id → P other number
+over_same P text other id number same one holds = subst (λ (n : ℕ). P other n) one (subst (λ (t : Sql). P t id) same holds)

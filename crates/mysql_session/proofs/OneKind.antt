@@ -1,6 +1,7 @@
 -- A query whose placeholders are of one kind is never refused for both.
 use Rattle.std.proofs.Common.{◌≡◌, ◌≢◌, ◌⊎◌, inl, inr, ℕ, ◌+◌, ◌-◌, ◌==◌, Bool, true, false, List, [], ◌∷◌, length, Option, Some, None, Result, Ok, Err, refl, sym, ◌∙◌, ap, subst, nat_lt, if◌then◌else◌}
 use Rattle.std.specs.Option.{option_map, option_or}
+use Rattle.mysql_values.specs.Sql.{Sql}
 use Rattle.mysql_values.specs.Binding.{IsBindCause, alone_cause, given_cause, values_cause}
 use Rattle.mysql_values.specs.Laws.{OneTokens}
 use Rattle.mysql_values.specs.Params.{values_over}
@@ -17,8 +18,7 @@ use Rattle.mysql_values.specs.declared.params.ParamsError.{ParamsError}
 use Rattle.mysql_receive.specs.Query.{Query, Statement, place_count, statement_of}
 use Rattle.mysql_command_rules.specs.declared.refusal.Refusal.{Refusal}
 use Rattle.mysql_command_rules.specs.declared.refusal.Refusal.TheVariants as refusals
-use Rattle.mysql_command_rules.specs.declared.road.Road.{Road}
-use Rattle.mysql_command_rules.specs.declared.road.Road.TheVariants.{Text, Execute, Bulk}
+use Rattle.mysql_command_rules.specs.SpelledRoad.{SpelledRoad, Text, Execute, Bulk}
 use Rattle.mysql_command_rules.specs.Cause.{cause_if, first_of_sets, max_places, places_cause, prepare_cause, query_cause, set_cause, sets_cause}
 use Rattle.mysql_command_rules.specs.Commands.{prepare_command}
 use Rattle.mysql_command_rules.specs.Sending.{RefusesGiven}
@@ -62,8 +62,8 @@ prepare_not query room one =
     (or_not many (option_or long None) (if_not (nat_lt max_places (place_count query)) refusals.TooManyPlaces (λ same. cc same))
     (or_not long None (if_not (nat_lt room (length (prepare_command query.parsed))) refusals.PrepareTooLarge (λ same. cc same)) none_is_not))
 
-query_not : (road : Road) (statement : Statement) (room : ℕ) → is_mixed statement.query.places ≡ false → NotMixed (query_cause road statement room)
-query_not Text statement room one = places_not statement.query.places one
+query_not : (road : SpelledRoad) (statement : Statement) (room : ℕ) → is_mixed statement.query.places ≡ false → NotMixed (query_cause road statement room)
+query_not (Text spelling) statement room one = places_not statement.query.places one
 query_not Execute statement room one = prepare_not statement.query room one
 query_not Bulk statement room one =
     or_not (prepare_cause statement.query room) (cause_if (place_count statement.query == 0) refusals.NoPlaces) (prepare_not statement.query room one)
@@ -89,8 +89,8 @@ each_not command places room number [] = none_is_not
 each_not command places room number (given ∷ sets) =
     or_not (set_cause command places room number given) (first_of_sets (set_cause command places room) (number + 1) sets) (set_not command places room number given) (each_not command places room (number + 1) sets)
 
-together_not : (road : Road) (statement : Statement) (room : ℕ) (rows : List (List Value)) → NotMixed (sets_cause road statement room rows)
-together_not Text statement room rows = none_is_not
+together_not : (road : SpelledRoad) (statement : Statement) (room : ℕ) (rows : List (List Value)) → NotMixed (sets_cause road statement room rows)
+together_not (Text spelling) statement room rows = none_is_not
 together_not Execute statement room rows = none_is_not
 together_not Bulk statement room rows =
     or_not _ _ (mapped_not (λ at. refusals.MixedKinds at.0 at.1) _ (λ at same. cc same)) (or_not _ None (mapped_not (λ set. refusals.RowTooLarge set) _ (λ set same. cc same)) none_is_not)
@@ -98,24 +98,24 @@ together_not Bulk statement room rows =
 -- ---- what is refused
 
 -- the placeholders of a query of one kind are of one kind
-one_kind : OneTokens → (query : List ℕ) (tokens : List (List ℕ)) → HasTokens query tokens → HasMixed query false → is_mixed (places_from query 0 tokens) ≡ false
+one_kind : OneTokens → (query : Sql) (tokens : List (List ℕ)) → HasTokens query.mode query.text tokens → HasMixed query false → is_mixed (places_from query.text 0 tokens) ≡ false
 one_kind once query tokens has mixed =
     let found : HasPlaces query mixed.0 = mixed.1 in
-    ap (λ t. is_mixed (places_from query 0 t)) (once query tokens found.0 has found.1) ∙ ap is_mixed (sym found.2) ∙ sym mixed.2
+    ap (λ t. is_mixed (places_from query.text 0 t)) (once query.mode query.text tokens found.0 has found.1) ∙ ap is_mixed (sym found.2) ∙ sym mixed.2
 
 -- so are those that were found of it
-pub one_kind_of : OneTokens → (query : List ℕ) (places : List Place) → HasPlaces query places → HasMixed query false → is_mixed places ≡ false
+pub one_kind_of : OneTokens → (query : Sql) (places : List Place) → HasPlaces query places → HasMixed query false → is_mixed places ≡ false
 one_kind_of once query places has mixed = ap is_mixed has.2 ∙ one_kind once query has.0 has.1 mixed
 
 -- where one of them doesn't stand alone no text is bound
-pub not_alone : (query : List ℕ) (places : List Place) (params : Params) (place : ℕ) → HasPlaces query places → is_mixed places ≡ false → first_not_alone places ≡ Some place → IsBindCause query params (bind_error.NotAlone place)
+pub not_alone : (query : Sql) (places : List Place) (params : Params) (place : ℕ) → HasPlaces query places → is_mixed places ≡ false → first_not_alone places ≡ Some place → IsBindCause query params (bind_error.NotAlone place)
 not_alone query places params place has one apart =
-    (has.0, has.1, by (is_mixed (places_from query 0 has.0)) (first_not_alone (places_from query 0 has.0)) _ (ap is_mixed (sym has.2) ∙ one) (ap first_not_alone (sym has.2) ∙ apart))
+    (has.0, has.1, by (is_mixed (places_from query.text 0 has.0)) (first_not_alone (places_from query.text 0 has.0)) _ (ap is_mixed (sym has.2) ∙ one) (ap first_not_alone (sym has.2) ∙ apart))
   where
     by : (mixed : Bool) (found : Option ℕ) (rest : Option BindError) → mixed ≡ false → found ≡ Some place → (if mixed then Some bind_error.Mixed else alone_cause found rest) ≡ Some (bind_error.NotAlone place)
     by mixed found rest kind here = rw (kind, here) refl
 
-pub never_mixed : OneTokens → (road : Road) (query : List ℕ) (sets : List (List ℕ) → List Given) (id limit : ℕ) (refusal : Refusal) → HasMixed query false → RefusesGiven road query sets id limit refusal → refusal ≢ refusals.Mixed
+pub never_mixed : OneTokens → (road : SpelledRoad) (query : Sql) (sets : List (List ℕ) → List Given) (id limit : ℕ) (refusal : Refusal) → HasMixed query false → RefusesGiven road query sets id limit refusal → refusal ≢ refusals.Mixed
 never_mixed once road query sets id limit refusal one (inl memory) = λ same. cc (sym memory ∙ same)
 never_mixed once road query sets id limit refusal one (inr why) = λ same.
     let statement : Statement = statement_of query why.tokens id in
@@ -129,10 +129,10 @@ never_mixed once road query sets id limit refusal one (inr why) = λ same.
 
 -- ---- what is not bound
 
-pub never_mixed_text : OneTokens → (query : List ℕ) (params : Params) (error : BindError) → HasMixed query false → (error ≡ bind_error.Memory) ⊎ IsBindCause query params error → error ≢ bind_error.Mixed
+pub never_mixed_text : OneTokens → (query : Sql) (params : Params) (error : BindError) → HasMixed query false → (error ≡ bind_error.Memory) ⊎ IsBindCause query params error → error ≢ bind_error.Mixed
 never_mixed_text once query params error one (inl memory) = λ same. cc (sym memory ∙ same)
 never_mixed_text once query params error one (inr why) =
-    by (is_mixed (places_from query 0 why.0)) (one_kind once query why.0 why.1 one) (first_not_alone (places_from query 0 why.0)) (length (places_from query 0 why.0)) (values_over (names_of why.0) params) why.2
+    by (is_mixed (places_from query.text 0 why.0)) (one_kind once query why.0 why.1 one) (first_not_alone (places_from query.text 0 why.0)) (length (places_from query.text 0 why.0)) (values_over (names_of why.0) params) why.2
   where
     given_not : (count : ℕ) (over : Result (List Value) ParamsError) → given_cause count over ≢ Some bind_error.Mixed
     given_not count (Err wrong) = λ same. cc same

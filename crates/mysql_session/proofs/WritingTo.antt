@@ -9,6 +9,7 @@ use Rattle.mysql_wire.specs.Bytes.{AreBytes}
 use Rattle.mysql_wire.specs.Laws.{OneCountStandsWhole}
 use Rattle.mysql_wire.specs.Stream.{StandWhole, framings}
 use Rattle.mysql_wire.specs.Stream.Numbering.{EachFromZero}
+use Rattle.mysql_values.specs.Sql.{Sql}
 use Rattle.mysql_values.specs.declared.params.Params.{Params}
 use Rattle.mysql_values.specs.Laws.{OneTokens}
 use Rattle.mysql_values.specs.Value.{Value}
@@ -18,8 +19,7 @@ use Rattle.mysql_receive.specs.Audit.{Audit, Audited, AuditOf}
 use Rattle.mysql_receive.specs.Laws.{StreamHasOneAudit}
 use Rattle.mysql_receive.specs.Query.{Statement, statement_of}
 use Rattle.mysql_receive.specs.Reading.{Set}
-use Rattle.mysql_command_rules.specs.declared.road.Road.{Road}
-use Rattle.mysql_command_rules.specs.declared.road.Road.TheVariants.{Text, Execute, Bulk}
+use Rattle.mysql_command_rules.specs.SpelledRoad.{SpelledRoad, Text, Execute, Bulk}
 use Rattle.mysql_command_rules.specs.Reading.{HaveContents}
 use Rattle.mysql_command_rules.specs.Sent.{SentPayload, payloads_of, sets_of, stream_of}
 use Rattle.mysql_command_rules.specs.Sets.{Given, all_given}
@@ -31,7 +31,7 @@ use Rattle.mysql_session.specs.Delivery.{Delivers}
 use Rattle.mysql_session.specs.WritingTo.{DeliversTo, FailedWritersAreRead, FrontReads, StopsSending, TakesReadable}
 use Rattle.mysql_session.specs.Laws.{ReadableSetsAreDelivered}
 
-pub delivers_to : ReadableSetsAreDelivered → (road : Road) (query : List ℕ) (sets : List (List ℕ) → List Given) (id limit : ℕ) (old new : Option (List ℕ)) → id < 2 ^ 32 → 4 ≤ limit → Writes road query sets id limit old new
+pub delivers_to : ReadableSetsAreDelivered → (road : SpelledRoad) (query : Sql) (sets : List (List ℕ) → List Given) (id limit : ℕ) (old new : Option (List ℕ)) → id < 2 ^ 32 → 4 ≤ limit → Writes road query sets id limit old new
     → DeliversTo road query sets id limit old new
 delivers_to law road query sets id limit old new small room w = record {
   stream = w.stream;
@@ -67,9 +67,9 @@ first_contents sets others contents all here whole =
     sym (take-map (map Some) (length sets) all) ∙ ap (λ l. take (length sets) l) split ∙ take_at front (map (map content_of) others) (length sets) (length-map sets (map content_of)) in
     one_contents contents (take (length sets) all) (sym here ∙ sym first)
 
-module _ (law : ReadableSetsAreDelivered) (audits : StreamHasOneAudit) (once : OneTokens) (one_count : OneCountStandsWhole) (query : List ℕ) (id limit : ℕ) where
+module _ (law : ReadableSetsAreDelivered) (audits : StreamHasOneAudit) (once : OneTokens) (one_count : OneCountStandsWhole) (query : Sql) (id limit : ℕ) where
   -- what is read of a front of a stream that delivers sets
-  front_reads : (road : Road) (sets : List (List ℕ) → List Given) (stream front back : List ℕ) → AreBytes stream → stream ≡ front ++ back → Delivers road query sets id limit [] stream
+  front_reads : (road : SpelledRoad) (sets : List (List ℕ) → List Given) (stream front back : List ℕ) → AreBytes stream → stream ≡ front ++ back → Delivers road query sets id limit [] stream
       → FrontReads road query sets id limit stream front
   front_reads road sets stream front back bytes parts d =
       let statement : Statement = statement_of query d.tokens id in
@@ -78,7 +78,7 @@ module _ (law : ReadableSetsAreDelivered) (audits : StreamHasOneAudit) (once : O
       let audit : Audit = found.0 in
       let there : AuditOf query id limit front audit = (d.tokens, d.has, found.1) in
       let only : (other : Audit) → AuditOf query id limit front other → other ≡ audit =
-      λ other is. found.2 other (subst (λ (t : List (List ℕ)). Audited (statement_of query t id) limit front other) (once query is.0 d.tokens is.1 d.has) is.2) in
+      λ other is. found.2 other (subst (λ (t : List (List ℕ)). Audited (statement_of query t id) limit front other) (once query.mode query.text is.0 d.tokens is.1 d.has) is.2) in
       let read = d.fronts front back audit (sym d.appended ∙ parts) there in
       let alone : whole_stream ++ [] ≡ whole_stream = append-nil whole_stream in
       let everything : AuditOf query id limit whole_stream (record { sets = d.contents; ending = Whole }) =
@@ -103,7 +103,7 @@ module _ (law : ReadableSetsAreDelivered) (audits : StreamHasOneAudit) (once : O
 
   module _ (small : id < 2 ^ 32) (room : 4 ≤ limit) (sets : List Params) (old new : Option (List ℕ)) where
     -- what a writer took that failed within the first sets, so many
-    takes : (road : Road) (count : ℕ) → count ≤ length sets → (road ≡ Bulk → count ≡ length sets) → FailsWithin road query (all_given (take count sets)) id limit old new
+    takes : (road : SpelledRoad) (count : ℕ) → count ≤ length sets → (road ≡ Bulk → count ≡ length sets) → FailsWithin road query (all_given (take count sets)) id limit old new
         → TakesReadable road query sets id limit old new
     takes road count inside all f = record {
       count = count;
@@ -116,11 +116,11 @@ module _ (law : ReadableSetsAreDelivered) (audits : StreamHasOneAudit) (once : O
           (law road query (all_given (take count sets)) id limit [] f.stream small room short f.bytes f.carries);
     }
 
-    among : (road : Road) → (road ≡ Bulk → ⊥) → FailsAmong road query sets id limit old new → TakesReadable road query sets id limit old new
+    among : (road : SpelledRoad) → (road ≡ Bulk → ⊥) → FailsAmong road query sets id limit old new → TakesReadable road query sets id limit old new
     among road apart f = takes road f.count f.inside (λ bulk. absurd (apart bulk)) f.within
 
-    pub failed : (road : Road) (error : Error) → StopsSending road query sets id limit old new (Io error) → TakesReadable road query sets id limit old new
-    failed Text error f = among Text (λ bulk. cc) f
+    pub failed : (road : SpelledRoad) (error : Error) → StopsSending road query sets id limit old new (Io error) → TakesReadable road query sets id limit old new
+    failed (Text spelling) error f = among (Text spelling) (λ bulk. cc) f
     failed Execute error f = among Execute (λ bulk. cc) f
     failed Bulk error f =
         takes Bulk (length sets) (omega arith) (λ bulk. refl)

@@ -3,6 +3,7 @@
 -- MySQL Packets", "Command Phase".
 use Rattle.std.specs.Prelude.{◌≡◌, ◌↔◌, ◌≤◌, ◌-◌, ℕ, List, ◌++◌, filter, length, map, None, Ok}
 use Rattle.std.specs.List.{AllByRecursion, concat}
+use Rattle.mysql_values.specs.Sql.{Sql}
 use Rattle.mysql_values.specs.Parsed.{names_of}
 use Rattle.mysql_values.specs.Queries.{is_place}
 use Rattle.mysql_values.specs.Tokens.{HasTokens}
@@ -11,26 +12,27 @@ use Rattle.mysql_receive.specs.declared.audit.End.TheVariants.{Whole}
 use Rattle.mysql_receive.specs.Audit.{Audit, AuditOf}
 use Rattle.mysql_receive.specs.Query.{statement_of}
 use Rattle.mysql_receive.specs.Reading.{Set}
-use Rattle.mysql_command_rules.specs.declared.road.Road.{Road}
+use Rattle.mysql_command_rules.specs.SpelledRoad.{SpelledRoad}
 use Rattle.mysql_command_rules.specs.Cause.{cause_of}
 use Rattle.mysql_command_rules.specs.Reading.{FrontsRead, HaveContents, IsReadable}
 use Rattle.mysql_command_rules.specs.Sending.{HasFewest}
 use Rattle.mysql_command_rules.specs.Sent.{AreSent, SentPayload, stream_of}
 use Rattle.mysql_command_rules.specs.Sets.{Given}
 
--- A stream, in whichever pieces it comes, has one audit: these contents, and Whole.
-abbrev pub ReadsWholeAs : List ℕ → ℕ → ℕ → List ℕ → List Set → Type 0
+-- A stream, in whichever pieces it comes, has one audit in the query's mode: these contents, and Whole.
+abbrev pub ReadsWholeAs : Sql → ℕ → ℕ → List ℕ → List Set → Type 0
 ReadsWholeAs query id limit stream contents =
     (pieces : List (List ℕ)) (audit : Audit) → concat pieces ≡ stream →
     AuditOf query id limit (concat pieces) audit ↔ (audit ≡
     record { sets = contents; ending = Whole })
 
--- Sets that give this for the query's names are delivered by what was appended.
-pub record Delivers (road : Road) (query : List ℕ) (sets : List (List ℕ) →
+-- Sets that give this for the query's names are delivered by what was appended, to a server in the
+-- query's mode.
+pub record Delivers (road : SpelledRoad) (query : Sql) (sets : List (List ℕ) →
     List Given) (id limit : ℕ) (old new : List ℕ) : Type 0 where
   -- The query has these tokens, and each set gives values for its names, as many as it has placeholders.
   pub tokens : List (List ℕ)
-  pub has : HasTokens query tokens
+  pub has : HasTokens query.mode query.text tokens
   pub values : List (List Value)
   pub given : sets (names_of tokens) ≡ map Ok values
   pub counts : AllByRecursion (λ set. length set ≡ length (filter is_place tokens)) values

@@ -1,20 +1,38 @@
 -- A query that is kept, for calls that each send or read sets of it. MySQL Reference Manual,
 -- "PREPARE Statement" (parameter markers); MySQL: Client/Server Protocol, "COM_STMT_PREPARE" (the
 -- statement's id), "COM_STMT_EXECUTE".
-use Rattle.std.specs.Prelude.{◌≡◌, ◌⊎◌, ◌<◌, ◌≤◌, ℕ, List, length}
+use Rattle.std.specs.Prelude.{◌≡◌, ◌⊎◌, ◌<◌, ◌≤◌, ℕ, List, length, false, true}
 use Rattle.mysql_values.specs.Place.{Place}
-use Rattle.mysql_values.specs.Queries.{places_from}
+use Rattle.mysql_values.specs.Queries.{HasMixed, places_from}
+use Rattle.mysql_values.specs.Spelling.{Spelling}
+use Rattle.mysql_values.specs.Sql.{Sql}
 use Rattle.mysql_values.specs.Tokens.{HasTokens}
 use Rattle.mysql_values.specs.Value.{Value}
 use Rattle.mysql_command_rules.specs.Cause.{max_places}
+use Rattle.mysql_command_rules.specs.Sending.{RefusesGiven}
+use Rattle.mysql_command_rules.specs.Sets.{Given}
+use Rattle.mysql_command_rules.specs.SpelledRoad.{SpelledRoad}
 use Rattle.mysql_command_rules.specs.declared.refusal.Refusal.{Refusal}
-use Rattle.mysql_command_rules.specs.declared.refusal.Refusal.TheVariants.{TooManyPlaces}
+use Rattle.mysql_command_rules.specs.declared.refusal.Refusal.TheVariants.{Memory, Mixed, TooManyPlaces}
 use Rattle.mysql_send_execute.specs.Executions.{AppendsMore, RefusesMore, limits_of}
 
--- its text, and the id of its statement
+-- its text for a server in a mode, the spelling of byte strings by text, and the id of its statement
 pub record KeptQuery : Type 0 where
-  pub text : List ℕ
+  pub sql : Sql
+  pub spelling : Spelling
   pub id : ℕ
+
+-- a query is kept that stands for this text and mode, spelling and id; its placeholders are of one kind
+pub record KeepsQuery (sql : Sql) (spelling : Spelling) (id : ℕ) (query : KeptQuery) : Type 0 where
+  pub is : query ≡ record { sql = sql; spelling = spelling; id = id }
+  pub one_kind : HasMixed sql false
+
+-- None is kept: both kinds of placeholder occur, or memory ran out. So what `send` is asked of the
+-- same text and id is refused by each road, whichever the sets are.
+pub record IsNotKept (sql : Sql) (id : ℕ) (refusal : Refusal) : Type 0 where
+  pub mixed : (refusal ≡ Memory) ⊎ ((refusal ≡ Mixed) × HasMixed sql true)
+  pub refused : (road : SpelledRoad) (sets : List (List ℕ) → List Given) (limit : ℕ) →
+      RefusesGiven road sql sets id limit refusal
 
 -- further executions are appended, of which the first has this number: the statement can be
 -- prepared, nothing speaks against any set, and the framings of its execution follow those of the
@@ -22,19 +40,23 @@ pub record KeptQuery : Type 0 where
 pub record AppendsFurther (query : KeptQuery) (limit first : ℕ) (sets : List (List Value))
     (old new : List ℕ) : Type 0 where
   pub tokens : List (List ℕ)
-  pub has : HasTokens query.text tokens
-  pub few : length (places_from query.text 0 tokens) ≤ max_places
-  pub appends : AppendsMore query.id (limits_of (places_from query.text 0 tokens) limit) first sets old new
+  pub has : HasTokens query.sql.mode query.sql.text tokens
+  pub few : length (places_from query.sql.text 0 tokens) ≤ max_places
+  pub appends : AppendsMore query.id (limits_of (places_from query.sql.text 0 tokens) limit) first sets old new
 
--- why they are refused, with these placeholders: they are too many, or Memory, or the first cause
--- that speaks against one of the sets
-abbrev pub refused_over : ℕ → List Place → ℕ → ℕ → List (List Value) → Refusal → Type 0
-refused_over id places limit first sets refusal =
-    ((refusal ≡ TooManyPlaces) × (max_places < length places)) ⊎
-    ((length places ≤ max_places) × RefusesMore id (limits_of places limit) first sets refusal)
+-- why further executions are refused, with these placeholders
+pub data WhyRefused (id : ℕ) (places : List Place) (limit first : ℕ) (sets : List (List Value))
+    (refusal : Refusal) : Type 0 where
+  -- they are too many
+  too_many_places : refusal ≡ TooManyPlaces → max_places < length places →
+      WhyRefused id places limit first sets refusal
+  -- memory ran out, or a cause speaks against one of the sets, the first that does
+  at_a_set : length places ≤ max_places → RefusesMore id (limits_of places limit) first sets refusal →
+      WhyRefused id places limit first sets refusal
 
+-- further executions are refused
 pub record RefusesFurther (query : KeptQuery) (limit first : ℕ) (sets : List (List Value))
     (refusal : Refusal) : Type 0 where
   pub tokens : List (List ℕ)
-  pub has : HasTokens query.text tokens
-  pub why : refused_over query.id (places_from query.text 0 tokens) limit first sets refusal
+  pub has : HasTokens query.sql.mode query.sql.text tokens
+  pub why : WhyRefused query.id (places_from query.sql.text 0 tokens) limit first sets refusal

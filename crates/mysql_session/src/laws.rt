@@ -7,7 +7,9 @@ ghost use Rattle.mysql_session.specs.Laws.{MadeSetsGiveTheSame, ReadableSetsAreD
 
 pub use mysql_command_rules::laws as streams;
 use mysql_command_rules::laws::{sent_payloads_fit, sent_sets_are_delivered};
-pub use mysql_command_rules::laws::{roads_read_equally, sent_streams_join};
+pub use mysql_command_rules::laws::{
+    hexadecimal_reads_in_each_mode, roads_read_equally, sent_streams_join, tokens_in_each_mode,
+};
 pub use mysql_receive::laws as commands;
 use mysql_receive::laws::{cuttings_agree, stream_has_one_audit};
 pub use mysql_recoding::laws as recoding;

@@ -17,8 +17,10 @@ pub use mysql_packets;
 pub use mysql_packets::{
     Column, LocalInfilePacket, OkPacket, ProgressReport, ServerError, SqlState, StmtPacket,
 };
-pub use mysql_receive::{Audit, End, Receiver, ReceiverError, StreamFault, receive};
-pub use mysql_recoding::{RecodeError, Recoder, recode, send_contents};
+pub use mysql_receive::{Audit, End, Receiver, ReceiverError, StreamFault, receive, receive_in};
+pub use mysql_recoding::{
+    RecodeError, Recoder, recode, recode_in, send_contents, send_contents_in,
+};
 pub use mysql_replies::{
     Reply, ReplyEnd, ReplyFault, ReplyKind, ReplyReader, ReplyResult, read_reply,
 };
@@ -30,8 +32,8 @@ pub use mysql_row_refs::{
 };
 pub use mysql_rows::{ColumnIndex, Row};
 pub use mysql_values::{
-    BindError, ByteString, Content, MissingNamedParameterError, Params, ParamsConfusionError,
-    ParamsError, SetError, Value,
+    BindError, ByteString, Content, MissingNamedParameterError, Mode, Params, ParamsConfusionError,
+    ParamsError, SetError, Spelling, Value, is_safe_to_quote,
 };
 pub use mysql_wire::{PacketCodecError, PacketReader, packet_to_chunks};
 pub use objects::send_values;

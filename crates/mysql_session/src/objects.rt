@@ -10,17 +10,19 @@ ghost use Rattle.mysql_session.specs.Objects.{all_given_by_objects};
 ghost use Rattle.mysql_command_rules.specs.MadeSets.{is_want_of_memory};
 ghost use Rattle.mysql_command_rules.specs.Reading.{SentReadable};
 ghost use Rattle.mysql_command_rules.specs.Sending.{RefusesGiven};
-ghost use Rattle.mysql_command_rules.specs.declared.road.Road.TheVariants as roads;
+ghost use Rattle.mysql_command_rules.specs.SpelledRoad as roads;
+ghost use Rattle.mysql_command_rules.specs.SpelledRoad.{spelled};
+ghost use Rattle.mysql_values.specs.Sql.{read_by_default};
 
 use crate::laws::readable_sets_are_delivered;
-use crate::sender::are_bytes;
+use mysql_buf::laws::are_bytes;
 use mysql_command_rules::{Refusal, Road, SetMaker};
 use mysql_convert::{IntoParams, ToValue};
 use mysql_send_bulk::put_requests;
 use mysql_send_execute::{Statement, put_made_executions};
 use mysql_send_text::put_made_queries;
 use mysql_values::bind::ParsedQuery;
-use mysql_values::{Params, SetError};
+use mysql_values::{Params, SetError, Spelling};
 use std::alloc::{AllocError, Global};
 
 /// The sets of the first lists, and why the list behind them makes none.
@@ -106,11 +108,11 @@ fn put_held_sets(
     out: &mut Vec<u8>,
 ) -> Result<(), Refusal>
     requires { 4 ≤ limit }
-    ensures ok { OnOk result (SentReadable roads.Bulk query.now
+    ensures ok { OnOk result (SentReadable roads.Bulk (read_by_default query.now)
         (all_given_by_objects (map (λ list. map (λ object. as_value object) list.items) lists.now))
         stmt_id limit out.old.items out.new.items) }
     ensures err { IfErr result
-        (RefusesGiven roads.Bulk query.now
+        (RefusesGiven roads.Bulk (read_by_default query.now)
         (all_given_by_objects (map (λ list. map (λ object. as_value object) list.items) lists.now))
         stmt_id limit) }
     ensures kept { take (length out.old.items) out.new.items ≡ out.old.items }
@@ -133,12 +135,12 @@ fn put_lists(
 ) -> Result<(), Refusal>
     requires { 4 ≤ limit }
     ensures refused { IfErr result
-        (RefusesGiven road query.now
+        (RefusesGiven (spelled Spelling.Quoted road) (read_by_default query.now)
         (all_given_by_objects (map (λ list. map (λ object. as_value object) list.items) lists.now))
         stmt_id limit) }
     ensures kept { take (length out.old.items) out.new.items ≡ out.old.items }
     ensures sent { OnOk result
-        (SentReadable road query.now
+        (SentReadable (spelled Spelling.Quoted road) (read_by_default query.now)
         (all_given_by_objects (map (λ list. map (λ object. as_value object) list.items) lists.now))
         stmt_id limit out.old.items out.new.items) }
 {
@@ -146,7 +148,7 @@ fn put_lists(
     match road {
         Road::Text => {
             let query = ParsedQuery::new(alloc, query)?;
-            put_made_queries(alloc, &query, &sets, limit, out)
+            put_made_queries(alloc, &query, Spelling::Quoted, &sets, limit, out)
         }
         Road::Execute => {
             let statement = Statement::new(alloc, query, stmt_id)?;
@@ -195,19 +197,19 @@ pub fn send_values(
 ) -> Result<(), Refusal>
     requires { 4 ≤ limit }
     ensures refused { IfErr result
-        (RefusesGiven road query.now
+        (RefusesGiven (spelled Spelling.Quoted road) (read_by_default query.now)
         (all_given_by_objects (map (λ set. map (λ object. as_value object) set.items) sets.now))
         stmt_id limit) }
     ensures kept { OnErr result (out.new.items ≡ out.old.items) }
     ensures delivered { OnOk result
-        (Delivers road query.now (all_given_by_objects
+        (Delivers (spelled Spelling.Quoted road) (read_by_default query.now) (all_given_by_objects
         (map (λ set. map (λ object. as_value object) set.items) sets.now)) stmt_id limit
         out.old.items out.new.items) }
 {
     readable_sets_are_delivered();
     let start = out.len();
     let sent = put_lists(alloc, query, sets, road, stmt_id, limit, out);
-    are_bytes(out);
+    are_bytes(out.as_slice());
     if sent.is_err() {
         out.truncate(start);
     }

@@ -2,38 +2,33 @@
 
 ghost use Rattle.std.specs.Prelude.{◌≡◌, ◌≢◌, ◌⊎◌, ◌≤◌, ◌++◌, ℕ, IfErr, IfOk, List, OnErr, OnOk, false, length, true};
 ghost use Rattle.std.specs.Prelude.{◌+◌, ◌<◌, ◌^◌, map};
-ghost use Rattle.mysql_values.specs.Binding.{IsBindCause, IsBound};
-ghost use Rattle.mysql_values.specs.Content.{Content};
-ghost use Rattle.mysql_values.specs.Params.{IsMeaning};
+ghost use Rattle.mysql_values.specs.Binding.{Binds, RefusesBinding};
 ghost use Rattle.mysql_values.specs.Parsed.{names_of};
 ghost use Rattle.mysql_values.specs.Place.{Place as PlaceOf};
-ghost use Rattle.mysql_values.specs.Queries.{HasMixed, HasPlaces, Lexes, Slices};
+ghost use Rattle.mysql_values.specs.Queries.{HasMixed, HasPlaces};
+ghost use Rattle.mysql_values.specs.Sql.{read_by_default, read_in};
+ghost use Rattle.mysql_receive.specs.Making.{IsFresh};
 ghost use Rattle.mysql_values.specs.declared.bind.BindError.TheVariants as bind_error;
-ghost use Rattle.mysql_receive.specs.Audit.{IsAbout};
-ghost use Rattle.mysql_receive.specs.GoingOn.{fresh_receiver};
-ghost use Rattle.mysql_receive.specs.Received.{receiver_state};
 ghost use Rattle.mysql_session.specs.Delivery.{Delivers};
-ghost use Rattle.mysql_session.specs.Kept.{AppendsFurther, RefusesFurther};
+ghost use Rattle.mysql_session.specs.Kept.{AppendsFurther, IsNotKept, KeepsQuery, RefusesFurther};
 ghost use Rattle.mysql_session.specs.WritingTo.{DeliversTo, StopsSending};
 ghost use Rattle.mysql_command_rules.specs.Writing.{Writes};
-ghost use Rattle.mysql_command_rules.specs.declared.road.Road.TheVariants as roads;
-ghost use Rattle.mysql_command_rules.specs.Reading.{SentReadable};
+ghost use Rattle.mysql_command_rules.specs.SpelledRoad as roads;
+ghost use Rattle.mysql_command_rules.specs.SpelledRoad.{spelled};
 ghost use Rattle.mysql_command_rules.specs.Sending.{RefusesGiven};
 ghost use Rattle.mysql_command_rules.specs.Sets.{Given, all_given, all_given_in_places};
 ghost use Rattle.mysql_command_rules.specs.declared.refusal.Refusal.TheVariants as refusals;
 
 use crate::laws::{further_sets_are_delivered, readable_sets_are_delivered};
-use crate::sender::are_bytes;
+use mysql_buf::laws::are_bytes;
 use mysql_command_rules::{Refusal, Road, SendToError, flush};
 use mysql_receive::Receiver;
 use mysql_send_bulk::put_requests;
-use mysql_send_execute::{
-    Statement, check_count, put_executions, put_more_executions, write_executions,
-};
+use mysql_send_execute::{Statement, put_executions, put_more_executions, write_executions};
 use mysql_send_text::{put_queries, write_queries};
-use mysql_values::bind::bind_text_over;
+use mysql_values::bind::bind_query;
 use mysql_values::laws::{pieces_of_a_query, tokens_of_a_text};
-use mysql_values::{BindError, Params, Value};
+use mysql_values::{BindError, Mode, Params, Spelling, Value};
 use std::alloc::{AllocError, Global};
 use std::io::Write;
 use std::marker::Model;
@@ -48,6 +43,7 @@ use std::marker::Model;
 #[derive(Drop)]
 pub struct Query<'q> {
     statement: Statement<'q>,
+    spelling: Spelling,
 }
 
 impl<'q> Model for Query<'q> {
@@ -63,8 +59,12 @@ impl<'q> Model for Query<'q> {
 impl<'q> Query<'q> {
     /// The query of this text, whose statement has this id.
     ///
+    /// It is for a server in the default mode, and its texts have byte strings in quotes:
+    /// [`Query::new_in`] takes the mode and the spelling.
+    ///
     /// Promise: it stands for its text and its statement's id, and is refused by `Mixed` exactly
-    /// where both kinds of placeholder occur (`KeptQuery`).
+    /// where both kinds of placeholder occur. Where it is refused, so are all sets of this text and
+    /// id, by each road (`KeepsQuery`, `IsNotKept`).
     ///
     /// # Errors
     /// - `Mixed` where both names and question marks occur in the text.
@@ -72,20 +72,63 @@ impl<'q> Query<'q> {
     ///
     /// (MySQL Reference Manual, "PREPARE Statement" (parameter markers).)
     pub fn new(alloc: Global, text: &'q [u8], stmt_id: u32) -> Result<Query<'q>, Refusal>
-        ensures text { IfOk result (λ query. query.text ≡ text.entry.now) }
-        ensures id { IfOk result (λ query. query.id ≡ stmt_id) }
-        ensures one_kind { OnOk result (HasMixed text.entry.now false) }
-        ensures mixed { IfErr result (λ refusal. (refusal ≡ refusals.Memory) ⊎
-            ((refusal ≡ refusals.Mixed) × HasMixed text.entry.now true)) }
+        ensures kept { IfOk result (KeepsQuery (read_by_default text.entry.now) Spelling.Quoted stmt_id) }
+        ensures refused { IfErr result (IsNotKept (read_by_default text.entry.now) stmt_id) }
     {
-        let statement = Statement::new(alloc, text, stmt_id)?;
-        Ok(Query { statement })
+        Query::new_in(alloc, text, stmt_id, Mode::default(), Spelling::Quoted)
+    }
+
+    /// The query of this text for a server in this mode, whose statement has this id.
+    ///
+    /// What is sent, bound and read by it goes by the mode, and texts have byte strings in this
+    /// spelling. `Mode::of` reads the mode from the status that a server tells in each OK packet.
+    ///
+    ///     let query = Query::new_in(alloc, text, 1, Mode::of(ok.status_flags()), Spelling::Quoted)?;
+    ///
+    /// Promise: it stands for its text, the mode, the spelling and its statement's id, and is
+    /// refused by `Mixed` exactly where both kinds of placeholder occur. Where it is refused, so are
+    /// all sets of this text and id in this mode, by each road (`KeepsQuery`, `IsNotKept`).
+    ///
+    /// # Errors
+    /// - `Mixed` where both names and question marks occur in the text.
+    /// - `Memory`.
+    ///
+    /// (MySQL Reference Manual, "PREPARE Statement" (parameter markers), "Server SQL Modes".)
+    pub fn new_in(
+        alloc: Global,
+        text: &'q [u8],
+        stmt_id: u32,
+        mode: Mode,
+        spelling: Spelling,
+    ) -> Result<Query<'q>, Refusal>
+        ensures kept { IfOk result (KeepsQuery (read_in mode text.entry.now) spelling stmt_id) }
+        ensures refused { IfErr result (IsNotKept (read_in mode text.entry.now) stmt_id) }
+    {
+        let statement = Statement::new_in(alloc, text, stmt_id, mode)?;
+        Ok(Query {
+            statement,
+            spelling,
+        })
+    }
+
+    /// The mode of the server that it is for.
+    pub fn mode(&self) -> Mode
+        ensures { result ≡ self.now.sql.mode }
+    {
+        self.statement.query().mode()
+    }
+
+    /// The spelling of byte strings in its texts.
+    pub fn spelling(&self) -> Spelling
+        ensures { result ≡ self.now.spelling }
+    {
+        self.spelling
     }
 
     /// The text, in which not both names and question marks occur.
     pub fn text(&self) -> &[u8]
-        ensures text { result.now ≡ self.now.text }
-        ensures one_kind { HasMixed self.now.text false }
+        ensures text { result.now ≡ self.now.sql.text }
+        ensures one_kind { HasMixed self.now.sql false }
     {
         self.statement.text()
     }
@@ -99,44 +142,16 @@ impl<'q> Query<'q> {
 
     /// How many placeholders the text has.
     pub fn place_count(&self) -> usize
-        ensures { (places : List PlaceOf) × HasPlaces self.now.text places × (result ≡ length places) }
+        ensures { (places : List PlaceOf) × HasPlaces self.now.sql places × (result ≡ length places) }
     {
         self.statement.query().places().len()
-    }
-
-    /// Sends sets by the calls over what was found.
-    fn send_sets(
-        &self,
-        alloc: Global,
-        sets: &[Params],
-        road: Road,
-        limit: usize,
-        out: &mut Vec<u8>,
-    ) -> Result<(), Refusal>
-        requires { 4 ≤ limit }
-        ensures refused { IfErr result (RefusesGiven road self.now.text (all_given sets.now) self.now.id limit) }
-        ensures kept { OnErr result (out.new.items ≡ out.old.items) }
-        ensures sent { OnOk result
-            (SentReadable road self.now.text (all_given sets.now) self.now.id limit out.old.items
-            out.new.items) }
-    {
-        let start = out.len();
-        let statement = &self.statement;
-        let sent = match road {
-            Road::Text => put_queries(alloc, statement.query(), sets, limit, out),
-            Road::Execute => put_executions(alloc, statement, sets, limit, out),
-            Road::Bulk => put_requests(alloc, statement, sets, None, limit, out),
-        };
-        if sent.is_err() {
-            out.truncate(start);
-        }
-        sent
     }
 
     /// Appends to `out` what [`send`](crate::send) appends of sets of this text and id.
     ///
     /// The road and the limit are those of that call, and so are its refusals. By text **safe for**
-    /// the servers that `mysql_values::bind_text` names; by execute and bulk for any.
+    /// a server in the query's mode, as `mysql_values::bind_text_in` says; by execute and bulk for
+    /// any.
     ///
     /// Promise: what [`send`](crate::send) promises over this text and id; never `Mixed`
     /// (`RefusesGiven`, `Delivers`).
@@ -156,44 +171,29 @@ impl<'q> Query<'q> {
         out: &mut Vec<u8>,
     ) -> Result<(), Refusal>
         requires { 4 ≤ limit }
-        ensures refused { IfErr result (RefusesGiven road self.now.text (all_given sets.now) self.now.id limit) }
+        ensures refused { IfErr result
+            (RefusesGiven (spelled self.now.spelling road) self.now.sql (all_given sets.now)
+            self.now.id limit) }
         ensures never_mixed { IfErr result (λ refusal. refusal ≢ refusals.Mixed) }
         ensures kept { OnErr result (out.new.items ≡ out.old.items) }
         ensures delivered { OnOk result
-            (Delivers road self.now.text (all_given sets.now) self.now.id limit out.old.items
+            (Delivers (spelled self.now.spelling road) self.now.sql (all_given sets.now) self.now.id limit out.old.items
             out.new.items) }
     {
         readable_sets_are_delivered();
         tokens_of_a_text();
         // That the id is below 2^32, and the text of one kind, the proof takes of these.
         let (_id, _text) = (self.statement.id(), self.text());
-        let sent = self.send_sets(alloc, sets, road, limit, out);
-        are_bytes(out);
-        sent
-    }
-
-    /// Appends the executions of further sets by the call over what was found.
-    fn put_further(
-        &self,
-        alloc: Global,
-        first: usize,
-        sets: &[Vec<Value>],
-        limit: usize,
-        out: &mut Vec<u8>,
-    ) -> Result<(), Refusal>
-        requires limit { 4 ≤ limit }
-        requires numbers { first + length sets.now < 2 ^ 64 }
-        ensures ok { OnOk result (AppendsFurther self.now limit first
-            (map (λ set. set.items) sets.now) out.old.items out.new.items) }
-        ensures err { IfErr result (RefusesFurther self.now limit first (map (λ set. set.items) sets.now)) }
-        ensures kept { OnErr result (out.new.items ≡ out.old.items) }
-    {
-        let (id, places) = (self.statement.id(), self.statement.place_count());
-        check_count(places)?;
-        let stood = out.len();
-        let sent = put_more_executions(alloc, id, places, first, sets, limit, out);
+        let start = out.len();
+        let statement = &self.statement;
+        let sent = match road {
+            Road::Text => put_queries(alloc, statement.query(), self.spelling, sets, limit, out),
+            Road::Execute => put_executions(alloc, statement, sets, limit, out),
+            Road::Bulk => put_requests(alloc, statement, sets, None, limit, out),
+        };
+        are_bytes(out.as_slice());
         if sent.is_err() {
-            out.truncate(stood);
+            out.truncate(start);
         }
         sent
     }
@@ -233,17 +233,24 @@ impl<'q> Query<'q> {
         ensures kept { OnErr result (out.new.items ≡ out.old.items) }
         // Whatever stood in front of the sets that were delivered.
         ensures delivered { OnOk result ((before : List (List ℕ) → List Given) (start : List ℕ) →
-            (delivery : Delivers roads.Execute self.now.text before self.now.id limit start
+            (delivery : Delivers roads.Execute self.now.sql before self.now.id limit start
             out.old.items)
             → length (before (names_of delivery.tokens)) ≡ first
-            → Delivers roads.Execute self.now.text (λ names. before names ++
+            → Delivers roads.Execute self.now.sql (λ names. before names ++
             all_given_in_places (map (λ set. set.items) sets.now) names) self.now.id limit start
             out.new.items) }
     {
         further_sets_are_delivered();
-        let _id = self.statement.id();
-        let sent = self.put_further(alloc, first, sets, limit, out);
-        are_bytes(out);
+        let (id, places) = (self.statement.id(), self.statement.place_count());
+        if places > 65535 {
+            return Err(Refusal::TooManyPlaces);
+        }
+        let start = out.len();
+        let sent = put_more_executions(alloc, id, places, first, sets, limit, out);
+        are_bytes(out.as_slice());
+        if sent.is_err() {
+            out.truncate(start);
+        }
         sent
     }
 
@@ -257,10 +264,10 @@ impl<'q> Query<'q> {
     ) -> Result<(), SendToError>
         requires { 4 ≤ limit }
         ensures written { OnOk result
-            (Writes roads.Bulk self.now.text (all_given sets.now) self.now.id limit
+            (Writes roads.Bulk self.now.sql (all_given sets.now) self.now.id limit
             (W.contents to.old) (W.contents to.new)) }
         ensures stopped { IfErr result
-            (StopsSending roads.Bulk self.now.text sets.now self.now.id limit (W.contents to.old)
+            (StopsSending roads.Bulk self.now.sql sets.now self.now.id limit (W.contents to.old)
             (W.contents to.new)) }
     {
         let mut requests = Vec::new(alloc);
@@ -281,14 +288,15 @@ impl<'q> Query<'q> {
     ) -> Result<(), SendToError>
         requires { 4 ≤ limit }
         ensures written { OnOk result
-            (Writes road self.now.text (all_given sets.now) self.now.id limit (W.contents to.old)
+            (Writes (spelled self.now.spelling road) self.now.sql (all_given sets.now) self.now.id
+                limit (W.contents to.old)
             (W.contents to.new)) }
         ensures stopped { IfErr result
-            (StopsSending road self.now.text sets.now self.now.id limit (W.contents to.old)
+            (StopsSending (spelled self.now.spelling road) self.now.sql sets.now self.now.id limit (W.contents to.old)
             (W.contents to.new)) }
     {
         match road {
-            Road::Text => write_queries(alloc, self.statement.query(), sets, limit, to),
+            Road::Text => write_queries(alloc, self.statement.query(), self.spelling, sets, limit, to),
             Road::Execute => write_executions(alloc, &self.statement, sets, limit, to),
             Road::Bulk => self.send_requests_to(alloc, sets, limit, to),
         }
@@ -300,8 +308,8 @@ impl<'q> Query<'q> {
     /// requests stand, since what speaks against any set comes before the first of them. What `to`
     /// holds back itself, as a `BufWriter` does, is flushed by who gave it.
     ///
-    /// By text **safe for** the servers that `mysql_values::bind_text` names; by execute and bulk
-    /// for any.
+    /// By text **safe for** a server in the query's mode, as `mysql_values::bind_text_in` says; by
+    /// execute and bulk for any.
     ///
     /// Promise: the writer is given what [`Query::send`] appends, or, where not all are written,
     /// all sets before the refused one; a writer that failed took a front, and not all
@@ -330,10 +338,10 @@ impl<'q> Query<'q> {
     ) -> Result<(), SendToError>
         requires { 4 ≤ limit }
         ensures delivered { OnOk result
-            (DeliversTo road self.now.text (all_given sets.now) self.now.id limit
+            (DeliversTo (spelled self.now.spelling road) self.now.sql (all_given sets.now) self.now.id limit
             (W.contents to.old) (W.contents to.new)) }
         ensures stopped { IfErr result
-            (StopsSending road self.now.text sets.now self.now.id limit (W.contents to.old)
+            (StopsSending (spelled self.now.spelling road) self.now.sql sets.now self.now.id limit (W.contents to.old)
             (W.contents to.new)) }
     {
         readable_sets_are_delivered();
@@ -354,27 +362,20 @@ impl<'q> Query<'q> {
     /// (MySQL: Client/Server Protocol, "MySQL Packets" and "Command Phase".)
     pub fn receiver(&self, alloc: Global, limit: usize) -> Result<Receiver, AllocError>
         requires { 4 ≤ limit }
-        ensures fresh { IfOk result (λ r. receiver_state r ≡ fresh_receiver) }
-        ensures about { IfOk result (λ r. IsAbout r.statement self.now.text self.now.id) }
-        ensures limit { IfOk result (λ r. r.limit ≡ limit) }
-        ensures one_kind { HasMixed self.now.text false }
+        ensures fresh { IfOk result (IsFresh self.now.sql self.now.id limit) }
+        ensures one_kind { HasMixed self.now.sql false }
     {
-        let statement = &self.statement;
-        Receiver::of_places(
-            alloc,
-            statement.text(),
-            statement.marked(),
-            statement.query().places(),
-            statement.id(),
-            limit,
-        )
+        // That the text's placeholders are of one kind the proof takes of this.
+        let _text = self.text();
+        Receiver::of_query(alloc, self.statement.query(), self.statement.id(), limit)
     }
 
     /// Appends the text with the literals of a set's values in the places of its placeholders.
     ///
-    /// `mysql_values::bind_text` does the same. **Safe for** the servers that it names.
+    /// `mysql_values::bind_text_in` does the same, and is **safe for** the same servers.
     ///
-    /// Promise: what `mysql_values::bind_text` promises over this text; never `Mixed`.
+    /// Promise: what `mysql_values::bind_text_in` promises over this text, mode and spelling; never
+    /// `Mixed` (`Binds`).
     ///
     /// # Errors
     /// - `NotAlone` with the first such placeholder.
@@ -392,13 +393,8 @@ impl<'q> Query<'q> {
         params: &Params,
         out: &mut Vec<u8>,
     ) -> Result<(), BindError>
-        // What is appended is the text of the set over the query, and reads as the set's meaning in
-        // both ways.
-        ensures ok { OnOk result ((text : List ℕ) × (contents : List Content) ×
-            (out.new.items ≡ out.old.items ++ text) × IsBound self.now.text params.now text
-            × IsMeaning self.now.text params.now contents × Slices self.now.text text contents ×
-            Lexes self.now.text text contents) }
-        ensures err { IfErr result (λ e. (e ≡ bind_error.Memory) ⊎ IsBindCause self.now.text params.now e) }
+        ensures ok { OnOk result (Binds self.now.sql self.now.spelling params.now out.old.items out.new.items) }
+        ensures err { IfErr result (RefusesBinding self.now.sql params.now) }
         ensures never_mixed { IfErr result (λ e. e ≢ bind_error.Mixed) }
         ensures kept { OnErr result (out.new.items ≡ out.old.items) }
     {
@@ -407,18 +403,11 @@ impl<'q> Query<'q> {
         // That the text's placeholders are of one kind the proof takes of these.
         let _text = self.text();
         let query = self.statement.query();
-        let places = query.places();
+        let _places = query.places();
         if let Some(place) = query.first_not_alone() {
             return Err(BindError::NotAlone(place));
         }
         let mut values = Vec::new(alloc);
-        bind_text_over(
-            query.text(),
-            places,
-            query.names(),
-            params,
-            &mut values,
-            out,
-        )
+        bind_query(query, self.spelling, params, &mut values, out)
     }
 }

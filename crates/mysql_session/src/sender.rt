@@ -1,62 +1,21 @@
 //! Parameter sets as commands.
 
-ghost use Rattle.std.specs.Prelude.{◌≡◌, ◌<◌, ◌≤◌, ◌^◌, IfErr, OnErr, OnOk, length, take};
-ghost use Rattle.mysql_wire.specs.Bytes.{AreBytes};
+ghost use Rattle.std.specs.Prelude.{◌≡◌, ◌≤◌, IfErr, OnErr, OnOk};
 ghost use Rattle.mysql_session.specs.Delivery.{Delivers};
-ghost use Rattle.mysql_command_rules.specs.Reading.{SentReadable};
 ghost use Rattle.mysql_command_rules.specs.Sending.{RefusesGiven};
 ghost use Rattle.mysql_command_rules.specs.Sets.{all_given};
+ghost use Rattle.mysql_command_rules.specs.SpelledRoad.{spelled};
+ghost use Rattle.mysql_values.specs.Sql.{read_by_default};
 
 use crate::laws::readable_sets_are_delivered;
+use mysql_buf::laws::are_bytes;
 use mysql_command_rules::{Refusal, Road};
 use mysql_send_bulk::put_requests;
 use mysql_send_execute::{Statement, put_executions};
 use mysql_send_text::put_queries;
-use mysql_values::Params;
 use mysql_values::bind::ParsedQuery;
+use mysql_values::{Mode, Params, Spelling};
 use std::alloc::Global;
-
-/// A list of bytes holds bytes, and fewer than 2^64: facts that the proofs of what is delivered
-/// use.
-pub(crate) fn are_bytes(out: &Vec<u8>)
-    ensures bytes { AreBytes out.now.items }
-    ensures few { length out.now.items < 2 ^ 64 }
-{
-    let _len = out.len();
-    let _first = out.first();
-}
-
-/// Appends the commands of sets. After a refusal what stood before stands in front of `out`.
-fn put_sets(
-    alloc: Global,
-    query: &[u8],
-    sets: &[Params],
-    road: Road,
-    stmt_id: u32,
-    limit: usize,
-    out: &mut Vec<u8>,
-) -> Result<(), Refusal>
-    requires { 4 ≤ limit }
-    ensures refused { IfErr result (RefusesGiven road query.now (all_given sets.now) stmt_id limit) }
-    ensures sent { OnOk result
-        (SentReadable road query.now (all_given sets.now) stmt_id limit out.old.items out.new.items) }
-    ensures kept { take (length out.old.items) out.new.items ≡ out.old.items }
-{
-    match road {
-        Road::Text => {
-            let query = ParsedQuery::new(alloc, query)?;
-            put_queries(alloc, &query, sets, limit, out)
-        }
-        Road::Execute => {
-            let statement = Statement::new(alloc, query, stmt_id)?;
-            put_executions(alloc, &statement, sets, limit, out)
-        }
-        Road::Bulk => {
-            let statement = Statement::new(alloc, query, stmt_id)?;
-            put_requests(alloc, &statement, sets, None, limit, out)
-        }
-    }
-}
 
 /// Appends to `out` the commands that carry parameter sets of a query to a server.
 ///
@@ -82,10 +41,11 @@ fn put_sets(
 /// `max_allowed_packet` of their own side and count the payload alone, so that with the same limit
 /// each payload that is appended here is within it.
 ///
-/// By execute and bulk **safe for** any server. By text for one that takes backslash escapes
-/// (NO_BACKSLASH_ESCAPES isn't in its SQL mode) over a connection in UTF-8, as
-/// `mysql_values::bind_text` is: for any other a value may end its literal, and what stands behind
-/// the quote is read as SQL.
+/// By execute and bulk **safe for** any server. By text for one whose SQL mode has neither
+/// NO_BACKSLASH_ESCAPES nor ANSI_QUOTES over a connection in UTF-8, as `mysql_values::bind_text` is:
+/// for any other a value may end its literal, and what stands behind the quote is read as SQL.
+/// [`Query::new_in`](crate::Query::new_in) takes the mode, and [`Query::send`](crate::Query::send)
+/// sends for it.
 ///
 /// Promise: the first cause is answered, with `out` as it was; else what is appended delivers the
 /// sets (`RefusesGiven`, `Delivers`).
@@ -114,15 +74,32 @@ pub fn send(
     out: &mut Vec<u8>,
 ) -> Result<(), Refusal>
     requires { 4 ≤ limit }
-    ensures refused { IfErr result (RefusesGiven road query.now (all_given sets.now) stmt_id limit) }
+    ensures refused { IfErr result
+        (RefusesGiven (spelled Spelling.Quoted road) (read_by_default query.now)
+        (all_given sets.now) stmt_id limit) }
     ensures kept { OnErr result (out.new.items ≡ out.old.items) }
     ensures delivered { OnOk result
-        (Delivers road query.now (all_given sets.now) stmt_id limit out.old.items out.new.items) }
+        (Delivers (spelled Spelling.Quoted road) (read_by_default query.now) (all_given sets.now) stmt_id limit
+        out.old.items out.new.items) }
 {
     readable_sets_are_delivered();
     let start = out.len();
-    let sent = put_sets(alloc, query, sets, road, stmt_id, limit, out);
-    are_bytes(out);
+    let mode = Mode::default();
+    let sent = match road {
+        Road::Text => {
+            let query = ParsedQuery::new_in(alloc, query, mode)?;
+            put_queries(alloc, &query, Spelling::Quoted, sets, limit, out)
+        }
+        Road::Execute => {
+            let statement = Statement::new_in(alloc, query, stmt_id, mode)?;
+            put_executions(alloc, &statement, sets, limit, out)
+        }
+        Road::Bulk => {
+            let statement = Statement::new_in(alloc, query, stmt_id, mode)?;
+            put_requests(alloc, &statement, sets, None, limit, out)
+        }
+    };
+    are_bytes(out.as_slice());
     if sent.is_err() {
         out.truncate(start);
     }

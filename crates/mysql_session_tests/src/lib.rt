@@ -24,6 +24,8 @@ mod many;
 #[cfg(test)]
 mod memory;
 #[cfg(test)]
+mod modes;
+#[cfg(test)]
 mod objects;
 #[cfg(test)]
 mod prefixes;

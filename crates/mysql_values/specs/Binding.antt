@@ -1,14 +1,20 @@
--- The text that a query and a parameter set make, and why there is none.
+-- The text that a query and a parameter set make for a server in the query's mode, and why there is
+-- none.
 -- MySQL Reference Manual, "Literal Values" and "PREPARE Statement" (parameter markers).
-use Rattle.std.specs.Prelude.{◌≡◌, ℕ, ◌==◌, List, map, length, Option, Some, None, Result, Ok, Err, if◌then◌else◌}
+use Rattle.std.specs.Prelude.{◌≡◌, ◌⊎◌, ℕ, ◌==◌, List, ◌++◌, map, length, Option, Some, None, Result, Ok, Err}
+use Rattle.std.specs.Prelude.{if◌then◌else◌}
 use Rattle.std.specs.List.{AllByRecursion}
 use Rattle.std.specs.Option.{option_map}
 use Rattle.mysql_queries.specs.Tokens.{HasTokens}
 use Rattle.mysql_queries.specs.Queries.{first_not_alone, interleaved, is_mixed, pieces_of, places_from, slices_between}
+use Rattle.mysql_queries.specs.Queries.{Lexes, Slices}
+use Rattle.mysql_queries.specs.Sql.{Sql}
+use Rattle.mysql_queries.specs.declared.content.Content.{Content}
+use Rattle.mysql_cells.specs.declared.spelling.Spelling.{Spelling}
 use Rattle.mysql_queries.specs.Parsed.{names_of}
 use Rattle.mysql_cells.specs.Values.{first_float, literal_of}
 use Rattle.mysql_cells.specs.AsSql.{HasLiteral}
-use Rattle.mysql_values.specs.Params.{values_over}
+use Rattle.mysql_values.specs.Params.{IsMeaning, values_over}
 use Rattle.mysql_cells.specs.declared.value.Value.{Value}
 use Rattle.mysql_queries.specs.declared.placeholders.Place.{Place}
 use Rattle.mysql_values.specs.declared.params.Params.{Params}
@@ -47,27 +53,43 @@ bind_cause places over = if is_mixed places then Some bind_error.Mixed else alon
     (first_not_alone places) (given_cause (length places) over)
 
 -- no text is bound, for this cause
-abbrev pub IsBindCause : List ℕ → Params → BindError → Type 0
+abbrev pub IsBindCause : Sql → Params → BindError → Type 0
 IsBindCause query params error =
-    (tokens : List (List ℕ)) × HasTokens query tokens ×
-    (bind_cause (places_from query 0 tokens) (values_over (names_of tokens) params) ≡
+    (tokens : List (List ℕ)) × HasTokens query.mode query.text tokens ×
+    (bind_cause (places_from query.text 0 tokens) (values_over (names_of tokens) params) ≡
     Some error)
 
 -- the text that is bound: the query's pieces with the literal of each value between them; no cause speaks against it
-pub record IsBound (query : List ℕ) (params : Params) (text : List ℕ) : Type 0 where
+pub record IsBound (query : Sql) (spelling : Spelling) (params : Params) (text : List ℕ) : Type 0 where
   pub tokens : List (List ℕ)
-  pub has : HasTokens query tokens
+  pub has : HasTokens query.mode query.text tokens
   pub values : List Value
   pub over : values_over (names_of tokens) params ≡ Ok values
-  pub none : bind_cause (places_from query 0 tokens) (Ok values) ≡ None
+  pub none : bind_cause (places_from query.text 0 tokens) (Ok values) ≡ None
   pub literals : List (List ℕ)
-  pub each : map literal_of values ≡ map Some literals
+  pub each : map (literal_of query.mode spelling) values ≡ map Some literals
   pub spelled : text ≡ interleaved (pieces_of tokens) literals
 
 -- a text between the placeholders of a query: its pieces with the literals of the values between
 -- them, each a literal of its content
-pub record IsFilled (query : List ℕ) (places : List Place) (values : List Value) (text : List ℕ) : Type 0 where
+pub record IsFilled (query : Sql) (spelling : Spelling) (places : List Place) (values : List Value)
+    (text : List ℕ) : Type 0 where
   pub literals : List (List ℕ)
-  pub each : map literal_of values ≡ map Some literals
+  pub each : map (literal_of query.mode spelling) values ≡ map Some literals
   pub have : AllByRecursion HasLiteral values
-  pub spelled : text ≡ interleaved (slices_between query 0 places) literals
+  pub spelled : text ≡ interleaved (slices_between query.text 0 places) literals
+
+-- the text of the set over the query is appended, and reads as the set's meaning, by its pieces and
+-- by its tokens
+pub record Binds (query : Sql) (spelling : Spelling) (params : Params) (old new : List ℕ) : Type 0 where
+  pub text : List ℕ
+  pub appended : new ≡ old ++ text
+  pub bound : IsBound query spelling params text
+  pub contents : List Content
+  pub meaning : IsMeaning query params contents
+  pub sliced : Slices query text contents
+  pub lexed : Lexes query text contents
+
+-- why it isn't: Memory may stand in place of any answer; each other refusal is the first cause
+abbrev pub RefusesBinding : Sql → Params → BindError → Type 0
+RefusesBinding query params error = (error ≡ bind_error.Memory) ⊎ IsBindCause query params error

@@ -9,8 +9,12 @@ pub use Rattle.mysql_queries.specs.LiteralRuns
 pub use Rattle.mysql_queries.specs.LiteralViews
 pub use Rattle.mysql_queries.specs.Parsed
 pub use Rattle.mysql_queries.specs.Query
+pub use Rattle.mysql_queries.specs.Modes
+pub use Rattle.mysql_queries.specs.Sql
+pub use Rattle.mysql_queries.specs.TextViews
 pub use Rattle.mysql_queries.specs.declared.content.Content
 pub use Rattle.mysql_queries.specs.declared.literals.Literal
+pub use Rattle.mysql_queries.specs.declared.mode.Mode
 pub use Rattle.mysql_queries.specs.declared.named_params.NamedParamsError
 pub use Rattle.mysql_queries.specs.declared.placeholders.Place
 pub use Rattle.mysql_cells.specs.Values
@@ -18,6 +22,7 @@ pub use Rattle.mysql_cells.specs.AsSql
 pub use Rattle.mysql_cells.specs.Cells
 pub use Rattle.mysql_cells.specs.CellLaws
 pub use Rattle.mysql_cells.specs.declared.value.Value
+pub use Rattle.mysql_cells.specs.declared.spelling.Spelling
 pub mod Params
 pub mod Binding
 pub mod Contents

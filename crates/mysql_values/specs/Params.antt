@@ -7,6 +7,7 @@ use Rattle.std.specs.declared.alloc.Global.{Global}
 use Rattle.mysql_queries.specs.Tokens.{HasTokens}
 use Rattle.mysql_queries.specs.Queries.{is_place}
 use Rattle.mysql_queries.specs.Parsed.{names_of}
+use Rattle.mysql_queries.specs.Sql.{Sql}
 use Rattle.mysql_cells.specs.Values.{content_of}
 use Rattle.mysql_queries.specs.declared.content.Content.{Content}
 use Rattle.mysql_cells.specs.declared.value.Value.{Value}
@@ -67,9 +68,9 @@ IsMissing names (Positional values) error = ⊥
 IsMissing names (Named values) error = values_named values.entries names ≡ Err error
 
 -- what a set means over a query: the contents of its values, which are as many as the placeholders and none a float
-pub record IsMeaning (query : List ℕ) (params : Params) (contents : List Content) : Type 0 where
+pub record IsMeaning (query : Sql) (params : Params) (contents : List Content) : Type 0 where
   pub tokens : List (List ℕ)
-  pub has : HasTokens query tokens
+  pub has : HasTokens query.mode query.text tokens
   pub values : List Value
   pub over : values_over (names_of tokens) params ≡ Ok values
   pub count : length values ≡ length (filter is_place tokens)

@@ -3,19 +3,16 @@
 //!     let params = Params::Positional(values);
 //!     bind_text(alloc, b"SELECT ? + 1", &params, &mut out)?;
 
-ghost use Rattle.mysql_values.specs.Binding.{IsBindCause, IsBound, bind_cause, bind_error_of};
-ghost use Rattle.mysql_values.specs.Params.{IsMeaning};
+ghost use Rattle.mysql_values.specs.Binding.{Binds, RefusesBinding, bind_cause, bind_error_of};
 ghost use Rattle.mysql_queries.specs.Parsed.{names_at};
-ghost use Rattle.mysql_queries.specs.Queries.{HasPlaces, Lexes, Slices, first_not_alone as first_apart};
+ghost use Rattle.mysql_queries.specs.Queries.{HasPlaces, first_not_alone as first_apart};
 ghost use Rattle.mysql_queries.specs.Queries.{is_mixed as has_both_kinds};
-ghost use Rattle.mysql_queries.specs.declared.content.Content.{Content};
+ghost use Rattle.mysql_queries.specs.Sql.{read_by_default, read_in};
 ghost use Rattle.mysql_values.specs.declared.params.ParamsError.{ParamsError as ParamsErrorOf};
 ghost use Rattle.mysql_cells.specs.declared.value.Value.{Value as ValueOf};
 ghost use Rattle.std.specs.Cow.{cow_slice_items};
 ghost use Rattle.std.specs.Prelude.{
-  ◌++◌,
   ◌≡◌,
-  ◌⊎◌,
   Err,
   IfErr,
   IfOk,
@@ -37,12 +34,12 @@ ghost use Rattle.std.specs.Prelude.{
 ghost use Rattle.mysql_values.specs.declared.bind.BindError.TheVariants as bind_error;
 
 use crate::params::{Params, ParamsError, list_values_over_names};
-use mysql_cells::Value;
 use mysql_cells::as_sql::{AsSqlError, put_sql};
+use mysql_cells::{Spelling, Value};
 use mysql_queries::laws::{filled_text_is_read, pieces_of_a_query};
 pub use mysql_queries::named_params::names_among;
 pub use mysql_queries::parsed_query::ParsedQuery;
-use mysql_queries::{Place, first_not_alone, is_mixed, places};
+use mysql_queries::{Mode, Place, first_not_alone, is_mixed};
 use std::alloc::{AllocError, AllocFailed, Global};
 use std::borrow::CowSlice;
 use thiserror::Error;
@@ -60,7 +57,7 @@ pub enum BindError {
     #[error(transparent)]
     Params(ParamsError),
     /// The values are not as many as the placeholders.
-    #[error("the values are not as many as the placeholders")]
+    #[error("the values are not as many as the placeholders: give one for each")]
     WrongCount,
     /// The first placeholder whose value is a float, counted from 0.
     #[error("the value of placeholder {0} is a float: give it as a text")]
@@ -115,6 +112,124 @@ fn check_places(places: &[Place]) -> Result<(), BindError>
     }
 }
 
+/// Appends the text of a set over a query, for a server in this mode. After a refusal what stood
+/// before stands in front of `out`, and a part of the text may stand behind it.
+///
+/// # Errors
+/// - `Params`.
+/// - `WrongCount`.
+/// - `Float` with the first such placeholder.
+/// - `Memory`.
+fn put_text<'a>(
+    query: &[u8],
+    mode: Mode,
+    spelling: Spelling,
+    places: &[Place],
+    names: &[CowSlice<'_, u8>],
+    params: &'a Params,
+    values: &mut Vec<&'a Value>,
+    out: &mut Vec<u8>,
+) -> Result<(), BindError>
+    requires places { HasPlaces (read_in mode query.now) places.now }
+    requires one_kind { has_both_kinds places.now ≡ false }
+    requires alone { first_apart places.now ≡ None }
+    requires names { map cow_slice_items names.now ≡ names_at query.now places.now }
+    ensures ok { OnOk result (Binds (read_in mode query.now) spelling params.entry.now out.old.items out.new.items) }
+    ensures err { IfErr result (RefusesBinding (read_in mode query.now) params.entry.now) }
+    ensures kept { take (length out.old.items) out.new.items ≡ out.old.items }
+{
+    pieces_of_a_query();
+    filled_text_is_read();
+    list_values_over_names(params, names, values)?;
+    if values.len() != places.len() {
+        return Err(BindError::WrongCount);
+    }
+    let listed = values.as_slice();
+    let mut at = 0;
+    for i in 0..places.len() {
+        let place = places[i];
+        out.extend_from_slice(&query[at..place.start])?;
+        match put_sql(out, listed[i], mode.no_backslash_escapes, spelling, false) {
+            Ok(()) => at = place.end,
+            Err(AsSqlError::Float) => return Err(BindError::Float(i)),
+            Err(AsSqlError::Memory) => return Err(BindError::Memory),
+        }
+    }
+    out.extend_from_slice(&query[at..])?;
+    Ok(())
+}
+
+/// [`bind_query`] without cutting `out` back: a refusal may leave a part of the text behind.
+///
+/// # Errors
+/// - `Params`.
+/// - `WrongCount`.
+/// - `Float` with the first such placeholder.
+/// - `Memory`.
+///
+/// What stood before stands in front of `out`.
+pub fn bind_query_onto<'a>(
+    query: &ParsedQuery<'_>,
+    spelling: Spelling,
+    params: &'a Params,
+    values: &mut Vec<&'a Value>,
+    out: &mut Vec<u8>,
+) -> Result<(), BindError>
+    requires one_kind { has_both_kinds query.now.places ≡ false }
+    requires alone { first_apart query.now.places ≡ None }
+    ensures ok { OnOk result (Binds query.now.sql spelling params.entry.now out.old.items out.new.items) }
+    ensures err { IfErr result (RefusesBinding query.now.sql params.entry.now) }
+    ensures kept { take (length out.old.items) out.new.items ≡ out.old.items }
+{
+    put_text(
+        query.text(),
+        query.mode(),
+        spelling,
+        query.places(),
+        query.names(),
+        params,
+        values,
+        out,
+    )
+}
+
+/// Appends the text of one of many sets of a query, for a server in the query's mode.
+///
+/// What doesn't depend on the set was found once. The placeholders are of one kind and stand alone.
+/// `values` keeps its room from set to set; what it held leaves it, and what it then holds isn't
+/// said.
+///
+/// Promise: what [`bind_text_in`] promises, over a query that was parsed before (`Binds`,
+/// `IsBindCause`).
+///
+/// # Errors
+/// - `Params`.
+/// - `WrongCount`.
+/// - `Float` with the first such placeholder.
+/// - `Memory`.
+///
+/// Nothing is appended then.
+pub fn bind_query<'a>(
+    query: &ParsedQuery<'_>,
+    spelling: Spelling,
+    params: &'a Params,
+    values: &mut Vec<&'a Value>,
+    out: &mut Vec<u8>,
+) -> Result<(), BindError>
+    requires one_kind { has_both_kinds query.now.places ≡ false }
+    requires alone { first_apart query.now.places ≡ None }
+    ensures ok { OnOk result (Binds query.now.sql spelling params.entry.now out.old.items out.new.items) }
+    ensures err { IfErr result (RefusesBinding query.now.sql params.entry.now) }
+    ensures kept { OnErr result (out.new.items ≡ out.old.items) }
+{
+    let start = out.len();
+    let bound = bind_query_onto(query, spelling, params, values, out);
+    if bound.is_err() {
+        out.truncate(start);
+    }
+    bound
+}
+
 /// [`bind_text_over`] without cutting `out` back: a refusal may leave a part of the text behind.
 ///
 /// # Errors
@@ -132,37 +247,25 @@ pub fn bind_text_onto<'a>(
     values: &mut Vec<&'a Value>,
     out: &mut Vec<u8>,
 ) -> Result<(), BindError>
-    requires places { HasPlaces query.now places.now }
+    requires places { HasPlaces (read_by_default query.now) places.now }
     requires one_kind { has_both_kinds places.now ≡ false }
     requires alone { first_apart places.now ≡ None }
     requires names { map cow_slice_items names.now ≡ names_at query.now places.now }
-    // What is appended is the text of the set over the query, and reads as the set's meaning in both ways.
-    ensures ok { OnOk result ((text : List ℕ) × (contents : List Content) ×
-        (out.new.items ≡ out.old.items ++ text) × IsBound query.now params.entry.now text
-        × IsMeaning query.now params.entry.now contents × Slices query.now text contents ×
-        Lexes query.now text contents) }
-    ensures err { IfErr result (λ e. (e ≡ bind_error.Memory) ⊎ IsBindCause query.now params.entry.now e) }
+    ensures ok { OnOk result
+        (Binds (read_by_default query.now) Spelling.Quoted params.entry.now out.old.items out.new.items) }
+    ensures err { IfErr result (RefusesBinding (read_by_default query.now) params.entry.now) }
     ensures kept { take (length out.old.items) out.new.items ≡ out.old.items }
 {
-    pieces_of_a_query();
-    filled_text_is_read();
-    list_values_over_names(params, names, values)?;
-    if values.len() != places.len() {
-        return Err(BindError::WrongCount);
-    }
-    let listed = values.as_slice();
-    let mut at = 0;
-    for i in 0..places.len() {
-        let place = places[i];
-        out.extend_from_slice(&query[at..place.start])?;
-        match put_sql(out, listed[i], false, false) {
-            Ok(()) => at = place.end,
-            Err(AsSqlError::Float) => return Err(BindError::Float(i)),
-            Err(AsSqlError::Memory) => return Err(BindError::Memory),
-        }
-    }
-    out.extend_from_slice(&query[at..])?;
-    Ok(())
+    put_text(
+        query,
+        Mode::default(),
+        Spelling::Quoted,
+        places,
+        names,
+        params,
+        values,
+        out,
+    )
 }
 
 /// [`bind_text_at`] for one of many sets of a query: what doesn't depend on the set is found once.
@@ -177,7 +280,7 @@ pub fn bind_text_onto<'a>(
 /// - `Float` with the first such placeholder.
 /// - `Memory`.
 ///
-/// Nothing is appended after an error.
+/// Nothing is appended then.
 pub fn bind_text_over<'a>(
     query: &[u8],
     places: &[Place],
@@ -186,16 +289,13 @@ pub fn bind_text_over<'a>(
     values: &mut Vec<&'a Value>,
     out: &mut Vec<u8>,
 ) -> Result<(), BindError>
-    requires places { HasPlaces query.now places.now }
+    requires places { HasPlaces (read_by_default query.now) places.now }
     requires one_kind { has_both_kinds places.now ≡ false }
     requires alone { first_apart places.now ≡ None }
     requires names { map cow_slice_items names.now ≡ names_at query.now places.now }
-    // What is appended is the text of the set over the query, and reads as the set's meaning in both ways.
-    ensures ok { OnOk result ((text : List ℕ) × (contents : List Content) ×
-        (out.new.items ≡ out.old.items ++ text) × IsBound query.now params.entry.now text
-        × IsMeaning query.now params.entry.now contents × Slices query.now text contents ×
-        Lexes query.now text contents) }
-    ensures err { IfErr result (λ e. (e ≡ bind_error.Memory) ⊎ IsBindCause query.now params.entry.now e) }
+    ensures ok { OnOk result
+        (Binds (read_by_default query.now) Spelling.Quoted params.entry.now out.old.items out.new.items) }
+    ensures err { IfErr result (RefusesBinding (read_by_default query.now) params.entry.now) }
     ensures kept { OnErr result (out.new.items ≡ out.old.items) }
 {
     let start = out.len();
@@ -208,10 +308,10 @@ pub fn bind_text_over<'a>(
 
 /// Appends the text of a query whose placeholders were found before, as [`bind_text`] does.
 ///
-/// `places` are those that [`places`] lists, so that many sets need them found once. Safe for the
-/// servers that [`bind_text`] names.
+/// `places` are those that [`places`](crate::places) lists, so that many sets need them found once.
+/// Safe for the servers that [`bind_text`] names.
 ///
-/// Promise: what [`bind_text`] promises, over places that are the query's (`IsBound`,
+/// Promise: what [`bind_text`] promises, over places that are the query's (`Binds`,
 /// `IsBindCause`).
 ///
 /// # Errors
@@ -223,12 +323,10 @@ pub fn bind_text_at(
     params: &Params,
     out: &mut Vec<u8>,
 ) -> Result<(), BindError>
-    requires { HasPlaces query.now places.now }
-    // What is appended is the text of the set over the query, and reads as the set's meaning in both ways.
-    ensures ok { OnOk result ((text : List ℕ) × (contents : List Content) ×
-        (out.new.items ≡ out.old.items ++ text) × IsBound query.now params.now text
-        × IsMeaning query.now params.now contents × Slices query.now text contents × Lexes query.now text contents) }
-    ensures err { IfErr result (λ e. (e ≡ bind_error.Memory) ⊎ IsBindCause query.now params.now e) }
+    requires { HasPlaces (read_by_default query.now) places.now }
+    ensures ok { OnOk result
+        (Binds (read_by_default query.now) Spelling.Quoted params.now out.old.items out.new.items) }
+    ensures err { IfErr result (RefusesBinding (read_by_default query.now) params.now) }
     ensures kept { OnErr result (out.new.items ≡ out.old.items) }
 {
     pieces_of_a_query();
@@ -246,14 +344,15 @@ pub fn bind_text_at(
 /// first other byte: `:aB` is the placeholder `a` before a `B`. `:Name` is none: over
 /// `SELECT :Name` a set that names values is refused by `Params`.
 ///
-/// **Safe for** a server that takes backslash escapes (NO_BACKSLASH_ESCAPES isn't in its SQL mode)
-/// over a connection in UTF-8. For any other a value may end its literal, and what stands behind
-/// the quote is read as SQL: send by execution there.
+/// **Safe for** a server whose SQL mode has neither NO_BACKSLASH_ESCAPES nor ANSI_QUOTES, over a
+/// connection in UTF-8 or another character set in which no character hides a quote or a backslash
+/// (`is_safe_to_quote`). For a server in another mode a value may end its literal, and what stands
+/// behind the quote is read as SQL: [`bind_text_in`] takes the mode.
 ///
 /// An all-zero time is written without its sign.
 ///
 /// Promise: the text has the query's tokens with one literal in each place, and is read as the
-/// set's meaning; else it is refused exactly for its causes, the first one (`IsBound`, `Lexes`,
+/// set's meaning; else it is refused exactly for its causes, the first one (`Binds`, `Lexes`,
 /// `Slices`, `IsBindCause`).
 ///
 /// # Errors
@@ -271,13 +370,52 @@ pub fn bind_text(
     params: &Params,
     out: &mut Vec<u8>,
 ) -> Result<(), BindError>
-    // What is appended is the text of the set over the query, and reads as the set's meaning in both ways.
-    ensures ok { OnOk result ((text : List ℕ) × (contents : List Content) ×
-        (out.new.items ≡ out.old.items ++ text) × IsBound query.now params.now text
-        × IsMeaning query.now params.now contents × Slices query.now text contents × Lexes query.now text contents) }
-    ensures err { IfErr result (λ e. (e ≡ bind_error.Memory) ⊎ IsBindCause query.now params.now e) }
+    ensures ok { OnOk result
+        (Binds (read_by_default query.now) Spelling.Quoted params.now out.old.items out.new.items) }
+    ensures err { IfErr result (RefusesBinding (read_by_default query.now) params.now) }
     ensures kept { OnErr result (out.new.items ≡ out.old.items) }
 {
-    let places = places(alloc, query)?;
-    bind_text_at(alloc, query, &places, params, out)
+    bind_text_in(alloc, query, params, Mode::default(), Spelling::Quoted, out)
+}
+
+/// Appends the text that [`bind_text`] appends, for a server in this mode and with byte strings
+/// spelled so.
+///
+/// **Safe for** a server in this mode: by `Spelling::Quoted` over a connection in UTF-8 or another
+/// character set in which no character hides a quote or a backslash (`is_safe_to_quote`), by
+/// `Spelling::Hexadecimal` in each in which bytes below 80 that follow one another are themselves.
+/// Where the query's own text is the same in all modes, what is spelled in hexadecimal is so too.
+///
+/// Promise: the text has the query's tokens with one literal in each place, and is read in this
+/// mode as the set's meaning; else it is refused exactly for its causes, the first one (`Binds`,
+/// `Lexes`, `Slices`, `IsBindCause`).
+///
+/// # Errors
+/// - `Mixed`.
+/// - `NotAlone` with the first such placeholder.
+/// - `Params`.
+/// - `WrongCount`.
+/// - `Float` with the first such placeholder.
+/// - `Memory`.
+///
+/// Nothing is appended after an error.
+///
+/// (MySQL Reference Manual, "Server SQL Modes", "String Literals", "Hexadecimal Literals".)
+pub fn bind_text_in(
+    alloc: Global,
+    query: &[u8],
+    params: &Params,
+    mode: Mode,
+    spelling: Spelling,
+    out: &mut Vec<u8>,
+) -> Result<(), BindError>
+    ensures ok { OnOk result (Binds (read_in mode query.now) spelling params.now out.old.items out.new.items) }
+    ensures err { IfErr result (RefusesBinding (read_in mode query.now) params.now) }
+    ensures kept { OnErr result (out.new.items ≡ out.old.items) }
+{
+    pieces_of_a_query();
+    let parsed = ParsedQuery::new_in(alloc, query, mode)?;
+    check_places(parsed.places())?;
+    let mut values = Vec::new(alloc);
+    bind_query(&parsed, spelling, params, &mut values, out)
 }

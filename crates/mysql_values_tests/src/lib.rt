@@ -16,6 +16,8 @@ mod conversions;
 #[cfg(test)]
 mod literals;
 #[cfg(test)]
+mod modes;
+#[cfg(test)]
 mod parameter_sets;
 #[cfg(test)]
 mod params;

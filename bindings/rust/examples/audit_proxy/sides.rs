@@ -3,7 +3,7 @@
 use crate::common::LIMIT;
 use crate::print_line;
 use crate::statements::{one_line, Statement, COM_STMT_PREPARE};
-use mysql_session::{Error, PacketReader};
+use mysql_session::{Error, Mode, PacketReader};
 use std::collections::{HashMap, VecDeque};
 use std::mem;
 use std::sync::{Mutex, MutexGuard};
@@ -41,6 +41,7 @@ enum Sends {
 /// What the server answers to.
 enum Awaited {
     Login,
+    /// A command that may be answered by an OK packet, or by asking for a file.
     Query,
     /// The prepare of this query.
     Prepare(Vec<u8>),
@@ -56,6 +57,8 @@ pub struct Exchange {
     answers: VecDeque<(u8, Awaited)>,
     /// Statements that the server has given an id.
     prepared: Vec<(u32, Vec<u8>)>,
+    /// How the server reads a text, by the last of its OK packets that was looked at.
+    mode: Mode,
 }
 
 impl Exchange {
@@ -65,8 +68,26 @@ impl Exchange {
             client_number: Some(1),
             answers: VecDeque::new(),
             prepared: Vec::new(),
+            mode: Mode::default(),
         }
     }
+}
+
+/// The server's status in an OK packet, which stands behind two numbers.
+fn status_of(ok: &[u8]) -> Option<u16> {
+    let status = behind_number(behind_number(ok.get(1..)?)?)?;
+    Some(u16::from_le_bytes(*status.first_chunk()?))
+}
+
+/// What stands behind a number, whose first byte tells its length.
+fn behind_number(bytes: &[u8]) -> Option<&[u8]> {
+    let length = match bytes.first()? {
+        0xfc => 3,
+        0xfd => 4,
+        0xfe => 9,
+        _ => 1,
+    };
+    bytes.get(length..)
 }
 
 fn lock(exchange: &Mutex<Exchange>) -> MutexGuard<'_, Exchange> {
@@ -179,6 +200,9 @@ impl Side for Answers<'_> {
     fn take(&mut self, payload: Vec<u8>) -> Result<(), Error> {
         let mut exchange = lock(self.exchange);
         let next = Some(self.packets.number);
+        if let (Awaited::Login | Awaited::Query, [OK, ..]) = (&self.awaited, &payload[..]) {
+            exchange.mode = status_of(&payload).map_or(exchange.mode, Mode::of);
+        }
         match (
             mem::replace(&mut self.awaited, Awaited::Other),
             &payload[..],
@@ -241,9 +265,14 @@ impl<'a> Commands<'a> {
         let last = self.statements.remove(&LAST_PREPARED);
         match last.filter(|last| last.query == query) {
             Some(statement) => self.keep(id, Ok(statement)),
-            None => self.keep(id, Statement::new(query)),
+            None => self.keep(id, Statement::new(query, self.mode())),
         }
         self.last = id;
+    }
+
+    /// How the server reads what the client sends now.
+    fn mode(&self) -> Mode {
+        lock(self.exchange).mode
     }
 
     /// Takes a command. The answer is what the server answers to, if it does.
@@ -262,20 +291,25 @@ impl<'a> Commands<'a> {
                 return Ok(Some(Awaited::Query));
             }
             COM_STMT_PREPARE => {
-                self.keep(LAST_PREPARED, Statement::new(body.to_vec()));
+                self.keep(LAST_PREPARED, Statement::new(body.to_vec(), self.mode()));
                 return Ok(Some(Awaited::Prepare(body.to_vec())));
             }
-            COM_STMT_EXECUTE
-            | COM_STMT_SEND_LONG_DATA
-            | COM_STMT_CLOSE
-            | COM_STMT_RESET
-            | COM_STMT_BULK_EXECUTE => self.statement_command(payload)?,
+            COM_STMT_EXECUTE | COM_STMT_BULK_EXECUTE => {
+                self.statement_command(payload)?;
+                return Ok(Some(Awaited::Query));
+            }
+            COM_STMT_SEND_LONG_DATA | COM_STMT_CLOSE | COM_STMT_RESET => {
+                self.statement_command(payload)?
+            }
             COM_CHANGE_USER => {
                 self.statements.clear();
                 lock(self.exchange).client_sends = Sends::Login;
                 return Ok(Some(Awaited::Login));
             }
-            COM_RESET_CONNECTION => self.statements.clear(),
+            COM_RESET_CONNECTION => {
+                self.statements.clear();
+                return Ok(Some(Awaited::Query));
+            }
             _ => {}
         }
         let unanswered = [COM_QUIT, COM_STMT_SEND_LONG_DATA, COM_STMT_CLOSE].contains(&command);

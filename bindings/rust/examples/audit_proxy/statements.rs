@@ -1,7 +1,7 @@
 //! Prepared statements, by what clients send about them.
 
 use crate::common::LIMIT;
-use mysql_session::{put_packet, Bytes, Content, Error, Receiver, Set};
+use mysql_session::{put_packet, Bytes, Content, Error, Mode, Receiver, Set};
 
 /// The first byte of a prepare.
 pub const COM_STMT_PREPARE: u8 = 0x16;
@@ -12,13 +12,19 @@ const OWN_ID: u32 = 1;
 /// A prepared statement and the receiver of its commands.
 pub struct Statement {
     pub query: Vec<u8>,
+    /// How the server read the query as it prepared it.
+    mode: Mode,
     receiver: Receiver,
 }
 
 impl Statement {
-    pub fn new(query: Vec<u8>) -> Result<Statement, Error> {
-        let receiver = receiver_of(&query)?;
-        Ok(Statement { query, receiver })
+    pub fn new(query: Vec<u8>, mode: Mode) -> Result<Statement, Error> {
+        let receiver = receiver_of(&query, mode)?;
+        Ok(Statement {
+            query,
+            mode,
+            receiver,
+        })
     }
 
     /// The sets that a command carries, a line for each. Behind a command that can't be read a new
@@ -34,15 +40,15 @@ impl Statement {
         self.receiver.clear();
         if let Err(error) = fed {
             lines.push(format!("{query}: not read: {error}"));
-            self.receiver = receiver_of(&self.query)?;
+            self.receiver = receiver_of(&self.query, self.mode)?;
         }
         Ok(lines)
     }
 }
 
 /// A receiver of the commands about a query that was prepared.
-fn receiver_of(query: &[u8]) -> Result<Receiver, Error> {
-    let mut receiver = Receiver::new(query, OWN_ID, LIMIT)?;
+fn receiver_of(query: &[u8], mode: Mode) -> Result<Receiver, Error> {
+    let mut receiver = Receiver::new_in(query, OWN_ID, LIMIT, mode)?;
     let mut prepare = vec![COM_STMT_PREPARE];
     prepare.extend_from_slice(query);
     feed(&mut receiver, &prepare)?;

@@ -12,7 +12,7 @@ returns-in-None-read_number-clause-none c =
       | else-not-is_empty-via-then-not-is_empty+else-text-eq39 w ↦ w.if-text-eq39.false e
       | else-not-is_empty-via-else-not-is_empty w ↦ absurd (grind (arith, nat_tests, w.if-not-is_empty.false, c.is_empty.ensures))
     ] in
-    no_number c.args.text.now no_null no_quote (sym c.if-hex_first.ensures) c.in-None-read_number.ensures.none
+    no_number c.args.mode c.args.text.now no_null no_quote (sym c.if-hex_first.ensures) c.in-None-read_number.ensures.none
 
 pub returns-then-null_first-clause-run : goal.returns-then-null_first-clause-run
 returns-then-null_first-clause-run c = inl (c.if-null_first.ensures.0 refl).1
@@ -33,4 +33,4 @@ returns-in-None-2-clause-none c =
       | else-not-is_empty-via-then-not-is_empty+else-text-eq39 w ↦ w.if-text-eq39.false e
       | else-not-is_empty-via-else-not-is_empty w ↦ absurd (grind (arith, nat_tests, w.if-not-is_empty.false, c.is_empty.ensures))
     ] in
-    no_hexadecimal c.args.text.now no_null no_quote (sym c.if-hex_first.ensures) (rw c.in-None-2.is at c.in_ok-len-2.ensures.none)
+    no_hexadecimal c.args.mode c.args.text.now no_null no_quote (sym c.if-hex_first.ensures) (rw c.in-None-2.is at c.in_ok-len-2.ensures.none)

@@ -3,14 +3,14 @@ use Rattle.std.proofs.lemmas.List.{map-append}
 use Rattle.mysql_queries.proofs.PlaceLists.{to_end}
 use Rattle.std.specs.Cow.{cow_slice_items}
 use Rattle.mysql_queries.specs.Parsed.{names_at}
-use Rattle.mysql_queries.proofs.QuerySlices.{Next, next_in_order, places_in_order, no_place}
+use Rattle.mysql_queries.proofs.QuerySlices.{Next, next_in_order, no_place}
 use Rattle.mysql_queries.proofs.QueryWritten.{name_more, name_skipped}
 use Rattle.mysql_queries.proofs.named_params.names_among.Goals as goal
 use Rattle.mysql_queries.proofs.named_params.names_among.Goals.{then-place+in_ok-push, else-place}
 
 pub loop-place-init : goal.loop-place-init
 loop-place-init c = record {
-  order = (0, places_in_order c.args.query.now c.args.places.now c.requires);
+  order = (0, c.requires);
   listed = ap (λ y. map cow_slice_items y ++ names_at c.args.query.now c.args.places.now) (sym c.new-names.ensures.items);
 }
 

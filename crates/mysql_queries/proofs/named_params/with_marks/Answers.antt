@@ -1,12 +1,12 @@
 use Rattle.std.proofs.Common.{◌+◌, ◌++◌, [], ◌∷◌, drop, get_or, slice_range, arith, sym, ap, ◌∙◌, append_assoc}
 use Rattle.mysql_queries.specs.Tokens.{question}
-use Rattle.mysql_queries.proofs.QuerySlices.{Next, next_in_order, places_in_order, no_place}
+use Rattle.mysql_queries.proofs.QuerySlices.{Next, next_in_order, no_place}
 use Rattle.mysql_queries.proofs.QueryWritten.{marked, marked_more}
 use Rattle.mysql_queries.proofs.named_params.with_marks.Goals as goal
 
 pub loop-place-init : goal.loop-place-init
 loop-place-init c = record {
-  order = places_in_order c.args.query.now c.args.places.now c.requires;
+  order = c.requires;
   in_range = omega arith;
   written = ap (λ y. y ++ marked c.args.query.now 0 c.args.places.now) (sym c.in_ok-parsed.ensures.items);
 }

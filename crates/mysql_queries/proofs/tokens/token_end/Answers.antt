@@ -1,5 +1,5 @@
-use Rattle.std.proofs.Common.{◌≡◌, sym, ap, ◌∙◌}
-use Rattle.mysql_queries.specs.Tokens.{Kind, Quoted, LineComment, BlockComment, Name, Mark, Plain}
+use Rattle.std.proofs.Common.{◌≡◌, sym, ap, ◌∙◌, subst, take, drop}
+use Rattle.mysql_queries.specs.Tokens.{IsQuoted, Kind, Quoted, LineComment, BlockComment, Name, Mark, Plain}
 use Rattle.mysql_queries.specs.TokenKinds.{kind_view}
 use Rattle.mysql_queries.specs.declared.tokens.TokenKind.{TokenKind}
 use Rattle.mysql_queries.proofs.FirstTokens.{token_of, token_some, quote_first, colon_first, block_front, mark_alone, one_byte}
@@ -24,31 +24,31 @@ pub name_end-requires-clause-begins : goal.name_end-requires-clause-begins
 name_end-requires-clause-begins c = colon_first c.args.text.now c.requires.some (kind_is c.requires.kind c.in-Name.is)
 
 pub returns-in-Quoted-clause-some : goal.returns-in-Quoted-clause-some
-returns-in-Quoted-clause-some c = token_some c.args.text.now c.quoted_end.result (token_of (Quoted c.in-Quoted.quote) c.args.text.now c.quoted_end.result (kind_is c.requires.kind c.in-Quoted.is) c.quoted_end.ensures.shape)
+returns-in-Quoted-clause-some c = token_some c.args.mode c.args.text.now c.quoted_end.result (token_of c.args.mode (Quoted c.in-Quoted.quote) c.args.text.now c.quoted_end.result (kind_is c.requires.kind c.in-Quoted.is) (subst (λ y. IsQuoted y c.in-Quoted.quote (take c.quoted_end.result c.args.text.now) (drop c.quoted_end.result c.args.text.now)) c.escapes_in.ensures c.quoted_end.ensures.shape))
 
 pub returns-in-Quoted-clause-token : goal.returns-in-Quoted-clause-token
-returns-in-Quoted-clause-token c = token_of (Quoted c.in-Quoted.quote) c.args.text.now c.quoted_end.result (kind_is c.requires.kind c.in-Quoted.is) c.quoted_end.ensures.shape
+returns-in-Quoted-clause-token c = token_of c.args.mode (Quoted c.in-Quoted.quote) c.args.text.now c.quoted_end.result (kind_is c.requires.kind c.in-Quoted.is) (subst (λ y. IsQuoted y c.in-Quoted.quote (take c.quoted_end.result c.args.text.now) (drop c.quoted_end.result c.args.text.now)) c.escapes_in.ensures c.quoted_end.ensures.shape)
 
 pub returns-in-LineComment-clause-some : goal.returns-in-LineComment-clause-some
-returns-in-LineComment-clause-some c = token_some c.args.text.now c.line_end.result (token_of LineComment c.args.text.now c.line_end.result (kind_is c.requires.kind c.in-LineComment.is) (c.line_end.ensures.run, c.line_end.ensures.end))
+returns-in-LineComment-clause-some c = token_some c.args.mode c.args.text.now c.line_end.result (token_of c.args.mode LineComment c.args.text.now c.line_end.result (kind_is c.requires.kind c.in-LineComment.is) (c.line_end.ensures.run, c.line_end.ensures.end))
 
 pub returns-in-LineComment-clause-token : goal.returns-in-LineComment-clause-token
-returns-in-LineComment-clause-token c = token_of LineComment c.args.text.now c.line_end.result (kind_is c.requires.kind c.in-LineComment.is) (c.line_end.ensures.run, c.line_end.ensures.end)
+returns-in-LineComment-clause-token c = token_of c.args.mode LineComment c.args.text.now c.line_end.result (kind_is c.requires.kind c.in-LineComment.is) (c.line_end.ensures.run, c.line_end.ensures.end)
 
 pub returns-in-BlockComment-clause-some : goal.returns-in-BlockComment-clause-some
-returns-in-BlockComment-clause-some c = token_some c.args.text.now c.block_end.result (token_of BlockComment c.args.text.now c.block_end.result (kind_is c.requires.kind c.in-BlockComment.is) c.block_end.ensures.shape)
+returns-in-BlockComment-clause-some c = token_some c.args.mode c.args.text.now c.block_end.result (token_of c.args.mode BlockComment c.args.text.now c.block_end.result (kind_is c.requires.kind c.in-BlockComment.is) c.block_end.ensures.shape)
 
 pub returns-in-BlockComment-clause-token : goal.returns-in-BlockComment-clause-token
-returns-in-BlockComment-clause-token c = token_of BlockComment c.args.text.now c.block_end.result (kind_is c.requires.kind c.in-BlockComment.is) c.block_end.ensures.shape
+returns-in-BlockComment-clause-token c = token_of c.args.mode BlockComment c.args.text.now c.block_end.result (kind_is c.requires.kind c.in-BlockComment.is) c.block_end.ensures.shape
 
 pub returns-in-Name-clause-some : goal.returns-in-Name-clause-some
-returns-in-Name-clause-some c = token_some c.args.text.now c.name_end.result (token_of Name c.args.text.now c.name_end.result (kind_is c.requires.kind c.in-Name.is) c.name_end.ensures.shape)
+returns-in-Name-clause-some c = token_some c.args.mode c.args.text.now c.name_end.result (token_of c.args.mode Name c.args.text.now c.name_end.result (kind_is c.requires.kind c.in-Name.is) c.name_end.ensures.shape)
 
 pub returns-in-Name-clause-token : goal.returns-in-Name-clause-token
-returns-in-Name-clause-token c = token_of Name c.args.text.now c.name_end.result (kind_is c.requires.kind c.in-Name.is) c.name_end.ensures.shape
+returns-in-Name-clause-token c = token_of c.args.mode Name c.args.text.now c.name_end.result (kind_is c.requires.kind c.in-Name.is) c.name_end.ensures.shape
 
 pub returns-in-Mark-clause-token : goal.returns-in-Mark-clause-token
-returns-in-Mark-clause-token c = token_of Mark c.args.text.now 1 (kind_is c.requires.kind c.in-Mark.is) (mark_alone c.args.text.now c.requires.some (kind_is c.requires.kind c.in-Mark.is))
+returns-in-Mark-clause-token c = token_of c.args.mode Mark c.args.text.now 1 (kind_is c.requires.kind c.in-Mark.is) (mark_alone c.args.text.now c.requires.some (kind_is c.requires.kind c.in-Mark.is))
 
 pub returns-in-Plain-clause-token : goal.returns-in-Plain-clause-token
-returns-in-Plain-clause-token c = token_of Plain c.args.text.now 1 (kind_is c.requires.kind c.in-Plain.is) (one_byte c.args.text.now c.requires.some)
+returns-in-Plain-clause-token c = token_of c.args.mode Plain c.args.text.now 1 (kind_is c.requires.kind c.in-Plain.is) (one_byte c.args.text.now c.requires.some)

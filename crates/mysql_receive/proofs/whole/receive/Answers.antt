@@ -1,45 +1,21 @@
-use Rattle.std.proofs.Common.{◌+◌, ◌∙◌, ap, sym, subst, map, take, [], arith}
-use Rattle.std.specs.List.{concat}
-use Rattle.std.proofs.lemmas.List.{take_all}
-use Rattle.mysql_receive.specs.Audit.{Audited, IsAbout, OutOfMemory}
-use Rattle.mysql_receive.specs.Query.{Statement}
-use Rattle.mysql_receive.specs.Receiving.{audit_of}
-use Rattle.mysql_receive.proofs.About.{of_tokens}
-use Rattle.mysql_receive.proofs.Receiving.{SoFar, so_far_nothing, pieces_more, feeds_of, received_next, audit_over, memory_over}
+use Rattle.std.proofs.Common.{map, subst}
+use Rattle.std.specs.Prelude.{IfErr, IfOk, OnOk, false}
+use Rattle.mysql_values.specs.Queries.{HasMixed}
+use Rattle.mysql_values.specs.Sql.{read_in}
+use Rattle.mysql_receive.specs.Making.{IsReceiverError}
+use Rattle.mysql_receive.specs.Receiving.{IsReceived, audit_of}
+use Rattle.mysql_receive.proofs.Making.{is_default}
 use Rattle.mysql_receive.proofs.whole.receive.Goals as goal
-
-pub pieces-init : goal.pieces-init
-pieces-init c = record {
-  about = c.in_ok-receiver.ensures.about;
-  limit = c.in_ok-receiver.ensures.limit;
-  so_far = subst (λ h. SoFar c.in_ok-receiver.receiver.statement c.in_ok-receiver.receiver.limit [] h) (sym c.in_ok-receiver.ensures.fresh) (so_far_nothing c.reader_laws.ensures _ _);
-}
-
-pub pieces-preserved : goal.pieces-preserved
-pieces-preserved c =
-    let mid = c.pieces.receiver in
-    let new = c.feed-answer.new.self in
-    let inv = c.pieces.invariant in
-    record {
-      about = subst (λ k. IsAbout k c.args.query.now c.args.stmt_id) (sym c.feed-answer.ensures.statement) inv.about;
-      limit = c.feed-answer.ensures.limit ∙ inv.limit;
-      so_far = received_next c.reader_laws.ensures mid new (map (λ piece. piece.now) (take c.pieces.piece-index c.args.pieces.now)) _ (map (λ piece. piece.now) (take (c.pieces.piece-index + 1) c.args.pieces.now))
-          c.feed-answer.ensures.statement c.feed-answer.ensures.limit c.are_bytes.ensures.bytes
-          (pieces_more (λ piece. piece.now) c.args.pieces.now c.pieces.piece-index (record { ref_ptr = (0, 0); now = [] }) (omega arith))
-          inv.so_far (feeds_of mid new _ c.feed-answer.result c.feed-answer.ensures.answer c.feed-answer.ensures.goes_on c.feed-answer.ensures.short c.feed-answer.ensures.takes c.feed-answer.ensures.stays);
-    }
 
 pub returns-clause-received : goal.returns-clause-received
 returns-clause-received c =
-    let v = c.pieces.receiver in
-    let inv = c.pieces.invariant in
-    let fed = map (λ piece. piece.now) (take c.pieces.piece-index c.args.pieces.now) in
-    let all = ap (map (λ piece. piece.now)) (take_all c.pieces.piece-index c.args.pieces.now c.pieces-test.false) in
-    record {
-      audit = λ none. of_tokens (λ (s : Statement). Audited s c.args.limit (concat (map (λ piece. piece.now) c.args.pieces.now)) (audit_of c.finish.result)) v.statement c.args.query.now c.args.stmt_id inv.about
-          (audit_over c.reader_laws.ensures v c.args.limit fed (concat (map (λ piece. piece.now) c.args.pieces.now)) (audit_of c.finish.result)
-          inv.limit (ap concat all) inv.so_far c.finish.ensures none);
-      memory = λ memory. of_tokens (λ (s : Statement). OutOfMemory s c.args.limit (map (λ piece. piece.now) c.args.pieces.now) (audit_of c.finish.result)) v.statement c.args.query.now c.args.stmt_id inv.about
-          (memory_over c.reader_laws.ensures v c.args.limit fed (map (λ piece. piece.now) c.args.pieces.now) (audit_of c.finish.result)
-          inv.limit all inv.so_far c.finish.ensures memory);
-    }
+    subst (λ mode. IfOk c.receive_in.result (λ audit. IsReceived (read_in mode c.args.query.now) c.args.stmt_id c.args.limit (map (λ piece. piece.now) c.args.pieces.now) (audit_of audit)))
+    (is_default c.default.result c.default.ensures) c.receive_in.ensures.received
+
+pub returns-clause-one_kind : goal.returns-clause-one_kind
+returns-clause-one_kind c =
+    subst (λ mode. OnOk c.receive_in.result (HasMixed (read_in mode c.args.query.now) false)) (is_default c.default.result c.default.ensures) c.receive_in.ensures.one_kind
+
+pub returns-clause-mixed : goal.returns-clause-mixed
+returns-clause-mixed c =
+    subst (λ mode. IfErr c.receive_in.result (IsReceiverError (read_in mode c.args.query.now))) (is_default c.default.result c.default.ensures) c.receive_in.ensures.mixed

@@ -1,11 +1,14 @@
-use Rattle.std.proofs.Common.{List, inl, refl, subst, sym}
-use Rattle.std.proofs.lemmas.Result.{err_from_is_err_and}
-use Rattle.mysql_queries.specs.Queries.{HasPlaces}
-use Rattle.mysql_queries.specs.declared.placeholders.Place.{Place}
+use Rattle.std.proofs.Common.{IfErr, OnOk, subst}
+use Rattle.mysql_queries.specs.Sql.{read_in}
+use Rattle.mysql_queries.specs.declared.mode.Mode.{Mode}
+use Rattle.mysql_cells.specs.declared.spelling.Spelling.TheVariants.{Quoted}
+use Rattle.mysql_values.specs.Binding.{Binds, RefusesBinding}
+use Rattle.mysql_values.proofs.BindCauses.{is_default}
 use Rattle.mysql_values.proofs.bind.bind_text.Goals as goal
 
-pub returns-in_err-places-clause-err : goal.returns-in_err-places-clause-err
-returns-in_err-places-clause-err c = let p = err_from_is_err_and c.from_residual.result c.from_residual.ensures.1 in rw (p.1, p.2) (inl refl)
+pub returns-clause-ok : goal.returns-clause-ok
+returns-clause-ok c = subst (λ (mode : Mode). OnOk c.bind_text_in.result (Binds (read_in mode c.args.query.now) Quoted c.args.params.now c.args.out.now.items c.bind_text_in.new.out.items))
+    (is_default c.default.result c.default.ensures) c.bind_text_in.ensures.ok
 
-pub bind_text_at-requires : goal.bind_text_at-requires
-bind_text_at-requires c = subst (λ (places : List Place). HasPlaces c.args.query.now places) (sym c.deref.ensures.value) c.in_ok-places.ensures
+pub returns-clause-err : goal.returns-clause-err
+returns-clause-err c = subst (λ (mode : Mode). IfErr c.bind_text_in.result (RefusesBinding (read_in mode c.args.query.now) c.args.params.now)) (is_default c.default.result c.default.ensures) c.bind_text_in.ensures.err

@@ -1,50 +1,18 @@
-use Rattle.std.proofs.Common.{◌≡◌, ◌++◌, ◌-◌, Ok, Some, length, map, drop, arith, take_all, length-drop, sym, ap, ◌∙◌, inr}
-use Rattle.std.proofs.lemmas.List.{length-map}
-use Rattle.mysql_cells.specs.Values.{literal_of}
-use Rattle.mysql_values.specs.Params.{values_over}
-use Rattle.mysql_values.proofs.BindCauses.{bind_ok, float_is_cause}
-use Rattle.mysql_values.proofs.TextWritten.{written_none, written_more, written_end, written_kept, float_at, text_put, no_text_put, put_kept}
+use Rattle.std.proofs.Common.{IfErr, OnOk, subst, sym}
+use Rattle.mysql_queries.specs.Queries.{HasPlaces}
+use Rattle.mysql_queries.specs.Sql.{read_in}
+use Rattle.mysql_queries.specs.declared.mode.Mode.{Mode}
+use Rattle.mysql_cells.specs.declared.spelling.Spelling.TheVariants.{Quoted}
+use Rattle.mysql_values.specs.Binding.{Binds, RefusesBinding}
+use Rattle.mysql_values.proofs.BindCauses.{is_default}
 use Rattle.mysql_values.proofs.bind.bind_text_onto.Goals as goal
 
-pub loop-i-init : goal.loop-i-init
-loop-i-init c = written_none c.args.query.now c.args.places.now (map (λ value. value.now) c.as_slice-listed.result.now) c.args.out.now.items (c.pieces_of_a_query.ensures.order c.args.query.now c.args.places.now c.requires.places)
-
-pub returns-in-Err-Float-clause-err : goal.returns-in-Err-Float-clause-err
-returns-in-Err-Float-clause-err c =
-    let listed = c.as_slice-listed.result.now in
-    let n : length listed ≡ length c.args.places.now = ap length c.as_slice-listed.ensures.value ∙ omega (arith, c.if-len-places.false, c.len.ensures, c.list_values_over_names.new.values.ok.0) in
-    let none = no_text_put (literal_of c.index-listed-i.result.now) c.extend_from_slice.new.self.items c.put_sql.new.out.items c.in-Err-Float.field-0 c.in-Err-Float.ensures.text c.in-Err-Float.field-0-is in
-    inr (float_is_cause c.pieces_of_a_query.ensures.names c.args.query.now c.args.params.now c.args.places.now (map (λ value. value.now) listed) c.loop-i.i c.requires.places c.requires.one_kind c.requires.alone
-    (ap (λ ns. values_over ns c.args.params.now) (sym c.requires.names) ∙ c.in_ok-list_values_over_names.ensures.ok ∙ ap (λ vs. Ok (map (λ value. value.now) vs)) (sym c.as_slice-listed.ensures.value))
-    (length-map listed (λ value. value.now) ∙ n)
-    (float_at (λ value. value.now) listed c.loop-i.i 0 c.index-listed-i.result c.loop-i.invariant.literals c.loop-i.invariant.each (omega (arith, c.loop-i-test.true, n)) c.index-listed-i.is none ∙ ap Some (omega arith)))
-
-pub returns-in-Err-Float-clause-kept : goal.returns-in-Err-Float-clause-kept
-returns-in-Err-Float-clause-kept c = written_kept c.loop-i.invariant _ c.extend_from_slice.new.self.items c.put_sql.new.out.items c.in_ok-extend_from_slice.ensures.items
-    (put_kept (literal_of c.index-listed-i.result.now) c.extend_from_slice.new.self.items c.put_sql.new.out.items c.in-Err-Float.field-0 c.in-Err-Float.ensures.text)
-
-pub returns-in-Err-Memory-clause-kept : goal.returns-in-Err-Memory-clause-kept
-returns-in-Err-Memory-clause-kept c = written_kept c.loop-i.invariant _ c.extend_from_slice.new.self.items c.put_sql.new.out.items c.in_ok-extend_from_slice.ensures.items
-    (put_kept (literal_of c.index-listed-i.result.now) c.extend_from_slice.new.self.items c.put_sql.new.out.items c.in-Err-Memory.field-0 c.in-Err-Memory.ensures.text)
-
-pub loop-i-preserved : goal.loop-i-preserved
-loop-i-preserved c =
-    let listed = c.as_slice-listed.result.now in
-    let n : length listed ≡ length c.args.places.now = ap length c.as_slice-listed.ensures.value ∙ omega (arith, c.if-len-places.false, c.len.ensures, c.list_values_over_names.new.values.ok.0) in
-    let t = text_put (literal_of c.index-listed-i.result.now) c.extend_from_slice.new.self.items c.put_sql.new.out.items c.in-Ok.ensures.text in
-    written_more (λ value. value.now) c.args.query.now c.args.places.now listed c.loop-i.at c.loop-i.i c.args.out.now.items c.loop-i.out.items c.put_sql.new.out.items t.0 c.index-listed-i.result c.loop-i.invariant c.loop-i-test.true
-    (omega (arith, c.loop-i-test.true, n)) c.index-listed-i.is t.1 c.put_sql.ensures.literal (t.2 ∙ ap (λ y. y ++ t.0) c.in_ok-extend_from_slice.ensures.items)
+pub put_text-requires-clause-places : goal.put_text-requires-clause-places
+put_text-requires-clause-places c = subst (λ (mode : Mode). HasPlaces (read_in mode c.args.query.now) c.args.places.now) (sym (is_default c.default.result c.default.ensures)) c.requires.places
 
 pub returns-clause-ok : goal.returns-clause-ok
-returns-clause-ok c =
-    let query = c.args.query.now in
-    let places = c.args.places.now in
-    let listed = c.as_slice-listed.result.now in
-    let n : length listed ≡ length places = ap length c.as_slice-listed.ensures.value ∙ omega (arith, c.if-len-places.false, c.len.ensures, c.list_values_over_names.new.values.ok.0) in
-    let count = length-map listed (λ value. value.now) ∙ n in
-    let end = written_end query places (map (λ value. value.now) listed) c.loop-i.at c.loop-i.i c.args.out.now.items c.loop-i.out.items c.extend_from_slice-2.new.self.items c.loop-i.invariant c.loop-i-test.false
-    count (c.in_ok-extend_from_slice-2.ensures.items ∙ ap (λ y. c.loop-i.out.items ++ y) (take_all (length query - c.loop-i.at) (drop c.loop-i.at query) (omega (arith, length-drop c.loop-i.at query)))) in
-    bind_ok c.pieces_of_a_query.ensures.names c.pieces_of_a_query.ensures.pieces c.filled_text_is_read.ensures query c.args.params.now places (map (λ value. value.now) listed) c.args.out.now.items c.extend_from_slice-2.new.self.items c.requires.places
-    c.requires.one_kind c.requires.alone
-    (ap (λ ns. values_over ns c.args.params.now) (sym c.requires.names) ∙ c.in_ok-list_values_over_names.ensures.ok ∙ ap (λ vs. Ok (map (λ value. value.now) vs)) (sym c.as_slice-listed.ensures.value))
-    count end.0 end.1 end.2
+returns-clause-ok c = subst (λ (mode : Mode). OnOk c.put_text.result (Binds (read_in mode c.args.query.now) Quoted c.args.params.now c.args.out.now.items c.put_text.new.out.items))
+    (is_default c.default.result c.default.ensures) c.put_text.ensures.ok
+
+pub returns-clause-err : goal.returns-clause-err
+returns-clause-err c = subst (λ (mode : Mode). IfErr c.put_text.result (RefusesBinding (read_in mode c.args.query.now) c.args.params.now)) (is_default c.default.result c.default.ensures) c.put_text.ensures.err

@@ -2,7 +2,9 @@ use Rattle.std.proofs.Common.{◌≡◌, List, [], map, refl, sym, ap, ◌∙◌
 use Rattle.std.specs.Cow.{cow_slice_items}
 use Rattle.std.proofs.lemmas.Result.{err_from_is_err_and}
 use Rattle.mysql_queries.specs.Queries.{IsParsed}
+use Rattle.mysql_queries.specs.Sql.{read_by_default}
 use Rattle.mysql_queries.proofs.FirstBytes.{same_number}
+use Rattle.mysql_queries.proofs.QuerySlices.{places_in_order}
 use Rattle.mysql_queries.proofs.QueryWritten.{parsed_marked, parsed_as_it_is, has_names}
 use Rattle.mysql_queries.proofs.named_params.ParsedNamedParams.parse_at.Goals as goal
 use Rattle.mysql_queries.proofs.named_params.ParsedNamedParams.parse_at.Goals.{then-is_empty, else-is_empty+in_ok-with_marks}
@@ -12,14 +14,14 @@ none_left [] h = refl
 none_left (x ∷ xs) h = absurd (omega (arith, h))
 
 pub returns-clause-names : goal.returns-clause-names
-returns-clause-names c = has_names c.args.query.now (map cow_slice_items c.in_ok-params.params.items) c.args.places.now c.requires c.in_ok-params.ensures
+returns-clause-names c = has_names (read_by_default c.args.query.now) (map cow_slice_items c.in_ok-params.params.items) c.args.places.now c.requires c.in_ok-params.ensures
 
 pub returns-clause-query : goal.returns-clause-query
 returns-clause-query c = elim c.if-is_empty.branch [
   | then-is_empty w ↦ (let empty = none_left c.in_ok-params.params.items (sym c.in_ok-params.params.ok.0 ∙ same_number _ 0 (sym w.if-is_empty.ensures)) in
-      subst (IsParsed c.args.query.now) (sym (ap cow_slice_items w.parsed-is))
-      (parsed_as_it_is c.args.query.now c.args.places.now c.requires (sym c.in_ok-params.ensures ∙ ap (map cow_slice_items) empty)))
-  | else-is_empty+in_ok-with_marks w ↦ parsed_marked c.args.query.now (cow_slice_items c.if-is_empty.parsed) c.args.places.now c.requires (ap cow_slice_items w.parsed-is ∙ w.in_ok-with_marks.ensures)
+      subst (IsParsed (read_by_default c.args.query.now)) (sym (ap cow_slice_items w.parsed-is))
+      (parsed_as_it_is (read_by_default c.args.query.now) c.args.places.now c.requires (sym c.in_ok-params.ensures ∙ ap (map cow_slice_items) empty)))
+  | else-is_empty+in_ok-with_marks w ↦ parsed_marked (read_by_default c.args.query.now) (cow_slice_items c.if-is_empty.parsed) c.args.places.now c.requires (ap cow_slice_items w.parsed-is ∙ w.in_ok-with_marks.ensures)
 ]
 
 pub returns-in_err-params-clause-mixed : goal.returns-in_err-params-clause-mixed
@@ -33,3 +35,9 @@ returns-then-is_mixed-clause-mixed c = inr (refl, (c.args.places.now, c.requires
 
 pub returns-clause-one_kind : goal.returns-clause-one_kind
 returns-clause-one_kind c = (c.args.places.now, c.requires, c.if-is_mixed.ensures)
+
+pub names_among-requires : goal.names_among-requires
+names_among-requires c = places_in_order (read_by_default c.args.query.now) c.args.places.now c.requires
+
+pub with_marks-requires : goal.with_marks-requires
+with_marks-requires c = places_in_order (read_by_default c.args.query.now) c.args.places.now c.requires

@@ -1,0 +1,205 @@
+/* Flags: the mode of a server, and byte strings in hexadecimal. */
+#include "check.h"
+
+#define ESCAPELESS MYSQL_SESSION_NO_BACKSLASH_ESCAPES
+#define ANSI MYSQL_SESSION_ANSI_QUOTES
+#define HEX MYSQL_SESSION_HEXADECIMAL
+#define ALL (ESCAPELESS | ANSI | HEX)
+
+static mysql_session_handle sets, out;
+
+/* One set of one value: bytes, or the number 1. */
+static void begin(const char *bytes)
+{
+    CHECK_DONE(mysql_session_sets_new(&sets));
+    CHECK_DONE(mysql_session_bytes_new(&out));
+    if (bytes != NULL)
+        CHECK_DONE(mysql_session_sets_push_bytes(&sets, bytes_of(bytes), strlen(bytes)));
+    else
+        CHECK_DONE(mysql_session_sets_push_int(&sets, 1));
+    CHECK_DONE(mysql_session_sets_end_set(&sets));
+}
+
+static void end(void)
+{
+    mysql_session_free(&sets);
+    mysql_session_free(&out);
+}
+
+/* The text of the value over the query; where NULL is wanted, the count of values is refused. */
+static void row(uint32_t flags, const char *query, const char *bytes, const char *wanted)
+{
+    mysql_session_place place = { 0, 0 };
+    const uint8_t *data = NULL;
+    size_t len = 0;
+    check_note(query, flags);
+    begin(bytes);
+    CHECK_CODE(mysql_session_bind_text(&sets, 0, bytes_of(query), strlen(query), flags, &out,
+                                       &place),
+               wanted != NULL ? MYSQL_SESSION_OK : MYSQL_SESSION_REFUSED_WRONG_COUNT);
+    CHECK_DONE(mysql_session_bytes_data(&out, &data, &len));
+    CHECK_TEXT(data, len, wanted != NULL ? wanted : "");
+    end();
+    check_note("", 0);
+}
+
+static void texts(void)
+{
+    uint32_t mode;
+    row(0, "SELECT ?", "'\\", "SELECT '\\'\\\\'");
+    row(ANSI, "SELECT ?", "'\\", "SELECT '\\'\\\\'");
+    row(ESCAPELESS, "SELECT ?", "'\\", "SELECT '''\\'");
+    row(ESCAPELESS | ANSI, "SELECT ?", "'\\", "SELECT '''\\'");
+    for (mode = 0; mode < HEX; mode++) {
+        row(mode | HEX, "SELECT ?", "'\\", "SELECT 0x275C");
+        row(mode | HEX, "SELECT ?", "", "SELECT ''");
+        row(mode | HEX, "SELECT ?", NULL, "SELECT 1");
+    }
+    row(ESCAPELESS, "SELECT '\\', ?", NULL, "SELECT '\\', 1");
+    row(0, "SELECT '\\', ?", NULL, NULL);
+    row(ANSI, "SELECT \"a\\\", ?", NULL, "SELECT \"a\\\", 1");
+    row(0, "SELECT \"a\\\", ?", NULL, NULL);
+}
+
+static void literals(void)
+{
+    const uint8_t *data = NULL;
+    size_t len = 0;
+    begin("'\\");
+    CHECK_DONE(mysql_session_value_text(&sets, 0, 0, 0, &out));
+    CHECK_DONE(mysql_session_value_text(&sets, 0, 0, ESCAPELESS, &out));
+    CHECK_DONE(mysql_session_value_text(&sets, 0, 0, ALL, &out));
+    CHECK_DONE(mysql_session_bytes_data(&out, &data, &len));
+    CHECK_TEXT(data, len, "'\\'\\\\''''\\'0x275C");
+    end();
+}
+
+/* What is sent by these flags is read by those: the value, or a fault. */
+static void sent(uint32_t road, uint32_t flags, uint32_t read, uint32_t code)
+{
+    static const char query[] = "SELECT ?";
+    mysql_session_handle receiver = MYSQL_SESSION_NOTHING, recoder = MYSQL_SESSION_NOTHING;
+    mysql_session_handle recoded = MYSQL_SESSION_NOTHING;
+    mysql_session_place place = { 0, 0 };
+    mysql_session_content content = { 0, 0, 0, NULL, 0 };
+    mysql_session_stop stop = { 0, 0, 0, 0 };
+    const uint8_t *data = NULL;
+    size_t len = 0;
+    check_note("sent", flags);
+    begin("'\\");
+    CHECK_DONE(mysql_session_send(&sets, bytes_of(query), 8, road, 1, 1000, flags, &out, &place));
+    CHECK_DONE(mysql_session_bytes_data(&out, &data, &len));
+    CHECK_DONE(mysql_session_receiver_new(&receiver, bytes_of(query), 8, 1, 1000, read));
+    CHECK_CODE(mysql_session_receiver_feed(&receiver, data, len), code);
+    if (code == MYSQL_SESSION_OK) {
+        CHECK_DONE(mysql_session_receiver_content(&receiver, 0, 0, &content));
+        CHECK_NUMBER(content.kind, MYSQL_SESSION_BYTES);
+        CHECK_TEXT(content.bytes, content.len, "'\\");
+    }
+    CHECK_DONE(mysql_session_bytes_new(&recoded));
+    CHECK_DONE(mysql_session_recoder_new(&recoder, bytes_of(query), 8, 1, 1000, read));
+    CHECK_CODE(mysql_session_recoder_feed(&recoder, data, len, &recoded, &stop), code);
+    mysql_session_free(&recoder);
+    mysql_session_free(&recoded);
+    mysql_session_free(&receiver);
+    end();
+    check_note("", 0);
+}
+
+static void streams(void)
+{
+    uint32_t mode, read;
+    for (mode = 0; mode < HEX; mode++) {
+        sent(MYSQL_SESSION_TEXT, mode, mode, MYSQL_SESSION_OK);
+        sent(MYSQL_SESSION_TEXT, mode, mode | HEX, MYSQL_SESSION_OK);
+        for (read = 0; read < HEX; read++) {
+            sent(MYSQL_SESSION_TEXT, mode | HEX, read, MYSQL_SESSION_OK);
+            sent(MYSQL_SESSION_EXECUTE, mode, read, MYSQL_SESSION_OK);
+        }
+    }
+    sent(MYSQL_SESSION_TEXT, ESCAPELESS, 0, MYSQL_SESSION_FAULT_TEXT_MISMATCH);
+}
+
+/* A backslash alone: a text in the one mode, none in the other. */
+static void one_backslash(void)
+{
+    static const char query[] = "SELECT ?";
+    const stream given = stream_of("0b 00 00 00 03 |SELECT '\\'|");
+    mysql_session_handle receiver = MYSQL_SESSION_NOTHING;
+    mysql_session_content content = { 0, 0, 0, NULL, 0 };
+    CHECK_DONE(mysql_session_receiver_new(&receiver, bytes_of(query), 8, 1, 1000, ESCAPELESS));
+    CHECK_DONE(mysql_session_receiver_feed(&receiver, given.bytes, given.len));
+    CHECK_DONE(mysql_session_receiver_content(&receiver, 0, 0, &content));
+    CHECK_TEXT(content.bytes, content.len, "\\");
+    CHECK_DONE(mysql_session_receiver_new(&receiver, bytes_of(query), 8, 1, 1000, 0));
+    CHECK_CODE(mysql_session_receiver_feed(&receiver, given.bytes, given.len),
+               MYSQL_SESSION_FAULT_TEXT_MISMATCH);
+    mysql_session_free(&receiver);
+}
+
+/* No other bit is a flag. */
+static void no_such_mode(uint32_t flags)
+{
+    static const char query[] = "SELECT ?";
+    mysql_session_handle nothing = MYSQL_SESSION_NOTHING;
+    mysql_session_place place = { 0, 0 };
+    size_t count = 0;
+    check_note("no such mode", flags);
+    begin("a");
+    CHECK_CODE(mysql_session_receiver_new(&sets, bytes_of(query), 8, 1, 3, flags),
+               MYSQL_SESSION_NO_SUCH_MODE);
+    CHECK_CODE(mysql_session_recoder_new(&sets, bytes_of(":a ?"), 4, 1, 3, flags),
+               MYSQL_SESSION_NO_SUCH_MODE);
+    CHECK_CODE(mysql_session_bind_text(&nothing, 0, bytes_of(query), 8, flags, &out, &place),
+               MYSQL_SESSION_NO_SUCH_MODE);
+    CHECK_CODE(mysql_session_value_text(&nothing, 0, 0, flags, &out), MYSQL_SESSION_NO_SUCH_MODE);
+    CHECK_CODE(mysql_session_send(&sets, bytes_of(query), 8, 0, 1, 3, flags, &out, &place),
+               MYSQL_SESSION_NO_SUCH_MODE);
+    CHECK_CODE(mysql_session_send(&sets, bytes_of(query), 8, 3, 1, 3, flags, &out, &place),
+               MYSQL_SESSION_NO_SUCH_ROAD);
+    CHECK_CODE(mysql_session_send(&nothing, bytes_of(query), 8, 0, 1, 3, flags, &out, &place),
+               MYSQL_SESSION_EMPTY_HANDLE);
+    CHECK_DONE(mysql_session_sets_count(&sets, &count));
+    CHECK_NUMBER(count, 1);
+    CHECK_STREAM(&out, "");
+    end();
+    check_note("", 0);
+}
+
+static uint32_t told(const char *value)
+{
+    return mysql_session_mode_of_sql_mode(bytes_of(value), strlen(value));
+}
+
+static void told_by_servers(void)
+{
+    CHECK_NUMBER(mysql_session_mode_of_status(0), 0);
+    CHECK_NUMBER(mysql_session_mode_of_status(0x0200), ESCAPELESS);
+    CHECK_NUMBER(mysql_session_mode_of_status(0x8000), ANSI);
+    CHECK_NUMBER(mysql_session_mode_of_status(0x7dff), 0);
+    CHECK_NUMBER(mysql_session_mode_of_status(0xffff), ESCAPELESS | ANSI);
+    CHECK_NUMBER(told(""), 0);
+    CHECK_NUMBER(told("STRICT_TRANS_TABLES,NO_BACKSLASH_ESCAPES"), ESCAPELESS);
+    CHECK_NUMBER(told("ansi_quotes"), ANSI);
+    CHECK_NUMBER(told("ORACLE,NO_BACKSLASH_ESCAPES,IGNORE_SPACE"), ESCAPELESS | ANSI);
+    CHECK_NUMBER(told("NO_BACKSLASH_ESCAPES_NOT, ANSI_QUOTES"), 0);
+    CHECK_NUMBER(mysql_session_is_safe_to_quote(45), 1);
+    CHECK_NUMBER(mysql_session_is_safe_to_quote(28), 0);
+    CHECK_NUMBER(mysql_session_is_safe_to_quote(1024 + 28), 0);
+    CHECK_NUMBER(mysql_session_is_safe_to_quote(1024 + 45), 1);
+}
+
+int main(void)
+{
+    uint32_t bit;
+    texts();
+    literals();
+    streams();
+    one_backslash();
+    for (bit = ALL + 1; bit != 0; bit <<= 1) {
+        no_such_mode(bit);
+        no_such_mode(bit | ALL);
+    }
+    told_by_servers();
+    return check_end("modes");
+}

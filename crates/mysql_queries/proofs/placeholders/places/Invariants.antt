@@ -1,9 +1,0 @@
-use Rattle.std.proofs.Common.{length, ◌-◌, ◌≤◌}
-use Rattle.mysql_queries.proofs.PlaceLists.{Found}
-use Rattle.mysql_queries.proofs.placeholders.places.Given as goal
-
-abbrev pub invariant-loop-at : goal.invariant-loop-at
-invariant-loop-at l = record { in_range : l.at ≤ length l.query; found : Found l.query l.at l.found.items }
-
-abbrev pub decreases-loop-at : goal.decreases-loop-at
-decreases-loop-at l = length l.query - l.at

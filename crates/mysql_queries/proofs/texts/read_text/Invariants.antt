@@ -1,6 +1,0 @@
-use Rattle.std.proofs.Common.{drop}
-use Rattle.mysql_queries.proofs.TextReading.{ReadTo}
-use Rattle.mysql_queries.proofs.texts.read_text.Given as goal
-
-abbrev pub invariant-loop-place : goal.invariant-loop-place
-invariant-loop-place l = ReadTo l.query l.places l.text l.at (drop l.place-index l.places) l.contents.items l.rest
