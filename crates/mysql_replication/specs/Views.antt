@@ -1,6 +1,10 @@
 -- What the packets hold.
-use Rattle.std.specs.Prelude.{map}
-use Rattle.std.specs.Cow.{cow_slice_items}
+use Rattle.std.specs.Prelude.{◌≡◌, IfOk, IsOkUnless, List, Result, map, ℕ}
+use Rattle.std.specs.Cow.{cow_slice_items, cow_str_bytes}
+use Rattle.std.specs.declared.borrow.CowStr.{CowStr}
+use Rattle.mysql_fields.specs.Texts.{lossy_text}
+use Rattle.mysql_fields.specs.declared.error.WireError.TheVariants.{Memory}
+use Rattle.mysql_fields.specs.declared.error.WireError.{WireError}
 use Rattle.mysql_gtid.specs.Sids.{sid_view}
 use Rattle.mysql_replication.specs.Packets.{BinlogDump, BinlogDumpGtid, BinlogDumpGtidStart, RegisterSlave}
 use Rattle.mysql_replication.specs.Packets.{ReplicaNames, ReplicaNumbers, Request, SemiSyncAck, TableDump}
@@ -67,3 +71,8 @@ request_view r = record {
   pos = r.pos;
   sids = map sid_view r.sids.items;
 }
+
+-- What a text is shown as: its bytes, those that aren't UTF-8 replaced; refused for want of memory alone.
+pub record IsLossyText {Z : Type 0} (result : Result (CowStr Z) WireError) (bytes : List ℕ) : Type 0 where
+  pub memory : IsOkUnless result Memory
+  pub text : IfOk result (λ text. cow_str_bytes text ≡ lossy_text bytes)

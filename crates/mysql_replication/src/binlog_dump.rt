@@ -3,16 +3,14 @@
 //!     let request = ComBinlogDump::new(server_id).with_pos(4).with_filename(name);
 //!     request.serialize(&mut payload)?;
 
-ghost use Rattle.std.specs.Prelude.{◌≡◌, [], IfOk, None, IsOkUnless, false};
-ghost use Rattle.std.specs.Cow.{cow_slice_items, cow_str_bytes};
-ghost use Rattle.mysql_fields.specs.Texts.{lossy_text};
+ghost use Rattle.std.specs.Prelude.{◌≡◌, [], IfOk, None, false};
+ghost use Rattle.std.specs.Cow.{cow_slice_items};
 ghost use Rattle.mysql_fields.specs.Laws.{unsized};
 ghost use Rattle.mysql_fields.specs.Wire.{TellsPart};
 ghost use Rattle.mysql_replication.specs.PacketLaws.{binlog_dump_at-back};
 ghost use Rattle.mysql_replication.specs.Packets.{BinlogDump, IsBinlogDump, binlog_dump, binlog_dump_at};
 ghost use Rattle.mysql_replication.specs.Packets.{binlog_dump_fields_at};
-ghost use Rattle.mysql_replication.specs.Views.{binlog_dump_view};
-ghost use Rattle.mysql_fields.specs.declared.error.WireError.TheVariants as wire;
+ghost use Rattle.mysql_replication.specs.Views.{IsLossyText, binlog_dump_view};
 
 use crate::headers::ComBinlogDumpHeader;
 use mysql_buf::ParseBuf;
@@ -110,9 +108,7 @@ impl<'a> ComBinlogDump<'a> {
     /// # Errors
     /// - `Memory`.
     pub fn filename(&self, alloc: Global) -> Result<CowStr<'_>, WireError>
-        ensures memory { IsOkUnless result wire.Memory }
-        ensures value { IfOk result (λ text. cow_str_bytes text ≡
-            lossy_text (binlog_dump_view self.now).filename) }
+        ensures { IsLossyText result (binlog_dump_view self.now).filename }
     {
         lossy_text(alloc, self.filename_raw())
     }

@@ -3,19 +3,17 @@
 //!     let request = ComBinlogDumpGtid::new(server_id).with_sid(alloc, sid)?;
 //!     request.serialize(&mut payload)?;
 
-ghost use Rattle.std.specs.Prelude.{◌≡◌, ◌^◌, ◌-◌, ◌++◌, ◌∷◌, [], Bool, IfOk, None, map, IsOkUnless};
-ghost use Rattle.std.specs.Cow.{cow_slice_items, cow_str_bytes};
+ghost use Rattle.std.specs.Prelude.{◌≡◌, ◌^◌, ◌-◌, ◌++◌, ◌∷◌, [], Bool, IfOk, None, map};
+ghost use Rattle.std.specs.Cow.{cow_slice_items};
 ghost use Rattle.mysql_buf.specs.Writing.{front};
 ghost use Rattle.mysql_gtid.specs.Sids.{sid_view};
-ghost use Rattle.mysql_fields.specs.Texts.{lossy_text};
 ghost use Rattle.mysql_fields.specs.Laws.{unsized};
 ghost use Rattle.mysql_fields.specs.Wire.{GivesPart, TellsPart};
 ghost use Rattle.mysql_replication.specs.PacketLaws.{binlog_dump_gtid_at-back};
 ghost use Rattle.mysql_replication.specs.Packets.{BinlogDumpGtid, IsBinlogDumpGtid, binlog_dump_gtid};
 ghost use Rattle.mysql_replication.specs.Packets.{binlog_dump_gtid_at, binlog_dump_gtid_fields_at};
 ghost use Rattle.mysql_replication.specs.Packets.{binlog_dump_gtid_front_at, binlog_dump_gtid_start_at, through_gtid};
-ghost use Rattle.mysql_replication.specs.Views.{binlog_dump_gtid_view, start_view};
-ghost use Rattle.mysql_fields.specs.declared.error.WireError.TheVariants as wire;
+ghost use Rattle.mysql_replication.specs.Views.{IsLossyText, binlog_dump_gtid_view, start_view};
 
 use crate::headers::ComBinlogDumpGtidHeader;
 use bitflags::Flags;
@@ -178,9 +176,7 @@ impl<'a> ComBinlogDumpGtid<'a> {
     /// # Errors
     /// - `Memory`.
     pub fn filename(&self, alloc: Global) -> Result<CowStr<'_>, WireError>
-        ensures memory { IsOkUnless result wire.Memory }
-        ensures value { IfOk result (λ text. cow_str_bytes text ≡
-            lossy_text (front (binlog_dump_gtid_view self.now).filename (2 ^ 32 - 1))) }
+        ensures { IsLossyText result (front (binlog_dump_gtid_view self.now).filename (2 ^ 32 - 1)) }
     {
         lossy_text(alloc, self.filename_raw())
     }

@@ -3,14 +3,12 @@
 //!     let request = BinlogRequest::new(alloc, server_id).with_use_gtid(true).with_sids(sids);
 //!     let packet = request.as_cmd();
 
-ghost use Rattle.std.specs.Prelude.{◌≡◌, [], false, IfOk, map, IsOkUnless};
-ghost use Rattle.std.specs.Cow.{cow_slice_items, cow_str_bytes};
-ghost use Rattle.mysql_fields.specs.Texts.{lossy_text};
+ghost use Rattle.std.specs.Prelude.{◌≡◌, [], false, IfOk, map};
+ghost use Rattle.std.specs.Cow.{cow_slice_items};
 ghost use Rattle.mysql_gtid.specs.Sids.{sid_view};
 ghost use Rattle.mysql_field_constants.specs.Either.{either_shown};
 ghost use Rattle.mysql_replication.specs.Packets.{packet_of};
-ghost use Rattle.mysql_replication.specs.Views.{binlog_dump_gtid_view, binlog_dump_view, request_view};
-ghost use Rattle.mysql_fields.specs.declared.error.WireError.TheVariants as wire;
+ghost use Rattle.mysql_replication.specs.Views.{IsLossyText, binlog_dump_gtid_view, binlog_dump_view, request_view};
 
 use crate::binlog_dump::ComBinlogDump;
 use crate::binlog_dump_gtid::{ComBinlogDumpGtid, copies_of};
@@ -142,9 +140,7 @@ impl<'a> BinlogRequest<'a> {
     /// # Errors
     /// - `Memory`.
     pub fn filename(&self, alloc: Global) -> Result<CowStr<'_>, WireError>
-        ensures memory { IsOkUnless result wire.Memory }
-        ensures value { IfOk result (λ text. cow_str_bytes text ≡
-            lossy_text (request_view self.now).filename) }
+        ensures { IsLossyText result (request_view self.now).filename }
     {
         lossy_text(alloc, self.filename_raw())
     }

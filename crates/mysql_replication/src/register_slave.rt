@@ -3,17 +3,15 @@
 //!     let packet = ComRegisterSlave::new(server_id).with_hostname(host).with_port(3306);
 //!     packet.serialize(&mut payload)?;
 
-ghost use Rattle.std.specs.Prelude.{◌≡◌, [], IfOk, None, IsOkUnless, false};
-ghost use Rattle.std.specs.Cow.{cow_slice_items, cow_str_bytes};
-ghost use Rattle.mysql_fields.specs.Texts.{lossy_text};
+ghost use Rattle.std.specs.Prelude.{◌≡◌, [], IfOk, None, false};
+ghost use Rattle.std.specs.Cow.{cow_slice_items};
 ghost use Rattle.mysql_buf.specs.Writing.{front};
 ghost use Rattle.mysql_fields.specs.Laws.{unsized};
 ghost use Rattle.mysql_fields.specs.Wire.{TellsPart};
 ghost use Rattle.mysql_replication.specs.PacketLaws.{register_slave_at-back};
 ghost use Rattle.mysql_replication.specs.Packets.{IsRegisterSlave, RegisterSlave, register_slave, register_slave_at};
 ghost use Rattle.mysql_replication.specs.Packets.{register_slave_fields_at, replica_names_at, replica_numbers_at};
-ghost use Rattle.mysql_replication.specs.Views.{names_view, numbers_view, register_slave_view};
-ghost use Rattle.mysql_fields.specs.declared.error.WireError.TheVariants as wire;
+ghost use Rattle.mysql_replication.specs.Views.{IsLossyText, names_view, numbers_view, register_slave_view};
 
 use crate::headers::ComRegisterSlaveHeader;
 use mysql_buf::{ParseBuf, front_of};
@@ -138,9 +136,7 @@ impl<'a> ComRegisterSlave<'a> {
     /// # Errors
     /// - `Memory`.
     pub fn hostname(&self, alloc: Global) -> Result<CowStr<'_>, WireError>
-        ensures memory { IsOkUnless result wire.Memory }
-        ensures value { IfOk result (λ text. cow_str_bytes text ≡
-            lossy_text (front (register_slave_view self.now).hostname 255)) }
+        ensures { IsLossyText result (front (register_slave_view self.now).hostname 255) }
     {
         lossy_text(alloc, self.hostname_raw())
     }
@@ -157,9 +153,7 @@ impl<'a> ComRegisterSlave<'a> {
     /// # Errors
     /// - `Memory`.
     pub fn user(&self, alloc: Global) -> Result<CowStr<'_>, WireError>
-        ensures memory { IsOkUnless result wire.Memory }
-        ensures value { IfOk result (λ text. cow_str_bytes text ≡
-            lossy_text (front (register_slave_view self.now).user 255)) }
+        ensures { IsLossyText result (front (register_slave_view self.now).user 255) }
     {
         lossy_text(alloc, self.user_raw())
     }
@@ -176,9 +170,7 @@ impl<'a> ComRegisterSlave<'a> {
     /// # Errors
     /// - `Memory`.
     pub fn password(&self, alloc: Global) -> Result<CowStr<'_>, WireError>
-        ensures memory { IsOkUnless result wire.Memory }
-        ensures value { IfOk result (λ text. cow_str_bytes text ≡
-            lossy_text (front (register_slave_view self.now).password 255)) }
+        ensures { IsLossyText result (front (register_slave_view self.now).password 255) }
     {
         lossy_text(alloc, self.password_raw())
     }

@@ -2,16 +2,14 @@
 //!
 //!     SemiSyncAckPacket::new(position, filename).serialize(&mut payload)?;
 
-ghost use Rattle.std.specs.Prelude.{◌≡◌, [], IfOk, None, IsOkUnless, false};
-ghost use Rattle.std.specs.Cow.{cow_slice_items, cow_str_bytes};
-ghost use Rattle.mysql_fields.specs.Texts.{lossy_text};
+ghost use Rattle.std.specs.Prelude.{◌≡◌, [], None, false};
+ghost use Rattle.std.specs.Cow.{cow_slice_items};
 ghost use Rattle.mysql_fields.specs.Laws.{unsized};
 ghost use Rattle.mysql_fields.specs.Wire.{TellsPart};
 ghost use Rattle.mysql_replication.specs.PacketLaws.{semi_sync_ack_at-back};
 ghost use Rattle.mysql_replication.specs.Packets.{IsSemiSyncAck, SemiSyncAck, semi_sync_ack, semi_sync_ack_at};
 ghost use Rattle.mysql_replication.specs.Packets.{semi_sync_ack_fields_at};
-ghost use Rattle.mysql_replication.specs.Views.{semi_sync_ack_view};
-ghost use Rattle.mysql_fields.specs.declared.error.WireError.TheVariants as wire;
+ghost use Rattle.mysql_replication.specs.Views.{IsLossyText, semi_sync_ack_view};
 
 use crate::headers::SemiSyncAckPacketPacketHeader;
 use mysql_buf::ParseBuf;
@@ -81,9 +79,7 @@ impl<'a> SemiSyncAckPacket<'a> {
     /// # Errors
     /// - `Memory`.
     pub fn filename(&self, alloc: Global) -> Result<CowStr<'_>, WireError>
-        ensures memory { IsOkUnless result wire.Memory }
-        ensures value { IfOk result (λ text. cow_str_bytes text ≡
-            lossy_text (semi_sync_ack_view self.now).filename) }
+        ensures { IsLossyText result (semi_sync_ack_view self.now).filename }
     {
         lossy_text(alloc, self.filename_raw())
     }

@@ -2,15 +2,13 @@
 //!
 //!     ComTableDump::new(database, table).serialize(&mut payload)?;
 
-ghost use Rattle.std.specs.Prelude.{◌≡◌, IfOk, None, IsOkUnless, false};
-ghost use Rattle.std.specs.Cow.{cow_slice_items, cow_str_bytes};
-ghost use Rattle.mysql_fields.specs.Texts.{lossy_text};
+ghost use Rattle.std.specs.Prelude.{◌≡◌, IfOk, None, false};
+ghost use Rattle.std.specs.Cow.{cow_slice_items};
 ghost use Rattle.mysql_buf.specs.Writing.{front};
 ghost use Rattle.mysql_fields.specs.Laws.{unsized};
 ghost use Rattle.mysql_replication.specs.PacketLaws.{table_dump_at-back};
 ghost use Rattle.mysql_replication.specs.Packets.{IsTableDump, TableDump, table_dump, table_dump_at};
-ghost use Rattle.mysql_replication.specs.Views.{table_dump_view};
-ghost use Rattle.mysql_fields.specs.declared.error.WireError.TheVariants as wire;
+ghost use Rattle.mysql_replication.specs.Views.{IsLossyText, table_dump_view};
 
 use crate::headers::ComTableDumpHeader;
 use mysql_buf::{ParseBuf, front_of};
@@ -58,9 +56,7 @@ impl<'a> ComTableDump<'a> {
     /// # Errors
     /// - `Memory`.
     pub fn database(&self, alloc: Global) -> Result<CowStr<'_>, WireError>
-        ensures memory { IsOkUnless result wire.Memory }
-        ensures value { IfOk result (λ text. cow_str_bytes text ≡
-            lossy_text (front (table_dump_view self.now).database 255)) }
+        ensures { IsLossyText result (front (table_dump_view self.now).database 255) }
     {
         lossy_text(alloc, self.database_raw())
     }
@@ -77,9 +73,7 @@ impl<'a> ComTableDump<'a> {
     /// # Errors
     /// - `Memory`.
     pub fn table(&self, alloc: Global) -> Result<CowStr<'_>, WireError>
-        ensures memory { IsOkUnless result wire.Memory }
-        ensures value { IfOk result (λ text. cow_str_bytes text ≡
-            lossy_text (front (table_dump_view self.now).table 255)) }
+        ensures { IsLossyText result (front (table_dump_view self.now).table 255) }
     {
         lossy_text(alloc, self.table_raw())
     }
