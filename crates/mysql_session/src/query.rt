@@ -289,14 +289,21 @@ impl<'q> Query<'q> {
         requires { 4 ≤ limit }
         ensures written { OnOk result
             (Writes (spelled self.now.spelling road) self.now.sql (all_given sets.now) self.now.id
-                limit (W.contents to.old)
+            limit (W.contents to.old)
             (W.contents to.new)) }
         ensures stopped { IfErr result
             (StopsSending (spelled self.now.spelling road) self.now.sql sets.now self.now.id limit (W.contents to.old)
             (W.contents to.new)) }
     {
         match road {
-            Road::Text => write_queries(alloc, self.statement.query(), self.spelling, sets, limit, to),
+            Road::Text => write_queries(
+                alloc,
+                self.statement.query(),
+                self.spelling,
+                sets,
+                limit,
+                to,
+            ),
             Road::Execute => write_executions(alloc, &self.statement, sets, limit, to),
             Road::Bulk => self.send_requests_to(alloc, sets, limit, to),
         }
