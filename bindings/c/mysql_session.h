@@ -158,7 +158,7 @@ void mysql_session_code_text(uint32_t code, const uint8_t **text, size_t *len);
  *
  * A text is safe for the server whose mode is told. For a server in another a value may end its
  * literal, and what stands behind the quote is read as SQL: ask for the mode, send by execute, or
- * spell byte strings in hexadecimal. */
+ * spell byte strings in hexadecimal, which any mode reads alike if the query has no backslash. */
 enum mysql_session_flag {
     /* A backslash in a string is a byte like any other. */
     MYSQL_SESSION_NO_BACKSLASH_ESCAPES = 1,

@@ -22,8 +22,8 @@
 //! mode has neither NO_BACKSLASH_ESCAPES nor ANSI_QUOTES, over a connection in UTF-8 or another
 //! character set that is safe to quote ([`is_safe_to_quote`]); for any other a value may end its
 //! literal. For a server in another mode there are [`send_in`], [`bind_text_in`] and
-//! [`value_text_in`]; [`Spelling::Hexadecimal`] is safe in each character set, and executions at
-//! each server.
+//! [`value_text_in`]; [`Spelling::Hexadecimal`] is safe in each character set that a client may
+//! have, and executions at each server.
 //!
 //! A call that isn't done answers an [`Error`], and a stream that can't be read on a [`Fault`], by
 //! a [`Code`] that the library has a text for. A call panics only where the linked library isn't
