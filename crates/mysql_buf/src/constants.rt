@@ -6,9 +6,9 @@
 
 pub use bitflags::Flags;
 pub use mysql_const::{
-    BinlogDumpFlags, CapabilityFlags, ColumnFlags, ColumnType, Command, CursorType,
+    BinlogDumpFlags, Capabilities, CapabilityFlags, ColumnFlags, ColumnType, Command, CursorType,
     DEFAULT_MAX_ALLOWED_PACKET, GeometryType, ItemResult, MAX_PAYLOAD_LEN, MariadbBulkIndicator,
-    MariadbCapabilities, SessionStateType, StatusFlags, StmtBulkExecuteFlags,
+    MariadbCapabilities, MariadbStatusFlags, SessionStateType, StatusFlags, StmtBulkExecuteFlags,
     StmtExecuteParamFlags, StmtExecuteParamsFlags, UTF8_GENERAL_CI, UTF8MB4_GENERAL_CI,
     UnknownBinlogDumpFlags, UnknownCapabilityFlags, UnknownColumnFlags, UnknownColumnType,
     UnknownCommand, UnknownCursorType, UnknownGeometryType, UnknownItemResultType,

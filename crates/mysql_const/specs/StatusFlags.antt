@@ -1,5 +1,6 @@
--- The server's status flags.
--- MySQL: Client/Server Protocol, "Status Flags" (SERVER_STATUS_flags_enum).
+-- The server's status flags, and those that only MariaDB has.
+-- MySQL: Client/Server Protocol, "Status Flags" (SERVER_STATUS_flags_enum); MariaDB: Client/Server
+-- Protocol, "OK_Packet", 'Server status flag'.
 use Rattle.std.specs.Prelude.{ℕ, List, [], ◌∷◌, codes}
 
 -- the table: each flag's name and bit
@@ -20,3 +21,7 @@ status_flags =
     ∷ (codes "SERVER_STATUS_IN_TRANS_READONLY", 0x2000)
     ∷ (codes "SERVER_SESSION_STATE_CHANGED", 0x4000)
     ∷ []
+
+-- MariaDB's own: the bit that says that double quotes are of names
+abbrev pub mariadb_status_flags : List (List ℕ × ℕ)
+mariadb_status_flags = (codes "SERVER_STATUS_ANSI_QUOTES", 0x8000) ∷ []

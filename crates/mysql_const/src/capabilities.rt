@@ -212,3 +212,16 @@ impl TryFrom<u32> for MariadbCapabilities {
         }
     }
 }
+
+/// The capabilities that are in force on a connection, since both of its sides have them: those of
+/// the protocol, and those that are MariaDB's own.
+///
+/// MySQL: Client/Server Protocol, "Capabilities Flags"; MariaDB: Client/Server Protocol,
+/// "Connecting", 'Capabilities'.
+#[derive(Clone, Copy, PartialEq, Eq, Hash, Debug)]
+pub struct Capabilities {
+    /// Those of the protocol.
+    pub protocol: CapabilityFlags,
+    /// Those that are MariaDB's own.
+    pub mariadb: MariadbCapabilities,
+}

@@ -16,7 +16,7 @@ ghost use Rattle.mysql_const.specs.ColumnFlags.{column_flags};
 ghost use Rattle.mysql_const.specs.CursorTypes.{cursor_types};
 ghost use Rattle.mysql_const.specs.ExecuteFlags.{execute_params_flags, execute_param_flags};
 ghost use Rattle.mysql_const.specs.MariadbCapabilities.{mariadb_capabilities};
-ghost use Rattle.mysql_const.specs.StatusFlags.{status_flags};
+ghost use Rattle.mysql_const.specs.StatusFlags.{mariadb_status_flags, status_flags};
 ghost use Rattle.mysql_const.specs.declared.TheConstants.{MAX_PAYLOAD_LEN, DEFAULT_MAX_ALLOWED_PACKET, UTF8_GENERAL_CI};
 ghost use Rattle.mysql_const.specs.declared.TheConstants.{UTF8MB4_GENERAL_CI};
 
@@ -34,6 +34,7 @@ pub fn names_are_read_back()
 #[tactic(auto, unfolding(bitflags::proofs::OnLiterals::bitflags_on_literals))]
 pub fn bits_with_names()
     ensures status_flags { known_bits status_flags ≡ 0x7ffb }
+    ensures mariadb_status_flags { known_bits mariadb_status_flags ≡ 0x8000 }
     ensures capability_flags { known_bits capability_flags ≡ 0xffffffff }
     ensures mariadb_capabilities { known_bits mariadb_capabilities ≡ 0x3f }
     ensures column_flags { known_bits column_flags ≡ 0xffff }

@@ -21,7 +21,8 @@ pub use bulk::{
     UnknownStmtBulkExecuteFlags,
 };
 pub use capabilities::{
-    CapabilityFlags, MariadbCapabilities, UnknownCapabilityFlags, UnknownMariadbCapabilities,
+    Capabilities, CapabilityFlags, MariadbCapabilities, UnknownCapabilityFlags,
+    UnknownMariadbCapabilities,
 };
 pub use column_flags::{ColumnFlags, UnknownColumnFlags};
 pub use column_type::{ColumnType, UnknownColumnType};
@@ -33,7 +34,7 @@ pub use execute::{
 pub use geometry::{GeometryType, UnknownGeometryType};
 pub use item_result::{ItemResult, UnknownItemResultType};
 pub use session_state::{SessionStateType, UnknownSessionStateType};
-pub use status::{StatusFlags, UnknownStatusFlags};
+pub use status::{MariadbStatusFlags, StatusFlags, UnknownStatusFlags};
 
 /// The most bytes that a chunk of a packet can have.
 ///

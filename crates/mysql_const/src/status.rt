@@ -4,10 +4,13 @@
 //!
 //!     let status = StatusFlags::try_from(bits)?;
 //!     let more = status.contains(StatusFlags::SERVER_MORE_RESULTS_EXISTS);
+//!     let of_mariadb = MariadbStatusFlags::of(status);
+//!     let quotes_names = of_mariadb.contains(MariadbStatusFlags::SERVER_STATUS_ANSI_QUOTES);
 
 ghost use Rattle.std.specs.Prelude.{⊤, ◌≡◌};
 ghost use Rattle.mysql_const.specs.Tables.{ReadsFlags};
-ghost use Rattle.mysql_const.specs.StatusFlags.{status_flags};
+ghost use Rattle.mysql_const.specs.StatusFlags.{mariadb_status_flags, status_flags};
+ghost use Rattle.std.specs.Int.RustNames.{bit_and};
 
 use crate::unknown::write_unknown_flags;
 use bitflags::{Flag, Flags, bitflag_items};
@@ -104,5 +107,57 @@ impl TryFrom<u16> for StatusFlags {
             Some(flags) => Ok(flags),
             None => Err(UnknownStatusFlags(bits)),
         }
+    }
+}
+
+/// What only MariaDB tells of its state, in a bit that has no name in [`StatusFlags`].
+///
+/// MariaDB: Client/Server Protocol, "OK_Packet", 'Server status flag'.
+#[derive(Clone, Copy, PartialEq, Eq, Hash, Debug)]
+pub struct MariadbStatusFlags(pub u16);
+
+bitflag_items! {
+    impl MariadbStatusFlags: u16 {
+        const SERVER_STATUS_ANSI_QUOTES = 0x8000;
+    }
+}
+
+impl Flags for MariadbStatusFlags {
+    type Bits = u16;
+
+    ghost exact = { ⊤ };
+
+    ghost table = { mariadb_status_flags };
+
+    ghost set_of = { λ flags. flags.0 };
+
+    fn flags<'a>() -> &'a [Flag<MariadbStatusFlags>] {
+        MariadbStatusFlags::FLAGS
+    }
+
+    fn bits(&self) -> u16 {
+        self.0
+    }
+
+    fn from_bits_retain(bits: u16) -> MariadbStatusFlags {
+        MariadbStatusFlags(bits)
+    }
+}
+
+/// No flag.
+impl Default for MariadbStatusFlags {
+    ghost is_default = { λ flags. flags.0 ≡ 0 };
+
+    fn default() -> MariadbStatusFlags {
+        MariadbStatusFlags::empty()
+    }
+}
+
+impl MariadbStatusFlags {
+    /// Those of a status that MariaDB sent.
+    pub fn of(status: StatusFlags) -> MariadbStatusFlags
+        ensures { result.0 ≡ bit_and status.0 0x8000 }
+    {
+        MariadbStatusFlags(status.0 & 0x8000)
     }
 }

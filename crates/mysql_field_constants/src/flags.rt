@@ -2,14 +2,17 @@
 
 ghost use Rattle.std.specs.Prelude.{◌≡◌, true};
 ghost use Rattle.mysql_const.specs.BinlogDumpFlags.{binlog_dump_flags};
-ghost use Rattle.mysql_const.specs.StatusFlags.{status_flags};
 ghost use Rattle.mysql_field_constants.specs.FlagLaws.{flags_named-back};
-ghost use Rattle.mysql_field_constants.specs.Flags.{are_named, binlog_dump_named, status_named};
+ghost use Rattle.mysql_field_constants.specs.Flags.{all_status_flags, are_named, binlog_dump_named, status_named};
 
 use crate::consts::ConstValue;
 use bitflags::Flags;
 use mysql_const::{BinlogDumpFlags, StatusFlags};
 
+// The bits that have a name at MySQL, and MariaDB's bit of ANSI_QUOTES, which has none in `StatusFlags`.
+const KNOWN_STATUS: u16 = 0xfffb;
+
+// MariaDB's bit of ANSI_QUOTES is kept; [`MariadbStatusFlags::of`] tells it.
 impl ConstValue for StatusFlags {
     type Number = u16;
 
@@ -17,16 +20,20 @@ impl ConstValue for StatusFlags {
 
     ghost named = { status_named };
 
-    ghost IsNamed = { λ flags. are_named status_flags flags.0 ≡ true };
+    ghost IsNamed = { λ flags. are_named all_status_flags flags.0 ≡ true };
 
-    ghost names_back = { λ flags. flags_named-back status_flags (λ b. record { 0 = b }) flags.0 };
+    ghost names_back = { λ flags. flags_named-back all_status_flags (λ b. record { 0 = b }) flags.0 };
 
     fn to_number(self) -> u16 {
         self.0
     }
 
     fn from_number(n: u16) -> Option<StatusFlags> {
-        StatusFlags::from_bits(n)
+        if n & KNOWN_STATUS == n {
+            Some(StatusFlags(n))
+        } else {
+            None
+        }
     }
 }
 
