@@ -28,6 +28,7 @@ impl ConstValue for StatusFlags {
         self.0
     }
 
+    #[tactic(auto, unfolding(bitflags::proofs::OnLiterals::bitflags_on_literals))]
     fn from_number(n: u16) -> Option<StatusFlags> {
         if n & KNOWN_STATUS == n {
             Some(StatusFlags(n))
