@@ -108,9 +108,14 @@ layouts capabilities =
 -- the bytes behind a number, by its row, where it has one
 abbrev pub laid_out : Capabilities → ℕ → List ℕ → Option Command
 laid_out capabilities number bytes = elim (entry_of nat_eq (layouts capabilities) number) [
-    None ↦ None
-    | Some layout ↦ layout bytes
-  ]
+  | None ↦ None
+  | Some layout ↦ layout bytes
+]
+
+-- what a payload says, where it is laid out as a command
+abbrev pub said : Capabilities → List ℕ → Option Command
+said capabilities [] = None
+said capabilities (number ∷ bytes) = laid_out capabilities number bytes
 
 -- a payload that isn't laid out so is another one, as it stands
 abbrev pub or_other : List ℕ → Option Command → Command
@@ -119,5 +124,4 @@ or_other payload (Some command) = command
 
 -- what a payload says; never refused
 abbrev pub command_at : Capabilities → List ℕ → Command
-command_at capabilities [] = Other []
-command_at capabilities (number ∷ bytes) = or_other (number ∷ bytes) (laid_out capabilities number bytes)
+command_at capabilities payload = or_other payload (said capabilities payload)

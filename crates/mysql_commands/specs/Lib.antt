@@ -1,2 +1,4 @@
 pub mod Commands
+pub mod Refusals
 pub mod Views
+pub mod Written

@@ -3,5 +3,9 @@
 
 pub mod command;
 mod reading;
+pub mod refusal;
+mod testing;
+mod writing;
 
 pub use command::Command;
+pub use refusal::CommandRefusal;

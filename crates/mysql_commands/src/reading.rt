@@ -3,7 +3,7 @@
 ghost use Rattle.std.specs.Prelude.{◌≡◌, IfOk, Ok, option_map};
 ghost use Rattle.mysql_fields.specs.Forms.{fixed_number_at};
 ghost use Rattle.mysql_commands.specs.Commands.{alone, all_of, command_at, fetch_at, field_list_at, fields};
-ghost use Rattle.mysql_commands.specs.Commands.{laid_out, level_at, long_data_at};
+ghost use Rattle.mysql_commands.specs.Commands.{laid_out, level_at, long_data_at, said};
 ghost use Rattle.mysql_commands.specs.Commands as said;
 ghost use Rattle.mysql_commands.specs.Views.{command_view};
 
@@ -106,4 +106,113 @@ fn fetch<'a>(bytes: &[u8]) -> Option<Command<'a>>
     let stmt_id = rest.checked_eat_u32_le()?;
     let rows = rest.checked_eat_u32_le()?;
     if_all(Command::Fetch { stmt_id, rows }, &rest)
+}
+
+/// Logs and caches begin anew: flags.
+fn refresh<'a>(bytes: &[u8]) -> Option<Command<'a>>
+    ensures { option_map command_view result ≡ fields said.Refresh (fixed_number_at 1) bytes.now }
+{
+    Some(Command::Refresh(u8_of(bytes)?))
+}
+
+/// A connection ends: its id.
+fn process_kill<'a>(bytes: &[u8]) -> Option<Command<'a>>
+    ensures { option_map command_view result ≡ fields said.ProcessKill (fixed_number_at 4) bytes.now }
+{
+    Some(Command::ProcessKill(u32_of(bytes)?))
+}
+
+/// A statement goes: its id.
+fn close<'a>(bytes: &[u8]) -> Option<Command<'a>>
+    ensures { option_map command_view result ≡ fields said.Close (fixed_number_at 4) bytes.now }
+{
+    Some(Command::Close(u32_of(bytes)?))
+}
+
+/// A statement is reset: its id.
+fn reset_statement<'a>(bytes: &[u8]) -> Option<Command<'a>>
+    ensures { option_map command_view result ≡ fields said.ResetStatement (fixed_number_at 4) bytes.now }
+{
+    Some(Command::ResetStatement(u32_of(bytes)?))
+}
+
+/// An option of the connection: its number.
+fn set_option<'a>(bytes: &[u8]) -> Option<Command<'a>>
+    ensures { option_map command_view result ≡ fields said.SetOption (fixed_number_at 2) bytes.now }
+{
+    Some(Command::SetOption(u16_of(bytes)?))
+}
+
+/// The command with this number, where the bytes behind it are laid out as its row says.
+fn laid_out<'a>(
+    _alloc: Global,
+    _capabilities: Capabilities,
+    number: u8,
+    bytes: &'a [u8],
+) -> Result<Option<Command<'a>>, AllocError>
+    ensures { IfOk result (λ command. option_map command_view command ≡
+        laid_out _capabilities number bytes.now) }
+{
+    let rest = CowSlice::Borrowed(bytes);
+    let command = match number {
+        0x01 => alone(Command::Quit, bytes),
+        0x02 => Some(Command::InitDb(rest)),
+        0x03 => Some(Command::Query(rest)),
+        0x04 => field_list(bytes),
+        0x05 => Some(Command::CreateDb(rest)),
+        0x06 => Some(Command::DropDb(rest)),
+        0x07 => refresh(bytes),
+        0x08 => shutdown(bytes),
+        0x09 => alone(Command::Statistics, bytes),
+        0x0a => alone(Command::ProcessInfo, bytes),
+        0x0c => process_kill(bytes),
+        0x0d => alone(Command::Debug, bytes),
+        0x0e => alone(Command::Ping, bytes),
+        0x16 => Some(Command::Prepare(rest)),
+        0x18 => long_data(bytes),
+        0x19 => close(bytes),
+        0x1a => reset_statement(bytes),
+        0x1b => set_option(bytes),
+        0x1c => fetch(bytes),
+        0x1f => alone(Command::ResetConnection, bytes),
+        0x20 => Some(Command::Clone(rest)),
+        _ => None,
+    };
+    Ok(command)
+}
+
+/// What a payload says, where it is laid out as a command.
+pub(crate) fn said<'a>(
+    alloc: Global,
+    capabilities: Capabilities,
+    payload: &'a [u8],
+) -> Result<Option<Command<'a>>, AllocError>
+    ensures { IfOk result (λ command. option_map command_view command ≡ said capabilities payload.now) }
+{
+    match payload {
+        [] => Ok(None),
+        [number, bytes @ ..] => laid_out(alloc, capabilities, *number, bytes),
+    }
+}
+
+impl<'a> Command<'a> {
+    /// Reads a payload by the capabilities that are in force. No payload is refused: one that isn't
+    /// laid out as its number says, or whose number has no row, is [`Command::Other`].
+    ///
+    /// # Errors
+    /// - `AllocError` for want of memory.
+    ///
+    /// MySQL: Client/Server Protocol, "Command Phase".
+    pub fn read(
+        alloc: Global,
+        capabilities: Capabilities,
+        payload: &'a [u8],
+    ) -> Result<Command<'a>, AllocError>
+        ensures { IfOk result (λ command. command_view command ≡ command_at capabilities payload.now) }
+    {
+        match said(alloc, capabilities, payload)? {
+            Some(command) => Ok(command),
+            None => Ok(Command::Other(CowSlice::Borrowed(payload))),
+        }
+    }
 }
