@@ -10,6 +10,8 @@ use Rattle.mysql_const.specs.declared.capabilities.Capabilities.{Capabilities}
 use Rattle.mysql_fields.specs.Forms.{fixed_number_at}
 use Rattle.mysql_fields.specs.Texts.{null_text_at}
 use Rattle.mysql_fields.specs.Wire.{Reading, ◌>>=◌}
+use Rattle.mysql_replication.specs.Packets as replica
+use Rattle.mysql_replication.specs.Packets.{binlog_dump_at, binlog_dump_gtid_at, register_slave_at, table_dump_at}
 
 -- what a client asks for; Other is a payload that says nothing of these, as it stands
 pub data Command : Type 0 where
@@ -26,12 +28,16 @@ pub data Command : Type 0 where
   ProcessKill : ℕ → Command
   Debug : Command
   Ping : Command
+  BinlogDump : replica.BinlogDump → Command
+  TableDump : replica.TableDump → Command
+  RegisterSlave : replica.RegisterSlave → Command
   Prepare : List ℕ → Command
   LongData : ℕ → ℕ → List ℕ → Command
   Close : ℕ → Command
   ResetStatement : ℕ → Command
   SetOption : ℕ → Command
   Fetch : ℕ → ℕ → Command
+  BinlogDumpGtid : replica.BinlogDumpGtid → Command
   ResetConnection : Command
   Clone : List ℕ → Command
   Other : List ℕ → Command
@@ -55,6 +61,10 @@ all_of (Err e) = None
 
 abbrev pub fields : {X : Type 0} → (X → Command) → (List ℕ → Reading X) → Layout
 fields command read_at bytes = option_map command (all_of (read_at bytes))
+
+-- a packet that is read from its number on
+abbrev pub packet : {X : Type 0} → ℕ → (X → Command) → (List ℕ → Reading X) → ℕ × Layout
+packet number command read_at = (number, λ bytes. fields command read_at (number ∷ bytes))
 
 -- a number of one byte, which may be missing
 abbrev pub level_at : List ℕ → Reading (Option ℕ)
@@ -95,12 +105,16 @@ layouts capabilities =
     ∷ (0x0c, fields ProcessKill (fixed_number_at 4))
     ∷ (0x0d, alone Debug)
     ∷ (0x0e, alone Ping)
+    ∷ packet 0x12 BinlogDump binlog_dump_at
+    ∷ packet 0x13 TableDump table_dump_at
+    ∷ packet 0x15 RegisterSlave register_slave_at
     ∷ (0x16, text Prepare)
     ∷ (0x18, fields (λ c. c) long_data_at)
     ∷ (0x19, fields Close (fixed_number_at 4))
     ∷ (0x1a, fields ResetStatement (fixed_number_at 4))
     ∷ (0x1b, fields SetOption (fixed_number_at 2))
     ∷ (0x1c, fields (λ c. c) fetch_at)
+    ∷ packet 0x1e BinlogDumpGtid binlog_dump_gtid_at
     ∷ (0x1f, alone ResetConnection)
     ∷ (0x20, text Clone)
     ∷ []

@@ -2,9 +2,11 @@
 use Rattle.std.specs.Cow.{cow_slice_items}
 use Rattle.mysql_commands.specs.Commands.{Command, Quit, InitDb, Query, FieldList, CreateDb, DropDb, Refresh, Shutdown}
 use Rattle.mysql_commands.specs.Commands.{Statistics, ProcessInfo, ProcessKill, Debug, Ping, Prepare, LongData, Close}
+use Rattle.mysql_commands.specs.Commands.{BinlogDump, BinlogDumpGtid, RegisterSlave, TableDump}
 use Rattle.mysql_commands.specs.Commands.{ResetStatement, SetOption, Fetch, ResetConnection, Clone, Other}
 use Rattle.mysql_commands.specs.declared.command.Command.{Command as Held}
 use Rattle.mysql_commands.specs.declared.command.Command.TheVariants as held
+use Rattle.mysql_replication.specs.Views.{binlog_dump_gtid_view, binlog_dump_view, register_slave_view, table_dump_view}
 
 abbrev pub command_view : Held → Command
 command_view held.Quit = Quit
@@ -20,12 +22,16 @@ command_view held.ProcessInfo = ProcessInfo
 command_view (held.ProcessKill id) = ProcessKill id
 command_view held.Debug = Debug
 command_view held.Ping = Ping
+command_view (held.BinlogDump request) = BinlogDump (binlog_dump_view request)
+command_view (held.TableDump request) = TableDump (table_dump_view request)
+command_view (held.RegisterSlave replica) = RegisterSlave (register_slave_view replica)
 command_view (held.Prepare sql) = Prepare (cow_slice_items sql)
 command_view (held.LongData id place bytes) = LongData id place (cow_slice_items bytes)
 command_view (held.Close id) = Close id
 command_view (held.ResetStatement id) = ResetStatement id
 command_view (held.SetOption option) = SetOption option
 command_view (held.Fetch id rows) = Fetch id rows
+command_view (held.BinlogDumpGtid request) = BinlogDumpGtid (binlog_dump_gtid_view request)
 command_view held.ResetConnection = ResetConnection
 command_view (held.Clone arguments) = Clone (cow_slice_items arguments)
 command_view (held.Other payload) = Other (cow_slice_items payload)

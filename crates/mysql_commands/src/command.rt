@@ -6,6 +6,7 @@
 //!         _ => (),
 //!     }
 
+use mysql_replication::{ComBinlogDump, ComBinlogDumpGtid, ComRegisterSlave, ComTableDump};
 use std::borrow::CowSlice;
 
 /// What a client asks for, as one payload says it; ids are those of prepared statements.
@@ -45,6 +46,12 @@ pub enum Command<'a> {
     Debug,
     /// Whether the server is there (COM_PING).
     Ping,
+    /// The binary log, from a position of a file (COM_BINLOG_DUMP).
+    BinlogDump(ComBinlogDump<'a>),
+    /// The bytes of a table (COM_TABLE_DUMP).
+    TableDump(ComTableDump<'a>),
+    /// What a replica says of itself (COM_REGISTER_SLAVE).
+    RegisterSlave(ComRegisterSlave<'a>),
     /// A statement is prepared (COM_STMT_PREPARE).
     Prepare(CowSlice<'a, u8>),
     /// A piece of a parameter, before the execution that takes it (COM_STMT_SEND_LONG_DATA).
@@ -69,6 +76,8 @@ pub enum Command<'a> {
         /// How many rows.
         rows: u32,
     },
+    /// The binary log without the transactions that are known (COM_BINLOG_DUMP_GTID).
+    BinlogDumpGtid(ComBinlogDumpGtid<'a>),
     /// The session begins anew (COM_RESET_CONNECTION).
     ResetConnection,
     /// A copy of the server's data, by these arguments (COM_CLONE).

@@ -1,6 +1,7 @@
 //! What a payload says.
 
-ghost use Rattle.std.specs.Prelude.{◌≡◌, IfOk, Ok, option_map};
+ghost use Rattle.std.specs.Prelude.{◌≡◌, ◌∷◌, IfOk, Ok, option_map};
+ghost use Rattle.mysql_replication.specs.Packets.{binlog_dump_at, binlog_dump_gtid_at, register_slave_at, table_dump_at};
 ghost use Rattle.mysql_fields.specs.Forms.{fixed_number_at};
 ghost use Rattle.mysql_commands.specs.Commands.{alone, all_of, command_at, fetch_at, field_list_at, fields};
 ghost use Rattle.mysql_commands.specs.Commands.{laid_out, level_at, long_data_at, said};
@@ -10,6 +11,7 @@ ghost use Rattle.mysql_commands.specs.Views.{command_view};
 use crate::command::Command;
 use mysql_buf::ParseBuf;
 use mysql_const::Capabilities;
+use mysql_fields::{MyDeserialize, ParseExt, WireError};
 use std::alloc::{AllocError, Global};
 use std::borrow::CowSlice;
 
@@ -143,42 +145,107 @@ fn set_option<'a>(bytes: &[u8]) -> Option<Command<'a>>
     Some(Command::SetOption(u16_of(bytes)?))
 }
 
+/// A packet that is read from its first byte on, where no byte is left behind it.
+fn packet_of<'de, T: MyDeserialize<'de> + Drop>(
+    alloc: Global,
+    ctx: T::Ctx,
+    payload: &'de [u8],
+) -> Result<Option<T>, AllocError>
+    ensures { IfOk result (λ part. option_map T.shown part ≡ all_of (T.read_at ctx payload.now)) }
+{
+    let mut rest = ParseBuf(payload);
+    match rest.parse(alloc, ctx) {
+        Ok(packet) => Ok(if_all(packet, &rest)),
+        Err(WireError::Memory) => Err(AllocError),
+        Err(_) => Ok(None),
+    }
+}
+
+/// The binary log from a place.
+fn binlog_dump<'a>(alloc: Global, payload: &'a [u8]) -> Result<Option<Command<'a>>, AllocError>
+    ensures { IfOk result (λ command. option_map command_view command ≡
+        fields said.BinlogDump binlog_dump_at payload.now) }
+{
+    match packet_of(alloc, (), payload)? {
+        Some(request) => Ok(Some(Command::BinlogDump(request))),
+        None => Ok(None),
+    }
+}
+
+/// A table's bytes.
+fn table_dump<'a>(alloc: Global, payload: &'a [u8]) -> Result<Option<Command<'a>>, AllocError>
+    ensures { IfOk result (λ command. option_map command_view command ≡
+        fields said.TableDump table_dump_at payload.now) }
+{
+    match packet_of(alloc, (), payload)? {
+        Some(request) => Ok(Some(Command::TableDump(request))),
+        None => Ok(None),
+    }
+}
+
+/// What a replica says of itself.
+fn register_slave<'a>(alloc: Global, payload: &'a [u8]) -> Result<Option<Command<'a>>, AllocError>
+    ensures { IfOk result (λ command. option_map command_view command ≡
+        fields said.RegisterSlave register_slave_at payload.now) }
+{
+    match packet_of(alloc, (), payload)? {
+        Some(replica) => Ok(Some(Command::RegisterSlave(replica))),
+        None => Ok(None),
+    }
+}
+
+/// The binary log without what is known.
+fn binlog_dump_gtid<'a>(alloc: Global, payload: &'a [u8]) -> Result<Option<Command<'a>>, AllocError>
+    ensures { IfOk result (λ command. option_map command_view command ≡
+        fields said.BinlogDumpGtid binlog_dump_gtid_at payload.now) }
+{
+    match packet_of(alloc, (), payload)? {
+        Some(request) => Ok(Some(Command::BinlogDumpGtid(request))),
+        None => Ok(None),
+    }
+}
+
 /// The command with this number, where the bytes behind it are laid out as its row says.
 fn laid_out<'a>(
-    _alloc: Global,
+    alloc: Global,
     _capabilities: Capabilities,
     number: u8,
     bytes: &'a [u8],
+    payload: &'a [u8],
 ) -> Result<Option<Command<'a>>, AllocError>
+    requires { payload.now ≡ number ∷ bytes.now }
     ensures { IfOk result (λ command. option_map command_view command ≡
         laid_out _capabilities number bytes.now) }
 {
     let rest = CowSlice::Borrowed(bytes);
-    let command = match number {
-        0x01 => alone(Command::Quit, bytes),
-        0x02 => Some(Command::InitDb(rest)),
-        0x03 => Some(Command::Query(rest)),
-        0x04 => field_list(bytes),
-        0x05 => Some(Command::CreateDb(rest)),
-        0x06 => Some(Command::DropDb(rest)),
-        0x07 => refresh(bytes),
-        0x08 => shutdown(bytes),
-        0x09 => alone(Command::Statistics, bytes),
-        0x0a => alone(Command::ProcessInfo, bytes),
-        0x0c => process_kill(bytes),
-        0x0d => alone(Command::Debug, bytes),
-        0x0e => alone(Command::Ping, bytes),
-        0x16 => Some(Command::Prepare(rest)),
-        0x18 => long_data(bytes),
-        0x19 => close(bytes),
-        0x1a => reset_statement(bytes),
-        0x1b => set_option(bytes),
-        0x1c => fetch(bytes),
-        0x1f => alone(Command::ResetConnection, bytes),
-        0x20 => Some(Command::Clone(rest)),
-        _ => None,
-    };
-    Ok(command)
+    match number {
+        0x01 => Ok(alone(Command::Quit, bytes)),
+        0x02 => Ok(Some(Command::InitDb(rest))),
+        0x03 => Ok(Some(Command::Query(rest))),
+        0x04 => Ok(field_list(bytes)),
+        0x05 => Ok(Some(Command::CreateDb(rest))),
+        0x06 => Ok(Some(Command::DropDb(rest))),
+        0x07 => Ok(refresh(bytes)),
+        0x08 => Ok(shutdown(bytes)),
+        0x09 => Ok(alone(Command::Statistics, bytes)),
+        0x0a => Ok(alone(Command::ProcessInfo, bytes)),
+        0x0c => Ok(process_kill(bytes)),
+        0x0d => Ok(alone(Command::Debug, bytes)),
+        0x0e => Ok(alone(Command::Ping, bytes)),
+        0x12 => binlog_dump(alloc, payload),
+        0x13 => table_dump(alloc, payload),
+        0x15 => register_slave(alloc, payload),
+        0x16 => Ok(Some(Command::Prepare(rest))),
+        0x18 => Ok(long_data(bytes)),
+        0x19 => Ok(close(bytes)),
+        0x1a => Ok(reset_statement(bytes)),
+        0x1b => Ok(set_option(bytes)),
+        0x1c => Ok(fetch(bytes)),
+        0x1e => binlog_dump_gtid(alloc, payload),
+        0x1f => Ok(alone(Command::ResetConnection, bytes)),
+        0x20 => Ok(Some(Command::Clone(rest))),
+        _ => Ok(None),
+    }
 }
 
 /// What a payload says, where it is laid out as a command.
@@ -191,7 +258,7 @@ pub(crate) fn said<'a>(
 {
     match payload {
         [] => Ok(None),
-        [number, bytes @ ..] => laid_out(alloc, capabilities, *number, bytes),
+        [number, bytes @ ..] => laid_out(alloc, capabilities, *number, bytes, payload),
     }
 }
 

@@ -14,6 +14,12 @@ pub enum CommandRefusal {
     /// A zero in a name that ends at its first zero.
     #[error("a zero in a name that ends at its first zero")]
     ZeroByte,
+    /// A text that is longer than its length can say.
+    #[error("a text that is longer than its length can say")]
+    TooLong,
+    /// Flags that have no name.
+    #[error("flags that have no name")]
+    NamelessFlags,
     /// Bytes that say nothing known, but are laid out as a command.
     #[error("bytes of another command that are laid out as one that is known")]
     ReadsAsCommand,

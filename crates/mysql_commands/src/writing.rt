@@ -60,6 +60,9 @@ fn append_command(command: &Command, out: &mut Vec<u8>) -> Result<(), AllocError
         Command::ProcessKill(id) => append_id(0x0c, *id, out),
         Command::Debug => append(0x0d, &(), out),
         Command::Ping => append(0x0e, &(), out),
+        Command::BinlogDump(request) => request.serialize(out),
+        Command::TableDump(request) => request.serialize(out),
+        Command::RegisterSlave(replica) => replica.serialize(out),
         Command::Prepare(sql) => append_text(0x16, sql.as_slice(), out),
         Command::LongData {
             stmt_id,
@@ -79,6 +82,7 @@ fn append_command(command: &Command, out: &mut Vec<u8>) -> Result<(), AllocError
             let rows: RawInt<LeU32> = RawInt::new(*rows);
             append(0x1c, &(stmt_id, rows), out)
         }
+        Command::BinlogDumpGtid(request) => request.serialize(out),
         Command::ResetConnection => append(0x1f, &(), out),
         Command::Clone(arguments) => append_text(0x20, arguments.as_slice(), out),
         Command::Other(payload) => out.extend_from_slice(payload.as_slice()),
