@@ -1,0 +1,12 @@
+//! Events of a connection as lines of text: a name, and the fields behind it by their names.
+//!
+//!     write_reply_event(&mut output, &event)?;     // Row cells=((i 1) (b x61) -)
+//!
+//! A number is written in decimals, bytes as `x` and hexadecimal, a flag as 0 or 1, and what isn't
+//! there as `-`. A list stands in parentheses.
+#![tactic(auto)]
+
+mod fields;
+mod replies;
+
+pub use crate::replies::write_reply_event;
