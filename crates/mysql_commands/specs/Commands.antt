@@ -10,6 +10,7 @@ use Rattle.mysql_const.specs.declared.capabilities.Capabilities.{Capabilities}
 use Rattle.mysql_fields.specs.Forms.{fixed_number_at}
 use Rattle.mysql_fields.specs.Texts.{null_text_at}
 use Rattle.mysql_fields.specs.Wire.{Reading, ◌>>=◌}
+use Rattle.mysql_login.specs.ChangedUsers.{ChangeUserFields, change_in_force_at}
 use Rattle.mysql_replication.specs.Packets as replica
 use Rattle.mysql_replication.specs.Packets.{binlog_dump_at, binlog_dump_gtid_at, register_slave_at, table_dump_at}
 
@@ -28,6 +29,7 @@ pub data Command : Type 0 where
   ProcessKill : ℕ → Command
   Debug : Command
   Ping : Command
+  ChangeUser : ChangeUserFields → Command
   BinlogDump : replica.BinlogDump → Command
   TableDump : replica.TableDump → Command
   RegisterSlave : replica.RegisterSlave → Command
@@ -105,6 +107,7 @@ layouts capabilities =
     ∷ (0x0c, fields ProcessKill (fixed_number_at 4))
     ∷ (0x0d, alone Debug)
     ∷ (0x0e, alone Ping)
+    ∷ packet 0x11 ChangeUser (change_in_force_at capabilities.protocol.0)
     ∷ packet 0x12 BinlogDump binlog_dump_at
     ∷ packet 0x13 TableDump table_dump_at
     ∷ packet 0x15 RegisterSlave register_slave_at

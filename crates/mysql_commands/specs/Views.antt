@@ -2,10 +2,11 @@
 use Rattle.std.specs.Cow.{cow_slice_items}
 use Rattle.mysql_commands.specs.Commands.{Command, Quit, InitDb, Query, FieldList, CreateDb, DropDb, Refresh, Shutdown}
 use Rattle.mysql_commands.specs.Commands.{Statistics, ProcessInfo, ProcessKill, Debug, Ping, Prepare, LongData, Close}
-use Rattle.mysql_commands.specs.Commands.{BinlogDump, BinlogDumpGtid, RegisterSlave, TableDump}
+use Rattle.mysql_commands.specs.Commands.{BinlogDump, BinlogDumpGtid, ChangeUser, RegisterSlave, TableDump}
 use Rattle.mysql_commands.specs.Commands.{ResetStatement, SetOption, Fetch, ResetConnection, Clone, Other}
 use Rattle.mysql_commands.specs.declared.command.Command.{Command as Held}
 use Rattle.mysql_commands.specs.declared.command.Command.TheVariants as held
+use Rattle.mysql_login.specs.ChangedUserViews.{change_user_view}
 use Rattle.mysql_replication.specs.Views.{binlog_dump_gtid_view, binlog_dump_view, register_slave_view, table_dump_view}
 
 abbrev pub command_view : Held → Command
@@ -22,6 +23,7 @@ command_view held.ProcessInfo = ProcessInfo
 command_view (held.ProcessKill id) = ProcessKill id
 command_view held.Debug = Debug
 command_view held.Ping = Ping
+command_view (held.ChangeUser login) = ChangeUser (change_user_view login)
 command_view (held.BinlogDump request) = BinlogDump (binlog_dump_view request)
 command_view (held.TableDump request) = TableDump (table_dump_view request)
 command_view (held.RegisterSlave replica) = RegisterSlave (register_slave_view replica)

@@ -6,6 +6,7 @@
 //!         _ => (),
 //!     }
 
+use mysql_login::ComChangeUser;
 use mysql_replication::{ComBinlogDump, ComBinlogDumpGtid, ComRegisterSlave, ComTableDump};
 use std::borrow::CowSlice;
 
@@ -46,6 +47,8 @@ pub enum Command<'a> {
     Debug,
     /// Whether the server is there (COM_PING).
     Ping,
+    /// Another user logs in, by the capabilities in force (COM_CHANGE_USER).
+    ChangeUser(ComChangeUser<'a>),
     /// The binary log, from a position of a file (COM_BINLOG_DUMP).
     BinlogDump(ComBinlogDump<'a>),
     /// The bytes of a table (COM_TABLE_DUMP).

@@ -1,6 +1,7 @@
 //! What a payload says.
 
 ghost use Rattle.std.specs.Prelude.{◌≡◌, ◌∷◌, IfOk, Ok, option_map};
+ghost use Rattle.mysql_login.specs.ChangedUsers.{change_in_force_at};
 ghost use Rattle.mysql_replication.specs.Packets.{binlog_dump_at, binlog_dump_gtid_at, register_slave_at, table_dump_at};
 ghost use Rattle.mysql_fields.specs.Forms.{fixed_number_at};
 ghost use Rattle.mysql_commands.specs.Commands.{alone, all_of, command_at, fetch_at, field_list_at, fields};
@@ -11,6 +12,7 @@ ghost use Rattle.mysql_commands.specs.Views.{command_view};
 use crate::command::Command;
 use mysql_buf::ParseBuf;
 use mysql_const::Capabilities;
+use mysql_login::ComChangeUser;
 use mysql_fields::{MyDeserialize, ParseExt, WireError};
 use std::alloc::{AllocError, Global};
 use std::borrow::CowSlice;
@@ -161,6 +163,23 @@ fn packet_of<'de, T: MyDeserialize<'de> + Drop>(
     }
 }
 
+/// Another user logs in.
+fn change_user<'a>(
+    alloc: Global,
+    capabilities: Capabilities,
+    payload: &'a [u8],
+) -> Result<Option<Command<'a>>, AllocError>
+    ensures { IfOk result (λ command. option_map command_view command ≡
+        fields said.ChangeUser (change_in_force_at capabilities.protocol.0) payload.now) }
+{
+    let mut rest = ParseBuf(payload);
+    match ComChangeUser::read_in_force(alloc, capabilities.protocol, &mut rest) {
+        Ok(login) => Ok(if_all(Command::ChangeUser(login), &rest)),
+        Err(WireError::Memory) => Err(AllocError),
+        Err(_) => Ok(None),
+    }
+}
+
 /// The binary log from a place.
 fn binlog_dump<'a>(alloc: Global, payload: &'a [u8]) -> Result<Option<Command<'a>>, AllocError>
     ensures { IfOk result (λ command. option_map command_view command ≡
@@ -208,14 +227,14 @@ fn binlog_dump_gtid<'a>(alloc: Global, payload: &'a [u8]) -> Result<Option<Comma
 /// The command with this number, where the bytes behind it are laid out as its row says.
 fn laid_out<'a>(
     alloc: Global,
-    _capabilities: Capabilities,
+    capabilities: Capabilities,
     number: u8,
     bytes: &'a [u8],
     payload: &'a [u8],
 ) -> Result<Option<Command<'a>>, AllocError>
     requires { payload.now ≡ number ∷ bytes.now }
     ensures { IfOk result (λ command. option_map command_view command ≡
-        laid_out _capabilities number bytes.now) }
+        laid_out capabilities number bytes.now) }
 {
     let rest = CowSlice::Borrowed(bytes);
     match number {
@@ -232,6 +251,7 @@ fn laid_out<'a>(
         0x0c => Ok(process_kill(bytes)),
         0x0d => Ok(alone(Command::Debug, bytes)),
         0x0e => Ok(alone(Command::Ping, bytes)),
+        0x11 => change_user(alloc, capabilities, payload),
         0x12 => binlog_dump(alloc, payload),
         0x13 => table_dump(alloc, payload),
         0x15 => register_slave(alloc, payload),
