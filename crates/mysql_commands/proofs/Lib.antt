@@ -1,3 +1,0 @@
-pub mod FieldLists
-pub mod ReadAgain
-pub mod Replication

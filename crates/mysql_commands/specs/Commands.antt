@@ -7,6 +7,12 @@ use Rattle.std.specs.Prelude.{ℕ, nat_eq, ◌==◌, if◌then◌else◌, List, 
 use Rattle.std.specs.Option.{option_map}
 use Rattle.mysql_const.specs.Tables.{entry_of}
 use Rattle.mysql_const.specs.declared.capabilities.Capabilities.{Capabilities}
+use Rattle.mysql_executions.specs.Attributes.{query_attributes_at}
+use Rattle.mysql_executions.specs.Bulks.{BulkExecution, bulk_execution_at}
+use Rattle.mysql_executions.specs.Executions.{Execution, execution_at}
+use Rattle.mysql_executions.specs.InForce.{InForce}
+use Rattle.mysql_executions.specs.Types.{has_query_attributes}
+use Rattle.mysql_executions.specs.declared.types.Attribute.{Attribute}
 use Rattle.mysql_fields.specs.Forms.{fixed_number_at}
 use Rattle.mysql_fields.specs.Texts.{null_text_at}
 use Rattle.mysql_fields.specs.Wire.{Reading, ◌>>=◌}
@@ -18,7 +24,7 @@ use Rattle.mysql_replication.specs.Packets.{binlog_dump_at, binlog_dump_gtid_at,
 pub data Command : Type 0 where
   Quit : Command
   InitDb : List ℕ → Command
-  Query : List ℕ → Command
+  Query : List Attribute → List ℕ → Command
   FieldList : List ℕ → List ℕ → Command
   CreateDb : List ℕ → Command
   DropDb : List ℕ → Command
@@ -34,6 +40,7 @@ pub data Command : Type 0 where
   TableDump : replica.TableDump → Command
   RegisterSlave : replica.RegisterSlave → Command
   Prepare : List ℕ → Command
+  Execute : Execution → Command
   LongData : ℕ → ℕ → List ℕ → Command
   Close : ℕ → Command
   ResetStatement : ℕ → Command
@@ -42,6 +49,7 @@ pub data Command : Type 0 where
   BinlogDumpGtid : replica.BinlogDumpGtid → Command
   ResetConnection : Command
   Clone : List ℕ → Command
+  BulkExecute : BulkExecution → Command
   Other : List ℕ → Command
 
 -- what the bytes behind a command's number say, where they are laid out so
@@ -73,6 +81,17 @@ abbrev pub level_at : List ℕ → Reading (Option ℕ)
 level_at [] = Ok (None, [])
 level_at (byte ∷ bytes) = Ok (Some byte, bytes)
 
+-- a query's text to the end, behind its attributes where they are in force
+abbrev pub query_at : Capabilities → Layout
+query_at capabilities bytes =
+    if has_query_attributes capabilities then option_map (λ query. Query query.0 query.1) (query_attributes_at bytes)
+    else Some (Query [] bytes)
+
+-- an execution, by what is in force of its statement's parameters; of a statement that isn't known there is none
+abbrev pub by_statement : {X : Type 0} → (X → Command) → (InForce → List ℕ → Option X) → Option InForce → Layout
+by_statement command read_at None bytes = None
+by_statement command read_at (Some parameters) bytes = option_map command (read_at parameters bytes)
+
 -- a table's name to a zero, and a pattern of columns' names to the end
 abbrev pub field_list_at : List ℕ → Reading Command
 field_list_at bytes = null_text_at bytes >>= λ table. Ok (FieldList table.0 table.1, [])
@@ -92,11 +111,11 @@ fetch_at bytes = do
   Ok (Fetch id.0 rows.0, rows.1)
 
 -- the table: a command's number, and the bytes behind it
-abbrev pub layouts : Capabilities → List (ℕ × Layout)
-layouts capabilities =
+abbrev pub layouts : Capabilities → Option InForce → List (ℕ × Layout)
+layouts capabilities parameters =
     (0x01, alone Quit)
     ∷ (0x02, text InitDb)
-    ∷ (0x03, text Query)
+    ∷ (0x03, query_at capabilities)
     ∷ (0x04, fields (λ c. c) field_list_at)
     ∷ (0x05, text CreateDb)
     ∷ (0x06, text DropDb)
@@ -112,6 +131,7 @@ layouts capabilities =
     ∷ packet 0x13 TableDump table_dump_at
     ∷ packet 0x15 RegisterSlave register_slave_at
     ∷ (0x16, text Prepare)
+    ∷ (0x17, by_statement Execute (execution_at capabilities) parameters)
     ∷ (0x18, fields (λ c. c) long_data_at)
     ∷ (0x19, fields Close (fixed_number_at 4))
     ∷ (0x1a, fields ResetStatement (fixed_number_at 4))
@@ -120,25 +140,27 @@ layouts capabilities =
     ∷ packet 0x1e BinlogDumpGtid binlog_dump_gtid_at
     ∷ (0x1f, alone ResetConnection)
     ∷ (0x20, text Clone)
+    ∷ (0xfa, by_statement BulkExecute (bulk_execution_at capabilities) parameters)
     ∷ []
 
 -- the bytes behind a number, by its row, where it has one
-abbrev pub laid_out : Capabilities → ℕ → List ℕ → Option Command
-laid_out capabilities number bytes = elim (entry_of nat_eq (layouts capabilities) number) [
+abbrev pub laid_out : Capabilities → Option InForce → ℕ → List ℕ → Option Command
+laid_out capabilities parameters number bytes = elim (entry_of nat_eq (layouts capabilities parameters) number) [
   | None ↦ None
   | Some layout ↦ layout bytes
 ]
 
 -- what a payload says, where it is laid out as a command
-abbrev pub said : Capabilities → List ℕ → Option Command
-said capabilities [] = None
-said capabilities (number ∷ bytes) = laid_out capabilities number bytes
+abbrev pub said : Capabilities → Option InForce → List ℕ → Option Command
+said capabilities parameters [] = None
+said capabilities parameters (number ∷ bytes) = laid_out capabilities parameters number bytes
 
 -- a payload that isn't laid out so is another one, as it stands
 abbrev pub or_other : List ℕ → Option Command → Command
 or_other payload None = Other payload
 or_other payload (Some command) = command
 
--- what a payload says; never refused
-abbrev pub command_at : Capabilities → List ℕ → Command
-command_at capabilities payload = or_other payload (said capabilities payload)
+-- What a payload says, by the capabilities in force and what is in force of the parameters of the statement that it is
+-- about, where that is known. No payload is refused.
+abbrev pub command_at : Capabilities → Option InForce → List ℕ → Command
+command_at capabilities parameters payload = or_other payload (said capabilities parameters payload)

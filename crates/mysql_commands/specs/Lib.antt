@@ -1,4 +1,2 @@
 pub mod Commands
-pub mod Refusals
 pub mod Views
-pub mod Written

@@ -2,10 +2,11 @@
 //!
 //!     let command = Command::read(alloc, capabilities, payload)?;
 //!     match &command {
-//!         Command::Query(sql) => log(sql.as_slice()),
+//!         Command::Query { sql, .. } => log(sql.as_slice()),
 //!         _ => (),
 //!     }
 
+use mysql_executions::{Attribute, BulkExecution, Execution};
 use mysql_login::ComChangeUser;
 use mysql_replication::{ComBinlogDump, ComBinlogDumpGtid, ComRegisterSlave, ComTableDump};
 use std::borrow::CowSlice;
@@ -21,7 +22,12 @@ pub enum Command<'a> {
     /// Another schema by default (COM_INIT_DB).
     InitDb(CowSlice<'a, u8>),
     /// A query (COM_QUERY).
-    Query(CowSlice<'a, u8>),
+    Query {
+        /// Its attributes, where they are in force.
+        attributes: Vec<Attribute>,
+        /// Its text.
+        sql: CowSlice<'a, u8>,
+    },
     /// The columns of a table (COM_FIELD_LIST).
     FieldList {
         /// The table's name.
@@ -57,6 +63,8 @@ pub enum Command<'a> {
     RegisterSlave(ComRegisterSlave<'a>),
     /// A statement is prepared (COM_STMT_PREPARE).
     Prepare(CowSlice<'a, u8>),
+    /// A prepared statement is executed (COM_STMT_EXECUTE).
+    Execute(Execution),
     /// A piece of a parameter, before the execution that takes it (COM_STMT_SEND_LONG_DATA).
     LongData {
         /// The statement's id.
@@ -85,6 +93,8 @@ pub enum Command<'a> {
     ResetConnection,
     /// A copy of the server's data, by these arguments (COM_CLONE).
     Clone(CowSlice<'a, u8>),
+    /// A prepared statement is executed with many rows (MariaDB's COM_STMT_BULK_EXECUTE).
+    BulkExecute(BulkExecution),
     /// A payload that is laid out as none of these, as it stands: its first byte is its number.
     Other(CowSlice<'a, u8>),
 }

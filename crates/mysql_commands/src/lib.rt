@@ -1,11 +1,11 @@
-//! A client's commands, one enum: read from a payload and put as one.
+//! A client's commands, one enum, read from any payload.
 #![tactic(auto)]
 
 pub mod command;
 mod reading;
-pub mod refusal;
-mod testing;
-mod writing;
 
 pub use command::Command;
-pub use refusal::CommandRefusal;
+pub use mysql_const::{Capabilities, CapabilityFlags, MariadbCapabilities};
+pub use mysql_executions::{
+    Attribute, BoundType, BulkExecution, BulkValue, Execution, ParameterType, StatementParameters,
+};

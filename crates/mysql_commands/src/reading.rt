@@ -1,19 +1,27 @@
 //! What a payload says.
 
 ghost use Rattle.std.specs.Prelude.{◌≡◌, ◌∷◌, IfOk, Ok, option_map};
+ghost use Rattle.std.specs.Option.{option_copied};
+ghost use Rattle.mysql_executions.specs.Bulks.{bulk_execution_at};
+ghost use Rattle.mysql_executions.specs.Executions.{execution_at};
+ghost use Rattle.mysql_executions.specs.Types.{has_query_attributes};
 ghost use Rattle.mysql_login.specs.ChangedUsers.{change_in_force_at};
 ghost use Rattle.mysql_replication.specs.Packets.{binlog_dump_at, binlog_dump_gtid_at, register_slave_at, table_dump_at};
 ghost use Rattle.mysql_fields.specs.Forms.{fixed_number_at};
 ghost use Rattle.mysql_commands.specs.Commands.{alone, all_of, command_at, fetch_at, field_list_at, fields};
-ghost use Rattle.mysql_commands.specs.Commands.{laid_out, level_at, long_data_at, said};
+ghost use Rattle.mysql_commands.specs.Commands.{by_statement, laid_out, level_at, long_data_at, query_at, said};
 ghost use Rattle.mysql_commands.specs.Commands as said;
 ghost use Rattle.mysql_commands.specs.Views.{command_view};
 
 use crate::command::Command;
+use bitflags::Flags;
 use mysql_buf::ParseBuf;
-use mysql_const::Capabilities;
-use mysql_login::ComChangeUser;
+use mysql_const::{Capabilities, CapabilityFlags};
+use mysql_executions::{
+    StatementParameters, read_bulk_execution, read_execution, read_query_attributes,
+};
 use mysql_fields::{MyDeserialize, ParseExt, WireError};
+use mysql_login::ComChangeUser;
 use std::alloc::{AllocError, Global};
 use std::borrow::CowSlice;
 
@@ -163,6 +171,76 @@ fn packet_of<'de, T: MyDeserialize<'de> + Drop>(
     }
 }
 
+/// Whether queries have attributes.
+fn has_query_attributes(capabilities: Capabilities) -> bool
+    ensures { result ≡ has_query_attributes capabilities }
+{
+    capabilities
+        .protocol
+        .contains(CapabilityFlags::CLIENT_QUERY_ATTRIBUTES)
+}
+
+/// A query, behind its attributes where they are in force.
+fn query<'a>(
+    alloc: Global,
+    capabilities: Capabilities,
+    bytes: &'a [u8],
+) -> Result<Option<Command<'a>>, AllocError>
+    ensures { IfOk result (λ command. option_map command_view command ≡ query_at capabilities bytes.now) }
+{
+    if !has_query_attributes(capabilities) {
+        return Ok(Some(Command::Query {
+            attributes: Vec::new(alloc),
+            sql: CowSlice::Borrowed(bytes),
+        }));
+    }
+    match read_query_attributes(alloc, bytes)? {
+        Some((attributes, sql)) => Ok(Some(Command::Query {
+            attributes,
+            sql: CowSlice::Borrowed(sql),
+        })),
+        None => Ok(None),
+    }
+}
+
+/// An execution of a statement that is known.
+fn execute<'a>(
+    alloc: Global,
+    capabilities: Capabilities,
+    parameters: Option<&StatementParameters>,
+    bytes: &[u8],
+) -> Result<Option<Command<'a>>, AllocError>
+    ensures { IfOk result (λ command. option_map command_view command ≡
+        by_statement said.Execute (execution_at capabilities) (option_copied parameters.entry) bytes.now) }
+{
+    let Some(parameters) = parameters else {
+        return Ok(None);
+    };
+    match read_execution(alloc, capabilities, parameters, bytes)? {
+        Some(execution) => Ok(Some(Command::Execute(execution))),
+        None => Ok(None),
+    }
+}
+
+/// A bulk execution of a statement that is known.
+fn bulk_execute<'a>(
+    alloc: Global,
+    capabilities: Capabilities,
+    parameters: Option<&StatementParameters>,
+    bytes: &[u8],
+) -> Result<Option<Command<'a>>, AllocError>
+    ensures { IfOk result (λ command. option_map command_view command ≡
+        by_statement said.BulkExecute (bulk_execution_at capabilities) (option_copied parameters.entry) bytes.now) }
+{
+    let Some(parameters) = parameters else {
+        return Ok(None);
+    };
+    match read_bulk_execution(alloc, capabilities, parameters, bytes)? {
+        Some(execution) => Ok(Some(Command::BulkExecute(execution))),
+        None => Ok(None),
+    }
+}
+
 /// Another user logs in.
 fn change_user<'a>(
     alloc: Global,
@@ -228,19 +306,20 @@ fn binlog_dump_gtid<'a>(alloc: Global, payload: &'a [u8]) -> Result<Option<Comma
 fn laid_out<'a>(
     alloc: Global,
     capabilities: Capabilities,
+    parameters: Option<&StatementParameters>,
     number: u8,
     bytes: &'a [u8],
     payload: &'a [u8],
 ) -> Result<Option<Command<'a>>, AllocError>
     requires { payload.now ≡ number ∷ bytes.now }
     ensures { IfOk result (λ command. option_map command_view command ≡
-        laid_out capabilities number bytes.now) }
+        laid_out capabilities (option_copied parameters.entry) number bytes.now) }
 {
     let rest = CowSlice::Borrowed(bytes);
     match number {
         0x01 => Ok(alone(Command::Quit, bytes)),
         0x02 => Ok(Some(Command::InitDb(rest))),
-        0x03 => Ok(Some(Command::Query(rest))),
+        0x03 => query(alloc, capabilities, bytes),
         0x04 => Ok(field_list(bytes)),
         0x05 => Ok(Some(Command::CreateDb(rest))),
         0x06 => Ok(Some(Command::DropDb(rest))),
@@ -256,6 +335,7 @@ fn laid_out<'a>(
         0x13 => table_dump(alloc, payload),
         0x15 => register_slave(alloc, payload),
         0x16 => Ok(Some(Command::Prepare(rest))),
+        0x17 => execute(alloc, capabilities, parameters, bytes),
         0x18 => Ok(long_data(bytes)),
         0x19 => Ok(close(bytes)),
         0x1a => Ok(reset_statement(bytes)),
@@ -264,6 +344,7 @@ fn laid_out<'a>(
         0x1e => binlog_dump_gtid(alloc, payload),
         0x1f => Ok(alone(Command::ResetConnection, bytes)),
         0x20 => Ok(Some(Command::Clone(rest))),
+        0xfa => bulk_execute(alloc, capabilities, parameters, bytes),
         _ => Ok(None),
     }
 }
@@ -272,19 +353,23 @@ fn laid_out<'a>(
 pub(crate) fn said<'a>(
     alloc: Global,
     capabilities: Capabilities,
+    parameters: Option<&StatementParameters>,
     payload: &'a [u8],
 ) -> Result<Option<Command<'a>>, AllocError>
-    ensures { IfOk result (λ command. option_map command_view command ≡ said capabilities payload.now) }
+    ensures { IfOk result (λ command. option_map command_view command ≡
+        said capabilities (option_copied parameters.entry) payload.now) }
 {
     match payload {
         [] => Ok(None),
-        [number, bytes @ ..] => laid_out(alloc, capabilities, *number, bytes, payload),
+        [number, bytes @ ..] => laid_out(alloc, capabilities, parameters, *number, bytes, payload),
     }
 }
 
 impl<'a> Command<'a> {
-    /// Reads a payload by the capabilities that are in force. No payload is refused: one that isn't
-    /// laid out as its number says, or whose number has no row, is [`Command::Other`].
+    /// Reads a payload by the capabilities in force, and an execution by what is in force of its
+    /// statement's parameters, where the statement is known ([`Command::statement_id`] tells which it
+    /// is). No payload is refused: one that isn't laid out as its number says, or whose number has no
+    /// row, is [`Command::Other`]; so is an execution of a statement that isn't known.
     ///
     /// # Errors
     /// - `AllocError` for want of memory.
@@ -293,11 +378,13 @@ impl<'a> Command<'a> {
     pub fn read(
         alloc: Global,
         capabilities: Capabilities,
+        parameters: Option<&StatementParameters>,
         payload: &'a [u8],
     ) -> Result<Command<'a>, AllocError>
-        ensures { IfOk result (λ command. command_view command ≡ command_at capabilities payload.now) }
+        ensures { IfOk result (λ command. command_view command ≡
+            command_at capabilities (option_copied parameters.entry) payload.now) }
     {
-        match said(alloc, capabilities, payload)? {
+        match said(alloc, capabilities, parameters, payload)? {
             Some(command) => Ok(command),
             None => Ok(Command::Other(CowSlice::Borrowed(payload))),
         }
