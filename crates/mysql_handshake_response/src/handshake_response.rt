@@ -255,6 +255,13 @@ impl<'a> HandshakeResponse<'a> {
         Ok((db_name, auth_plugin, connect_attributes))
     }
 
+    /// What stands first in it, as in a request for a secure connection.
+    pub fn request(&self) -> &SslRequest
+        ensures { ssl_request_view result.now ≡ (response_view self.now).request }
+    {
+        &self.request
+    }
+
     /// What the client can do.
     pub fn capabilities(&self) -> CapabilityFlags
         ensures { result.0 ≡ (response_view self.now).request.capabilities }
