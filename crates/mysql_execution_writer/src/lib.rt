@@ -4,6 +4,7 @@
 mod bitmap;
 mod cells;
 mod execution;
+pub mod laws;
 pub mod refusal;
 
 pub use execution::put_execution;
