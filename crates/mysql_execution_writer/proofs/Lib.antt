@@ -1,0 +1,6 @@
+pub mod Loops
+pub mod Bits
+pub mod CellsBack
+pub mod TypesBack
+pub mod ValuesBack
+pub mod ExecutionsBack

@@ -1,0 +1,4 @@
+pub mod Cells
+pub mod Written
+pub mod Answers
+pub mod Laws
