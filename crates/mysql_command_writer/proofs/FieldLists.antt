@@ -20,7 +20,7 @@ has_zero name = nat_lt (position_or_len is_zero name) (length name)
 
 -- what is read of a name that is written to its first zero
 pub cut : (capabilities : Capabilities) (parameters : Option InForce) (table wildcard : List ℕ) →
-    command_at capabilities parameters (command_bytes capabilities (FieldList table wildcard)) ≡ FieldList (before_first is_zero table) wildcard
+    command_at capabilities parameters (command_bytes capabilities parameters (FieldList table wildcard)) ≡ FieldList (before_first is_zero table) wildcard
 cut capabilities parameters table wildcard = rw (null_text_at-back table wildcard) refl
 
 -- a name without a zero is written whole

@@ -20,7 +20,7 @@ abbrev by_reading : List ℕ → Reading ChangeUserFields → Command
 by_reading payload reading = or_other payload (option_map ChangeUser (all_of reading))
 
 said_is : (capabilities : Capabilities) (parameters : Option InForce) (p : ChangeUserFields) →
-    command_at capabilities parameters (command_bytes capabilities (ChangeUser p)) ≡
+    command_at capabilities parameters (command_bytes capabilities parameters (ChangeUser p)) ≡
     by_reading (change_in_force capabilities.protocol.0 p) (read_by capabilities.protocol.0 p)
 unfolding change_in_force
 said_is capabilities parameters p = refl
