@@ -4,3 +4,4 @@ pub mod CellsBack
 pub mod TypesBack
 pub mod ValuesBack
 pub mod ExecutionsBack
+pub mod AttributesBack

@@ -14,3 +14,13 @@ pub fn executions_read_back()
     typed_cells_read_back();
     bitmaps_say_which_are_null();
 }
+
+/// Attributes that all have a cell by their types are read again, whatever text follows.
+///
+/// Each value is read as itself, but an unsigned number below 2^63 as `Int`.
+pub fn attributes_read_back()
+    ensures { AttributesReadBack }
+{
+    typed_cells_read_back();
+    bitmaps_say_which_are_null();
+}

@@ -1,11 +1,13 @@
 //! Executions of a prepared statement, and attributes of a query, as they are written.
 #![tactic(auto)]
 
+mod attributes;
 mod bitmap;
 mod cells;
 mod execution;
 pub mod laws;
 pub mod refusal;
 
+pub use attributes::put_query_attributes;
 pub use execution::put_execution;
 pub use refusal::PutRefusal;
