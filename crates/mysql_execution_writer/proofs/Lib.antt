@@ -5,3 +5,4 @@ pub mod TypesBack
 pub mod ValuesBack
 pub mod ExecutionsBack
 pub mod AttributesBack
+pub mod RowLoops
