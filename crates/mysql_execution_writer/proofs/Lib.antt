@@ -5,3 +5,5 @@ pub mod TypesBack
 pub mod ValuesBack
 pub mod ExecutionsBack
 pub mod AttributesBack
+pub mod RowLoops
+pub mod BulksBack

@@ -102,11 +102,11 @@ module _ (waiting : List (Option (List ℕ))) (place : ℕ) (types : List Parame
       let one : are_parameters waiting place types values ≡ false = rw (some, nothing) refl in
       sym one ∙ so_far
 
-none_of : (none : Bool) → true ≡ not none → none ≡ false
+pub none_of : (none : Bool) → true ≡ not none → none ≡ false
 none_of true e = absurd cc
 none_of false e = refl
 
-some_of : (none : Bool) → false ≡ not none → none ≡ true
+pub some_of : (none : Bool) → false ≡ not none → none ≡ true
 some_of true e = refl
 some_of false e = absurd cc
 

@@ -3,11 +3,13 @@
 
 mod attributes;
 mod bitmap;
+mod bulk;
 mod cells;
 mod execution;
 pub mod laws;
 pub mod refusal;
 
 pub use attributes::put_query_attributes;
+pub use bulk::put_bulk_execution;
 pub use execution::put_execution;
 pub use refusal::PutRefusal;
