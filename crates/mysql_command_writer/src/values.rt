@@ -4,16 +4,18 @@ ghost use Rattle.std.specs.Prelude.{◌≡◌};
 ghost use Rattle.std.specs.Option.{option_copied};
 ghost use Rattle.mysql_commands.specs.Commands as said;
 ghost use Rattle.mysql_executions.specs.Types.{has_query_attributes};
-ghost use Rattle.mysql_executions.specs.Views.{execution_of};
+ghost use Rattle.mysql_executions.specs.Views.{bulk_of, execution_of};
 ghost use Rattle.mysql_command_writer.specs.Plain.{PutsAttributed};
 ghost use Rattle.mysql_command_writer.specs.Refusals.{Puts};
 
 use crate::refusal::CommandRefusal;
 use crate::writing::append_text;
 use bitflags::Flags;
-use mysql_commands::{Attribute, Capabilities, CapabilityFlags, Execution, StatementParameters};
-use mysql_execution_writer::laws::{attributes_read_back, executions_read_back};
-use mysql_execution_writer::{put_execution, put_query_attributes};
+use mysql_commands::{
+    Attribute, BulkExecution, Capabilities, CapabilityFlags, Execution, StatementParameters,
+};
+use mysql_execution_writer::laws::{attributes_read_back, bulks_read_back, executions_read_back};
+use mysql_execution_writer::{put_bulk_execution, put_execution, put_query_attributes};
 use std::alloc::Global;
 
 /// Whether queries have attributes.
@@ -43,6 +45,30 @@ pub(crate) fn put_execute(
     let len = out.len();
     out.extend_from_slice(&[0x17])?;
     if let Err(refusal) = put_execution(alloc, capabilities, parameters, execution, out) {
+        out.truncate(len);
+        return Err(CommandRefusal::from(refusal));
+    }
+    Ok(())
+}
+
+/// Puts a bulk execution, by what is in force of its statement's parameters.
+pub(crate) fn put_bulk(
+    alloc: Global,
+    capabilities: Capabilities,
+    parameters: Option<&StatementParameters>,
+    execution: &BulkExecution,
+    out: &mut Vec<u8>,
+) -> Result<(), CommandRefusal>
+    ensures { Puts capabilities (option_copied parameters.entry) (said.BulkExecute (bulk_of execution.now))
+        out.old.items out.new.items result }
+{
+    let Some(parameters) = parameters else {
+        return Err(CommandRefusal::UnknownStatement);
+    };
+    bulks_read_back();
+    let len = out.len();
+    out.extend_from_slice(&[0xfa])?;
+    if let Err(refusal) = put_bulk_execution(alloc, capabilities, parameters, execution, out) {
         out.truncate(len);
         return Err(CommandRefusal::from(refusal));
     }

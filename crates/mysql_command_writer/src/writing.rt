@@ -13,7 +13,7 @@ ghost use Rattle.mysql_commands.specs.Views.{command_view};
 
 use crate::refusal::CommandRefusal;
 use crate::testing::test;
-use crate::values::{put_execute, put_query};
+use crate::values::{put_bulk, put_execute, put_query};
 use mysql_commands::{Capabilities, Command, StatementParameters};
 use mysql_fields::{EofBytes, LeU16, LeU32, MySerialize, NullBytes, RawBytes, RawInt, in_order};
 use std::alloc::{AllocError, Global};
@@ -148,7 +148,13 @@ pub fn put_command(
             out,
         ),
         Command::Execute(execution) => put_execute(alloc, capabilities, parameters, execution, out),
-        Command::BulkExecute(_) => Err(CommandRefusal::Memory),
+        Command::BulkExecute(execution) => put_bulk(
+            alloc,
+            capabilities,
+            parameters,
+            execution,
+            out,
+        ),
         Command::Quit
         | Command::InitDb(_)
         | Command::FieldList { .. }
