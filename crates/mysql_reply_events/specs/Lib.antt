@@ -1,0 +1,6 @@
+pub mod Events
+pub mod Readings
+pub mod Table
+pub mod Views
+pub mod Standing
+pub mod States
