@@ -4,8 +4,8 @@ use Rattle.std.specs.Prelude.{Option, Some, None, IfSome, Result, Ok, Err, ◌==
 use Rattle.std.proofs.lemmas.List.{take_all, take_at, drop_at, take-append-drop, append-nil, nil_from_length, length-drop}
 use Rattle.std.proofs.lemmas.Bool.{cases_lt, ne_eqb}
 use Rattle.mysql_wire.specs.Framing.{chunks, framing, number_after}
-use Rattle.mysql_wire.specs.Stream.{Rest, IsRest}
-use Rattle.mysql_wire.specs.Stream.Rest.{Empty, TooLarge, OutOfSync}
+use Rattle.mysql_wire.specs.Stream.{Rest, IsFault, IsRest, IsTail}
+use Rattle.mysql_wire.specs.Stream.Rest.{Empty, TooLarge, OutOfSync, Open}
 use Rattle.mysql_wire.specs.Codec.{Begun, Codec, codec_at, IsOfPacket, HandsOut, Waits, IsDue, RefusesBy, held, begun_bytes, packet_number, whole_chunks}
 use Rattle.mysql_wire.specs.Incoming.{Incoming, ReadsOn, bytes_kept, codec_by, incoming_at}
 use Rattle.mysql_wire.specs.Reader.{HasRead, IsAnswer}
@@ -87,12 +87,51 @@ held_nothing codec src dst fits none = by codec.begun fits none
         let part = drop (whole_chunks dst * 16777215) dst in
         absurd (omega (arith, ap length none, length-append front (begun_bytes (Some begun) part ++ src), length-append part src))
 
--- the number is no part of what is held, where no whole chunk is
-held_renumbered : (codec : Codec) (src : List ℕ) (n : ℕ) → held (record codec { number = n }) src [] ≡ held codec src []
+-- each chunk that is full has four bytes more than it carries
+pub length-chunks : (payload : List ℕ) (id count : ℕ) → count * 16777215 ≤ length payload → length (chunks payload id count) ≡ count * 16777219
+length-chunks payload id zero h = ap length (chunks-zero payload id)
+length-chunks payload id (suc n) h =
+    let others = chunks (drop 16777215 payload) (id + 1) n in
+    let rest : n * 16777215 ≤ length (drop 16777215 payload) = omega (arith, h, length-drop 16777215 payload) in
+    omega (arith, h, ap length (chunks_first payload id n []), length-append (chunks payload id (suc n)) [], length-chunk id (take 16777215 payload) (others ++ []), length-append others [], length-take 16777215 payload, length-chunks (drop 16777215 payload) (id + 1) n rest)
+
+-- where fewer bytes are held than a full chunk has, no chunk of the packet stands whole
+no_whole_chunk : (codec : Codec) (src dst : List ℕ) → length (held codec src dst) < 16777219 → whole_chunks dst ≡ 0
 unfolding held
-held_renumbered codec src n =
-    let part = begun_bytes codec.begun [] ++ src in
-    ap (λ k. k ++ part) (chunks-zero [] (packet_number (record codec { number = n }) [])) ∙ ap (λ k. k ++ part) (sym (chunks-zero [] (packet_number codec [])))
+no_whole_chunk codec src dst few =
+    let front = chunks dst (packet_number codec dst) (whole_chunks dst) in
+    let back = begun_bytes codec.begun (drop (whole_chunks dst * 16777215) dst) ++ src in
+    omega (arith, few, length-append front back, length-chunks dst (packet_number codec dst) (whole_chunks dst) (omega arith))
+
+-- the number is no part of what is held, where no whole chunk is
+held_renumbered : (codec : Codec) (src dst : List ℕ) (n : ℕ) → whole_chunks dst ≡ 0 → held (record codec { number = n }) src dst ≡ held codec src dst
+unfolding held
+held_renumbered codec src dst n none =
+    let back = begun_bytes codec.begun (drop (whole_chunks dst * 16777215) dst) ++ src in
+    let front : (id : ℕ) → chunks dst id (whole_chunks dst) ≡ [] = λ id. ap (chunks dst id) none ∙ chunks-zero dst id in
+    ap (λ k. k ++ back) (front (packet_number (record codec { number = n }) dst)) ∙ ap (λ k. k ++ back) (sym (front (packet_number codec dst)))
+
+-- nor of a rest that is no fault
+tail_renumbered : (limit before number n : ℕ) (tail : List ℕ) (rest : Rest) → ¬ IsFault rest → IsTail limit before number tail rest → IsTail limit before n tail rest
+tail_renumbered limit before number n tail Empty fine t = t
+tail_renumbered limit before number n tail TooLarge fine t = t
+tail_renumbered limit before number n tail OutOfSync fine t = absurd (fine tt)
+tail_renumbered limit before number n tail Open fine t = t
+
+rest_renumbered : (limit number n : ℕ) (bytes : List ℕ) (rest : Rest) → length bytes < 16777219 → ¬ IsFault rest → IsRest limit number bytes rest → IsRest limit n bytes rest
+rest_renumbered limit number n bytes rest few fine r =
+    let len = length-chunks r.body number r.count (omega (arith, r.full)) in
+    let none : r.count ≡ 0 = omega (arith, few, len, ap length r.joined, length-append (chunks r.body number r.count) r.tail) in
+    let nothing : (id : ℕ) → chunks r.body id r.count ≡ [] = λ id. ap (chunks r.body id) none ∙ chunks-zero r.body id in
+    record {
+      body = r.body;
+      count = r.count;
+      tail = r.tail;
+      full = r.full;
+      within = r.within;
+      joined = r.joined ∙ ap (λ k. k ++ r.tail) (nothing number ∙ sym (nothing n));
+      ends = tail_renumbered limit (length r.body) (number + r.count) (n + r.count) r.tail rest fine r.ends;
+    }
 
 -- a codec between packets
 abbrev pub at : Codec → ℕ → Codec
@@ -172,17 +211,45 @@ stands_between codec header number none empty e = record {
   is_rest = empty_rest codec.limit number;
 }
 
--- and then the number is set to 0
-pub stands_reset : (codec : Codec) (header : List ℕ) (number : ℕ) → Stands codec header [] number [] → Stands (record codec { number = 0 }) header [] 0 []
-stands_reset codec header number s = record {
-  moved = s.moved;
-  goes_on = s.goes_on;
-  number_is = omega arith;
-  held_is = held_renumbered codec header 0 ∙ s.held_is;
-  rest = Empty;
-  no_fault = λ f. f;
-  is_rest = empty_rest codec.limit 0;
-}
+-- where no chunk stands whole, the packet may begin at another number
+stands_renumbered : (codec : Codec) (header dst : List ℕ) (number n : ℕ) (bytes : List ℕ) → n < 256 → length bytes < 16777219 → Stands codec header dst number bytes →
+    Stands (record codec { number = n }) header dst n bytes
+stands_renumbered codec header dst number n bytes byte few s =
+    let none : whole_chunks dst ≡ 0 = no_whole_chunk codec header dst (omega (arith, few, ap length s.held_is)) in
+    record {
+      moved = s.moved;
+      goes_on = s.goes_on;
+      number_is = omega (arith, none, byte);
+      held_is = held_renumbered codec header dst n none ∙ s.held_is;
+      rest = s.rest;
+      no_fault = s.no_fault;
+      is_rest = rest_renumbered codec.limit number n bytes s.rest few s.no_fault s.is_rest;
+    }
+
+bytes_renumbered : (begun : Bool) (codec : Codec) (header packet : List ℕ) (n : ℕ) → length (bytes_of begun codec header packet) < 16777219 →
+    bytes_of begun (record codec { number = n }) header packet ≡ bytes_of begun codec header packet
+bytes_renumbered true codec header packet n few = held_renumbered codec header packet n (no_whole_chunk codec header packet few)
+bytes_renumbered false codec header packet n few = refl
+
+module _ (r : Inside) (n : ℕ) (few : length (bytes_of r.begun r.codec r.header r.packet.items) < 16777219) where
+  abbrev pub renumbered : Inside
+  renumbered = record r { codec = record r.codec { number = n }; number = n }
+
+  same_bytes : bytes_of r.begun (record r.codec { number = n }) r.header r.packet.items ≡ bytes_of r.begun r.codec r.header r.packet.items
+  same_bytes = bytes_renumbered r.begun r.codec r.header r.packet.items n few
+
+  pub kept_renumbered : n < 256 → IsKept r → IsKept renumbered
+  kept_renumbered byte k = record {
+    stands = λ fine. subst (λ l. Stands (record r.codec { number = n }) r.header (unfinished r.begun r.packet.items) n l) (sym same_bytes)
+        (stands_renumbered r.codec r.header (unfinished r.begun r.packet.items) r.number n (bytes_of r.begun r.codec r.header r.packet.items) byte few (k.stands fine));
+    begun = ap (λ l. length l == 0) same_bytes ∙ k.begun;
+    refused = k.refused;
+  }
+
+  pub view_renumbered : (v : Incoming) → incoming_of r ≡ v → incoming_of renumbered ≡ record v { number = n }
+  view_renumbered v view =
+      ap (λ l. record { limit = r.codec.limit; number = n; bytes = l; payload = handed_out r.begun r.packet.items; refused = r.codec.refused }) same_bytes
+      ∙ ap (λ (x : Incoming). record x { number = n }) view
 
 -- after the codec waited: what is held, that no payload is, and that it goes on
 pub record Waited (new : Codec) (header' packet' : List ℕ) (number : ℕ) (bytes : List ℕ) (begun : Bool) : Type 0 where
@@ -228,17 +295,12 @@ not_begun : (begun : Bool) (bytes : List ℕ) → (length bytes == 0) ≡ not be
 not_begun false bytes b e = refl
 not_begun true bytes b e = absurd (let never : true ≡ false = sym (ap (λ l. length l == 0) e) ∙ b in cc)
 
-pub kept_reset : (r : Inside) (new : Codec) → IsKept r → bytes_of r.begun r.codec r.header r.packet.items ≡ [] → new ≡ record r.codec { number = 0 } → IsKept (record r { codec = new; number = 0 })
-kept_reset r new k empty e = by r.begun (not_begun r.begun _ k.begun empty) k.stands k.refused
-  where
-    by : (begun : Bool) → begun ≡ false → (r.codec.refused ≡ None → Stands r.codec r.header (unfinished begun r.packet.items) r.number (bytes_of begun r.codec r.header r.packet.items)) →
-        IfSome r.codec.refused (λ _. (begun ≡ false) × (r.packet.items ≡ [])) → IsKept (record r { codec = new; number = 0; begun = begun })
-    by true never s k = absurd cc
-    by false none s k = record {
-      stands = λ fine. subst (λ d. Stands d r.header [] 0 []) (sym e) (stands_reset r.codec r.header r.number (s (sym (ap (λ d. d.refused) e) ∙ fine)));
-      begun = refl;
-      refused = subst (λ (d : Codec). IfSome d.refused (λ _. (false ≡ false) × (r.packet.items ≡ []))) (sym e) k;
-    }
+-- fewer bytes are kept than a full chunk carries only where none came whole
+pub early : (r : Inside) (v : Incoming) (kept : ℕ) → incoming_of r ≡ v → kept ≡ bytes_kept (length v.bytes) → kept < 16777215 →
+    (length v.bytes < 16777219) × (length (bytes_of r.begun r.codec r.header r.packet.items) < 16777219)
+early r v kept view is few =
+    let less : length v.bytes < 16777219 = omega (arith, is, few) in
+    (less, omega (arith, less, ap (λ (x : Incoming). length x.bytes) view))
 
 -- or goes on, where nothing is held
 pub kept_at : (r : Inside) (new : Codec) (n : ℕ) → IsKept r → bytes_of r.begun r.codec r.header r.packet.items ≡ [] → r.codec.refused ≡ None → n < 256 → new ≡ record r.codec { number = n } →
@@ -253,7 +315,7 @@ kept_at r new n k empty fine byte e =
             moved = s.moved;
             goes_on = s.goes_on;
             number_is = omega arith;
-            held_is = held_renumbered r.codec r.header n ∙ s.held_is;
+            held_is = held_renumbered r.codec r.header [] n refl ∙ s.held_is;
             rest = Empty;
             no_fault = λ f. f;
             is_rest = empty_rest r.codec.limit n;
@@ -390,14 +452,6 @@ waits_on limit id before payloads r new piece rest read w used none =
           (subst (λ l. HasRead limit (OnFrom id) before payloads (codec_by new) (new.bytes ++ rest) l) none found.0),
       found.1,
     )
-
--- each chunk that is full has four bytes more than it carries
-length-chunks : (payload : List ℕ) (id count : ℕ) → count * 16777215 ≤ length payload → length (chunks payload id count) ≡ count * 16777219
-length-chunks payload id zero h = ap length (chunks-zero payload id)
-length-chunks payload id (suc n) h =
-    let others = chunks (drop 16777215 payload) (id + 1) n in
-    let rest : n * 16777215 ≤ length (drop 16777215 payload) = omega (arith, h, length-drop 16777215 payload) in
-    omega (arith, h, ap length (chunks_first payload id n []), length-append (chunks payload id (suc n)) [], length-chunk id (take 16777215 payload) (others ++ []), length-append others [], length-take 16777215 payload, length-chunks (drop 16777215 payload) (id + 1) n rest)
 
 -- of a packet's bytes its whole chunks and what came of the last one are held, and a header that doesn't stand whole
 pub kept_bytes : (codec : Codec) (header packet : List ℕ) → length header < 4 → IsOfPacket codec.limit codec.begun packet → (codec.begun ≢ None → header ≡ [])

@@ -11,6 +11,7 @@ pub mod Packet
 pub mod Steps
 pub mod Incoming
 pub mod InPlace
+pub mod Due
 mod Decides
 mod Rests
 mod Fronts

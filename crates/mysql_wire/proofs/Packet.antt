@@ -90,7 +90,7 @@ none_fits : (limit : ℕ) (begun : Option BegunChunk) (dst : List ℕ) → begun
 none_fits limit begun dst none h = subst (λ b. IsOfPacket limit (begun_of b) dst) none h
 
 -- the front of a chunk is seen in its header
-announced_begun : (n number : ℕ) (part src : List ℕ) → n ≤ 16777215 → announced ((little_bytes 3 n ++ (number % 256 ∷ part)) ++ src) ≡ n
+pub announced_begun : (n number : ℕ) (part src : List ℕ) → n ≤ 16777215 → announced ((little_bytes 3 n ++ (number % 256 ∷ part)) ++ src) ≡ n
 announced_begun n number part src h = little_number-reads_back 3 n ((number % 256 ∷ part) ++ src) (omega arith)
 
 module _ (limit n0 : ℕ) (b0 : Option BegunChunk) (src0 dst0 : List ℕ) (number : ℕ) where

@@ -1,12 +1,13 @@
 -- What a reader of packets holds of a stream that comes in pieces, and what its calls do to it.
 -- (MySQL: Client/Server Protocol, "Protocol Basics: MySQL Packets" and "Sequence ID".)
 use Rattle.std.specs.Prelude.{◌≡◌, ℕ, ◌+◌, ◌-◌, ◌*◌, ◌/◌, Bool, true, false, List, [], ◌++◌, length, ◌<◌, ◌≤◌, Option}
-use Rattle.std.specs.Prelude.{Some, None, Result, Ok, Err}
+use Rattle.std.specs.Prelude.{Some, None, Result, Ok, Err, drop, if◌then◌else◌, nat_lt}
 use Rattle.std.specs.Borrow.{Bor}
 use Rattle.mysql_wire.specs.Codec.{Codec, Decodes, RefusesBy}
 use Rattle.mysql_wire.specs.Framing.{announced, max_payload_len, number_at}
 use Rattle.mysql_wire.specs.declared.codec.PacketCodecError.{PacketCodecError}
 use Rattle.mysql_wire.specs.declared.codec.Refusal.{Refusal}
+use Rattle.mysql_wire.specs.declared.codec.header.ChunkHeader.{ChunkHeader}
 
 -- the limit, the number of the next packet's first chunk, the bytes of that packet that came, the
 -- payload that was handed out, until more is read, and the refusal that is kept to
@@ -65,3 +66,17 @@ pub record IsFrontChunk (limit number : ℕ) (bytes : List ℕ) (count : ℕ) : 
 -- no such chunk stands there
 abbrev pub LacksFrontChunk : ℕ → ℕ → List ℕ → Type 0
 LacksFrontChunk limit number bytes = (count : ℕ) → ¬ IsFrontChunk limit number bytes count
+
+-- the bytes of a full chunk: its header, and the most bytes that one carries
+abbrev pub full_chunk : ℕ
+full_chunk = max_payload_len + 4
+
+-- the header at the front of the bytes, once its four bytes stand there
+abbrev pub header_at : List ℕ → Option ChunkHeader
+header_at bytes =
+    if nat_lt (length bytes) 4 then None else Some (record { number = number_at bytes; len = announced bytes })
+
+-- of bytes of one packet and a piece behind them, the header of the chunk in which these bytes end:
+-- it stands behind the full chunks
+abbrev pub header_due : List ℕ → List ℕ → Option ChunkHeader
+header_due bytes piece = header_at (drop (length bytes / full_chunk * full_chunk) (bytes ++ piece))

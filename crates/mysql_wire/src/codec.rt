@@ -8,11 +8,12 @@
 //!     }
 
 ghost use Rattle.std.specs.Prelude.{◌≡◌, ◌≢◌, ◌++◌, ◌<◌, ◌≤◌, [], None, Err, IfErr, IfOk, IfSome, Ok, OnErr, OnOk};
-ghost use Rattle.std.specs.Prelude.{false, length};
+ghost use Rattle.std.specs.Prelude.{◌+◌, ◌%◌, false, length, option_map};
+ghost use Rattle.std.specs.Option.{ForSome};
 ghost use Rattle.mysql_wire.specs.Chunk.{IsTooLargeOrMemory};
 ghost use Rattle.mysql_wire.specs.Codec.{CanGoOn, Decodes, RefusesBy, Waits, codec_at, error_of};
 ghost use Rattle.std.specs.Bool.{OnFalse, OnTrue};
-ghost use Rattle.mysql_wire.specs.Framing.{framing, number_after};
+ghost use Rattle.mysql_wire.specs.Framing.{framing, max_payload_len, number_after};
 
 use bytes::{Buf, BufMut, BytesMut};
 use mysql_const::DEFAULT_MAX_ALLOWED_PACKET;
@@ -30,7 +31,7 @@ mod writing;
 
 pub use chunk::{ChunkDecoder, ChunkInfo};
 pub use feed::{Packets, feed_all};
-pub use header::PartialHeader;
+pub use header::{ChunkHeader, PartialHeader};
 pub use reader::PacketReader;
 pub use writing::{frame_in_place, packet_header, packet_to_chunks};
 
@@ -252,6 +253,20 @@ impl PacketCodec {
         ensures { OnTrue result ((self.now.begun ≡ None) × (self.now.refused ≡ None)) }
     {
         self.begun.is_none() && self.refused.is_none()
+    }
+
+    // What the header says of the chunk that was begun, where so many bytes of its packet came.
+    fn begun_header(&self, filled: usize) -> Option<ChunkHeader>
+        requires { ForSome self.now.begun (λ chunk. filled % max_payload_len + chunk.awaited ≤ max_payload_len) }
+        ensures value { result ≡ option_map
+            (λ chunk. record { number = chunk.number; len = filled % max_payload_len + chunk.awaited })
+            self.now.begun }
+        ensures byte { IfSome result (λ header. header.number < 256) }
+    {
+        match &self.begun {
+            Some(chunk) => Some(chunk.header(filled)),
+            None => None,
+        }
     }
 
     // `decode` of a piece that ends within the chunk that was begun. Answers whether it is one; else nothing changes.

@@ -6,8 +6,8 @@ pub mod codec;
 pub mod laws;
 
 pub use codec::{
-    ChunkDecoder, ChunkInfo, PacketCodec, PacketCodecError, PacketReader, Packets, PartialHeader,
-    feed_all, frame_in_place, packet_header, packet_to_chunks,
+    ChunkDecoder, ChunkHeader, ChunkInfo, PacketCodec, PacketCodecError, PacketReader, Packets,
+    PartialHeader, feed_all, frame_in_place, packet_header, packet_to_chunks,
 };
 pub use mysql_buf::{
     BufMutExt, ParseBuf, ReadMysqlExt, WriteMysqlExt, constants, lenenc_int_len, lenenc_str_len,

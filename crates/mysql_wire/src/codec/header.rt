@@ -6,10 +6,20 @@
 
 ghost use Rattle.std.specs.Bool.{OnFalse, OnTrue};
 ghost use Rattle.std.specs.Prelude.{◌≡◌, ◌<◌, ◌==◌, [], ◌++◌, length};
+ghost use Rattle.mysql_wire.specs.Incoming.{header_at};
 
+use super::chunk::header_of;
 use bytes::Buf;
 use bytes::buf::Chain;
 use std::marker::Model;
+
+/// What a chunk's header says: the chunk's number, and how many payload bytes the chunk carries.
+/// (MySQL: Client/Server Protocol, "Protocol Basics: MySQL Packets".)
+#[derive(Clone, Copy, Debug, PartialEq, Eq)]
+pub struct ChunkHeader {
+    pub number: u8,
+    pub len: usize,
+}
 
 /// The bytes of a chunk's header of which fewer than four came.
 ///
@@ -68,6 +78,21 @@ impl PartialHeader {
         self.bytes[len..len + piece.len()].copy_from_slice(piece);
         self.len = len + piece.len();
         true
+    }
+
+    // The header that they begin, once its four bytes stand in them and a piece behind them.
+    pub(super) fn with_piece(&self, piece: &[u8]) -> Option<ChunkHeader>
+        ensures value { result ≡ header_at (self.now ++ piece.now) }
+        ensures short { length self.now < 4 }
+    {
+        let mut src = self.as_slice().chain(piece);
+        if src.remaining() < 4 {
+            return None;
+        }
+        let mut header = [0; 4];
+        src.copy_to_slice(&mut header);
+        let (len, number) = header_of(&header);
+        Some(ChunkHeader { number, len })
     }
 
     // Whether no byte came.

@@ -1,7 +1,7 @@
 //! One packet read from a buffer: its payload bytes go on to where they are wanted as they come.
 
 ghost use Rattle.std.specs.Bool.{OnFalse, OnTrue};
-ghost use Rattle.std.specs.Prelude.{◌≡◌, ◌≢◌, ◌⊎◌, ◌%◌, ◌^◌, [], None, false, ◌<◌, ◌≤◌, ◌++◌, IfErr, IfOk, Ok, OnErr};
+ghost use Rattle.std.specs.Prelude.{◌≡◌, ◌≢◌, ◌⊎◌, ◌%◌, ◌+◌, ◌^◌, [], None, false, ◌<◌, ◌≤◌, ◌++◌, IfErr, IfOk, Ok, OnErr};
 ghost use Rattle.std.specs.Prelude.{OnOk, drop, length, take};
 ghost use Rattle.mysql_wire.specs.Codec.{Decodes, IsDue, IsOfPacket};
 ghost use Rattle.mysql_wire.specs.Framing.{max_payload_len};
@@ -9,6 +9,7 @@ ghost use Rattle.mysql_wire.specs.Moving.{EndsWithin, NextChunk, begun_of, codec
 
 use super::Refusal;
 use super::chunk::header_of;
+use super::header::ChunkHeader;
 use bytes::{Buf, BufMut};
 use mysql_const::MAX_PAYLOAD_LEN;
 use std::alloc::AllocError;
@@ -18,6 +19,21 @@ use std::alloc::AllocError;
 pub(super) struct BegunChunk {
     number: u8,
     awaited: usize,
+}
+
+impl BegunChunk {
+    /// What its header says, where so many bytes of its packet came.
+    pub(super) fn header(&self, filled: usize) -> ChunkHeader
+        requires { filled % max_payload_len + self.now.awaited ≤ max_payload_len }
+        ensures value { result ≡
+            record { number = self.now.number; len = filled % max_payload_len + self.now.awaited } }
+        ensures byte { result.number < 256 }
+    {
+        ChunkHeader {
+            number: self.number,
+            len: filled % MAX_PAYLOAD_LEN + self.awaited,
+        }
+    }
 }
 
 // The chunk whose bytes come next, if its header stands.

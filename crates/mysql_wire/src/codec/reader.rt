@@ -4,19 +4,21 @@
 //!     let mut rest = piece;
 //!     while let Some(payload) = reader.read(&mut rest)? { .. }
 
-ghost use Rattle.std.specs.Prelude.{◌≡◌, ◌≢◌, ◌+◌, ◌%◌, ◌==◌, ◌<◌, ◌++◌, not, [], None, Err, IfErr, IfOk, IfSome};
+ghost use Rattle.std.specs.Prelude.{◌≡◌, ◌≢◌, ◌+◌, ◌%◌, ◌==◌, ◌<◌, ◌≤◌, ◌++◌, not, [], None, Err, IfErr, IfOk, IfSome};
 ghost use Rattle.std.specs.Prelude.{MatchOption, Ok, OnErr, OnOk, false, length, true};
 ghost use Rattle.std.specs.Bool.{OnFalse, OnTrue};
 ghost use Rattle.mysql_wire.specs.Codec.{Decodes, RefusesBy, error_of, held, packet_number};
-ghost use Rattle.mysql_wire.specs.Incoming.{LacksFrontChunk, Reads, ReadsOn, RefusesOn, bytes_kept, incoming_at};
+ghost use Rattle.mysql_wire.specs.Incoming.{LacksFrontChunk, Reads, ReadsOn, RefusesOn, bytes_kept, full_chunk};
+ghost use Rattle.mysql_wire.specs.Incoming.{header_due, incoming_at};
 ghost use Rattle.std.specs.Borrow.{sem};
 ghost use Rattle.std.specs.Io.BufRead.{Rests};
 ghost use Rattle.mysql_wire.specs.Kept.{Stands, unfinished};
 
 use super::chunk::whole_chunk;
-use super::header::PartialHeader;
+use super::header::{ChunkHeader, PartialHeader};
 use super::{PacketCodec, PacketCodecError, Refusal};
 use bytes::Buf;
+use mysql_const::MAX_PAYLOAD_LEN;
 use std::alloc::{AllocError, Global};
 use std::marker::Model;
 use std::mem;
@@ -442,5 +444,48 @@ impl PacketReader {
     {
         self.codec.reset_seq_id();
         self.number = 0;
+    }
+
+    /// The next packet begins at this number, or the one that is begun does: it is told before a
+    /// chunk of it stands whole. The answer is whether it was in time; else nothing changes.
+    ///
+    /// A reader of a login or of the last words of a server looks at the number that comes
+    /// ([`PacketReader::header_due`]), and then says whether it is the one due. (MySQL:
+    /// Client/Server Protocol, "Sequence ID".)
+    pub fn set_seq_id(&mut self, number: u8) -> bool
+        ensures set { OnTrue result ((length self.old.bytes < full_chunk) ×
+            (self.new ≡ record self.old { number = number })) }
+        ensures late { OnFalse result ((full_chunk ≤ length self.old.bytes) × (self.new ≡ self.old)) }
+    {
+        if self.kept() >= MAX_PAYLOAD_LEN {
+            return false;
+        }
+        self.codec.set_seq_id(number);
+        self.number = number;
+        true
+    }
+
+    /// The header of the chunk that comes next or is begun, once its four bytes stand in what came
+    /// and a piece behind it, whether or not the chunk stands whole. The piece is looked at alone,
+    /// and may be empty.
+    ///
+    /// So the number and the length of what comes are known before [`PacketReader::advance`]
+    /// reads it, which refuses another number than the one due.
+    ///
+    /// Promise: the header stands behind the full chunks of the packet's bytes that came
+    /// (`header_due`).
+    ///
+    /// (MySQL: Client/Server Protocol, "Protocol Basics: MySQL Packets" and "Sequence ID".)
+    pub fn header_due(&self, piece: &[u8]) -> Option<ChunkHeader>
+        ensures { result ≡ header_due self.now.bytes piece.now }
+    {
+        if !self.begun {
+            return PartialHeader::new().with_piece(piece);
+        }
+        let begun = self.codec.begun_header(self.packet.len());
+        if begun.is_some() {
+            return begun;
+        }
+        self.header.with_piece(piece)
     }
 }
