@@ -1,8 +1,9 @@
 -- Changes of a session's state, as values and as bytes.
--- MySQL: Client/Server Protocol, "OK_Packet", 'Session State Information'.
+-- MySQL: Client/Server Protocol, "OK_Packet", 'Session State Information'; MariaDB: Client/Server
+-- Protocol, "OK_Packet", 'Session State Info'.
 -- A reading takes bytes from the front: x.0 is what was read and x.1 the bytes left; the first refusal counts.
 use Rattle.std.specs.Prelude.{◌≡◌, ◌<◌, ◌^◌, ℕ, ⊤, List, [], ◌∷◌, ◌++◌, length, Bool, true, false, Option, Some, None}
-use Rattle.std.specs.Prelude.{Ok}
+use Rattle.std.specs.Prelude.{Ok, if◌then◌else◌}
 use Rattle.std.specs.List.{AllByRecursion, flat_map}
 use Rattle.std.specs.Str.{bytes_eq}
 use Rattle.byteorder.specs.Endian.{little_bytes}
@@ -70,13 +71,19 @@ change (TransactionCharacteristics statements) = lenenc_str statements
 change (TransactionState letters) = lenenc_str letters
 change (Unsupported bytes) = lenenc_str bytes
 
+-- Whether changes are tracked: the digit after its length, or alone, as MariaDB writes it.
+abbrev pub tracking_at : List ℕ → Reading Bool
+tracking_at bytes =
+    if bytes_eq bytes (tracking true) then Ok (true, [])
+    else if bytes_eq bytes (tracking false) then Ok (false, [])
+    else lenenc_text_at bytes >>= λ text. Ok (bytes_eq text.0 (tracking true), text.1)
+
 -- A change is read by its type.
 unfoldable pub change_at : SessionStateType → List ℕ → Reading Change
 change_at SESSION_TRACK_SYSTEM_VARIABLES bytes =
     to_end_at variable_at bytes >>= λ all. Ok (SystemVariables all.0, all.1)
 change_at SESSION_TRACK_SCHEMA bytes = lenenc_text_at bytes >>= λ name. Ok (Schema name.0, name.1)
-change_at SESSION_TRACK_STATE_CHANGE bytes =
-    lenenc_text_at bytes >>= λ text. Ok (IsTracked (bytes_eq text.0 (tracking true)), text.1)
+change_at SESSION_TRACK_STATE_CHANGE bytes = tracking_at bytes >>= λ tracked. Ok (IsTracked tracked.0, tracked.1)
 change_at SESSION_TRACK_GTIDS bytes = rest_at bytes >>= λ set. Ok (Gtids set.0, set.1)
 change_at SESSION_TRACK_TRANSACTION_CHARACTERISTICS bytes =
     lenenc_text_at bytes >>= λ text. Ok (TransactionCharacteristics text.0, text.1)

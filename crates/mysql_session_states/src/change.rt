@@ -8,8 +8,9 @@
 ghost use Rattle.std.specs.Prelude.{◌≡◌, IfOk, None, map};
 ghost use Rattle.std.specs.List.{flat_map};
 ghost use Rattle.mysql_fields.specs.Laws.{unsized};
-ghost use Rattle.mysql_fields.specs.Wire.{Appends};
-ghost use Rattle.mysql_session_states.specs.SessionStates.{Change, IsReadBy, change, change_at, type_of, variable};
+ghost use Rattle.mysql_fields.specs.Wire.{Appends, Tells};
+ghost use Rattle.mysql_session_states.specs.SessionStates.{Change, IsReadBy, change, change_at, tracking_at, type_of};
+ghost use Rattle.mysql_session_states.specs.SessionStates.{variable};
 ghost use Rattle.mysql_session_states.specs.StateLaws.{change_at-back};
 ghost use Rattle.mysql_session_states.specs.Views.{change_view, variable_view};
 
@@ -202,16 +203,31 @@ impl<'a> ReadsBack for SessionStateChange<'a> {
     ghost reads_back = { λ type c. change_at-back type (change_view c) };
 }
 
+// Whether changes are tracked: the digit after its length, or alone, as MariaDB writes it.
+fn read_tracking(buf: &mut ParseBuf<'_>) -> Result<bool, WireError>
+    ensures { Tells (λ tracked. tracked) buf.old.0.now buf.new.0.now result (tracking_at buf.old.0.now) }
+{
+    let all = buf.0;
+    if all == b"1".as_slice() || all == b"0".as_slice() {
+        *buf = ParseBuf(&[]);
+        return Ok(all == b"1".as_slice());
+    }
+    let text = read_lenenc_text(buf)?;
+    Ok(text == b"1".as_slice())
+}
+
 /// The change of this type. Refused by `UnexpectedEof` where a text is cut off, and by `Memory`.
-/// Bytes behind a text are left; variables and GTIDs stand to the end.
+/// Bytes behind a text are left; variables and GTIDs stand to the end. Of MariaDB a change of the
+/// tracking is read too, whose data is the digit `0` or `1` alone, without a length.
 ///
-/// MySQL: Client/Server Protocol, "OK_Packet", 'Session State Information'.
+/// MySQL: Client/Server Protocol, "OK_Packet", 'Session State Information'; MariaDB: Client/Server
+/// Protocol, "OK_Packet", 'Session State Info'.
 #[tactic(auto, using(crate::proofs::Back::variables_eat), unfolding(crate::specs::SessionStates::change_at))]
 impl<'de> MyDeserialize<'de> for SessionStateChange<'de> {
     // The data of a change, by its type:
     //   SESSION_TRACK_SYSTEM_VARIABLES             pairs of string<lenenc> name and string<lenenc> value, to the end
     //   SESSION_TRACK_SCHEMA                       string<lenenc> name of the schema
-    //   SESSION_TRACK_STATE_CHANGE                 string<lenenc> "1" or "0"
+    //   SESSION_TRACK_STATE_CHANGE                 string<lenenc> "1" or "0"; MariaDB: the digit alone
     //   SESSION_TRACK_GTIDS                        string<EOF>
     //   SESSION_TRACK_TRANSACTION_CHARACTERISTICS  string<lenenc> statements
     //   SESSION_TRACK_TRANSACTION_STATE            string<lenenc> eight letters
@@ -230,8 +246,7 @@ impl<'de> MyDeserialize<'de> for SessionStateChange<'de> {
                 SessionStateChange::Schema(buf.parse(alloc, ())?)
             }
             SessionStateType::SESSION_TRACK_STATE_CHANGE => {
-                let text = read_lenenc_text(buf)?;
-                SessionStateChange::IsTracked(text == b"1".as_slice())
+                SessionStateChange::IsTracked(read_tracking(buf)?)
             }
             SessionStateType::SESSION_TRACK_GTIDS => {
                 SessionStateChange::Gtids(buf.parse(alloc, ())?)
