@@ -7,7 +7,6 @@ use Rattle.std.proofs.lemmas.Bool.Decides.{eqb_tells}
 use Rattle.byteorder.specs.Endian.{little_bytes}
 use Rattle.mysql_buf.specs.FirstBytes.{first-enough}
 use Rattle.mysql_buf.specs.Writing.{lenenc_int, lenenc_str}
-use Rattle.mysql_const.specs.StatusFlags.{status_flags}
 use Rattle.mysql_fields.specs.Forms.{fixed_number_at}
 use Rattle.mysql_fields.specs.Laws.{bytes_at-back, done, fixed_number_at-back, lenenc_number_at-back, ok_same}
 use Rattle.mysql_fields.specs.Wire.{Reading, ◌>>=◌}
@@ -16,7 +15,7 @@ use Rattle.mysql_fields.specs.Texts.{lenenc_text_at}
 use Rattle.mysql_field_constants.specs.ConstantLaws.{constant_at-back, named_at-back}
 use Rattle.mysql_field_constants.specs.Constants.{named_at}
 use Rattle.mysql_field_constants.specs.FlagLaws.{flags_named-back}
-use Rattle.mysql_field_constants.specs.Flags.{status_named}
+use Rattle.mysql_field_constants.specs.Flags.{all_status_flags, status_named}
 use Rattle.mysql_ok_packets.specs.OkPackets.{OkPacket, info_at, ok_body_at, ok_packet_at, old_eof_at, old_eof_body_at}
 use Rattle.mysql_ok_packets.specs.OkPackets.{packet_at, result_set_terminator_at, result_set_terminator_body_at}
 use Rattle.mysql_ok_packets.specs.OkPackets.{session_state_changed, session_track, status_and_info_at, unless_empty}
@@ -113,7 +112,7 @@ status-back : (status : ℕ) (rest : List ℕ) → is_named_status status ≡ tr
     → named_at status_named (fixed_number_at 2) (little_bytes 2 status ++ rest) ≡ Ok (record { 0 = status }, rest)
 status-back status rest named fits =
     named_at-back status_named (λ flags. flags.0) (fixed_number_at 2) (little_bytes 2) (record { 0 = status }) rest
-    (flags_named-back status_flags (λ bits. record { 0 = bits }) status named) (fixed_number_at-back 2 status rest fits)
+    (flags_named-back all_status_flags (λ bits. record { 0 = bits }) status named) (fixed_number_at-back 2 status rest fits)
 
 -- what is read of a packet with these rows and this id
 abbrev pub with_numbers : ℕ → ℕ → ℕ → OkPacket → OkPacket

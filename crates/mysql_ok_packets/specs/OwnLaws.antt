@@ -9,7 +9,6 @@ use Rattle.mysql_buf.specs.Bytes.{AreBytes}
 use Rattle.mysql_buf.specs.FirstBytes.{first-some}
 use Rattle.mysql_buf.specs.Reading.{first, little_at, lenenc_int_at, then_at}
 use Rattle.mysql_buf.specs.Reading as buffer
-use Rattle.mysql_const.specs.StatusFlags.{status_flags}
 use Rattle.mysql_const.specs.declared.status.StatusFlags.{StatusFlags}
 use Rattle.mysql_fields.specs.Forms.{bytes_at, fixed_number_at, lenenc_number_at}
 use Rattle.mysql_fields.specs.Laws.{bind_ok, done, ok_same}
@@ -17,7 +16,7 @@ use Rattle.mysql_fields.specs.Wire.{or_end, ◌>>=◌}
 use Rattle.mysql_fields.specs.declared.error.WireError.TheVariants.{BadConstant}
 use Rattle.mysql_fields.specs.Texts.{lenenc_text_at}
 use Rattle.mysql_field_constants.specs.Constants.{constant_at, is_constant, named_at, or_unknown}
-use Rattle.mysql_field_constants.specs.Flags.{are_named, status_named}
+use Rattle.mysql_field_constants.specs.Flags.{all_status_flags, are_named, status_named}
 use Rattle.mysql_ok_packets.specs.BackLaws.{state_behind}
 use Rattle.mysql_ok_packets.specs.OkPackets.{OkPacket, info_at, ok_body_at, ok_packet_at, old_eof_at, old_eof_body_at}
 use Rattle.mysql_ok_packets.specs.OkPackets.{result_set_terminator_at, result_set_terminator_body_at}
@@ -109,8 +108,8 @@ status_few : (bytes : List ℕ) (p : StatusFlags × List ℕ) → AreFew bytes �
 status_few bytes p few h =
     let number = bind_ok (fixed_number_at 2 bytes) _ p h in
     let part = fixed_few bytes number.0 few number.1 in
-    go number.0.0 number.0.1 (are_named status_flags number.0.0) refl part.0 part.1 number.2 where
-      go : (n : ℕ) (rest : List ℕ) (named : Bool) → are_named status_flags n ≡ named → n < 2 ^ 16 → AreFew rest
+    go number.0.0 number.0.1 (are_named all_status_flags number.0.0) refl part.0 part.1 number.2 where
+      go : (n : ℕ) (rest : List ℕ) (named : Bool) → are_named all_status_flags n ≡ named → n < 2 ^ 16 → AreFew rest
           → or_unknown (if named then Some (record { 0 = n }) else None) rest ≡ done p
           → (p.0.0 < 2 ^ 16) × (is_named_status p.0.0 ≡ true) × AreFew p.1
       go n rest false is small few e = absurd cc

@@ -1,12 +1,13 @@
 -- OK and EOF packets, as they are written, and what is read of one that was.
--- MySQL: Client/Server Protocol, "OK_Packet" and "EOF_Packet".
+-- MySQL: Client/Server Protocol, "OK_Packet", "EOF_Packet" and "Status Flags"; MariaDB: Client/Server
+-- Protocol, "OK_Packet", 'Server status flag'.
 use Rattle.std.specs.Prelude.{◌≡◌, ◌<◌, ◌^◌, ℕ, List, [], ◌∷◌, ◌++◌, length, Bool, true, ◌&&◌, if◌then◌else◌, Option}
 use Rattle.std.specs.Prelude.{Some, None}
 use Rattle.std.specs.List.{concat}
 use Rattle.byteorder.specs.Endian.{little_bytes}
 use Rattle.mysql_buf.specs.Writing.{lenenc_int, lenenc_str}
 use Rattle.mysql_const.specs.StatusFlags.{status_flags}
-use Rattle.mysql_field_constants.specs.Flags.{are_named}
+use Rattle.mysql_field_constants.specs.Flags.{all_status_flags, are_named}
 use Rattle.mysql_ok_packets.specs.OkPackets.{OkPacket, session_state_changed, session_track, unless_empty, unless_zero}
 
 -- The number, or 0 for none.
@@ -105,9 +106,13 @@ as_eof p = record {
   session_state_info = None;
 }
 
--- Each bit of the status has a name; bits 2 and 15 (4 and 0x8000) have none.
+-- Each bit of the status has a name at MySQL or MariaDB; bit 2 (4) has none.
 abbrev pub is_named_status : ℕ → Bool
-is_named_status status = are_named status_flags status
+is_named_status status = are_named all_status_flags status
+
+-- Each bit of the status has a name at MySQL; bits 2 and 15 (4 and 0x8000) have none there.
+abbrev pub is_mysql_status : ℕ → Bool
+is_mysql_status status = are_named status_flags status
 
 -- Numbers and lengths fit their fields, and each bit of the status has a name.
 pub record IsWritable (p : OkPacket) : Type 0 where

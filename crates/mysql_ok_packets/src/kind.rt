@@ -69,10 +69,10 @@ pub trait OkPacketKind {
 pub struct CommonOkPacket;
 
 /// Refused by `UnexpectedEof` where one of the two numbers, status and warnings together, the info
-/// or the session state is cut off, and by `UnknownValue` for a status bit without a name,
-/// whichever stands first.
+/// or the session state is cut off, and by `UnknownValue` for a status bit without a name (bit 2),
+/// whichever stands first. MariaDB's bit 15, ANSI_QUOTES, is kept in the status.
 ///
-/// MySQL: Client/Server Protocol, "OK_Packet".
+/// MySQL: Client/Server Protocol, "OK_Packet" and "Status Flags".
 impl OkPacketKind for CommonOkPacket {
     const HEADER: u8 = 0;
 
@@ -171,7 +171,7 @@ impl OkPacketKind for ResultSetTerminator {
 pub struct OldEofPacket;
 
 /// Warnings and status, without regard to the capabilities. Refused by `UnexpectedEof` where they
-/// are cut off, and then by `UnknownValue` for a status bit without a name.
+/// are cut off, and then by `UnknownValue` for a status bit without a name (bit 2).
 ///
 /// MySQL: Client/Server Protocol, "EOF_Packet".
 impl OkPacketKind for OldEofPacket {

@@ -17,4 +17,4 @@ pub use mysql_session_states::{
     Gtids, Schema, SessionStateChange, SessionStateInfo, SessionStateType, SystemVariable,
     TransactionCharacteristics, TransactionState, Unsupported, put_states,
 };
-pub use ok_packet::{OkPacket, has_more_results, has_named_status};
+pub use ok_packet::{OkPacket, has_more_results, has_mysql_status, has_named_status};

@@ -12,11 +12,12 @@ ghost use Rattle.mysql_ok_packets.specs.OkPackets.{all_states_at, more_results_e
 ghost use Rattle.mysql_fields.specs.Texts.{lossy_text};
 ghost use Rattle.mysql_ok_packets.specs.OkPackets.{unless_zero};
 ghost use Rattle.mysql_ok_packets.specs.Views.{IsPacketOf, body_view, bytes_view, ok_packet_view};
-ghost use Rattle.mysql_ok_packets.specs.Written.{is_named_status, or_empty, or_zero};
+ghost use Rattle.mysql_ok_packets.specs.Written.{is_mysql_status, is_named_status, or_empty, or_zero};
+ghost use Rattle.std.specs.Int.RustNames.{bit_and};
 
 use crate::body::OkPacketBody;
 use bitflags::Flags;
-use mysql_const::StatusFlags;
+use mysql_const::{MariadbStatusFlags, StatusFlags};
 use mysql_field_constants::ConstValue;
 use mysql_fields::{WireError, copy_bytes, lossy_text, own_bytes};
 use mysql_session_states::{SessionStateInfo, states_of};
@@ -46,13 +47,25 @@ pub fn has_more_results(status: StatusFlags) -> bool
     status.contains(StatusFlags::SERVER_MORE_RESULTS_EXISTS)
 }
 
-/// Each bit of the status has a name. A packet with another bit is refused where it is read.
+/// Each bit of the status has a name, at MySQL or at MariaDB, whose own is ANSI_QUOTES. A packet
+/// with another bit (bit 2) is refused where it is read.
 ///
 /// Promise: that is so exactly where reading takes the status (`is_named_status`).
 pub fn has_named_status(status: StatusFlags) -> bool
     ensures { result ≡ is_named_status status.0 }
 {
     StatusFlags::from_number(status.0).is_some()
+}
+
+/// Each bit of the status has a name at MySQL: MariaDB's bit of ANSI_QUOTES isn't set either.
+///
+/// A whole reply is read and written by these bits alone.
+///
+/// Promise: bits 2 and 15 aren't set (`is_mysql_status`).
+pub fn has_mysql_status(status: StatusFlags) -> bool
+    ensures { result ≡ is_mysql_status status.0 }
+{
+    StatusFlags::from_bits(status.0).is_some()
 }
 
 // The bytes, where there are any.
@@ -261,11 +274,21 @@ impl<'a> OkPacket<'a> {
         self.last_insert_id
     }
 
-    /// The server's state after the command.
+    /// The server's state after the command. MariaDB's bit of ANSI_QUOTES is kept in it, without a
+    /// name; [`OkPacket::mariadb_status_flags`] tells it.
     pub fn status_flags(&self) -> StatusFlags
         ensures { result.0 ≡ (ok_packet_view self.now).status_flags }
     {
         self.status_flags
+    }
+
+    /// What only MariaDB tells of its state: whether double quotes are of names (ANSI_QUOTES).
+    ///
+    /// MariaDB: Client/Server Protocol, "OK_Packet", 'Server status flag'.
+    pub fn mariadb_status_flags(&self) -> MariadbStatusFlags
+        ensures { result.0 ≡ bit_and (ok_packet_view self.now).status_flags 0x8000 }
+    {
+        MariadbStatusFlags::of(self.status_flags)
     }
 
     /// How many warnings there are.
