@@ -2,7 +2,7 @@
 -- MySQL: Client/Server Protocol, "COM_QUERY Response", "Text Resultset", "Binary Protocol Resultset", "LOCAL INFILE
 -- Request", "COM_STMT_PREPARE Response", "COM_STMT_EXECUTE Response", "COM_STMT_FETCH Response", "COM_FIELD_LIST
 -- Response" and "COM_STATISTICS"; MariaDB: "Result Set Packets" and 'Progress report' of "ERR_Packet".
-use Rattle.std.specs.Prelude.{ℕ, zero, suc, List, [], ◌∷◌, ◌++◌, length, drop, Bool, true, false, ◌==◌, ◌&&◌, ◌||◌}
+use Rattle.std.specs.Prelude.{ℕ, zero, suc, ◌-◌, List, [], ◌∷◌, ◌++◌, length, drop, Bool, true, false, ◌==◌, ◌&&◌, ◌||◌}
 use Rattle.std.specs.Prelude.{Option, Some, None, Result, Ok, Err, if◌then◌else◌}
 use Rattle.mysql_fields.specs.Wire.{◌>>=◌}
 use Rattle.mysql_field_constants.specs.Flags.{contains}
@@ -107,26 +107,34 @@ abbrev pub are_so_many : ℕ → Option (List ColumnDefinition) → Bool
 are_so_many n None = false
 are_so_many n (Some columns) = length columns == n
 
-abbrev pub stand : Context → ReplySoFar → ℕ → Bool
-stand c s n = is_execution c.kind && are_so_many n s.columns
+abbrev pub stand : Context → ℕ → Option (List ColumnDefinition) → Bool
+stand c n columns = is_execution c.kind && are_so_many n columns
 
 -- Behind a count. Where columns neither follow nor stand, MySQL's rows can't be read, and MariaDB's count is wrong.
-abbrev pub after_count : Context → ReplySoFar → ℕ × Bool → Result Awaited ReplyFault
-after_count c s (n, true) = Ok (Columns ResultSet (n - 1) [])
-after_count c s (n, false) =
-    if stand c s n || optional_metadata c then Ok (after_columns c ResultSet (stand c s n)) else Err BadCount
+abbrev pub after_count : Context → Option (List ColumnDefinition) → ℕ × Bool → Result Awaited ReplyFault
+after_count c columns count =
+    if count.1 then Ok (Columns ResultSet (count.0 - 1) [])
+    else if stand c count.0 columns || optional_metadata c
+    then Ok (after_columns c ResultSet (stand c count.0 columns))
+    else Err BadCount
+
+abbrev pub count_step : Context → ReplySoFar → Payload → Step
+count_step c s payload = do
+  count ← column_count c payload
+  next ← after_count c s.columns count
+  goes_on s (CountEvent count.0 count.1) next
+
+abbrev pub ok_step : Context → ReplySoFar → Payload → Step
+ok_step c s payload = do
+  ok ← ok_packet c payload
+  goes_on s (OkEvent ok) (after_result c ok)
 
 abbrev pub first_of_result : Context → ReplySoFar → Payload → Step
 first_of_result c s payload =
-    if begins_ok c payload then (do
-      ok ← ok_packet c payload
-      goes_on s (OkEvent ok) (after_result c ok))
+    if begins_ok c payload then ok_step c s payload
     else if begins_with 251 payload then goes_on s (FileEvent (drop 1 payload)) FileData
     else if length payload == 0 then Err BadHeader
-    else (do
-      count ← column_count c payload
-      next ← after_count c s count
-      goes_on s (CountEvent count.0 count.1) next)
+    else count_step c s payload
 
 -- Behind a statement packet: so many parameters and columns, and whether they follow.
 abbrev pub after_statement : Context → ℕ → ℕ → Bool → Awaited
@@ -149,11 +157,12 @@ in_end c s payload = do
 
 abbrev pub plain : Context → ReplySoFar → Payload → Step
 plain c s payload =
-    if begins_with 0 payload then (do
-      ok ← ok_packet c payload
-      goes_on s (OkEvent ok) Nothing)
+    if begins_with 0 payload then ok_step c s payload
     else if begins_terminator c payload then in_end c s payload
     else Err BadHeader
+
+abbrev pub line : ReplySoFar → Payload → Step
+line s payload = goes_on s (LineEvent payload) Nothing
 
 -- ROWS, AND COLUMNS OF A TABLE
 
@@ -184,17 +193,18 @@ first c s kinds.Text payload = first_of_result c s payload
 first c s kinds.Binary payload = first_of_result c s payload
 first c s kinds.Prepare payload = first_of_statement c s payload
 first c s kinds.Plain payload = plain c s payload
-first c s kinds.Line payload = goes_on s (LineEvent payload) Nothing
+first c s kinds.Line payload = line s payload
 first c s kinds.FieldList payload = in_fields c s payload
 first c s kinds.Fetch payload = in_rows c s true payload
 
 -- An error, which ends a reply, or else what else may stand there.
+abbrev pub error_step : Context → ReplySoFar → Payload → Step
+error_step c s payload = do
+  error ← server_error c payload
+  goes_on s (ErrorEvent error) Nothing
+
 abbrev pub error_or : Context → ReplySoFar → Payload → Step → Step
-error_or c s payload otherwise =
-    if begins_with 255 payload then (do
-      error ← server_error c payload
-      goes_on s (ErrorEvent error) Nothing)
-    else otherwise
+error_or c s payload otherwise = if begins_with 255 payload then error_step c s payload else otherwise
 
 -- A payload that is no progress report, by what is awaited.
 abbrev pub in_place : Context → ReplySoFar → Awaited → Payload → Step

@@ -3,6 +3,7 @@
 ghost use Rattle.std.specs.Prelude.{◌≡◌, Option, option_map};
 ghost use Rattle.mysql_fields.specs.Forms.{lenenc_number_at};
 ghost use Rattle.mysql_fields.specs.Wire.{GivesPart, TellsPart};
+ghost use Rattle.mysql_columns.specs.Columns.{column_at};
 ghost use Rattle.mysql_columns.specs.Views.{column_view};
 ghost use Rattle.mysql_server_packets.specs.Views.{prepare_ok_view};
 ghost use Rattle.mysql_reply_events.specs.Readings.{column_count, count_at, default_at, field, field_at, follow_at};
@@ -126,15 +127,23 @@ fn default_of(alloc: Global, buf: &mut ParseBuf) -> Result<Option<Vec<u8>>, Wire
     }
 }
 
+// A column.
+fn column_of(alloc: Global, _context: Context, buf: &mut ParseBuf) -> Result<Column, WireError>
+    ensures { GivesPart column_view buf.new.0.now result (column_at buf.old.0.now) }
+{
+    buf.parse(alloc, ())
+}
+
 // A column of a table, and its default value.
 fn field_of(
     alloc: Global,
+    context: Context,
     buf: &mut ParseBuf,
 ) -> Result<(Column, Option<Vec<u8>>), WireError>
     ensures { GivesPart (λ x. (column_view x.0, option_map (λ bytes. bytes.items) x.1)) buf.new.0.now result
-        (field_at buf.old.0.now) }
+        (field_at context buf.old.0.now) }
 {
-    let column: Column = buf.parse(alloc, ())?;
+    let column = column_of(alloc, context, buf)?;
     let default = default_of(alloc, buf)?;
     Ok((column, default))
 }
@@ -149,5 +158,5 @@ pub fn field_packet(
         (field context payload.now) }
 {
     let mut buf = ParseBuf(payload);
-    named_of(field_of(alloc, &mut buf), ReplyFault::BadColumn)
+    named_of(field_of(alloc, context, &mut buf), ReplyFault::BadColumn)
 }
