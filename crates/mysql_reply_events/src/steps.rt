@@ -9,8 +9,11 @@
 //! MySQL: Client/Server Protocol, "COM_QUERY Response", "Text Resultset" and "COM_STMT_PREPARE
 //! Response".
 
-ghost use Rattle.std.specs.Prelude.{◌≡◌, ◌<◌};
+ghost use Rattle.std.specs.Prelude.{◌≡◌, ◌<◌, IsOkUnless, OnErr, OnOk};
+ghost use Rattle.mysql_columns.specs.Views.{column_view};
 ghost use Rattle.mysql_ok_packets.specs.Views.{ok_packet_view};
+ghost use Rattle.mysql_rows.specs.Views.{column_views};
+ghost use Rattle.mysql_reply_events.specs.declared.fault.ReplyFault.TheVariants.{Memory};
 ghost use Rattle.mysql_reply_events.specs.Table as table;
 ghost use Rattle.mysql_reply_events.specs.Views.{Gives, Tells, awaited_view, event_view, group_view};
 ghost use Rattle.mysql_reply_events.specs.States.{Steps, so_far};
@@ -22,17 +25,20 @@ use crate::event::ReplyEvent;
 use crate::fault::ReplyFault;
 use crate::forms::{begins_ok, begins_terminator, deprecates_eof, has_optional_metadata};
 use crate::packets::{
-    bytes_of, eof_packet, error_packet, file_packet, ok_packet, terminator_packet,
+    bytes_of, column_packet, eof_packet, error_packet, file_packet, ok_packet, terminator_packet,
 };
 use crate::rows::row_packet;
 use crate::standing::StandingColumns;
 use crate::state::ReplyState;
 use bitflags::Flags;
+use mysql_columns::Column;
 use mysql_const::StatusFlags;
 use mysql_ok_packets::OkPacket;
 use mysql_ok_packets::ok_packet::has_more_results;
 use mysql_row_refs::starts_with;
 use std::alloc::Global;
+use std::mem;
+use std::rc::RcSlice;
 
 /// Behind a result of this kind another one may follow.
 fn has_results(kind: ReplyKind) -> bool
@@ -150,7 +156,8 @@ fn error_step(
     state: &mut ReplyState,
     payload: &[u8],
 ) -> Result<ReplyEvent, ReplyFault>
-    ensures { Steps (table.error_step context (so_far state.old) payload.now) result state.new }
+    ensures step { Steps (table.error_step context (so_far state.old) payload.now) result state.new }
+    ensures kept { OnErr result (state.new.standing ≡ state.old.standing) }
 {
     let error = error_packet(alloc, context, payload)?;
     state.awaited = Awaited::Nothing;
@@ -164,7 +171,8 @@ fn end_step(
     state: &mut ReplyState,
     payload: &[u8],
 ) -> Result<ReplyEvent, ReplyFault>
-    ensures { Steps (table.in_end context (so_far state.old) payload.now) result state.new }
+    ensures step { Steps (table.in_end context (so_far state.old) payload.now) result state.new }
+    ensures kept { OnErr result (state.new.standing ≡ state.old.standing) }
 {
     let ok = terminator_packet(alloc, context, payload)?;
     state.awaited = after_result(context, &ok);
@@ -178,7 +186,8 @@ fn ok_step(
     state: &mut ReplyState,
     payload: &[u8],
 ) -> Result<ReplyEvent, ReplyFault>
-    ensures { Steps (table.ok_step context (so_far state.old) payload.now) result state.new }
+    ensures step { Steps (table.ok_step context (so_far state.old) payload.now) result state.new }
+    ensures kept { OnErr result (state.new.standing ≡ state.old.standing) }
 {
     let ok = ok_packet(alloc, context, payload)?;
     state.awaited = after_result(context, &ok);
@@ -192,7 +201,8 @@ fn count_step(
     state: &mut ReplyState,
     payload: &[u8],
 ) -> Result<ReplyEvent, ReplyFault>
-    ensures { Steps (table.count_step context (so_far state.old) payload.now) result state.new }
+    ensures step { Steps (table.count_step context (so_far state.old) payload.now) result state.new }
+    ensures kept { OnErr result (state.new.standing ≡ state.old.standing) }
 {
     let (count, columns_follow) = count_packet(context, payload)?;
     state.awaited = after_count(alloc, context, &state.standing, count, columns_follow)?;
@@ -235,7 +245,8 @@ fn result_step(
     state: &mut ReplyState,
     payload: &[u8],
 ) -> Result<ReplyEvent, ReplyFault>
-    ensures { Steps (table.first_of_result context (so_far state.old) payload.now) result state.new }
+    ensures step { Steps (table.first_of_result context (so_far state.old) payload.now) result state.new }
+    ensures kept { OnErr result (state.new.standing ≡ state.old.standing) }
 {
     if begins_ok(context, payload) {
         ok_step(alloc, context, state, payload)
@@ -281,7 +292,8 @@ fn statement_step(
     state: &mut ReplyState,
     payload: &[u8],
 ) -> Result<ReplyEvent, ReplyFault>
-    ensures { Steps (table.first_of_statement context (so_far state.old) payload.now) result state.new }
+    ensures step { Steps (table.first_of_statement context (so_far state.old) payload.now) result state.new }
+    ensures kept { OnErr result (state.new.standing ≡ state.old.standing) }
 {
     if !starts_with(payload, 0) {
         return Err(ReplyFault::BadHeader);
@@ -303,7 +315,8 @@ fn plain_step(
     state: &mut ReplyState,
     payload: &[u8],
 ) -> Result<ReplyEvent, ReplyFault>
-    ensures { Steps (table.plain context (so_far state.old) payload.now) result state.new }
+    ensures step { Steps (table.plain context (so_far state.old) payload.now) result state.new }
+    ensures kept { OnErr result (state.new.standing ≡ state.old.standing) }
 {
     if starts_with(payload, 0) {
         ok_step(alloc, context, state, payload)
@@ -320,7 +333,8 @@ fn line_step(
     state: &mut ReplyState,
     payload: &[u8],
 ) -> Result<ReplyEvent, ReplyFault>
-    ensures { Steps (table.line (so_far state.old) payload.now) result state.new }
+    ensures step { Steps (table.line (so_far state.old) payload.now) result state.new }
+    ensures kept { OnErr result (state.new.standing ≡ state.old.standing) }
 {
     let bytes = bytes_of(alloc, payload)?;
     state.awaited = Awaited::Nothing;
@@ -361,7 +375,8 @@ fn rows_step(
     known: bool,
     payload: &[u8],
 ) -> Result<ReplyEvent, ReplyFault>
-    ensures { Steps (table.in_rows context (so_far state.old) known payload.now) result state.new }
+    ensures step { Steps (table.in_rows context (so_far state.old) known payload.now) result state.new }
+    ensures kept { OnErr result (state.new.standing ≡ state.old.standing) }
 {
     if begins_terminator(context, payload) {
         end_step(alloc, context, state, payload)
@@ -379,7 +394,8 @@ fn fields_step(
     state: &mut ReplyState,
     payload: &[u8],
 ) -> Result<ReplyEvent, ReplyFault>
-    ensures { Steps (table.in_fields context (so_far state.old) payload.now) result state.new }
+    ensures step { Steps (table.in_fields context (so_far state.old) payload.now) result state.new }
+    ensures kept { OnErr result (state.new.standing ≡ state.old.standing) }
 {
     if begins_terminator(context, payload) {
         end_step(alloc, context, state, payload)
@@ -399,10 +415,169 @@ fn columns_end_step(
     known: bool,
     payload: &[u8],
 ) -> Result<ReplyEvent, ReplyFault>
-    ensures { Steps (table.in_columns_end context (so_far state.old) (group_view group) known payload.now) result
+    ensures step { Steps (table.in_columns_end context (so_far state.old) (group_view group) known payload.now) result
         state.new }
+    ensures kept { OnErr result (state.new.standing ≡ state.old.standing) }
 {
     let ok = eof_packet(alloc, context, payload)?;
     state.awaited = after_columns_end(alloc, context, group, known, &ok);
     Ok(ReplyEvent::ColumnsEnd(ok))
+}
+
+/// Keeps a copy of a column of a group with those before it. Parameters aren't kept.
+fn keep_column(
+    alloc: Global,
+    group: ColumnGroup,
+    columns: &mut Vec<Column>,
+    column: &Column,
+) -> Result<(), ReplyFault>
+    ensures kept { OnOk result (column_views columns.new.items ≡
+        table.with_column (group_view group) (column_views columns.old.items) (column_view column.now)) }
+    ensures memory { IsOkUnless result Memory }
+{
+    match group {
+        ColumnGroup::Parameters { columns: _, follow: _ } => Ok(()),
+        _ => {
+            let Ok(copy) = column.clone(alloc) else {
+                return Err(ReplyFault::Memory);
+            };
+            match columns.push(copy) {
+                Ok(()) => Ok(()),
+                Err(_) => Err(ReplyFault::Memory),
+            }
+        }
+    }
+}
+
+/// The columns of a group stand, once it is whole, but for parameters.
+fn stand(group: ColumnGroup, standing: &mut StandingColumns, columns: Vec<Column>) -> Result<(), ReplyFault>
+    ensures stand { OnOk result (standing.new.columns ≡
+        table.standing (group_view group) (column_views columns.items) standing.old.columns) }
+    ensures format { standing.new.format ≡ standing.old.format }
+    ensures memory { IsOkUnless result Memory }
+    ensures kept { OnErr result (standing.new ≡ standing.old) }
+{
+    match group {
+        ColumnGroup::Parameters { columns: _, follow: _ } => Ok(()),
+        _ => match RcSlice::from_vec(columns) {
+            Ok(shared) => {
+                standing.replace(shared);
+                Ok(())
+            }
+            Err(_) => Err(ReplyFault::Memory),
+        },
+    }
+}
+
+/// A column of a group came, and so many more are left.
+fn column_came(
+    alloc: Global,
+    context: Context,
+    state: &mut ReplyState,
+    group: ColumnGroup,
+    left: u16,
+    columns: Vec<Column>,
+) -> Result<(), ReplyFault>
+    ensures came { OnOk result (so_far state.new ≡
+        table.column_came context (so_far state.old) (group_view group) left (column_views columns.items)) }
+    ensures memory { IsOkUnless result Memory }
+    ensures kept { OnErr result (state.new.standing ≡ state.old.standing) }
+{
+    if left > 0 {
+        state.awaited = Awaited::Columns {
+            group,
+            left: left - 1,
+            columns,
+        };
+        return Ok(());
+    }
+    stand(group, &mut state.standing, columns)?;
+    state.awaited = after_columns(alloc, context, group, true);
+    Ok(())
+}
+
+/// Reads a column of a group, which has so many more behind it and these before it.
+fn column_step(
+    alloc: Global,
+    context: Context,
+    state: &mut ReplyState,
+    group: ColumnGroup,
+    left: u16,
+    mut columns: Vec<Column>,
+    payload: &[u8],
+) -> Result<ReplyEvent, ReplyFault>
+    ensures step { Steps (table.in_columns context (so_far state.old) (group_view group) left
+        (column_views columns.items) payload.now) result state.new }
+    ensures kept { OnErr result (state.new.standing ≡ state.old.standing) }
+{
+    let column = column_packet(alloc, context, payload)?;
+    keep_column(alloc, group, &mut columns, &column)?;
+    column_came(alloc, context, state, group, left, columns)?;
+    Ok(ReplyEvent::Column(column))
+}
+
+/// Reads the first payload of a reply or of a further result that is no error, by the kind of the
+/// command.
+fn first_step(
+    alloc: Global,
+    context: Context,
+    state: &mut ReplyState,
+    payload: &[u8],
+) -> Result<ReplyEvent, ReplyFault>
+    ensures step { Steps (table.first context (so_far state.old) context.kind payload.now) result state.new }
+    ensures kept { OnErr result (state.new.standing ≡ state.old.standing) }
+{
+    match context.kind {
+        ReplyKind::Text | ReplyKind::Binary => result_step(alloc, context, state, payload),
+        ReplyKind::Prepare => statement_step(alloc, context, state, payload),
+        ReplyKind::Plain => plain_step(alloc, context, state, payload),
+        ReplyKind::Line => line_step(alloc, state, payload),
+        ReplyKind::FieldList => fields_step(alloc, context, state, payload),
+        ReplyKind::Fetch => rows_step(alloc, context, state, true, payload),
+    }
+}
+
+/// Reads a payload that is no progress report, by what is awaited. After an `Err` nothing is.
+pub fn place_step(
+    alloc: Global,
+    context: Context,
+    state: &mut ReplyState,
+    payload: &[u8],
+) -> Result<ReplyEvent, ReplyFault>
+    ensures step { Steps (table.in_place context (so_far state.old) (so_far state.old).awaited payload.now) result
+        state.new }
+    ensures kept { OnErr result (state.new.standing ≡ state.old.standing) }
+{
+    match mem::replace(&mut state.awaited, Awaited::Nothing) {
+        Awaited::First => {
+            if starts_with(payload, 255) {
+                error_step(alloc, context, state, payload)
+            } else {
+                first_step(alloc, context, state, payload)
+            }
+        }
+        Awaited::Columns {
+            group,
+            left,
+            columns,
+        } => column_step(alloc, context, state, group, left, columns, payload),
+        Awaited::ColumnsEnd { group, known } => {
+            columns_end_step(alloc, context, state, group, known, payload)
+        }
+        Awaited::Rows { known } => {
+            if starts_with(payload, 255) {
+                error_step(alloc, context, state, payload)
+            } else {
+                rows_step(alloc, context, state, known, payload)
+            }
+        }
+        Awaited::Fields => {
+            if starts_with(payload, 255) {
+                error_step(alloc, context, state, payload)
+            } else {
+                fields_step(alloc, context, state, payload)
+            }
+        }
+        Awaited::FileData | Awaited::Nothing => Err(ReplyFault::NotDue),
+    }
 }
