@@ -4,3 +4,4 @@ pub mod Table
 pub mod Views
 pub mod Standing
 pub mod States
+pub mod Reader

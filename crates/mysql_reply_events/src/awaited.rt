@@ -21,10 +21,7 @@ pub enum ColumnGroup {
     /// A result set: its rows follow.
     ResultSet,
     /// The parameters of a prepared statement: so many columns of it come next.
-    Parameters {
-        columns: u16,
-        follow: bool,
-    },
+    Parameters { columns: u16, follow: bool },
     /// The columns of a prepared statement, which end the reply.
     Statement,
 }

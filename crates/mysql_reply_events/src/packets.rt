@@ -57,8 +57,10 @@ pub fn ok_packet(
 ) -> Result<OkPacket<'static>, ReplyFault>
     ensures { Gives ok_packet_view result (readings.ok_packet context payload.now) }
 {
-    let read = ParseBuf(payload)
-        .parse::<OkPacketDeserializer<CommonOkPacket>>(alloc, context.capabilities.protocol);
+    let read = ParseBuf(payload).parse::<OkPacketDeserializer<CommonOkPacket>>(
+        alloc,
+        context.capabilities.protocol,
+    );
     let ok = refused_of(read, ReplyFault::BadOk)?;
     match ok.into_inner().into_owned(alloc) {
         Ok(ok) => Ok(ok),
@@ -74,11 +76,7 @@ pub fn error_packet(
 ) -> Result<ServerError<'static>, ReplyFault>
     ensures { Gives server_error_view result (server_error context payload.now) }
 {
-    let read = server_error_of(
-        alloc,
-        context.capabilities.protocol,
-        &mut ParseBuf(payload),
-    );
+    let read = server_error_of(alloc, context.capabilities.protocol, &mut ParseBuf(payload));
     let error = refused_of(read, ReplyFault::BadError)?;
     match error.into_owned(alloc) {
         Ok(error) => Ok(error),

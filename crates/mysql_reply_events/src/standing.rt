@@ -74,4 +74,16 @@ impl StandingColumns {
             None => false,
         }
     }
+
+    /// The columns, taken.
+    pub fn into_columns(self) -> Option<RcSlice<Column>>
+        ensures { columns_of result ≡ self.columns }
+    {
+        let StandingColumns {
+            columns,
+            format: _,
+            reader: _,
+        } = self;
+        columns
+    }
 }

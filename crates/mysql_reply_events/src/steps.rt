@@ -158,6 +158,7 @@ fn error_step(
 ) -> Result<ReplyEvent, ReplyFault>
     ensures step { Steps (table.error_step context (so_far state.old) payload.now) result state.new }
     ensures kept { OnErr result (state.new.standing ≡ state.old.standing) }
+    ensures format { state.new.standing.format ≡ state.old.standing.format }
 {
     let error = error_packet(alloc, context, payload)?;
     state.awaited = Awaited::Nothing;
@@ -173,6 +174,7 @@ fn end_step(
 ) -> Result<ReplyEvent, ReplyFault>
     ensures step { Steps (table.in_end context (so_far state.old) payload.now) result state.new }
     ensures kept { OnErr result (state.new.standing ≡ state.old.standing) }
+    ensures format { state.new.standing.format ≡ state.old.standing.format }
 {
     let ok = terminator_packet(alloc, context, payload)?;
     state.awaited = after_result(context, &ok);
@@ -188,6 +190,7 @@ fn ok_step(
 ) -> Result<ReplyEvent, ReplyFault>
     ensures step { Steps (table.ok_step context (so_far state.old) payload.now) result state.new }
     ensures kept { OnErr result (state.new.standing ≡ state.old.standing) }
+    ensures format { state.new.standing.format ≡ state.old.standing.format }
 {
     let ok = ok_packet(alloc, context, payload)?;
     state.awaited = after_result(context, &ok);
@@ -203,6 +206,7 @@ fn count_step(
 ) -> Result<ReplyEvent, ReplyFault>
     ensures step { Steps (table.count_step context (so_far state.old) payload.now) result state.new }
     ensures kept { OnErr result (state.new.standing ≡ state.old.standing) }
+    ensures format { state.new.standing.format ≡ state.old.standing.format }
 {
     let (count, columns_follow) = count_packet(context, payload)?;
     state.awaited = after_count(alloc, context, &state.standing, count, columns_follow)?;
@@ -247,6 +251,7 @@ fn result_step(
 ) -> Result<ReplyEvent, ReplyFault>
     ensures step { Steps (table.first_of_result context (so_far state.old) payload.now) result state.new }
     ensures kept { OnErr result (state.new.standing ≡ state.old.standing) }
+    ensures format { state.new.standing.format ≡ state.old.standing.format }
 {
     if begins_ok(context, payload) {
         ok_step(alloc, context, state, payload)
@@ -294,6 +299,7 @@ fn statement_step(
 ) -> Result<ReplyEvent, ReplyFault>
     ensures step { Steps (table.first_of_statement context (so_far state.old) payload.now) result state.new }
     ensures kept { OnErr result (state.new.standing ≡ state.old.standing) }
+    ensures format { state.new.standing.format ≡ state.old.standing.format }
 {
     if !starts_with(payload, 0) {
         return Err(ReplyFault::BadHeader);
@@ -317,6 +323,7 @@ fn plain_step(
 ) -> Result<ReplyEvent, ReplyFault>
     ensures step { Steps (table.plain context (so_far state.old) payload.now) result state.new }
     ensures kept { OnErr result (state.new.standing ≡ state.old.standing) }
+    ensures format { state.new.standing.format ≡ state.old.standing.format }
 {
     if starts_with(payload, 0) {
         ok_step(alloc, context, state, payload)
@@ -335,6 +342,7 @@ fn line_step(
 ) -> Result<ReplyEvent, ReplyFault>
     ensures step { Steps (table.line (so_far state.old) payload.now) result state.new }
     ensures kept { OnErr result (state.new.standing ≡ state.old.standing) }
+    ensures format { state.new.standing.format ≡ state.old.standing.format }
 {
     let bytes = bytes_of(alloc, payload)?;
     state.awaited = Awaited::Nothing;
@@ -377,6 +385,7 @@ fn rows_step(
 ) -> Result<ReplyEvent, ReplyFault>
     ensures step { Steps (table.in_rows context (so_far state.old) known payload.now) result state.new }
     ensures kept { OnErr result (state.new.standing ≡ state.old.standing) }
+    ensures format { state.new.standing.format ≡ state.old.standing.format }
 {
     if begins_terminator(context, payload) {
         end_step(alloc, context, state, payload)
@@ -396,6 +405,7 @@ fn fields_step(
 ) -> Result<ReplyEvent, ReplyFault>
     ensures step { Steps (table.in_fields context (so_far state.old) payload.now) result state.new }
     ensures kept { OnErr result (state.new.standing ≡ state.old.standing) }
+    ensures format { state.new.standing.format ≡ state.old.standing.format }
 {
     if begins_terminator(context, payload) {
         end_step(alloc, context, state, payload)
@@ -418,6 +428,7 @@ fn columns_end_step(
     ensures step { Steps (table.in_columns_end context (so_far state.old) (group_view group) known payload.now) result
         state.new }
     ensures kept { OnErr result (state.new.standing ≡ state.old.standing) }
+    ensures format { state.new.standing.format ≡ state.old.standing.format }
 {
     let ok = eof_packet(alloc, context, payload)?;
     state.awaited = after_columns_end(alloc, context, group, known, &ok);
@@ -436,7 +447,10 @@ fn keep_column(
     ensures memory { IsOkUnless result Memory }
 {
     match group {
-        ColumnGroup::Parameters { columns: _, follow: _ } => Ok(()),
+        ColumnGroup::Parameters {
+            columns: _,
+            follow: _,
+        } => Ok(()),
         _ => {
             let Ok(copy) = column.clone(alloc) else {
                 return Err(ReplyFault::Memory);
@@ -450,7 +464,11 @@ fn keep_column(
 }
 
 /// The columns of a group stand, once it is whole, but for parameters.
-fn stand(group: ColumnGroup, standing: &mut StandingColumns, columns: Vec<Column>) -> Result<(), ReplyFault>
+fn stand(
+    group: ColumnGroup,
+    standing: &mut StandingColumns,
+    columns: Vec<Column>,
+) -> Result<(), ReplyFault>
     ensures stand { OnOk result (standing.new.columns ≡
         table.standing (group_view group) (column_views columns.items) standing.old.columns) }
     ensures format { standing.new.format ≡ standing.old.format }
@@ -458,7 +476,10 @@ fn stand(group: ColumnGroup, standing: &mut StandingColumns, columns: Vec<Column
     ensures kept { OnErr result (standing.new ≡ standing.old) }
 {
     match group {
-        ColumnGroup::Parameters { columns: _, follow: _ } => Ok(()),
+        ColumnGroup::Parameters {
+            columns: _,
+            follow: _,
+        } => Ok(()),
         _ => match RcSlice::from_vec(columns) {
             Ok(shared) => {
                 standing.replace(shared);
@@ -482,6 +503,7 @@ fn column_came(
         table.column_came context (so_far state.old) (group_view group) left (column_views columns.items)) }
     ensures memory { IsOkUnless result Memory }
     ensures kept { OnErr result (state.new.standing ≡ state.old.standing) }
+    ensures format { state.new.standing.format ≡ state.old.standing.format }
 {
     if left > 0 {
         state.awaited = Awaited::Columns {
@@ -509,6 +531,7 @@ fn column_step(
     ensures step { Steps (table.in_columns context (so_far state.old) (group_view group) left
         (column_views columns.items) payload.now) result state.new }
     ensures kept { OnErr result (state.new.standing ≡ state.old.standing) }
+    ensures format { state.new.standing.format ≡ state.old.standing.format }
 {
     let column = column_packet(alloc, context, payload)?;
     keep_column(alloc, group, &mut columns, &column)?;
@@ -526,6 +549,7 @@ fn first_step(
 ) -> Result<ReplyEvent, ReplyFault>
     ensures step { Steps (table.first context (so_far state.old) context.kind payload.now) result state.new }
     ensures kept { OnErr result (state.new.standing ≡ state.old.standing) }
+    ensures format { state.new.standing.format ≡ state.old.standing.format }
 {
     match context.kind {
         ReplyKind::Text | ReplyKind::Binary => result_step(alloc, context, state, payload),
@@ -547,6 +571,7 @@ pub fn place_step(
     ensures step { Steps (table.in_place context (so_far state.old) (so_far state.old).awaited payload.now) result
         state.new }
     ensures kept { OnErr result (state.new.standing ≡ state.old.standing) }
+    ensures format { state.new.standing.format ≡ state.old.standing.format }
 {
     match mem::replace(&mut state.awaited, Awaited::Nothing) {
         Awaited::First => {
