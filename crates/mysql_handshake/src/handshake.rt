@@ -11,7 +11,7 @@ ghost use Rattle.mysql_fields.specs.Texts.{lossy_text};
 ghost use Rattle.mysql_auth.specs.Plugins.{plugin_named, without_zero};
 ghost use Rattle.mysql_auth.specs.Views.{plugin_view};
 ghost use Rattle.mysql_buf.specs.Writing.{front};
-ghost use Rattle.mysql_handshake.specs.Capabilities.{plugin_auth, secure_connection};
+ghost use Rattle.mysql_handshake.specs.Capabilities.{offered, plugin_auth, secure_connection};
 ghost use Rattle.mysql_handshake.specs.HandshakeViews.{fixed_view, handshake_view};
 ghost use Rattle.mysql_handshake.specs.Handshakes.{HandshakeFields, block_at, fixed, fixed_at, fixed_written, flags_at};
 ghost use Rattle.mysql_handshake.specs.Handshakes.{handshake, handshake_at, name_at, name_written, nonce_of};
@@ -25,11 +25,12 @@ ghost use Rattle.mysql_field_constants.specs.Either.{either_written};
 ghost use Rattle.mysql_field_constants.specs.Flags.{contains};
 ghost use Rattle.mysql_fields.specs.declared.error.WireError.TheVariants as wire;
 
+use crate::both_sides::offered_by;
 use crate::versions::{mariadb_version, version_of};
 use bitflags::Flags;
 use mysql_auth::{AuthPlugin, without_zero};
 use mysql_buf::{ParseBuf, front_of};
-use mysql_const::{CapabilityFlags, MariadbCapabilities, StatusFlags};
+use mysql_const::{Capabilities, CapabilityFlags, MariadbCapabilities, StatusFlags};
 use mysql_field_constants::{Const, Either, RawFlags, Skip};
 use mysql_fields::{
     BareBytes, EofBytes, LeU16, LeU32, LeU32LowerHalf, LeU32UpperHalf, MyDeserialize, MySerialize,
@@ -278,6 +279,16 @@ impl<'a> HandshakePacket<'a> {
         ensures { result.0 ≡ (handshake_view self.now).mariadb_ext_capabilities }
     {
         self.mariadb_ext_capabilities
+    }
+
+    /// What the server can do, by both words. Those of MariaDB's own count where `CLIENT_LONG_PASSWORD`,
+    /// which MariaDB calls `CLIENT_MYSQL`, isn't set.
+    /// (MariaDB: "Connecting", 'Capabilities'.)
+    pub fn offered(&self) -> Capabilities
+        ensures { result ≡ offered (handshake_view self.now).capabilities
+            (handshake_view self.now).mariadb_ext_capabilities }
+    {
+        offered_by(self.capabilities, self.mariadb_ext_capabilities)
     }
 
     /// The number of the server's collation.

@@ -51,9 +51,9 @@ pub type ComChangeUserHeader = ConstU8<InvalidComChangeUserHeader, 0x11>;
 /// `Memory`.
 #[derive(Debug, PartialEq, Eq, Drop)]
 pub struct ComChangeUserMoreData<'a> {
-    character_set: u16,
-    auth_plugin: Option<AuthPlugin<'a>>,
-    connect_attributes: Option<ConnectAttributes<'a>>,
+    pub(crate) character_set: u16,
+    pub(crate) auth_plugin: Option<AuthPlugin<'a>>,
+    pub(crate) connect_attributes: Option<ConnectAttributes<'a>>,
 }
 
 impl<'a> ComChangeUserMoreData<'a> {
@@ -212,17 +212,18 @@ impl<'de> MyDeserialize<'de> for ComChangeUserMoreData<'de> {
 ///
 /// Reading is refused by `BadConstant` where another command's number stands first, by `UnexpectedEof`
 /// where a part is cut off, and by `Memory`, in the order of the parts. Where no byte follows the
-/// database there is no more.
+/// database there is no more. [`ComChangeUser::read_in_force`] and [`ComChangeUser::put_in_force`] go
+/// by the capabilities that both sides have, and let fields at the end be missing.
 ///
 /// Promise: its bytes are a function of its fields, and any bytes are read exactly as its layout
 /// says, with the first refusal from the left; each direction stands by itself (`change_user`,
 /// `change_user_at`).
 #[derive(Debug, PartialEq, Eq, Drop)]
 pub struct ComChangeUser<'a> {
-    user: RawBytes<'a, NullBytes>,
-    auth_plugin_data: RawBytes<'a, U8Bytes>,
-    database: RawBytes<'a, NullBytes>,
-    more_data: Option<ComChangeUserMoreData<'a>>,
+    pub(crate) user: RawBytes<'a, NullBytes>,
+    pub(crate) auth_plugin_data: RawBytes<'a, U8Bytes>,
+    pub(crate) database: RawBytes<'a, NullBytes>,
+    pub(crate) more_data: Option<ComChangeUserMoreData<'a>>,
 }
 
 impl<'a> ComChangeUser<'a> {
