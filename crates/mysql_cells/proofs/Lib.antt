@@ -3,3 +3,5 @@ pub mod Escapes
 pub mod SqlTexts
 pub mod WrittenCells
 pub mod ShortForms
+pub mod TypedBack
+pub mod TypedRead

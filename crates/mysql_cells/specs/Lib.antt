@@ -7,3 +7,4 @@ pub mod Values
 pub mod AsSql
 pub mod Cells
 pub mod CellLaws
+pub mod TypedCells

@@ -2,6 +2,7 @@
 
 ghost use Rattle.mysql_cells.specs.AsSql.{FitsFields};
 ghost use Rattle.mysql_cells.specs.CellLaws.{CellLength, CellsReadBack, ReadBackMeansTheSame};
+ghost use Rattle.mysql_cells.specs.TypedCells.{ReadCellsAreWritten, TypedCellsReadBack};
 ghost use Rattle.std.specs.List.{AllByRecursion};
 
 use crate::value::Value;
@@ -19,6 +20,21 @@ pub fn cells_have_lengths()
 pub fn cells_read_back()
     ensures same { CellsReadBack }
     ensures content { ReadBackMeansTheSame }
+{}
+
+/// A cell that was written by a type is read by it as the value.
+///
+/// That holds whatever follows it; but an unsigned number below 2^63 comes as `Int`, and a negative
+/// time of all zeros as positive.
+pub fn typed_cells_read_back()
+    ensures { TypedCellsReadBack }
+{}
+
+/// A value that was read by a type has a cell by it, which is read as the value.
+///
+/// But a negative time of all zeros is read as positive.
+pub fn read_cells_are_written()
+    ensures { ReadCellsAreWritten }
 {}
 
 /// Each number of a value fits its field.

@@ -12,6 +12,7 @@ mod into_content;
 pub mod laws;
 mod quoting;
 pub mod spelling;
+pub mod typed_cell;
 pub mod value;
 
 pub use as_sql::AsSqlError;
@@ -19,4 +20,5 @@ pub use cell_form::CellForm;
 pub use cells::{read_cell, read_text_cell};
 pub use deserializer::{BinValue, TextValue, ValueDeserializer};
 pub use spelling::Spelling;
+pub use typed_cell::{Cell, cell_of, put_cell};
 pub use value::Value;

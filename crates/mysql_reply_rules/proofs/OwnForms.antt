@@ -13,7 +13,8 @@ use Rattle.mysql_wire.specs.Stream.Rest.{Empty}
 use Rattle.mysql_server_packets.specs.Packets.{ProgressReport}
 use Rattle.mysql_columns.specs.Columns.{ColumnDefinition}
 use Rattle.mysql_rows.specs.Rows.{Row}
-use Rattle.mysql_rows.specs.Written.{binary_cell, binary_cells, binary_row, bits_bytes, cell_in, row_bitmap, some_cell, values_of}
+use Rattle.mysql_cells.specs.TypedCells.{binary_cell, some_cell}
+use Rattle.mysql_rows.specs.Written.{binary_cells, binary_row, bits_bytes, cell_in, row_bitmap, values_of}
 use Rattle.mysql_replies.specs.declared.context.Context.{Context}
 use Rattle.mysql_replies.specs.Grammar.{ErrorResult, FileResult, OkResult, Outcome, Payload, PreparedResult, RowsResult, is_binary}
 use Rattle.mysql_replies.specs.Manual.{EachSuchListIsWhole}

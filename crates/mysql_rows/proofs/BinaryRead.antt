@@ -23,10 +23,11 @@ use Rattle.mysql_cells.specs.declared.value.Value.TheVariants.{NULL, Bytes, Int,
 use Rattle.mysql_columns.specs.Columns.{ColumnDefinition}
 use Rattle.mysql_rows.specs.RowLaws.{none_first, other_first}
 use Rattle.mysql_rows.specs.Rows.{binary_cell_at, binary_cells_at, binary_resultset_row_at, binary_row_body_at}
-use Rattle.mysql_rows.specs.Written.{as_binary, binary_cell, cell_in, in_range, whole_cell}
+use Rattle.mysql_rows.specs.Written.{as_binary, cell_in}
+use Rattle.mysql_cells.specs.TypedCells.{ReadCellsAreWritten}
 use Rattle.mysql_rows.specs.WrittenLaws.{ReadBinaryRowsAreWritten}
-use Rattle.mysql_rows.proofs.BinaryBack.{Has, after_zero, eight_bytes, form_back, four_bytes, one_byte, two_bytes}
-use Rattle.mysql_rows.proofs.WholeRows.{as_value, left_is, read_is, speaks_not, with_value}
+use Rattle.mysql_rows.proofs.BinaryBack.{after_zero}
+use Rattle.mysql_rows.proofs.WholeRows.{left_is, read_is, speaks_not, with_value}
 
 -- BYTES THAT ARE LEFT
 
@@ -36,146 +37,18 @@ dropped n bytes are = λ i. subst (λ x. x < 256) (sym (get_or-drop n bytes i 0)
 first_left : {X : Type 0} (n : ℕ) (value : List ℕ → X) (bytes : List ℕ) (found : X × List ℕ) → AreBytes bytes → first n value bytes ≡ Some found → AreBytes found.1
 first_left n value bytes found are e = subst AreBytes (sym (ap (λ p. p.1) (first-some n value bytes found e).1)) (dropped n bytes are)
 
-counted_left : (count : Option (ℕ × List ℕ)) (found : List ℕ × List ℕ) → ((p : ℕ × List ℕ) → count ≡ Some p → AreBytes p.1) → then_at count bytes_at ≡ Some found → AreBytes found.1
-counted_left None found left e = absurd (cc)
-counted_left (Some p) found left e = first_left p.0 _ p.1 found (left p refl) e
-
-number_left : (bytes : List ℕ) (p : ℕ × List ℕ) → AreBytes bytes → lenenc_int_at bytes ≡ Some p → AreBytes p.1
-number_left [] p are e = absurd (cc)
-number_left (b ∷ bytes) p are e = by (nat_lt b 251) (b == 252) (b == 253) (b == 254) e
-  where
-    behind : AreBytes bytes
-    behind = dropped 1 (b ∷ bytes) are
-
-    by : (one two three eight : Bool) → (if one then Some (b, bytes) else if two then little_at 2 bytes else if three then little_at 3 bytes else if eight then little_at 8 bytes else Some (0, bytes)) ≡ Some p → AreBytes p.1
-    by true two three eight e = let is : bytes ≡ p.1 = cc in subst AreBytes is behind
-    by false true three eight e = first_left 2 _ bytes p behind e
-    by false false true eight e = first_left 3 _ bytes p behind e
-    by false false false true e = first_left 8 _ bytes p behind e
-    by false false false false e = let is : bytes ≡ p.1 = cc in subst AreBytes is behind
-
--- VALUES THAT ARE READ
-
--- what was read by a form has a cell of that form, and is read again as it is, but an all-zero time as positive
-abbrev IsRead : CellForm → Bool → Value → List ℕ → Type 0
-IsRead form unsigned value rest = (is_none (binary_cell form unsigned value) ≡ false) × (as_binary value ≡ without_zero_sign value) × AreBytes rest
-
-number_read : (n : ℕ) (made : ℕ → Value) (bytes rest : List ℕ) (value : Value) → number_value_at n made bytes ≡ Ok (value, rest) → (made (little_number n bytes) ≡ value) × (drop n bytes ≡ rest)
-number_read n made bytes rest value e = by (first n (little_number n) bytes) refl e
-  where
-    by : (found : Option (ℕ × List ℕ)) → first n (little_number n) bytes ≡ found → (or_end found >>= as_value made) ≡ Ok (value, rest) → (made (little_number n bytes) ≡ value) × (drop n bytes ≡ rest)
-    by None is e = absurd (cc)
-    by (Some p) is e =
-        let here = (first-some n (little_number n) bytes p is).1 in
-        let number : p.0 ≡ little_number n bytes = ap (λ p. p.0) here in
-        let left : p.1 ≡ drop n bytes = ap (λ p. p.1) here in
-        let value_is : made p.0 ≡ value = read_is (made p.0) value p.1 rest e in
-        let rest_is : p.1 ≡ rest = left_is (made p.0) value p.1 rest e in
-        (ap made (sym number) ∙ value_is, sym left ∙ rest_is)
-
-some_if : (b : Bool) (bytes : List ℕ) → b ≡ true → is_none (if b then Some bytes else None) ≡ false
-some_if true bytes is = refl
-some_if false bytes is = absurd (cc)
-
--- a whole number that was read
-abbrev IsWhole : ℕ → Width → Bool → Value → Type 0
-IsWhole n w unsigned value = (is_none (whole_cell n w unsigned value) ≡ false) × (as_binary value ≡ without_zero_sign value)
-
-whole_unsigned : (n : ℕ) (w : Width) → Has n w → (x : ℕ) → x < 256 ^ n → IsWhole n w true (unsigned_value x)
-whole_unsigned n w has x below = by (nat_lt x (2 ^ 63)) refl
-  where
-    inside : in_range (8 * n) true (pos x) ≡ true
-    inside = lt-ltb x (2 ^ (8 * n)) (omega (arith, below, has.whole))
-
-    by : (b : Bool) → nat_lt x (2 ^ 63) ≡ b → IsWhole n w true (if b then Int (pos x) else UInt x)
-    by true is = (some_if (in_range (8 * n) true (pos x)) _ inside, refl)
-    by false is = (some_if (in_range (8 * n) true (pos x)) _ inside, ap (λ (b : Bool). if b then Int (pos x) else UInt x) is)
-
-whole_signed : (n : ℕ) (w : Width) → Has n w → (x : ℕ) → x < 256 ^ n → IsWhole n w false (Int (cast_signed w x))
-whole_signed n w has x below = by (nat_lt x (2 ^ hbits w)) refl
-  where
-    by : (b : Bool) → nat_lt x (2 ^ hbits w) ≡ b → IsWhole n w false (Int (cond b (pos x) (negsuc (2 ^ bits w - suc x))))
-    by true is =
-        let inside : in_range (8 * n) false (pos x) ≡ true = ap (nat_lt x) has.half ∙ is in
-        (some_if (in_range (8 * n) false (pos x)) _ inside, refl)
-    by false is =
-        let inside : in_range (8 * n) false (negsuc (2 ^ bits w - suc x)) ≡ true =
-        lt-ltb (2 ^ bits w - suc x) (2 ^ (8 * n - 1)) (omega (arith, below, ltb-false x (2 ^ hbits w) is, has.same, has.half, has.double, has.some)) in
-        (some_if (in_range (8 * n) false (negsuc (2 ^ bits w - suc x))) _ inside, refl)
-
-whole_read : (n : ℕ) (w : Width) → Has n w → (unsigned : Bool) (bytes rest : List ℕ) (value : Value) → AreBytes bytes → number_value_at n (whole_value w unsigned) bytes ≡ Ok (value, rest)
-    → IsWhole n w unsigned value × AreBytes rest
-whole_read n w has unsigned bytes rest value are e =
-    let read = number_read n (whole_value w unsigned) bytes rest value e in
-    let below : little_number n bytes < 256 ^ n = little_from-lt 0 n bytes are in
-    (subst (IsWhole n w unsigned) read.0 (by unsigned (little_number n bytes) below), subst AreBytes read.1 (dropped n bytes are))
-  where
-    by : (unsigned : Bool) (x : ℕ) → x < 256 ^ n → IsWhole n w unsigned (whole_value w unsigned x)
-    by true x below = whole_unsigned n w has x below
-    by false x below = whole_signed n w has x below
-
--- what is neither NULL nor without a cell
-not_null : (n : ℕ) (w : Width) (unsigned : Bool) (value : Value) → is_none (whole_cell n w unsigned value) ≡ false → is_none (if is_null value then Some [] else whole_cell n w unsigned value) ≡ false
-not_null n w unsigned NULL some = refl
-not_null n w unsigned (Bytes bytes) some = some
-not_null n w unsigned (Int z) some = some
-not_null n w unsigned (UInt x) some = some
-not_null n w unsigned (Float float) some = some
-not_null n w unsigned (Double double) some = some
-not_null n w unsigned (Date year month day hour minute second micros) some = some
-not_null n w unsigned (Time negative days hours minutes seconds micros) some = some
-
-text_read : (made : List ℕ → Value) (shape : CellForm) (unsigned : Bool) → ((held : List ℕ) → (is_none (binary_cell shape unsigned (made held)) ≡ false) × (as_binary (made held) ≡ without_zero_sign (made held)))
-    → (read : Option (List ℕ × List ℕ)) (rest : List ℕ) (value : Value) → ((found : List ℕ × List ℕ) → read ≡ Some found → AreBytes found.1)
-    → (or_end read >>= as_value made) ≡ Ok (value, rest) → IsRead shape unsigned value rest
-text_read made shape unsigned known None rest value left e = absurd (cc)
-text_read made shape unsigned known (Some found) rest value left e =
-    let value_is : made found.0 ≡ value = read_is (made found.0) value found.1 rest e in
-    let rest_is : found.1 ≡ rest = left_is (made found.0) value found.1 rest e in
-    let own = known found.0 in
-    (subst (λ value. is_none (binary_cell shape unsigned value) ≡ false) value_is own.0, subst (λ value. as_binary value ≡ without_zero_sign value) value_is own.1, subst AreBytes rest_is (left found refl))
-
-as_read : (form : CellForm) (n : ℕ) (w : Width) (unsigned : Bool) (rest : List ℕ) (value : Value)
-    → (is_none (if is_null value then Some [] else whole_cell n w unsigned value) ≡ false → is_none (binary_cell form unsigned value) ≡ false) → IsWhole n w unsigned value × AreBytes rest → IsRead form unsigned value rest
-as_read form n w unsigned rest value same read = (same (not_null n w unsigned value read.0.0), read.0.1, read.1)
-
-read_form : (form : CellForm) (unsigned : Bool) (bytes rest : List ℕ) (value : Value) → AreBytes bytes → value_at form unsigned bytes ≡ Ok (value, rest) → IsRead form unsigned value rest
-read_form Nothing unsigned bytes rest value are e =
-    let value_is : NULL ≡ value = read_is NULL value bytes rest e in
-    let rest_is : bytes ≡ rest = left_is NULL value bytes rest e in
-    (subst (λ value. is_none (binary_cell Nothing unsigned value) ≡ false) value_is refl, subst (λ value. as_binary value ≡ without_zero_sign value) value_is refl, subst AreBytes rest_is are)
-read_form Whole1 unsigned bytes rest value are e = as_read Whole1 1 w8 unsigned rest value (λ h. h) (whole_read 1 w8 one_byte unsigned bytes rest value are e)
-read_form Whole2 unsigned bytes rest value are e = as_read Whole2 2 w16 unsigned rest value (λ h. h) (whole_read 2 w16 two_bytes unsigned bytes rest value are e)
-read_form Whole4 unsigned bytes rest value are e = as_read Whole4 4 w32 unsigned rest value (λ h. h) (whole_read 4 w32 four_bytes unsigned bytes rest value are e)
-read_form Whole8 unsigned bytes rest value are e = as_read Whole8 8 w64 unsigned rest value (λ h. h) (whole_read 8 w64 eight_bytes unsigned bytes rest value are e)
-read_form FloatBits unsigned bytes rest value are e =
-    let read = number_read 4 (λ n. Float n) bytes rest value e in
-    (subst (λ value. is_none (binary_cell FloatBits unsigned value) ≡ false) read.0 refl, subst (λ value. as_binary value ≡ without_zero_sign value) read.0 refl, subst AreBytes read.1 (dropped 4 bytes are))
-read_form DoubleBits unsigned bytes rest value are e =
-    let read = number_read 8 (λ n. Double n) bytes rest value e in
-    (subst (λ value. is_none (binary_cell DoubleBits unsigned value) ≡ false) read.0 refl, subst (λ value. as_binary value ≡ without_zero_sign value) read.0 refl, subst AreBytes read.1 (dropped 8 bytes are))
-read_form Counted unsigned bytes rest value are e =
-    text_read (λ held. Bytes held) Counted unsigned (λ held. (refl, refl)) (lenenc_str_at bytes) rest value (λ found is. counted_left (lenenc_int_at bytes) found (λ p some. number_left bytes p are some) is) e
-read_form DateAndTime unsigned bytes rest value are e =
-    text_read date_of DateAndTime unsigned (λ held. (refl, refl)) (u8_str_at bytes) rest value (λ found is. counted_left (little_at 1 bytes) found (λ p some. first_left 1 _ bytes p are some) is) e
-read_form Duration unsigned bytes rest value are e =
-    text_read time_of Duration unsigned (λ held. (refl, refl)) (u8_str_at bytes) rest value (λ found is. counted_left (little_at 1 bytes) found (λ p some. first_left 1 _ bytes p are some) is) e
-read_form Without unsigned bytes rest value are e = absurd (cc)
-
 -- ROWS
 
--- what was read of a column
+-- what was read of a column has a cell, and is read again as it is, but an all-zero time as positive
 abbrev IsReadIn : ColumnDefinition → Value → List ℕ → Type 0
-IsReadIn column value rest = IsRead (form column.column_type) (has_no_sign column.flags) value rest
+IsReadIn column value rest = (is_none (cell_in column value) ≡ false) × (as_binary value ≡ without_zero_sign value) × AreBytes rest
 
-read_cell : (null : Bool) (column : ColumnDefinition) (bytes rest : List ℕ) (value : Value) → AreBytes bytes → binary_cell_at null column bytes ≡ Ok (value, rest) → IsReadIn column value rest
-unfolding cell_at
-read_cell true column bytes rest value are e =
+read_cell : ReadCellsAreWritten → (null : Bool) (column : ColumnDefinition) (bytes rest : List ℕ) (value : Value) → AreBytes bytes → binary_cell_at null column bytes ≡ Ok (value, rest) → IsReadIn column value rest
+read_cell written true column bytes rest value are e =
     let value_is : NULL ≡ value = read_is NULL value bytes rest e in
     let rest_is : bytes ≡ rest = left_is NULL value bytes rest e in
     (subst (λ value. is_none (cell_in column value) ≡ false) value_is refl, subst (λ value. as_binary value ≡ without_zero_sign value) value_is refl, subst AreBytes rest_is are)
-read_cell false column bytes rest value are e =
-    read_form (form column.column_type) (has_no_sign column.flags) bytes rest value are (sym (ap (λ (shape : CellForm). value_at shape (has_no_sign column.flags) bytes) (form_back column.column_type)) ∙ e)
+read_cell written false column bytes rest value are e = written column.column_type (has_no_sign column.flags) bytes rest value are e
 
 abbrev AreWritten : List ColumnDefinition → ℕ → List Value → Type 0
 AreWritten columns place values =
@@ -190,34 +63,34 @@ others_read column columns place value (Ok found) values rest some own known e =
     let later = known found.0 found.1 refl in
     subst (AreWritten (column ∷ columns) place) is (speaks_not (is_none (cell_in column value)) place _ some later.0, λ i. own i ∷ later.1 i)
 
-first_read : (bitmap : List ℕ) (place : ℕ) (column : ColumnDefinition) (columns : List ColumnDefinition) (bytes rest : List ℕ) (values : List Value) (null : Bool) (read : Reading Value)
+first_read : ReadCellsAreWritten → (bitmap : List ℕ) (place : ℕ) (column : ColumnDefinition) (columns : List ColumnDefinition) (bytes rest : List ℕ) (values : List Value) (null : Bool) (read : Reading Value)
     → AreBytes bytes → binary_cell_at null column bytes ≡ read
     → ((after : List ℕ) (later : List Value) (left : List ℕ) → AreBytes after → binary_cells_at 2 bitmap (place + 1) columns after ≡ Ok (later, left) → AreWritten columns (place + 1) later)
     → (read >>= λ (cell : Value × List ℕ). binary_cells_at 2 bitmap (place + 1) columns cell.1 >>= with_value cell.0) ≡ Ok (values, rest) → AreWritten (column ∷ columns) place values
-first_read bitmap place column columns bytes rest values null (Err error) are is known e = absurd (cc)
-first_read bitmap place column columns bytes rest values null (Ok found) are is known e =
-    let own = read_cell null column bytes found.1 found.0 are is in
+first_read written bitmap place column columns bytes rest values null (Err error) are is known e = absurd (cc)
+first_read written bitmap place column columns bytes rest values null (Ok found) are is known e =
+    let own = read_cell written null column bytes found.1 found.0 are is in
     others_read column columns place found.0 (binary_cells_at 2 bitmap (place + 1) columns found.1) values rest own.0 own.1 (λ later left h. known found.1 later left own.2 h) e
 
-read_cells : (bitmap : List ℕ) (place : ℕ) (columns : List ColumnDefinition) (bytes rest : List ℕ) (values : List Value) → AreBytes bytes → binary_cells_at 2 bitmap place columns bytes ≡ Ok (values, rest) → AreWritten columns place values
+read_cells : ReadCellsAreWritten → (bitmap : List ℕ) (place : ℕ) (columns : List ColumnDefinition) (bytes rest : List ℕ) (values : List Value) → AreBytes bytes → binary_cells_at 2 bitmap place columns bytes ≡ Ok (values, rest) → AreWritten columns place values
 unfolding binary_cells_at
-read_cells bitmap place [] bytes rest values are e = let is : [] ≡ values = read_is [] values bytes rest e in subst (AreWritten [] place) is (refl, refl)
-read_cells bitmap place (column ∷ columns) bytes rest values are e =
-    first_read bitmap place column columns bytes rest values (is_null_at 2 bitmap place) (binary_cell_at (is_null_at 2 bitmap place) column bytes) are refl
-    (λ after later left are_left h. read_cells bitmap (place + 1) columns after left later are_left h) e
+read_cells written bitmap place [] bytes rest values are e = let is : [] ≡ values = read_is [] values bytes rest e in subst (AreWritten [] place) is (refl, refl)
+read_cells written bitmap place (column ∷ columns) bytes rest values are e =
+    first_read written bitmap place column columns bytes rest values (is_null_at 2 bitmap place) (binary_cell_at (is_null_at 2 bitmap place) column bytes) are refl
+    (λ after later left are_left h. read_cells written bitmap (place + 1) columns after left later are_left h) e
 
-read_body : (columns : List ColumnDefinition) (bytes rest : List ℕ) (values : List Value) → AreBytes bytes → binary_row_body_at 2 columns bytes ≡ Ok (values, rest) → AreWritten columns 0 values
+read_body : ReadCellsAreWritten → (columns : List ColumnDefinition) (bytes rest : List ℕ) (values : List Value) → AreBytes bytes → binary_row_body_at 2 columns bytes ≡ Ok (values, rest) → AreWritten columns 0 values
 unfolding binary_row_body_at
-read_body columns bytes rest values are e = by (bytes_at (bitmap_len 2 (length columns)) bytes) refl e
+read_body written columns bytes rest values are e = by (bytes_at (bitmap_len 2 (length columns)) bytes) refl e
   where
     by : (found : Option (List ℕ × List ℕ)) → bytes_at (bitmap_len 2 (length columns)) bytes ≡ found → (or_end found >>= λ (bitmap : List ℕ × List ℕ). binary_cells_at 2 bitmap.0 0 columns bitmap.1) ≡ Ok (values, rest) → AreWritten columns 0 values
     by None is e = absurd (cc)
-    by (Some found) is e = read_cells found.0 0 columns found.1 rest values (first_left (bitmap_len 2 (length columns)) _ bytes found are is) e
+    by (Some found) is e = read_cells written found.0 0 columns found.1 rest values (first_left (bitmap_len 2 (length columns)) _ bytes found are is) e
 
-pub read_binary_rows_are_written : ReadBinaryRowsAreWritten
-read_binary_rows_are_written columns [] rest values are e = let none = none_first columns in absurd (cc)
-read_binary_rows_are_written columns (b ∷ bytes) rest values are e = by (b == 0) refl
+pub read_binary_rows_are_written : ReadCellsAreWritten → ReadBinaryRowsAreWritten
+read_binary_rows_are_written written columns [] rest values are e = let none = none_first columns in absurd (cc)
+read_binary_rows_are_written written columns (b ∷ bytes) rest values are e = by (b == 0) refl
   where
     by : (zero_byte : Bool) → (b == 0) ≡ zero_byte → AreWritten columns 0 values
-    by true is = read_body columns bytes rest values (dropped 1 (b ∷ bytes) are) (sym (ap (λ n. binary_resultset_row_at columns (n ∷ bytes)) (eqb-true b 0 is) ∙ after_zero columns bytes) ∙ e)
+    by true is = read_body written columns bytes rest values (dropped 1 (b ∷ bytes) are) (sym (ap (λ n. binary_resultset_row_at columns (n ∷ bytes)) (eqb-true b 0 is) ∙ after_zero columns bytes) ∙ e)
     by false is = let other = other_first columns b bytes is in absurd (cc)

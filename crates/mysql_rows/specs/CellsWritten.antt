@@ -4,26 +4,13 @@ use Rattle.std.proofs.Common.{get_or, set}
 use Rattle.std.specs.Prelude.{◌≡◌, ℕ, ◌+◌, ◌/◌, ◌%◌, ◌^◌, ◌&&◌, if◌then◌else◌, Bool, false, not, List, [], ◌∷◌, ◌++◌}
 use Rattle.std.specs.Prelude.{map, flat_map, zip, Option, Some, None, Result, Ok, Err, unwrap_or}
 use Rattle.std.specs.Option.{option_and_then}
-use Rattle.byteorder.specs.Endian.{little_bytes}
-use Rattle.mysql_cells.specs.Cells.{cell}
 use Rattle.mysql_cells.specs.Values.{date_text, is_null, is_zero_time, time_text}
 use Rattle.mysql_cells.specs.declared.value.Value.{Value}
 use Rattle.mysql_cells.specs.declared.value.Value.TheVariants.{Date, Time}
 use Rattle.mysql_columns.specs.Columns.{ColumnDefinition}
-use Rattle.mysql_rows.specs.declared.binary_cell.Cell.{Cell}
-use Rattle.mysql_rows.specs.declared.binary_cell.Cell.TheVariants.{Empty, One, Two, Four, Eight, Own}
 use Rattle.mysql_rows.specs.declared.refusal.RowRefusal.{RowRefusal}
 use Rattle.mysql_rows.specs.declared.refusal.RowRefusal.TheVariants.{NoForm, Memory}
 use Rattle.mysql_rows.specs.Written.{cell_in, text_cell}
-
--- the bytes of a cell
-abbrev pub cell_bytes : Cell → List ℕ
-cell_bytes Empty = []
-cell_bytes (One number) = little_bytes 1 number
-cell_bytes (Two number) = little_bytes 2 number
-cell_bytes (Four number) = little_bytes 4 number
-cell_bytes (Eight number) = little_bytes 8 number
-cell_bytes (Own value) = cell value.now
 
 -- the text of a date or a time, an all-zero time taken as positive
 abbrev pub temporal_text : Value → Option (List ℕ)

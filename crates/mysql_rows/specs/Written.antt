@@ -1,25 +1,21 @@
 -- Rows of a result set, as a server writes them, and what speaks against a row. MySQL:
 -- Client/Server Protocol, "Text Resultset Row", "Binary Protocol Resultset Row", "Null-Bitmap",
 -- "Binary Protocol Value".
-use Rattle.std.specs.Prelude.{ℕ, zero, suc, ℤ, pos, negsuc, ◌+◌, ◌-◌, ◌*◌, ◌/◌, ◌^◌, Bool, true, false, if◌then◌else◌}
-use Rattle.std.specs.Prelude.{List, [], ◌∷◌, ◌++◌, length, map, drop, nat_lt, Option, Some, None, is_none, unwrap_or}
+use Rattle.std.specs.Prelude.{ℕ, zero, suc, ◌+◌, ◌*◌, ◌/◌, Bool, false, if◌then◌else◌}
+use Rattle.std.specs.Prelude.{List, [], ◌∷◌, ◌++◌, length, map, drop, Option, is_none, unwrap_or}
 use Rattle.std.specs.Prelude.{zip, filter_map, flat_map}
 use Rattle.std.specs.Fmt.{signed_decimal}
-use Rattle.std.specs.Int.{Width, w8, w16, w32, w64, cast_unsigned}
 use Rattle.std.specs.List.{position_from, range_with_len}
 use Rattle.std.specs.Option.{option_and_then, option_map}
-use Rattle.byteorder.specs.Endian.{little_bytes}
 use Rattle.mysql_buf.specs.Writing.{lenenc_str}
 use Rattle.mysql_queries.specs.declared.content.Content.{Content}
 use Rattle.mysql_queries.specs.declared.content.Content.TheVariants as content
 use Rattle.mysql_cells.specs.CellLaws.{read_back}
-use Rattle.mysql_cells.specs.Cells.{date_cell, form, has_no_sign, time_cell}
+use Rattle.mysql_cells.specs.Cells.{has_no_sign}
+use Rattle.mysql_cells.specs.TypedCells.{typed_cell}
 use Rattle.mysql_cells.specs.Values.{content_of, is_null}
-use Rattle.mysql_cells.specs.declared.cell_form.CellForm.{CellForm}
-use Rattle.mysql_cells.specs.declared.cell_form.CellForm.TheVariants.{Whole1, Whole2, Whole4, Whole8, FloatBits}
-use Rattle.mysql_cells.specs.declared.cell_form.CellForm.TheVariants.{DoubleBits, Counted, DateAndTime, Duration}
 use Rattle.mysql_cells.specs.declared.value.Value.{Value}
-use Rattle.mysql_cells.specs.declared.value.Value.TheVariants.{NULL, Bytes, Int, UInt, Float, Double, Date, Time}
+use Rattle.mysql_cells.specs.declared.value.Value.TheVariants.{NULL, Bytes}
 use Rattle.mysql_columns.specs.Columns.{ColumnDefinition}
 
 -- TEXT
@@ -50,55 +46,15 @@ text_row values = flat_map (λ value. unwrap_or (text_cell value) []) values
 
 -- BINARY
 
--- whether a number is one of so many bits, without a sign or with one
-abbrev pub in_range : ℕ → Bool → ℤ → Bool
-in_range n true (pos z) = nat_lt z (2 ^ n)
-in_range n true (negsuc z) = false
-in_range n false (pos z) = nat_lt z (2 ^ (n - 1))
-in_range n false (negsuc z) = nat_lt z (2 ^ (n - 1))
-
--- a number of so many bytes in two's complement, its lowest byte first
-abbrev pub number_cell : ℕ → Width → Bool → ℤ → Option (List ℕ)
-number_cell n w unsigned z = if in_range (8 * n) unsigned z then Some (little_bytes n (cast_unsigned w z)) else None
-
--- the number that a value is, if it is a whole one
-abbrev pub whole_number : Value → Option ℤ
-whole_number (Int z) = Some z
-whole_number (UInt n) = Some (pos n)
-whole_number value = None
-
--- the cell of a whole number
-abbrev pub whole_cell : ℕ → Width → Bool → Value → Option (List ℕ)
-whole_cell n w unsigned value = option_and_then (number_cell n w unsigned) (whole_number value)
-
--- the cell of a value that isn't NULL, by the form of its column's cells and whether the column has no sign
-abbrev pub some_cell : CellForm → Bool → Value → Option (List ℕ)
-some_cell Whole1 unsigned value = whole_cell 1 w8 unsigned value
-some_cell Whole2 unsigned value = whole_cell 2 w16 unsigned value
-some_cell Whole4 unsigned value = whole_cell 4 w32 unsigned value
-some_cell Whole8 unsigned value = whole_cell 8 w64 unsigned value
-some_cell FloatBits unsigned (Float float) = Some (little_bytes 4 float)
-some_cell DoubleBits unsigned (Double double) = Some (little_bytes 8 double)
-some_cell Counted unsigned (Bytes bytes) = Some (lenenc_str bytes)
-some_cell DateAndTime unsigned (Date year month day hour minute second micros) =
-    Some (date_cell year month day hour minute second micros)
-some_cell Duration unsigned (Time negative days hours minutes seconds micros) =
-    Some (time_cell negative days hours minutes seconds micros)
-some_cell column unsigned value = None
-
--- the cell of a value in a binary row, where there is one; NULL, of which its bit tells, takes no
--- bytes in whatever form
-abbrev pub binary_cell : CellForm → Bool → Value → Option (List ℕ)
-binary_cell column unsigned value = if is_null value then Some [] else some_cell column unsigned value
-
 -- what a value's binary cell is read as: the value, but an unsigned number below 2 ^ 63 as Int, and
 -- an all-zero time as positive
 abbrev pub as_binary : Value → Value
 as_binary = read_back
 
--- the cell by the column's type and flags
+-- the cell of a value in a binary row by its column's type and flags, where there is one; NULL, of
+-- which its bit tells, takes no bytes
 abbrev pub cell_in : ColumnDefinition → Value → Option (List ℕ)
-cell_in column value = binary_cell (form column.column_type) (has_no_sign column.flags) value
+cell_in column value = typed_cell column.column_type (has_no_sign column.flags) value
 
 -- so many bits as a number, the first one the lowest; zeros where there are no more
 unfoldable pub bits_number : ℕ → List Bool → ℕ

@@ -6,12 +6,14 @@ ghost use Rattle.std.proofs.Common.{get_or};
 ghost use Rattle.std.specs.Option.{option_and_then, option_map};
 ghost use Rattle.mysql_columns.specs.Views.{column_view};
 ghost use Rattle.mysql_rows.specs.Written.{binary_cause, bits_bytes, cell_in};
-ghost use Rattle.mysql_rows.specs.CellsWritten.{cell_bytes, cells_in, holds_null as is_held_null, marked, null_marks};
+ghost use Rattle.mysql_cells.specs.TypedCells.{cell_bytes};
+ghost use Rattle.mysql_rows.specs.CellsWritten.{cells_in, holds_null as is_held_null, marked, null_marks};
 ghost use Rattle.mysql_rows.specs.Views.{column_views};
 
-use crate::binary_cell::{Cell, NotWritten, cell_of, put_value};
+use crate::binary_cell::{NotWritten, cell_of, put_value};
 use crate::held::Held;
 use crate::row_bitmap::put_zeros;
+use mysql_cells::Cell;
 use mysql_columns::Column;
 use mysql_field_lists::{NullBitmap, ServerSide};
 

@@ -4,7 +4,7 @@ ghost use Rattle.mysql_rows.specs.WrittenLaws.{BinaryRowsBegin, BinaryRowsReadBa
 ghost use Rattle.mysql_rows.specs.WrittenLaws.{ReadTextRowsAreWritten, TextRowsBegin, TextRowsReadBack};
 ghost use Rattle.mysql_rows.specs.RowLaws.{CellIsTakenOnce, NamedColumnIsFirst, OtherCellsStay, PlacedValueStands};
 
-use mysql_cells::laws::cells_read_back;
+use mysql_cells::laws::{read_cells_are_written, typed_cells_read_back};
 
 /// A value is taken out of a cell once.
 #[tactic(auto, using(crate::specs::RowLaws::cell_is_taken_once))]
@@ -59,7 +59,7 @@ pub fn text_rows_begin()
 pub fn binary_rows_read_back()
     ensures { BinaryRowsReadBack }
 {
-    cells_read_back();
+    typed_cells_read_back();
 }
 
 /// A binary row begins with a zero.
@@ -71,7 +71,8 @@ pub fn binary_rows_begin()
 /// The values of a binary row that was read are read again as they are, once written.
 ///
 /// They have cells by their columns; an all-zero time is read as positive.
-#[tactic(auto, using(crate::proofs::BinaryRead::read_binary_rows_are_written))]
 pub fn read_binary_rows_are_written()
     ensures { ReadBinaryRowsAreWritten }
-{}
+{
+    read_cells_are_written();
+}
