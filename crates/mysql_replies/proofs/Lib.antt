@@ -26,3 +26,5 @@ pub mod WhatCame
 pub mod NoRows
 pub mod RowSteps
 pub mod BorrowedOut
+pub mod EventSteps
+pub mod EventsTogether

@@ -134,7 +134,7 @@ pub eof_leads : (c : Context) (g : Group) (these : List ColumnDefinition) (paylo
 eof_leads c g [] payload ok form settled h z = absurd settled
 eof_leads c g (first ∷ others) payload ok form settled h z = group_from c g 0 (first ∷ others) (payload ∷ z) (Complete (first ∷ others) z) (eof_found c first others payload ok form settled h z)
 
-eof_fails : (c : Context) (g : Group) (these : List ColumnDefinition) (payload : Payload) (fault : ReplyFault) → has_report_form c payload ≡ false → IsGroupSettled c 0 these → eof payload ≡ Err fault → (z : List Payload) → rest_of c (group_awaited g 0 these) (payload ∷ z) ≡ Faulty [] fault (payload ∷ z)
+pub eof_fails : (c : Context) (g : Group) (these : List ColumnDefinition) (payload : Payload) (fault : ReplyFault) → has_report_form c payload ≡ false → IsGroupSettled c 0 these → eof payload ≡ Err fault → (z : List Payload) → rest_of c (group_awaited g 0 these) (payload ∷ z) ≡ Faulty [] fault (payload ∷ z)
 eof_fails c g [] payload fault form settled h z = absurd settled
 eof_fails c g (first ∷ others) payload fault form settled h z = group_from c g 0 (first ∷ others) (payload ∷ z) (Faulty [] fault (payload ∷ z)) (eof_unexpected c first others payload fault form settled h z)
 
@@ -151,7 +151,7 @@ column_leads c g zero these those payload found form some h pushed z = absurd (o
 column_leads c g (suc n) these those payload found form some h pushed z =
     let e : suc n - 1 ≡ n = omega arith in rw (e, pushed) (group_same c g (suc n) n these (these ++ found ∷ []) (payload ∷ z) z (column_found c n these payload found form h z))
 
-column_fails : (c : Context) (g : Group) (n : ℕ) (these : List ColumnDefinition) (payload : Payload) (fault : ReplyFault) → has_report_form c payload ≡ false → 0 < n → column payload ≡ Err fault → (z : List Payload) → rest_of c (group_awaited g n these) (payload ∷ z) ≡ Faulty [] fault (payload ∷ z)
+pub column_fails : (c : Context) (g : Group) (n : ℕ) (these : List ColumnDefinition) (payload : Payload) (fault : ReplyFault) → has_report_form c payload ≡ false → 0 < n → column payload ≡ Err fault → (z : List Payload) → rest_of c (group_awaited g n these) (payload ∷ z) ≡ Faulty [] fault (payload ∷ z)
 column_fails c g zero these payload fault form some h z = absurd (omega arith)
 column_fails c g (suc n) these payload fault form some h z = group_from c g (suc n) these (payload ∷ z) (Faulty [] fault (payload ∷ z)) (column_unexpected c n these payload fault form h z)
 

@@ -1,0 +1,8 @@
+use Rattle.mysql_replies.proofs.EventsTogether.{events_are, faults_are}
+use Rattle.mysql_replies.proofs.laws.events_are_the_answer.Goals as goal
+
+pub returns-clause-whole : goal.returns-clause-whole
+returns-clause-whole c = events_are
+
+pub returns-clause-fault : goal.returns-clause-fault
+returns-clause-fault c = faults_are
