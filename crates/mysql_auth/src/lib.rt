@@ -23,4 +23,4 @@ pub use crate::parsec::parse_parsec_salt;
 pub use crate::plugin::AuthPlugin;
 pub use crate::plugin_data::AuthPluginData;
 pub use crate::switch::{AuthSwitchRequest, OldAuthSwitchRequest};
-pub use crate::zero::without_zero;
+pub use crate::zero::{put_with_zero, without_zero};

@@ -255,6 +255,13 @@ impl<'a> HandshakeResponse<'a> {
         Ok((db_name, auth_plugin, connect_attributes))
     }
 
+    /// What stands first in it, as in a request for a secure connection.
+    pub fn request(&self) -> &SslRequest
+        ensures { ssl_request_view result.now ≡ (response_view self.now).request }
+    {
+        &self.request
+    }
+
     /// What the client can do.
     pub fn capabilities(&self) -> CapabilityFlags
         ensures { result.0 ≡ (response_view self.now).request.capabilities }
@@ -289,6 +296,13 @@ impl<'a> HandshakeResponse<'a> {
         }
     }
 
+    /// The whole answer to the server's scramble.
+    pub fn scramble_ref(&self) -> &[u8]
+        ensures { result.now ≡ (response_view self.now).scramble }
+    {
+        self.scramble_buf.as_slice()
+    }
+
     /// The user's name.
     pub fn user(&self) -> &[u8]
         ensures { result.now ≡ (response_view self.now).user }
@@ -311,6 +325,13 @@ impl<'a> HandshakeResponse<'a> {
         ensures { option_map (λ plugin. plugin_view plugin.now) result ≡ (response_view self.now).plugin }
     {
         self.auth_plugin.as_ref()
+    }
+
+    /// The attributes, where there are any.
+    pub fn attributes(&self) -> Option<&ConnectAttributes<'a>>
+        ensures { option_map (λ all. attributes_view all.now) result ≡ (response_view self.now).attributes }
+    {
+        self.connect_attributes.as_ref()
     }
 
     /// The attributes as texts, where there are any and where bytes that aren't UTF-8 are replaced.
