@@ -8,6 +8,7 @@ use Rattle.byteorder.specs.Endian.{little_bytes}
 use Rattle.mysql_buf.specs.TextLaws.{front-bound}
 use Rattle.mysql_buf.specs.Writing.{front, u8_str}
 use Rattle.mysql_const.specs.BinlogDumpFlags.{binlog_dump_flags}
+use Rattle.mysql_executions.specs.InForce.{InForce}
 use Rattle.mysql_const.specs.declared.capabilities.Capabilities.{Capabilities}
 use Rattle.mysql_field_constants.specs.ConstantLaws.{constant_at-back}
 use Rattle.mysql_field_constants.specs.Flags.{are_named}
@@ -21,8 +22,8 @@ use Rattle.mysql_replication.specs.Packets.{binlog_dump_fields_at}
 use Rattle.mysql_replication.specs.Packets.{register_slave, register_slave_at, table_dump, table_dump_at}
 use Rattle.mysql_replication.specs.Packets.{whole_register_slave, whole_table_dump}
 use Rattle.mysql_commands.specs.Commands.{BinlogDump, Command, Other, RegisterSlave, TableDump, command_at}
-use Rattle.mysql_commands.specs.Refusals.{ReadsBack}
-use Rattle.mysql_commands.specs.Written.{command_bytes}
+use Rattle.mysql_command_writer.specs.Refusals.{ReadsBack}
+use Rattle.mysql_command_writer.specs.Written.{command_bytes}
 
 -- NAMES
 
@@ -57,19 +58,19 @@ three_fail a b c x y z h = grind (arith, nat_tests)
 -- REQUESTS FOR A TABLE
 
 -- a request that is read of what was put
-tables_back : (capabilities : Capabilities) (p q : replica.TableDump) → table_dump_at (table_dump p) ≡ Ok (q, []) →
-    command_at capabilities (command_bytes (TableDump p)) ≡ TableDump q
+tables_back : (capabilities : Capabilities) (parameters : Option InForce) (p q : replica.TableDump) → table_dump_at (table_dump p) ≡ Ok (q, []) →
+    command_at capabilities parameters (command_bytes capabilities (TableDump p)) ≡ TableDump q
 unfolding table_dump
-tables_back capabilities p q e = rw e refl
+tables_back capabilities parameters p q e = rw e refl
 
 tables_alone : (p : replica.TableDump) → IsTableDump p → table_dump_at (table_dump p) ≡ Ok (p, [])
 tables_alone p h = rw append-nil at (table_dump_at-back p [] h)
 
-pub tables_read : (capabilities : Capabilities) (p : replica.TableDump) → whole_table_dump p ≡ true →
-    ReadsBack capabilities (TableDump p)
-tables_read capabilities p h =
+pub tables_read : (capabilities : Capabilities) (parameters : Option InForce) (p : replica.TableDump) → whole_table_dump p ≡ true →
+    ReadsBack capabilities parameters (TableDump p)
+tables_read capabilities parameters p h =
     let fit = two_fit (length p.database) (length p.table) h in
-    tables_back capabilities p p (tables_alone p (record { database = fit.0; table = fit.1 }))
+    tables_back capabilities parameters p p (tables_alone p (record { database = fit.0; table = fit.1 }))
 
 -- with names that are cut
 cut_table : replica.TableDump → replica.TableDump
@@ -81,23 +82,23 @@ cut_table_bytes p =
     ap (λ (name : List ℕ). concat (little_bytes 1 19 ∷ name ∷ u8_str (front p.table 255) ∷ [])) (cut_is_same p.database)
     ∙ ap (λ (name : List ℕ). concat (little_bytes 1 19 ∷ u8_str p.database ∷ name ∷ [])) (cut_is_same p.table)
 
-cut_table_reads : (capabilities : Capabilities) (p : replica.TableDump) →
-    command_at capabilities (command_bytes (TableDump p)) ≡ TableDump (cut_table p)
+cut_table_reads : (capabilities : Capabilities) (parameters : Option InForce) (p : replica.TableDump) →
+    command_at capabilities parameters (command_bytes capabilities (TableDump p)) ≡ TableDump (cut_table p)
 unfolding cut_table
-cut_table_reads capabilities p =
+cut_table_reads capabilities parameters p =
     let short : IsTableDump (cut_table p) =
     record { database = cut_is_short p.database; table = cut_is_short p.table } in
-    tables_back capabilities p (cut_table p)
+    tables_back capabilities parameters p (cut_table p)
     (ap table_dump_at (sym (cut_table_bytes p)) ∙ tables_alone (cut_table p) short)
 
 same_table : (p q : replica.TableDump) → TableDump p ≡ TableDump q → p ≡ q
 same_table p q e = cc
 
-pub cut_tables : (capabilities : Capabilities) (p : replica.TableDump) → whole_table_dump p ≡ false →
-    ReadsBack capabilities (TableDump p) → ⊥
+pub cut_tables : (capabilities : Capabilities) (parameters : Option InForce) (p : replica.TableDump) → whole_table_dump p ≡ false →
+    ReadsBack capabilities parameters (TableDump p) → ⊥
 unfolding cut_table
-cut_tables capabilities p h e =
-    let same = same_table (cut_table p) p (sym (cut_table_reads capabilities p) ∙ e) in
+cut_tables capabilities parameters p h e =
+    let same = same_table (cut_table p) p (sym (cut_table_reads capabilities parameters p) ∙ e) in
     let database = ap (λ (q : replica.TableDump). q.database) same in
     let table = ap (λ (q : replica.TableDump). q.table) same in
     two_fail (length p.database) (length p.table) (uncut_is_short p.database database)
@@ -105,11 +106,11 @@ cut_tables capabilities p h e =
 
 -- WHAT A REPLICA SAYS OF ITSELF
 
-replicas_back : (capabilities : Capabilities) (p q : replica.RegisterSlave) →
+replicas_back : (capabilities : Capabilities) (parameters : Option InForce) (p q : replica.RegisterSlave) →
     register_slave_at (register_slave p) ≡ Ok (q, []) →
-    command_at capabilities (command_bytes (RegisterSlave p)) ≡ RegisterSlave q
+    command_at capabilities parameters (command_bytes capabilities (RegisterSlave p)) ≡ RegisterSlave q
 unfolding register_slave
-replicas_back capabilities p q e = rw e refl
+replicas_back capabilities parameters p q e = rw e refl
 
 replicas_alone : (p : replica.RegisterSlave) → IsRegisterSlave p → register_slave_at (register_slave p) ≡ Ok (p, [])
 replicas_alone p h = rw append-nil at (register_slave_at-back p [] h)
@@ -121,11 +122,11 @@ pub record HasReplicaNumbers (p : replica.RegisterSlave) : Type 0 where
   pub replication_rank : p.replication_rank < 2 ^ 32
   pub master_id : p.master_id < 2 ^ 32
 
-pub replicas_read : (capabilities : Capabilities) (p : replica.RegisterSlave) → HasReplicaNumbers p →
-    whole_register_slave p ≡ true → ReadsBack capabilities (RegisterSlave p)
-replicas_read capabilities p n h =
+pub replicas_read : (capabilities : Capabilities) (parameters : Option InForce) (p : replica.RegisterSlave) → HasReplicaNumbers p →
+    whole_register_slave p ≡ true → ReadsBack capabilities parameters (RegisterSlave p)
+replicas_read capabilities parameters p n h =
     let fit = three_fit (length p.hostname) (length p.user) (length p.password) h in
-    replicas_back capabilities p p (replicas_alone p (record {
+    replicas_back capabilities parameters p p (replicas_alone p (record {
       server_id = n.server_id;
       hostname = fit.0;
       user = fit.1;
@@ -157,10 +158,10 @@ cut_replica_bytes p =
     ∙ ap (λ (name : List ℕ). of_names p (u8_str p.hostname) name (u8_str (front p.password 255))) (cut_is_same p.user)
     ∙ ap (λ (name : List ℕ). of_names p (u8_str p.hostname) (u8_str p.user) name) (cut_is_same p.password)
 
-cut_replica_reads : (capabilities : Capabilities) (p : replica.RegisterSlave) → HasReplicaNumbers p →
-    command_at capabilities (command_bytes (RegisterSlave p)) ≡ RegisterSlave (cut_replica p)
+cut_replica_reads : (capabilities : Capabilities) (parameters : Option InForce) (p : replica.RegisterSlave) → HasReplicaNumbers p →
+    command_at capabilities parameters (command_bytes capabilities (RegisterSlave p)) ≡ RegisterSlave (cut_replica p)
 unfolding cut_replica
-cut_replica_reads capabilities p n =
+cut_replica_reads capabilities parameters p n =
     let short : IsRegisterSlave (cut_replica p) = record {
       server_id = n.server_id;
       hostname = cut_is_short p.hostname;
@@ -170,17 +171,17 @@ cut_replica_reads capabilities p n =
       replication_rank = n.replication_rank;
       master_id = n.master_id;
     } in
-    replicas_back capabilities p (cut_replica p)
+    replicas_back capabilities parameters p (cut_replica p)
     (ap register_slave_at (sym (cut_replica_bytes p)) ∙ replicas_alone (cut_replica p) short)
 
 same_replica : (p q : replica.RegisterSlave) → RegisterSlave p ≡ RegisterSlave q → p ≡ q
 same_replica p q e = cc
 
-pub cut_replicas : (capabilities : Capabilities) (p : replica.RegisterSlave) → HasReplicaNumbers p →
-    whole_register_slave p ≡ false → ReadsBack capabilities (RegisterSlave p) → ⊥
+pub cut_replicas : (capabilities : Capabilities) (parameters : Option InForce) (p : replica.RegisterSlave) → HasReplicaNumbers p →
+    whole_register_slave p ≡ false → ReadsBack capabilities parameters (RegisterSlave p) → ⊥
 unfolding cut_replica
-cut_replicas capabilities p n h e =
-    let same = same_replica (cut_replica p) p (sym (cut_replica_reads capabilities p n) ∙ e) in
+cut_replicas capabilities parameters p n h e =
+    let same = same_replica (cut_replica p) p (sym (cut_replica_reads capabilities parameters p n) ∙ e) in
     let hostname = ap (λ (q : replica.RegisterSlave). q.hostname) same in
     let user = ap (λ (q : replica.RegisterSlave). q.user) same in
     let password = ap (λ (q : replica.RegisterSlave). q.password) same in
@@ -189,10 +190,10 @@ cut_replicas capabilities p n h e =
 
 -- REQUESTS FOR THE BINARY LOG FROM A PLACE
 
-dumps_back : (capabilities : Capabilities) (p q : replica.BinlogDump) → binlog_dump_at (binlog_dump p) ≡ Ok (q, []) →
-    command_at capabilities (command_bytes (BinlogDump p)) ≡ BinlogDump q
+dumps_back : (capabilities : Capabilities) (parameters : Option InForce) (p q : replica.BinlogDump) → binlog_dump_at (binlog_dump p) ≡ Ok (q, []) →
+    command_at capabilities parameters (command_bytes capabilities (BinlogDump p)) ≡ BinlogDump q
 unfolding binlog_dump
-dumps_back capabilities p q e = rw e refl
+dumps_back capabilities parameters p q e = rw e refl
 
 -- its numbers fit their fields, as those of each do
 pub record HasDumpNumbers (p : replica.BinlogDump) : Type 0 where
@@ -200,12 +201,12 @@ pub record HasDumpNumbers (p : replica.BinlogDump) : Type 0 where
   pub flags : p.flags < 2 ^ 16
   pub server_id : p.server_id < 2 ^ 32
 
-pub dumps_read : (capabilities : Capabilities) (p : replica.BinlogDump) → HasDumpNumbers p →
-    are_named binlog_dump_flags p.flags ≡ true → ReadsBack capabilities (BinlogDump p)
-dumps_read capabilities p n h =
+pub dumps_read : (capabilities : Capabilities) (parameters : Option InForce) (p : replica.BinlogDump) → HasDumpNumbers p →
+    are_named binlog_dump_flags p.flags ≡ true → ReadsBack capabilities parameters (BinlogDump p)
+dumps_read capabilities parameters p n h =
     let is : IsBinlogDump p =
     record { pos = n.pos; flags = n.flags; named = h; server_id = n.server_id } in
-    dumps_back capabilities p p (rw append-nil at (binlog_dump_at-back p [] is refl))
+    dumps_back capabilities parameters p p (rw append-nil at (binlog_dump_at-back p [] is refl))
 
 -- flags without names are refused
 nameless_fields : (p : replica.BinlogDump) → HasDumpNumbers p → are_named binlog_dump_flags p.flags ≡ false →
@@ -229,16 +230,16 @@ unfolding binlog_dump binlog_dump_at
 nameless_at p n h =
     from_block-enough 11 binlog_dump_fields_at (binlog_dump p) (omega arith) ∙ nameless_fields p n h
 
-nameless_is_other : (capabilities : Capabilities) (p : replica.BinlogDump) (e : WireError) →
+nameless_is_other : (capabilities : Capabilities) (parameters : Option InForce) (p : replica.BinlogDump) (e : WireError) →
     binlog_dump_at (binlog_dump p) ≡ Err e →
-    command_at capabilities (command_bytes (BinlogDump p)) ≡ Other (binlog_dump p)
+    command_at capabilities parameters (command_bytes capabilities (BinlogDump p)) ≡ Other (binlog_dump p)
 unfolding binlog_dump
-nameless_is_other capabilities p e h = rw h refl
+nameless_is_other capabilities parameters p e h = rw h refl
 
 other_is_no_dump : (p : replica.BinlogDump) (payload : List ℕ) → Other payload ≡ BinlogDump p → ⊥
 other_is_no_dump p payload e = cc
 
-pub nameless_dumps : (capabilities : Capabilities) (p : replica.BinlogDump) → HasDumpNumbers p →
-    are_named binlog_dump_flags p.flags ≡ false → ReadsBack capabilities (BinlogDump p) → ⊥
-nameless_dumps capabilities p n h e = other_is_no_dump p (binlog_dump p)
-    (sym (nameless_is_other capabilities p UnknownValue (nameless_at p n h)) ∙ e)
+pub nameless_dumps : (capabilities : Capabilities) (parameters : Option InForce) (p : replica.BinlogDump) → HasDumpNumbers p →
+    are_named binlog_dump_flags p.flags ≡ false → ReadsBack capabilities parameters (BinlogDump p) → ⊥
+nameless_dumps capabilities parameters p n h e = other_is_no_dump p (binlog_dump p)
+    (sym (nameless_is_other capabilities parameters p UnknownValue (nameless_at p n h)) ∙ e)

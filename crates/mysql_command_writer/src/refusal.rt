@@ -1,7 +1,7 @@
 //! Why a command isn't put.
 
 ghost use Rattle.std.specs.Prelude.{◌≡◌};
-ghost use Rattle.mysql_commands.specs.declared.refusal.CommandRefusal.TheVariants.{Memory};
+ghost use Rattle.mysql_command_writer.specs.declared.refusal.CommandRefusal.TheVariants.{Memory};
 
 use std::alloc::{AllocError, AllocFailed};
 use thiserror::Error;

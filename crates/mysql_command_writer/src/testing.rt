@@ -1,6 +1,7 @@
 //! Whether a command's payload reads as it.
 
-ghost use Rattle.std.specs.Prelude.{◌≡◌, IfOk, Some, is_some, map};
+ghost use Rattle.std.specs.Prelude.{◌≡◌, Some, map};
+ghost use Rattle.std.specs.Option.{option_copied};
 ghost use Rattle.std.specs.List.{AllByRecursion};
 ghost use Rattle.mysql_const.specs.BinlogDumpFlags.{binlog_dump_flags};
 ghost use Rattle.mysql_field_constants.specs.Flags.{are_named};
@@ -9,18 +10,17 @@ ghost use Rattle.mysql_gtid.specs.Sids.{sid_view};
 ghost use Rattle.mysql_replication.specs.Views.{binlog_dump_gtid_view, binlog_dump_view, register_slave_view, table_dump_view};
 ghost use Rattle.std.specs.Cow.{cow_slice_items};
 ghost use Rattle.mysql_commands.specs.Commands as said;
-ghost use Rattle.mysql_commands.specs.Refusals.{ReadsBack, Tests, has_zero};
+ghost use Rattle.mysql_command_writer.specs.Refusals.{ReadsBack, Tests, has_zero};
 ghost use Rattle.mysql_commands.specs.Views.{command_view};
 
-use crate::command::Command;
-use crate::reading::said;
 use crate::refusal::CommandRefusal;
 use mysql_buf::ParseBuf;
 use bitflags::Flags;
-use mysql_const::{BinlogDumpFlags, Capabilities};
+use mysql_commands::{Capabilities, Command, StatementParameters};
+use mysql_const::BinlogDumpFlags;
 use mysql_gtid::Sid;
 use mysql_replication::{ComBinlogDump, ComBinlogDumpGtid, ComRegisterSlave, ComTableDump};
-use std::alloc::{AllocError, Global};
+use std::alloc::Global;
 
 /// A zero stands in a text.
 fn has_zero(text: &[u8]) -> bool
@@ -31,45 +31,46 @@ fn has_zero(text: &[u8]) -> bool
 }
 
 /// Flags are read again.
-fn refresh_reads(capabilities: Capabilities, flags: u8)
-    ensures { ReadsBack capabilities (said.Refresh flags) }
+fn refresh_reads(capabilities: Capabilities, parameters: Option<&StatementParameters>, flags: u8)
+    ensures { ReadsBack capabilities (option_copied parameters.entry) (said.Refresh flags) }
 {}
 
 /// A level is read again.
-fn shutdown_reads(capabilities: Capabilities, level: u8)
-    ensures { ReadsBack capabilities (said.Shutdown (Some level)) }
+fn shutdown_reads(capabilities: Capabilities, parameters: Option<&StatementParameters>, level: u8)
+    ensures { ReadsBack capabilities (option_copied parameters.entry) (said.Shutdown (Some level)) }
 {}
 
 /// An id is read again.
-fn id_reads(capabilities: Capabilities, id: u32)
-    ensures kill { ReadsBack capabilities (said.ProcessKill id) }
-    ensures close { ReadsBack capabilities (said.Close id) }
-    ensures reset { ReadsBack capabilities (said.ResetStatement id) }
+fn id_reads(capabilities: Capabilities, parameters: Option<&StatementParameters>, id: u32)
+    ensures kill { ReadsBack capabilities (option_copied parameters.entry) (said.ProcessKill id) }
+    ensures close { ReadsBack capabilities (option_copied parameters.entry) (said.Close id) }
+    ensures reset { ReadsBack capabilities (option_copied parameters.entry) (said.ResetStatement id) }
 {}
 
 /// An option is read again.
-fn option_reads(capabilities: Capabilities, option: u16)
-    ensures { ReadsBack capabilities (said.SetOption option) }
+fn option_reads(capabilities: Capabilities, parameters: Option<&StatementParameters>, option: u16)
+    ensures { ReadsBack capabilities (option_copied parameters.entry) (said.SetOption option) }
 {}
 
 /// A piece is read again.
-fn long_data_reads(capabilities: Capabilities, id: u32, place: u16, bytes: &[u8])
-    ensures { ReadsBack capabilities (said.LongData id place bytes.now) }
+fn long_data_reads(capabilities: Capabilities, parameters: Option<&StatementParameters>, id: u32, place: u16, bytes: &[u8])
+    ensures { ReadsBack capabilities (option_copied parameters.entry) (said.LongData id place bytes.now) }
 {}
 
 /// An id and a number of rows are read again.
-fn fetch_reads(capabilities: Capabilities, id: u32, rows: u32)
-    ensures { ReadsBack capabilities (said.Fetch id rows) }
+fn fetch_reads(capabilities: Capabilities, parameters: Option<&StatementParameters>, id: u32, rows: u32)
+    ensures { ReadsBack capabilities (option_copied parameters.entry) (said.Fetch id rows) }
 {}
 
 /// A table's name has no zero.
 #[tactic(auto, using(crate::proofs::FieldLists::cut_lists))]
 fn test_field_list(
     capabilities: Capabilities,
+    parameters: Option<&StatementParameters>,
     table: &[u8],
     wildcard: &[u8],
 ) -> Result<(), CommandRefusal>
-    ensures { Tests capabilities (said.FieldList table.now wildcard.now) result }
+    ensures { Tests capabilities (option_copied parameters.entry) (said.FieldList table.now wildcard.now) result }
 {
     if has_zero(table) {
         return Err(CommandRefusal::ZeroByte);
@@ -87,9 +88,10 @@ fn have_names(flags: BinlogDumpFlags) -> bool
 /// A request for the binary log has flags with names.
 fn test_binlog_dump(
     capabilities: Capabilities,
+    parameters: Option<&StatementParameters>,
     request: &ComBinlogDump,
 ) -> Result<(), CommandRefusal>
-    ensures { Tests capabilities (said.BinlogDump (binlog_dump_view request.now)) result }
+    ensures { Tests capabilities (option_copied parameters.entry) (said.BinlogDump (binlog_dump_view request.now)) result }
 {
     let _pos = request.pos();
     let _server_id = request.server_id();
@@ -103,9 +105,10 @@ fn test_binlog_dump(
 /// A request for a table has names that fit their lengths.
 fn test_table_dump(
     capabilities: Capabilities,
+    parameters: Option<&StatementParameters>,
     request: &ComTableDump,
 ) -> Result<(), CommandRefusal>
-    ensures { Tests capabilities (said.TableDump (table_dump_view request.now)) result }
+    ensures { Tests capabilities (option_copied parameters.entry) (said.TableDump (table_dump_view request.now)) result }
 {
     if request.is_whole() {
         Ok(())
@@ -117,9 +120,10 @@ fn test_table_dump(
 /// What a replica says of itself has names that fit their lengths.
 fn test_register_slave(
     capabilities: Capabilities,
+    parameters: Option<&StatementParameters>,
     replica: &ComRegisterSlave,
 ) -> Result<(), CommandRefusal>
-    ensures { Tests capabilities (said.RegisterSlave (register_slave_view replica.now)) result }
+    ensures { Tests capabilities (option_copied parameters.entry) (said.RegisterSlave (register_slave_view replica.now)) result }
 {
     let _server_id = replica.server_id();
     let _port = replica.port();
@@ -140,35 +144,25 @@ fn are_sids(sids: &[Sid<'_>])
 /// A request for the binary log has flags with names, and a name and sets that fit their lengths.
 fn test_binlog_dump_gtid(
     capabilities: Capabilities,
+    parameters: Option<&StatementParameters>,
     request: &ComBinlogDumpGtid,
 ) -> Result<(), CommandRefusal>
-    ensures { Tests capabilities (said.BinlogDumpGtid (binlog_dump_gtid_view request.now)) result }
+    ensures { Tests capabilities (option_copied parameters.entry) (said.BinlogDumpGtid (binlog_dump_gtid_view request.now)) result }
 {
     are_sids(request.sids());
     Ok(())
-}
-
-/// Whether a payload is laid out as a command.
-fn is_command(
-    alloc: Global,
-    capabilities: Capabilities,
-    payload: &[u8],
-) -> Result<bool, AllocError>
-    ensures { IfOk result (λ yes. yes ≡ is_some (said.said capabilities payload.now)) }
-{
-    let command = said(alloc, capabilities, payload)?;
-    Ok(command.is_some())
 }
 
 /// A payload that says no known command.
 fn test_other(
     alloc: Global,
     capabilities: Capabilities,
+    parameters: Option<&StatementParameters>,
     payload: &[u8],
 ) -> Result<(), CommandRefusal>
-    ensures { Tests capabilities (said.Other payload.now) result }
+    ensures { Tests capabilities (option_copied parameters.entry) (said.Other payload.now) result }
 {
-    if is_command(alloc, capabilities, payload)? {
+    if Command::is_laid_out(alloc, capabilities, parameters, payload)? {
         return Err(CommandRefusal::ReadsAsCommand);
     }
     Ok(())
@@ -178,33 +172,34 @@ fn test_other(
 pub(crate) fn test(
     alloc: Global,
     capabilities: Capabilities,
+    parameters: Option<&StatementParameters>,
     command: &Command,
 ) -> Result<(), CommandRefusal>
-    ensures { Tests capabilities (command_view command.now) result }
+    ensures { Tests capabilities (option_copied parameters.entry) (command_view command.now) result }
 {
     match command {
         Command::FieldList { table, wildcard } => {
-            test_field_list(capabilities, table.as_slice(), wildcard.as_slice())
+            test_field_list(capabilities, parameters, table.as_slice(), wildcard.as_slice())
         }
-        Command::BinlogDump(request) => test_binlog_dump(capabilities, request),
-        Command::TableDump(request) => test_table_dump(capabilities, request),
-        Command::RegisterSlave(replica) => test_register_slave(capabilities, replica),
-        Command::BinlogDumpGtid(request) => test_binlog_dump_gtid(capabilities, request),
-        Command::Other(payload) => test_other(alloc, capabilities, payload.as_slice()),
+        Command::BinlogDump(request) => test_binlog_dump(capabilities, parameters, request),
+        Command::TableDump(request) => test_table_dump(capabilities, parameters, request),
+        Command::RegisterSlave(replica) => test_register_slave(capabilities, parameters, replica),
+        Command::BinlogDumpGtid(request) => test_binlog_dump_gtid(capabilities, parameters, request),
+        Command::Other(payload) => test_other(alloc, capabilities, parameters, payload.as_slice()),
         Command::Refresh(flags) => {
-            refresh_reads(capabilities, *flags);
+            refresh_reads(capabilities, parameters, *flags);
             Ok(())
         }
         Command::Shutdown(Some(level)) => {
-            shutdown_reads(capabilities, *level);
+            shutdown_reads(capabilities, parameters, *level);
             Ok(())
         }
         Command::ProcessKill(id) | Command::Close(id) | Command::ResetStatement(id) => {
-            id_reads(capabilities, *id);
+            id_reads(capabilities, parameters, *id);
             Ok(())
         }
         Command::SetOption(option) => {
-            option_reads(capabilities, *option);
+            option_reads(capabilities, parameters, *option);
             Ok(())
         }
         Command::LongData {
@@ -212,16 +207,15 @@ pub(crate) fn test(
             place,
             bytes,
         } => {
-            long_data_reads(capabilities, *stmt_id, *place, bytes.as_slice());
+            long_data_reads(capabilities, parameters, *stmt_id, *place, bytes.as_slice());
             Ok(())
         }
         Command::Fetch { stmt_id, rows } => {
-            fetch_reads(capabilities, *stmt_id, *rows);
+            fetch_reads(capabilities, parameters, *stmt_id, *rows);
             Ok(())
         }
         Command::Quit
         | Command::InitDb(_)
-        | Command::Query(_)
         | Command::CreateDb(_)
         | Command::DropDb(_)
         | Command::Shutdown(None)

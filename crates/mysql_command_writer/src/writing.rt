@@ -3,9 +3,9 @@
 ghost use Rattle.std.specs.Prelude.{◌∷◌};
 ghost use Rattle.byteorder.specs.Endian.{little_bytes};
 ghost use Rattle.mysql_fields.specs.Wire.{Appends};
-ghost use Rattle.mysql_commands.specs.Refusals.{Puts};
+ghost use Rattle.mysql_command_writer.specs.Refusals.{Puts};
 ghost use Rattle.mysql_commands.specs.Views.{command_view};
-ghost use Rattle.mysql_commands.specs.Written.{command_bytes};
+ghost use Rattle.mysql_command_writer.specs.Written.{command_bytes};
 
 use crate::command::Command;
 use crate::refusal::CommandRefusal;

@@ -6,8 +6,8 @@ mod reading;
 pub mod reply;
 
 pub use command::Command;
-pub use reply::Reply;
 pub use mysql_const::{Capabilities, CapabilityFlags, MariadbCapabilities};
 pub use mysql_executions::{
     Attribute, BoundType, BulkExecution, BulkValue, Execution, ParameterType, StatementParameters,
 };
+pub use reply::Reply;

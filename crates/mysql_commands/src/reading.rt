@@ -1,6 +1,6 @@
 //! What a payload says.
 
-ghost use Rattle.std.specs.Prelude.{◌≡◌, ◌∷◌, IfOk, Ok, option_map};
+ghost use Rattle.std.specs.Prelude.{◌≡◌, ◌∷◌, IfOk, Ok, is_some, option_map};
 ghost use Rattle.std.specs.Option.{option_copied};
 ghost use Rattle.mysql_executions.specs.Bulks.{bulk_execution_at};
 ghost use Rattle.mysql_executions.specs.Executions.{execution_at};
@@ -350,7 +350,7 @@ fn laid_out<'a>(
 }
 
 /// What a payload says, where it is laid out as a command.
-pub(crate) fn said<'a>(
+fn said<'a>(
     alloc: Global,
     capabilities: Capabilities,
     parameters: Option<&StatementParameters>,
@@ -388,5 +388,24 @@ impl<'a> Command<'a> {
             Some(command) => Ok(command),
             None => Ok(Command::Other(CowSlice::Borrowed(payload))),
         }
+    }
+    /// Whether a payload is laid out as a command that has a row, so that it isn't read as
+    /// [`Command::Other`].
+    ///
+    /// # Errors
+    /// - `AllocError` for want of memory.
+    ///
+    /// MySQL: Client/Server Protocol, "Command Phase".
+    pub fn is_laid_out(
+        alloc: Global,
+        capabilities: Capabilities,
+        parameters: Option<&StatementParameters>,
+        payload: &[u8],
+    ) -> Result<bool, AllocError>
+        ensures { IfOk result (λ yes. yes ≡
+            is_some (said capabilities (option_copied parameters.entry) payload.now)) }
+    {
+        let command = said(alloc, capabilities, parameters, payload)?;
+        Ok(command.is_some())
     }
 }

@@ -1,7 +1,7 @@
 use Rattle.std.proofs.Common.{◌++◌, arith, refl}
 use Rattle.byteorder.specs.Endian.{little_bytes}
 use Rattle.mysql_fields.specs.Laws.{fixed_number_at-back}
-use Rattle.mysql_commands.proofs.testing.long_data_reads.Goals as goal
+use Rattle.mysql_command_writer.proofs.testing.long_data_reads.Goals as goal
 
 pub returns : goal.returns
 returns c =

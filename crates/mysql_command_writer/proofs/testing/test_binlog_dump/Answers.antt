@@ -2,8 +2,8 @@ use Rattle.std.proofs.Common.{◌≡◌, true, false, refl, sym, ◌∙◌, arit
 use Rattle.mysql_const.specs.BinlogDumpFlags.{binlog_dump_flags}
 use Rattle.mysql_field_constants.specs.Flags.{are_named}
 use Rattle.mysql_replication.specs.Views.{binlog_dump_view}
-use Rattle.mysql_commands.proofs.Replication.{HasDumpNumbers, dumps_read, nameless_dumps}
-use Rattle.mysql_commands.proofs.testing.test_binlog_dump.Goals as goal
+use Rattle.mysql_command_writer.proofs.Replication.{HasDumpNumbers, dumps_read, nameless_dumps}
+use Rattle.mysql_command_writer.proofs.testing.test_binlog_dump.Goals as goal
 
 pub returns-then-have_names : goal.returns-then-have_names
 returns-then-have_names c =

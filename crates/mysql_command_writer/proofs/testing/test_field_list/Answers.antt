@@ -1,7 +1,7 @@
 use Rattle.std.proofs.Common.{◌≡◌, false, refl, sym, ◌∙◌}
-use Rattle.mysql_commands.proofs.FieldLists.{field_lists}
-use Rattle.mysql_commands.specs.Refusals.{has_zero}
-use Rattle.mysql_commands.proofs.testing.test_field_list.Goals as goal
+use Rattle.mysql_command_writer.proofs.FieldLists.{field_lists}
+use Rattle.mysql_command_writer.specs.Refusals.{has_zero}
+use Rattle.mysql_command_writer.proofs.testing.test_field_list.Goals as goal
 
 pub returns : goal.returns
 returns c =

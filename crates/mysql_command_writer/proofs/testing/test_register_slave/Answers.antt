@@ -1,8 +1,8 @@
 use Rattle.std.proofs.Common.{◌≡◌, true, false, refl, sym, ◌∙◌, arith}
 use Rattle.mysql_replication.specs.Packets.{whole_register_slave}
 use Rattle.mysql_replication.specs.Views.{register_slave_view}
-use Rattle.mysql_commands.proofs.Replication.{HasReplicaNumbers, cut_replicas, replicas_read}
-use Rattle.mysql_commands.proofs.testing.test_register_slave.Goals as goal
+use Rattle.mysql_command_writer.proofs.Replication.{HasReplicaNumbers, cut_replicas, replicas_read}
+use Rattle.mysql_command_writer.proofs.testing.test_register_slave.Goals as goal
 
 pub returns-then-is_whole : goal.returns-then-is_whole
 returns-then-is_whole c =

@@ -1,8 +1,8 @@
 use Rattle.std.proofs.Common.{◌≡◌, true, false, refl, sym, ◌∙◌}
 use Rattle.mysql_replication.specs.Packets.{whole_table_dump}
 use Rattle.mysql_replication.specs.Views.{table_dump_view}
-use Rattle.mysql_commands.proofs.Replication.{cut_tables, tables_read}
-use Rattle.mysql_commands.proofs.testing.test_table_dump.Goals as goal
+use Rattle.mysql_command_writer.proofs.Replication.{cut_tables, tables_read}
+use Rattle.mysql_command_writer.proofs.testing.test_table_dump.Goals as goal
 
 pub returns-then-is_whole : goal.returns-then-is_whole
 returns-then-is_whole c =
