@@ -99,6 +99,27 @@ impl<'a> ComChangeUserMoreData<'a> {
         Ok(self)
     }
 
+    /// The number of the collation.
+    pub fn character_set(&self) -> u16
+        ensures { result ≡ (more_view self.now).character_set }
+    {
+        self.character_set
+    }
+
+    /// The plugin, where there is one.
+    pub fn auth_plugin(&self) -> Option<&AuthPlugin<'a>>
+        ensures { option_map (λ plugin. plugin_view plugin.now) result ≡ (more_view self.now).plugin }
+    {
+        self.auth_plugin.as_ref()
+    }
+
+    /// The attributes, where there are any.
+    pub fn attributes(&self) -> Option<&ConnectAttributes<'a>>
+        ensures { option_map (λ all. attributes_view all.now) result ≡ (more_view self.now).attributes }
+    {
+        self.connect_attributes.as_ref()
+    }
+
     /// The value in bytes of its own: it borrows nothing.
     ///
     /// # Errors
@@ -294,6 +315,34 @@ impl<'a> ComChangeUser<'a> {
     {
         self.more_data = more_data;
         self
+    }
+
+    /// The user's name.
+    pub fn user(&self) -> &[u8]
+        ensures { result.now ≡ (change_user_view self.now).user }
+    {
+        self.user.0.as_slice()
+    }
+
+    /// The answer to the scramble.
+    pub fn auth_plugin_data(&self) -> &[u8]
+        ensures { result.now ≡ (change_user_view self.now).scramble }
+    {
+        self.auth_plugin_data.0.as_slice()
+    }
+
+    /// The database's name; no bytes are none.
+    pub fn database(&self) -> &[u8]
+        ensures { result.now ≡ (change_user_view self.now).database }
+    {
+        self.database.0.as_slice()
+    }
+
+    /// The collation, the plugin and the attributes, where they are there.
+    pub fn more_data(&self) -> Option<&ComChangeUserMoreData<'a>>
+        ensures { option_map (λ more. more_view more.now) result ≡ (change_user_view self.now).more }
+    {
+        self.more_data.as_ref()
     }
 
     /// The command in bytes of its own: it borrows nothing.
