@@ -76,8 +76,8 @@ pub(crate) fn write_value<W: Write>(output: &mut W, value: &Value) -> io::Result
         }
         Value::Int(number) => write!(output, "(i {number})"),
         Value::UInt(number) => write!(output, "(i {number})"),
-        Value::Float(number) => write!(output, "(f32 {:08x})", number.to_bits()),
-        Value::Double(number) => write!(output, "(f64 {:016x})", number.to_bits()),
+        Value::Float(number) => write!(output, "(f32 {:08x})", *number),
+        Value::Double(number) => write!(output, "(f64 {:016x})", *number),
         Value::Date(year, month, day, hour, minute, second, micros) => write!(
             output,
             "(d ({year} {month} {day} {hour} {minute} {second} {micros}))"
