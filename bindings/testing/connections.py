@@ -34,10 +34,8 @@ CALLS = {
     "statement_command": (_HANDLE, _U32, _U32, *_BYTES),
     "statement_error": (_HANDLE, _U16),
     "command_line": (_HANDLE, _U32, _U32, *_BYTES, _HANDLE),
-    "command_again": (_HANDLE, _U32, _U32, *_BYTES, _HANDLE),
     "events_new": (_HANDLE, _U32, _U32, _U32, _HANDLE),
     "events_line": (_HANDLE, *_BYTES, _HANDLE, _OUT),
-    "events_again": (_HANDLE, *_BYTES, _HANDLE),
     "events_file": (_HANDLE, *_BYTES, _OUT),
     "greeting_line": (*_BYTES, _HANDLE),
     "response_line": (_U32, *_BYTES, _HANDLE),
@@ -162,11 +160,6 @@ class Walk:
         of = statement.parameters if statement else _Handle()
         given = (ctypes.byref(of), *self.in_force(), payload, len(payload))
         line = self.library.written("command_line", *given)
-        if not line.startswith(b"Other"):
-            again = self.library.written("command_again", *given)
-            given = (ctypes.byref(of), *self.in_force(), again, len(again))
-            if self.library.written("command_line", *given) != line:
-                raise ValueError(f"{line} is written again as {again.hex()}")
         self.begin(payload, line, statement)
         return line
 

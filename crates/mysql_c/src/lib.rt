@@ -23,9 +23,9 @@ use std::mem::replace;
 /// The number of the interface, which changes with each of its declarations.
 #[unsafe(no_mangle)]
 pub extern "C" fn mysql_session_abi() -> u32
-    ensures { result ≡ 5 }
+    ensures { result ≡ 4 }
 {
-    5
+    4
 }
 
 /// Frees what the handle stands for. It stands for nothing then.
