@@ -1,0 +1,6 @@
+pub mod Zeros
+pub mod FirstCause
+pub mod Packets
+pub mod AuthenticationsBack
+pub mod Read
+pub mod AuthenticationsPut
