@@ -26,3 +26,20 @@ pub none_of_two : (one two : Option LoginRefusal) → first_cause (one ∷ two �
 none_of_two None None h = (refl, refl)
 none_of_two None (Some b) h = cc
 none_of_two (Some a) two h = cc
+
+-- the first test, and what is left of the others
+pub first_passed : (a : Bool) (A : LoginRefusal) (others : List (Option LoginRefusal)) → first_cause (unless a A ∷ others) ≡ None →
+    (a ≡ true) × (first_cause others ≡ None)
+first_passed true A others h = (refl, h)
+first_passed false A others h = cc
+
+pub seven_passed : (a b c d e f g : Bool) (A B C D E F G : LoginRefusal)
+    → first_cause (unless a A ∷ unless b B ∷ unless c C ∷ unless d D ∷ unless e E ∷ unless f F ∷ unless g G ∷ []) ≡ None
+    → (a ≡ true) × (b ≡ true) × (c ≡ true) × (d ≡ true) × (e ≡ true) × (f ≡ true) × (g ≡ true)
+seven_passed a b c d e f g A B C D E F G h =
+    let one = first_passed a A (unless b B ∷ unless c C ∷ unless d D ∷ unless e E ∷ unless f F ∷ unless g G ∷ []) h in
+    let two = first_passed b B (unless c C ∷ unless d D ∷ unless e E ∷ unless f F ∷ unless g G ∷ []) one.1 in
+    let three = first_passed c C (unless d D ∷ unless e E ∷ unless f F ∷ unless g G ∷ []) two.1 in
+    let four = first_passed d D (unless e E ∷ unless f F ∷ unless g G ∷ []) three.1 in
+    let rest = three_passed e f g E F G four.1 in
+    (one.0, two.0, three.0, four.0, rest.0, rest.1, rest.2)

@@ -4,3 +4,5 @@ pub mod Packets
 pub mod AuthenticationsBack
 pub mod Read
 pub mod AuthenticationsPut
+pub mod HandshakesBack
+pub mod GreetingsBack

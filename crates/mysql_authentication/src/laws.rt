@@ -1,7 +1,7 @@
 //! Laws of the payloads of logging in. Functions without a result do nothing: their contracts are the laws.
 
 ghost use Rattle.mysql_authentication.specs.Statements.{AuthenticationsArePut, AuthenticationsReadBack};
-ghost use Rattle.mysql_authentication.specs.Statements.{RefusedAuthenticationsReadOtherwise};
+ghost use Rattle.mysql_authentication.specs.Statements.{GreetingsReadBack, RefusedAuthenticationsReadOtherwise};
 
 /// A payload of an authentication that is put is read as the event.
 #[tactic(auto, using(crate::proofs::AuthenticationsBack::authentications_read_back))]
@@ -19,4 +19,10 @@ pub fn authentications_are_put()
 #[tactic(auto, using(crate::proofs::AuthenticationsPut::refused_read_otherwise))]
 pub fn refused_authentications_read_otherwise()
     ensures { RefusedAuthenticationsReadOtherwise }
+{}
+
+/// A server's first payload that is put is read as the event.
+#[tactic(auto, using(crate::proofs::GreetingsBack::greetings_read_back))]
+pub fn greetings_read_back()
+    ensures { GreetingsReadBack }
 {}
