@@ -6,3 +6,4 @@ pub mod Read
 pub mod AuthenticationsPut
 pub mod HandshakesBack
 pub mod GreetingsBack
+pub mod GreetingsPut

@@ -1,7 +1,9 @@
 //! Laws of the payloads of logging in. Functions without a result do nothing: their contracts are the laws.
 
 ghost use Rattle.mysql_authentication.specs.Statements.{AuthenticationsArePut, AuthenticationsReadBack};
-ghost use Rattle.mysql_authentication.specs.Statements.{GreetingsReadBack, RefusedAuthenticationsReadOtherwise};
+ghost use Rattle.mysql_authentication.specs.Statements.{GreetingsArePut, GreetingsReadBack};
+ghost use Rattle.mysql_authentication.specs.Statements.{RefusedAuthenticationsReadOtherwise};
+ghost use Rattle.mysql_authentication.specs.Statements.{RefusedGreetingsReadOtherwise};
 
 /// A payload of an authentication that is put is read as the event.
 #[tactic(auto, using(crate::proofs::AuthenticationsBack::authentications_read_back))]
@@ -25,4 +27,16 @@ pub fn refused_authentications_read_otherwise()
 #[tactic(auto, using(crate::proofs::GreetingsBack::greetings_read_back))]
 pub fn greetings_read_back()
     ensures { GreetingsReadBack }
+{}
+
+/// An event that a server's first payload was read as is put, and reads as itself.
+#[tactic(auto, using(crate::proofs::GreetingsPut::greetings_are_put))]
+pub fn greetings_are_put()
+    ensures { GreetingsArePut }
+{}
+
+/// A server's first payload that isn't put would be read otherwise.
+#[tactic(auto, using(crate::proofs::GreetingsPut::refused_greetings_read_otherwise))]
+pub fn refused_greetings_read_otherwise()
+    ensures { RefusedGreetingsReadOtherwise }
 {}
