@@ -2,3 +2,4 @@ pub mod Events
 pub mod Readings
 pub mod Views
 pub mod Written
+pub mod Statements

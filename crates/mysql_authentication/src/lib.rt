@@ -7,6 +7,7 @@ mod causes;
 mod events;
 mod fault;
 mod greeting;
+pub mod laws;
 mod put;
 mod refusal;
 mod response;

@@ -1,0 +1,9 @@
+pub mod Zeros
+pub mod FirstCause
+pub mod Packets
+pub mod AuthenticationsBack
+pub mod Read
+pub mod AuthenticationsPut
+pub mod HandshakesBack
+pub mod GreetingsBack
+pub mod GreetingsPut
