@@ -71,7 +71,7 @@ pub fn read_binding(count: u64, bytes: &[u8]) -> Result<Binding<'_>, NotRead>
 }
 
 /// Whether the number of parameters stands in an execution of a statement that has so many.
-fn gives_count(capabilities: Capabilities, flags: u8, count: u16) -> bool
+pub fn gives_count(capabilities: Capabilities, flags: u8, count: u16) -> bool
     ensures { result ≡ gives_count capabilities flags count }
 {
     has_query_attributes(capabilities)

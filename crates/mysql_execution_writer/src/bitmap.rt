@@ -1,0 +1,86 @@
+//! The bitmap of parameters and attributes.
+
+ghost use Rattle.std.specs.Prelude.{◌≡◌, ◌++◌, ◌∷◌, ◌+◌, ◌*◌, ◌-◌, ◌/◌, ◌<◌, ◌≤◌, ◌^◌, OnOk, drop, if◌then◌else◌, length};
+ghost use Rattle.mysql_cells.specs.Values.{is_null as is_no_value};
+ghost use Rattle.mysql_stmt.specs.Executions.{null_bitmap, null_bits};
+ghost use Rattle.mysql_execution_writer.specs.Written.{binding_bytes, null_at, values_of};
+
+use mysql_cells::Value;
+use mysql_executions::Attribute;
+use mysql_fields::IntRepr;
+use std::alloc::AllocError;
+
+/// Whether a value is NULL.
+fn is_null(value: &Value) -> bool
+    ensures { result ≡ is_no_value value.now }
+{
+    matches!(value, Value::NULL)
+}
+
+/// Whether the value at a place is NULL, of parameters and of attributes behind them.
+fn is_null_at(parameters: &[Value], attributes: &[Attribute], place: usize) -> bool
+    ensures { result ≡ null_at (parameters.now ++ values_of attributes.now) place }
+{
+    if place < parameters.len() {
+        return is_null(&parameters[place]);
+    }
+    let behind = place - parameters.len();
+    if behind < attributes.len() {
+        is_null(&attributes[behind].value)
+    } else {
+        false
+    }
+}
+
+/// A bit, 1 for NULL.
+fn bit(null: bool) -> u16
+    ensures { result ≡ (if null then 1 else 0) }
+{
+    if null { 1 } else { 0 }
+}
+
+/// The byte of eight values from a place on, the first one the lowest bit.
+fn null_byte(parameters: &[Value], attributes: &[Attribute], first: usize) -> u8
+    requires { first < 2 ^ 63 }
+    ensures { result ≡ null_bits 8 (drop first (parameters.now ++ values_of attributes.now)) }
+{
+    let mut byte: u16 = 0;
+    for done in 0..8 {
+        let place = first + (7 - done);
+        byte = byte * 2 + bit(is_null_at(parameters, attributes, place));
+    }
+    byte as u8
+}
+
+/// Appends the bitmap of parameters and of attributes behind them. After a refusal what is there isn't said.
+fn put_bitmap(
+    parameters: &[Value],
+    attributes: &[Attribute],
+    out: &mut Vec<u8>,
+) -> Result<(), AllocError>
+    ensures { OnOk result (out.new.items ≡
+        out.old.items ++ null_bitmap (parameters.now ++ values_of attributes.now)) }
+{
+    let count = parameters.len() + attributes.len();
+    for k in 0..(count + 7) / 8 {
+        out.push(null_byte(parameters, attributes, 8 * k))?;
+    }
+    Ok(())
+}
+
+/// Appends the bitmap, and whether types follow; nothing where there are no values.
+pub fn put_binding(
+    parameters: &[Value],
+    attributes: &[Attribute],
+    bound: bool,
+    out: &mut Vec<u8>,
+) -> Result<(), AllocError>
+    ensures { OnOk result (out.new.items ≡
+        out.old.items ++ binding_bytes (parameters.now ++ values_of attributes.now) bound) }
+{
+    if parameters.is_empty() && attributes.is_empty() {
+        return Ok(());
+    }
+    put_bitmap(parameters, attributes, out)?;
+    u8::serialize(u8::from(bound), out)
+}

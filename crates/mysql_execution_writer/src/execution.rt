@@ -1,0 +1,181 @@
+//! Executions as they are written.
+
+ghost use Rattle.std.specs.Prelude.{◌≡◌, ◌++◌, ◌∷◌, ◌+◌, ◌<◌, ◌==◌, ◌||◌, ◌&&◌, [], IfOk, OnOk, false, length, true, unwrap_or};
+ghost use Rattle.std.specs.Prelude.{if◌then◌else◌};
+ghost use Rattle.mysql_buf.specs.Writing.{lenenc_int};
+ghost use Rattle.mysql_executions.specs.Executions.{gives_count as has_count};
+ghost use Rattle.mysql_executions.specs.Views.{execution_of, types_of};
+ghost use Rattle.mysql_execution_writer.specs.Answers.{PutsIf};
+ghost use Rattle.mysql_execution_writer.specs.Written.{all_values, can_be_put, can_have_attributes, can_have_flags};
+ghost use Rattle.mysql_execution_writer.specs.Written.{can_have_types, execution_bytes, flags_of};
+
+use crate::bitmap::put_binding;
+use crate::cells::{
+    fit_attributes, fit_names, fit_parameters, put_attribute_types, put_attributes, put_parameters,
+    put_types,
+};
+use crate::refusal::PutRefusal;
+use mysql_buf::BufMutExt;
+use mysql_const::Capabilities;
+use mysql_executions::execution_reading::{gives_count, has_query_attributes};
+use mysql_executions::{BoundType, Execution, StatementParameters};
+use mysql_fields::{IntRepr, LeU32};
+use std::alloc::{AllocError, Global};
+
+/// The flag of an execution that says that the number of parameters is given.
+const PARAMETER_COUNT_AVAILABLE: u8 = 8;
+
+/// Whether an execution can have its flags.
+fn fits_flags(capabilities: Capabilities, e: &Execution) -> bool
+    ensures { result ≡ can_have_flags capabilities (execution_of e.now) }
+{
+    e.cursor.0 < 8 && (has_query_attributes(capabilities) || !e.count_available)
+}
+
+/// The byte of an execution's flags.
+fn flags(e: &Execution) -> u8
+    requires { e.now.cursor.0 < 8 }
+    ensures { result ≡ flags_of (execution_of e.now) }
+{
+    if e.count_available {
+        e.cursor.0 + PARAMETER_COUNT_AVAILABLE
+    } else {
+        e.cursor.0
+    }
+}
+
+/// How many values an execution has, of parameters and of attributes.
+fn count(e: &Execution) -> usize
+    ensures { result ≡ length (all_values (execution_of e.now)) }
+{
+    e.parameters.len() + e.attributes.len()
+}
+
+/// Whether an execution can have its types, or none.
+fn fits_types(s: &StatementParameters, e: &Execution) -> bool
+    ensures { result ≡ can_have_types s.now (execution_of e.now) (types_of e.now.types) }
+{
+    match &e.types {
+        Some(own) => own.len() == usize::from(s.count()) && count(e) > 0,
+        None => s.types().len() == usize::from(s.count()) && e.attributes.is_empty(),
+    }
+}
+
+/// Whether an execution whose flags can be had can have its attributes.
+fn has_room(capabilities: Capabilities, s: &StatementParameters, e: &Execution) -> bool
+    requires { e.now.cursor.0 < 8 }
+    ensures { result ≡ can_have_attributes capabilities s.now (execution_of e.now) }
+{
+    gives_count(capabilities, flags(e), s.count()) || e.attributes.is_empty()
+}
+
+/// The types that an execution carries.
+fn own_types(e: &Execution) -> &[BoundType]
+    ensures { result.now ≡ unwrap_or (types_of e.now.types) [] }
+{
+    match &e.types {
+        Some(own) => own.as_slice(),
+        None => &[],
+    }
+}
+
+/// Whether an execution can be written.
+#[tactic(auto, unfolding(crate::specs::Written::can_be_put))]
+fn can_put(capabilities: Capabilities, s: &StatementParameters, e: &Execution) -> bool
+    ensures { result ≡ can_be_put capabilities s.now (execution_of e.now) }
+{
+    !s.is_broken()
+        && fits_flags(capabilities, e)
+        && e.parameters.len() == usize::from(s.count())
+        && fits_types(s, e)
+        && has_room(capabilities, s, e)
+        && fit_names(has_query_attributes(capabilities), own_types(e))
+        && fit_parameters(s, &e.types, &e.parameters)
+        && fit_attributes(has_query_attributes(capabilities), &e.attributes)
+}
+
+/// Appends the number of parameters, where it is given. After a refusal what is there isn't said, here and below.
+fn put_count(
+    capabilities: Capabilities,
+    s: &StatementParameters,
+    e: &Execution,
+    out: &mut Vec<u8>,
+) -> Result<(), AllocError>
+    requires { e.now.cursor.0 < 8 }
+    ensures { OnOk result (out.new.items ≡ out.old.items ++
+        (if has_count capabilities (flags_of (execution_of e.now)) s.now.count
+        then lenenc_int (length (all_values (execution_of e.now))) else [])) }
+{
+    if gives_count(capabilities, flags(e), s.count()) {
+        out.put_lenenc_int(count(e) as u64)
+    } else {
+        Ok(())
+    }
+}
+
+/// Appends an execution whose flags can be had.
+#[tactic(auto, unfolding(crate::specs::Written::execution_bytes))]
+fn put_body(
+    capabilities: Capabilities,
+    s: &StatementParameters,
+    e: &Execution,
+    out: &mut Vec<u8>,
+) -> Result<(), AllocError>
+    requires { e.now.cursor.0 < 8 }
+    ensures { OnOk result (out.new.items ≡ out.old.items ++ execution_bytes capabilities s.now (execution_of e.now)) }
+{
+    // COM_STMT_EXECUTE, behind its first byte:
+    //   int<4>       statement_id
+    //   int<1>       flags
+    //   int<4>       iteration_count: 1
+    //   int<lenenc>  parameter_count, with query attributes (`gives_count`)
+    //   ..           null_bitmap and new_params_bind_flag (`put_binding`)
+    //   (int<2> type and flag, string<lenenc> name with query attributes) for each, where bound
+    //   ..           parameter values
+    let named = has_query_attributes(capabilities);
+    LeU32::serialize(e.statement, out)?;
+    u8::serialize(flags(e), out)?;
+    LeU32::serialize(1, out)?;
+    put_count(capabilities, s, e, out)?;
+    put_binding(&e.parameters, &e.attributes, e.types.is_some(), out)?;
+    put_types(named, own_types(e), out)?;
+    put_attribute_types(named, &e.attributes, out)?;
+    put_parameters(s, &e.types, &e.parameters, out)?;
+    put_attributes(&e.attributes, out)
+}
+
+/// Appends the body of an execution, behind the command's first byte, by what is in force.
+///
+/// Promise: exactly where it can be (`can_be_put`), and the bytes are read as the execution
+/// (`executions_read_back`).
+///
+/// # Errors
+/// - `Unreadable` where no body is read as this execution: the statement is broken; a cursor of
+///   unnamed bits; another number of parameters than the statement's; types of another number, or
+///   none where none are in force or attributes stand; types where there are no values; names,
+///   attributes or the flag of the parameters' number without query attributes; a parameter other
+///   than the long data that waits for it; a value without a cell by its type.
+/// - `Memory`.
+///
+/// Nothing is changed then.
+///
+/// Follows "COM_STMT_EXECUTE" of the client/server protocol documentation.
+pub fn put_execution(
+    alloc: Global,
+    capabilities: Capabilities,
+    parameters: &StatementParameters,
+    execution: &Execution,
+    out: &mut Vec<u8>,
+) -> Result<(), PutRefusal>
+    ensures { PutsIf (can_be_put capabilities parameters.now (execution_of execution.now))
+        (execution_bytes capabilities parameters.now (execution_of execution.now))
+        out.old.items out.new.items result }
+{
+    if !can_put(capabilities, parameters, execution) {
+        return Err(PutRefusal::Unreadable);
+    }
+    let mut body = Vec::new(alloc);
+    put_body(capabilities, parameters, execution, &mut body)?;
+    out.extend_from_slice(&body)?;
+    Ok(())
+}
