@@ -1,5 +1,5 @@
 -- Packets of a replica read as they were put exactly where their texts fit their lengths and their flags have names.
-use Rattle.std.proofs.Common.{◌≡◌, ◌≤◌, ◌<◌, ℕ, ◌^◌, ◌-◌, List, [], ◌∷◌, ◌++◌, Ok, Err, Some, None, Bool, true, false, length, take}
+use Rattle.std.proofs.Common.{◌≡◌, ◌≤◌, ◌<◌, ℕ, ◌^◌, ◌-◌, List, [], ◌∷◌, ◌++◌, Ok, Err, Option, Some, None, Bool, true, false, length, take}
 use Rattle.std.proofs.Common.{refl, sym, ap, ◌∙◌, append-nil, arith, lit<, ◌&&◌, nat_le}
 use Rattle.std.proofs.lemmas.List.{take_all}
 use Rattle.std.proofs.lemmas.Bool.Decides.{nat_tests}

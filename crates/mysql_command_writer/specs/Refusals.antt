@@ -1,15 +1,15 @@
 -- Why a command isn't put: its payload would read as another one. (MySQL: Client/Server Protocol, "Command Phase".)
-use Rattle.std.specs.Prelude.{◌≡◌, ◌≢◌, ℕ, nat_lt, Bool, if◌then◌else◌, List, ◌++◌, length, Option, None, Some, is_some, not, ◌&&◌, ◌^◌}
+use Rattle.std.specs.Prelude.{◌≡◌, ◌≢◌, ℕ, nat_lt, Bool, if◌then◌else◌, List, ◌++◌, length, Option, None, Some, is_some, not, ◌==◌, ◌&&◌, ◌^◌}
 use Rattle.std.specs.Prelude.{Result, Ok, Err}
 use Rattle.std.specs.List.{position_or_len}
 use Rattle.mysql_buf.specs.Reading.{is_zero}
 use Rattle.mysql_executions.specs.InForce.{InForce}
 use Rattle.mysql_const.specs.declared.capabilities.Capabilities.{Capabilities}
-use Rattle.mysql_commands.specs.Commands.{BinlogDump, BinlogDumpGtid, Command, FieldList, Other, RegisterSlave}
+use Rattle.mysql_commands.specs.Commands.{Query, BinlogDump, BinlogDumpGtid, Command, FieldList, Other, RegisterSlave}
 use Rattle.mysql_commands.specs.Commands.{TableDump, command_at, said}
 use Rattle.mysql_command_writer.specs.Written.{command_bytes}
 use Rattle.mysql_command_writer.specs.declared.refusal.CommandRefusal.{CommandRefusal}
-use Rattle.mysql_command_writer.specs.declared.refusal.CommandRefusal.TheVariants.{Memory, NamelessFlags, ReadsAsCommand, TooLong}
+use Rattle.mysql_command_writer.specs.declared.refusal.CommandRefusal.TheVariants.{Memory, NamelessFlags, NotAgreed, ReadsAsCommand, TooLong}
 use Rattle.mysql_command_writer.specs.declared.refusal.CommandRefusal.TheVariants.{ZeroByte}
 use Rattle.mysql_const.specs.BinlogDumpFlags.{binlog_dump_flags}
 use Rattle.mysql_field_constants.specs.Flags.{are_named}
@@ -25,11 +25,12 @@ has_zero text = nat_lt (position_or_len is_zero text) (length text)
 abbrev pub gtid_cause : replica.BinlogDumpGtid → Option CommandRefusal
 gtid_cause request =
     if not (are_named binlog_dump_flags request.flags) then Some NamelessFlags
-    else if whole_binlog_dump_gtid request && nat_lt (length (block_bytes request.sids)) (2 ^ 32) then None
-    else Some TooLong
+    else if not (nat_lt (length (block_bytes request.sids)) (2 ^ 32)) then Some TooLong
+    else if whole_binlog_dump_gtid request then None else Some TooLong
 
 -- why a command would read as another one, where it would
 abbrev pub cause_of : Capabilities → Option InForce → Command → Option CommandRefusal
+cause_of capabilities parameters (Query attributes sql) = if length attributes == 0 then None else Some NotAgreed
 cause_of capabilities parameters (FieldList table wildcard) = if has_zero table then Some ZeroByte else None
 cause_of capabilities parameters (BinlogDump request) =
     if are_named binlog_dump_flags request.flags then None else Some NamelessFlags

@@ -2,6 +2,10 @@
 #![tactic(auto)]
 
 pub mod refusal;
+mod sids;
 mod testing;
+mod writing;
 
+pub use mysql_commands;
 pub use refusal::CommandRefusal;
+pub use writing::put_command;

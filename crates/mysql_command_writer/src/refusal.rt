@@ -20,6 +20,9 @@ pub enum CommandRefusal {
     /// Flags that have no name.
     #[error("flags that have no name")]
     NamelessFlags,
+    /// What isn't in force: attributes, or fields of a change of user.
+    #[error("what the capabilities in force don't have")]
+    NotAgreed,
     /// Bytes that say nothing known, but are laid out as a command.
     #[error("bytes of another command that are laid out as one that is known")]
     ReadsAsCommand,

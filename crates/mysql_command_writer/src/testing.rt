@@ -1,12 +1,11 @@
 //! Whether a command's payload reads as it.
 
-ghost use Rattle.std.specs.Prelude.{◌≡◌, Some, map};
+ghost use Rattle.std.specs.Prelude.{◌≡◌, ◌^◌, IfOk, Some, [], length, nat_lt};
 ghost use Rattle.std.specs.Option.{option_copied};
-ghost use Rattle.std.specs.List.{AllByRecursion};
 ghost use Rattle.mysql_const.specs.BinlogDumpFlags.{binlog_dump_flags};
 ghost use Rattle.mysql_field_constants.specs.Flags.{are_named};
-ghost use Rattle.mysql_gtid.specs.Blocks.{IsSid};
-ghost use Rattle.mysql_gtid.specs.Sids.{sid_view};
+ghost use Rattle.mysql_executions.specs.Types.{has_query_attributes};
+ghost use Rattle.mysql_gtid.specs.Blocks.{block_bytes};
 ghost use Rattle.mysql_replication.specs.Views.{binlog_dump_gtid_view, binlog_dump_view, register_slave_view, table_dump_view};
 ghost use Rattle.std.specs.Cow.{cow_slice_items};
 ghost use Rattle.mysql_commands.specs.Commands as said;
@@ -14,13 +13,16 @@ ghost use Rattle.mysql_command_writer.specs.Refusals.{ReadsBack, Tests, has_zero
 ghost use Rattle.mysql_commands.specs.Views.{command_view};
 
 use crate::refusal::CommandRefusal;
-use mysql_buf::ParseBuf;
+use crate::sids::sids_are;
 use bitflags::Flags;
-use mysql_commands::{Capabilities, Command, StatementParameters};
+use mysql_buf::ParseBuf;
+use mysql_commands::{Attribute, Capabilities, CapabilityFlags, Command, StatementParameters};
 use mysql_const::BinlogDumpFlags;
-use mysql_gtid::Sid;
+use mysql_fields::MySerialize;
+use mysql_gtid::SidBlock;
 use mysql_replication::{ComBinlogDump, ComBinlogDumpGtid, ComRegisterSlave, ComTableDump};
-use std::alloc::Global;
+use std::alloc::{AllocError, Global};
+use std::borrow::CowSlice;
 
 /// A zero stands in a text.
 fn has_zero(text: &[u8]) -> bool
@@ -53,12 +55,23 @@ fn option_reads(capabilities: Capabilities, parameters: Option<&StatementParamet
 {}
 
 /// A piece is read again.
-fn long_data_reads(capabilities: Capabilities, parameters: Option<&StatementParameters>, id: u32, place: u16, bytes: &[u8])
+fn long_data_reads(
+    capabilities: Capabilities,
+    parameters: Option<&StatementParameters>,
+    id: u32,
+    place: u16,
+    bytes: &[u8],
+)
     ensures { ReadsBack capabilities (option_copied parameters.entry) (said.LongData id place bytes.now) }
 {}
 
 /// An id and a number of rows are read again.
-fn fetch_reads(capabilities: Capabilities, parameters: Option<&StatementParameters>, id: u32, rows: u32)
+fn fetch_reads(
+    capabilities: Capabilities,
+    parameters: Option<&StatementParameters>,
+    id: u32,
+    rows: u32,
+)
     ensures { ReadsBack capabilities (option_copied parameters.entry) (said.Fetch id rows) }
 {}
 
@@ -136,20 +149,73 @@ fn test_register_slave(
     }
 }
 
-/// Each set is one.
-fn are_sids(sids: &[Sid<'_>])
-    ensures { AllByRecursion IsSid (map sid_view sids.now) }
+/// Whether queries have attributes.
+pub(crate) fn has_query_attributes(capabilities: Capabilities) -> bool
+    ensures { result ≡ has_query_attributes capabilities }
+{
+    capabilities
+        .protocol
+        .contains(CapabilityFlags::CLIENT_QUERY_ATTRIBUTES)
+}
+
+/// A query without attributes is read again.
+fn query_reads(capabilities: Capabilities, parameters: Option<&StatementParameters>, sql: &[u8])
+    ensures { ReadsBack capabilities (option_copied parameters.entry) (said.Query [] sql.now) }
 {}
+
+/// A query has no attributes.
+fn test_query(
+    capabilities: Capabilities,
+    parameters: Option<&StatementParameters>,
+    attributes: &[Attribute],
+    sql: &[u8],
+) -> Result<(), CommandRefusal>
+    ensures { Tests capabilities (option_copied parameters.entry) (said.Query attributes.now sql.now) result }
+{
+    if !attributes.is_empty() {
+        return Err(CommandRefusal::NotAgreed);
+    }
+    query_reads(capabilities, parameters, sql);
+    Ok(())
+}
+
+/// Whether the sets' block fits its length. That it is as long as its length can say at most tells
+/// only the block itself.
+fn has_short_block(alloc: Global, request: &ComBinlogDumpGtid) -> Result<bool, AllocError>
+    ensures { IfOk result (λ short. short ≡
+        nat_lt (length (block_bytes (binlog_dump_gtid_view request.now).sids)) (2 ^ 32)) }
+{
+    let block = SidBlock(CowSlice::Borrowed(request.sids()));
+    if block.byte_len() < u32::MAX {
+        return Ok(true);
+    }
+    let mut bytes = Vec::new(alloc);
+    block.serialize(&mut bytes)?;
+    Ok(bytes.len() <= u32::MAX as usize)
+}
 
 /// A request for the binary log has flags with names, and a name and sets that fit their lengths.
 fn test_binlog_dump_gtid(
+    alloc: Global,
     capabilities: Capabilities,
     parameters: Option<&StatementParameters>,
     request: &ComBinlogDumpGtid,
 ) -> Result<(), CommandRefusal>
-    ensures { Tests capabilities (option_copied parameters.entry) (said.BinlogDumpGtid (binlog_dump_gtid_view request.now)) result }
+    ensures { Tests capabilities (option_copied parameters.entry)
+        (said.BinlogDumpGtid (binlog_dump_gtid_view request.now)) result }
 {
-    are_sids(request.sids());
+    let _server_id = request.server_id();
+    let _pos = request.pos();
+    sids_are(request.sids());
+    if !have_names(request.flags()) {
+        return Err(CommandRefusal::NamelessFlags);
+    }
+    if !has_short_block(alloc, request)? {
+        return Err(CommandRefusal::TooLong);
+    }
+    if !request.is_whole() {
+        return Err(CommandRefusal::TooLong);
+    }
     Ok(())
 }
 
@@ -179,12 +245,31 @@ pub(crate) fn test(
 {
     match command {
         Command::FieldList { table, wildcard } => {
-            test_field_list(capabilities, parameters, table.as_slice(), wildcard.as_slice())
+            test_field_list(
+                capabilities,
+                parameters,
+                table.as_slice(),
+                wildcard.as_slice(),
+            )
         }
         Command::BinlogDump(request) => test_binlog_dump(capabilities, parameters, request),
         Command::TableDump(request) => test_table_dump(capabilities, parameters, request),
         Command::RegisterSlave(replica) => test_register_slave(capabilities, parameters, replica),
-        Command::BinlogDumpGtid(request) => test_binlog_dump_gtid(capabilities, parameters, request),
+        Command::BinlogDumpGtid(request) => test_binlog_dump_gtid(
+            alloc,
+            capabilities,
+            parameters,
+            request,
+        ),
+        Command::Query { attributes, sql } => test_query(
+            capabilities,
+            parameters,
+            attributes.as_slice(),
+            sql.as_slice(),
+        ),
+        Command::ChangeUser(_) | Command::Execute(_) | Command::BulkExecute(_) => Err(
+            CommandRefusal::Memory,
+        ),
         Command::Other(payload) => test_other(alloc, capabilities, parameters, payload.as_slice()),
         Command::Refresh(flags) => {
             refresh_reads(capabilities, parameters, *flags);

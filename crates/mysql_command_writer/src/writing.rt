@@ -1,16 +1,18 @@
 //! A command's payload.
+//!
+//!     put_command(alloc, capabilities, parameters, &Command::Ping, &mut payload)?;
 
 ghost use Rattle.std.specs.Prelude.{◌∷◌};
+ghost use Rattle.std.specs.Option.{option_copied};
 ghost use Rattle.byteorder.specs.Endian.{little_bytes};
 ghost use Rattle.mysql_fields.specs.Wire.{Appends};
 ghost use Rattle.mysql_command_writer.specs.Refusals.{Puts};
+ghost use Rattle.mysql_command_writer.specs.Written.{command_bytes, plain_query};
 ghost use Rattle.mysql_commands.specs.Views.{command_view};
-ghost use Rattle.mysql_command_writer.specs.Written.{command_bytes};
 
-use crate::command::Command;
 use crate::refusal::CommandRefusal;
-use crate::testing::test;
-use mysql_const::Capabilities;
+use crate::testing::{has_query_attributes, test};
+use mysql_commands::{Capabilities, Command, StatementParameters};
 use mysql_fields::{EofBytes, LeU16, LeU32, MySerialize, NullBytes, RawBytes, RawInt, in_order};
 use std::alloc::{AllocError, Global};
 
@@ -37,14 +39,30 @@ fn append_id(number: u8, id: u32, out: &mut Vec<u8>) -> Result<(), AllocError>
     append(number, &id, out)
 }
 
+/// A query without attributes.
+fn append_query(capabilities: Capabilities, sql: &[u8], out: &mut Vec<u8>) -> Result<(), AllocError>
+    ensures { Appends result out.old.items out.new.items (3 ∷ plain_query capabilities sql.now) }
+{
+    if !has_query_attributes(capabilities) {
+        return append_text(0x03, sql, out);
+    }
+    let sql: RawBytes<EofBytes> = RawBytes::from(sql);
+    // how many attributes, in how many sets
+    append(0x03, &([0, 1], sql), out)
+}
+
 /// A command's payload.
-fn append_command(command: &Command, out: &mut Vec<u8>) -> Result<(), AllocError>
-    ensures { Appends result out.old.items out.new.items (command_bytes (command_view command.now)) }
+fn append_command(
+    capabilities: Capabilities,
+    command: &Command,
+    out: &mut Vec<u8>,
+) -> Result<(), AllocError>
+    ensures { Appends result out.old.items out.new.items (command_bytes capabilities (command_view command.now)) }
 {
     match command {
         Command::Quit => append(0x01, &(), out),
         Command::InitDb(schema) => append_text(0x02, schema.as_slice(), out),
-        Command::Query(sql) => append_text(0x03, sql.as_slice(), out),
+        Command::Query { sql, .. } => append_query(capabilities, sql.as_slice(), out),
         Command::FieldList { table, wildcard } => {
             let table: RawBytes<NullBytes> = RawBytes::from(table.as_slice());
             let wildcard: RawBytes<EofBytes> = RawBytes::from(wildcard.as_slice());
@@ -60,10 +78,12 @@ fn append_command(command: &Command, out: &mut Vec<u8>) -> Result<(), AllocError
         Command::ProcessKill(id) => append_id(0x0c, *id, out),
         Command::Debug => append(0x0d, &(), out),
         Command::Ping => append(0x0e, &(), out),
+        Command::ChangeUser(login) => login.put_in_force(capabilities.protocol, out),
         Command::BinlogDump(request) => request.serialize(out),
         Command::TableDump(request) => request.serialize(out),
         Command::RegisterSlave(replica) => replica.serialize(out),
         Command::Prepare(sql) => append_text(0x16, sql.as_slice(), out),
+        Command::Execute(_) => append(0x17, &(), out),
         Command::LongData {
             stmt_id,
             place,
@@ -85,30 +105,32 @@ fn append_command(command: &Command, out: &mut Vec<u8>) -> Result<(), AllocError
         Command::BinlogDumpGtid(request) => request.serialize(out),
         Command::ResetConnection => append(0x1f, &(), out),
         Command::Clone(arguments) => append_text(0x20, arguments.as_slice(), out),
+        Command::BulkExecute(_) => append(0xfa, &(), out),
         Command::Other(payload) => out.extend_from_slice(payload.as_slice()),
     }
 }
 
-impl<'a> Command<'a> {
-    /// Appends the command's payload, which reads as the command by the same capabilities.
-    ///
-    /// # Errors
-    /// - The cause why its payload would read otherwise: `ZeroByte`, `ReadsAsCommand`.
-    /// - `Memory`.
-    ///
-    /// Nothing is appended then.
-    ///
-    /// MySQL: Client/Server Protocol, "Command Phase".
-    pub fn put(
-        &self,
-        alloc: Global,
-        capabilities: Capabilities,
-        out: &mut Vec<u8>,
-    ) -> Result<(), CommandRefusal>
-        ensures { Puts capabilities (command_view self.now) out.old.items out.new.items result }
-    {
-        test(alloc, capabilities, self)?;
-        append_command(self, out)?;
-        Ok(())
-    }
+/// Appends a command's payload, by the capabilities in force, and of an execution by what is in force
+/// of its statement's parameters. It reads as the command, by the same.
+///
+/// # Errors
+/// - The cause why it would read otherwise.
+/// - `Memory`.
+///
+/// Nothing is appended then.
+///
+/// MySQL: Client/Server Protocol, "Command Phase".
+pub fn put_command(
+    alloc: Global,
+    capabilities: Capabilities,
+    parameters: Option<&StatementParameters>,
+    command: &Command,
+    out: &mut Vec<u8>,
+) -> Result<(), CommandRefusal>
+    ensures { Puts capabilities (option_copied parameters.entry) (command_view command.now) out.old.items
+        out.new.items result }
+{
+    test(alloc, capabilities, parameters, command)?;
+    append_command(capabilities, command, out)?;
+    Ok(())
 }

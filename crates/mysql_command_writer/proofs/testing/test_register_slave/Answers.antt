@@ -2,6 +2,7 @@ use Rattle.std.proofs.Common.{◌≡◌, true, false, refl, sym, ◌∙◌, arit
 use Rattle.mysql_replication.specs.Packets.{whole_register_slave}
 use Rattle.mysql_replication.specs.Views.{register_slave_view}
 use Rattle.mysql_command_writer.proofs.Replication.{HasReplicaNumbers, cut_replicas, replicas_read}
+use Rattle.std.specs.Option.{option_copied}
 use Rattle.mysql_command_writer.proofs.testing.test_register_slave.Goals as goal
 
 pub returns-then-is_whole : goal.returns-then-is_whole
@@ -14,7 +15,7 @@ returns-then-is_whole c =
       replication_rank = omega arith;
       master_id = omega arith;
     } in
-    (rw whole refl, replicas_read c.args.capabilities p numbers whole)
+    (rw whole refl, replicas_read c.args.capabilities (option_copied c.args.parameters) p numbers whole)
 
 pub returns-else-is_whole : goal.returns-else-is_whole
 returns-else-is_whole c =
@@ -26,4 +27,4 @@ returns-else-is_whole c =
       replication_rank = omega arith;
       master_id = omega arith;
     } in
-    λ _. (rw cut refl, cut_replicas c.args.capabilities p numbers cut)
+    λ _. (rw cut refl, cut_replicas c.args.capabilities (option_copied c.args.parameters) p numbers cut)

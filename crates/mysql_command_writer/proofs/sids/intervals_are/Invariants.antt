@@ -1,0 +1,7 @@
+use Rattle.std.proofs.Common.{take}
+use Rattle.std.specs.List.{AllByRecursion}
+use Rattle.mysql_gtid.specs.Blocks.{IsInterval}
+use Rattle.mysql_command_writer.proofs.sids.intervals_are.Given as goal
+
+abbrev pub invariant-loop-interval : goal.invariant-loop-interval
+invariant-loop-interval l = AllByRecursion IsInterval (take l.interval-index l.intervals)

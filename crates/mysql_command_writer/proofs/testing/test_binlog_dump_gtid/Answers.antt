@@ -1,0 +1,103 @@
+use Rattle.std.proofs.Common.{◌≡◌, ◌<◌, ◌≤◌, ◌^◌, length, true, false, refl, sym, ◌∙◌, arith, ap, nat_lt}
+use Rattle.std.proofs.Common.{Bool, Some, None, Option, subst}
+use Rattle.std.proofs.lemmas.Bool.{ltb-false, ltb-true}
+use Rattle.std.specs.List.{AllByRecursion}
+use Rattle.std.specs.Option.{option_copied}
+use Rattle.mysql_const.specs.BinlogDumpFlags.{binlog_dump_flags}
+use Rattle.mysql_field_constants.specs.Flags.{are_named}
+use Rattle.mysql_gtid.specs.Blocks.{IsSid, block_bytes}
+use Rattle.mysql_replication.specs.Packets.{whole_binlog_dump_gtid}
+use Rattle.mysql_replication.specs.Packets as replica
+use Rattle.mysql_replication.specs.Views.{binlog_dump_gtid_view}
+use Rattle.mysql_command_writer.proofs.GtidDumps.{HasGtidParts, gtids_read, long_names, long_sids, nameless_gtids}
+use Rattle.mysql_command_writer.specs.Refusals.{gtid_cause}
+use Rattle.mysql_command_writer.specs.declared.refusal.CommandRefusal.TheVariants.{NamelessFlags, TooLong}
+use Rattle.mysql_command_writer.proofs.testing.test_binlog_dump_gtid.Goals as goal
+
+-- THE CAUSE BY THE THREE TESTS
+
+nameless : (p : replica.BinlogDumpGtid) → are_named binlog_dump_flags p.flags ≡ false → gtid_cause p ≡ Some NamelessFlags
+nameless p h = rw h refl
+
+long_block : (p : replica.BinlogDumpGtid) → are_named binlog_dump_flags p.flags ≡ true →
+    nat_lt (length (block_bytes p.sids)) (2 ^ 32) ≡ false → gtid_cause p ≡ Some TooLong
+long_block p named h = rw (named, h) refl
+
+long_name : (p : replica.BinlogDumpGtid) → are_named binlog_dump_flags p.flags ≡ true →
+    nat_lt (length (block_bytes p.sids)) (2 ^ 32) ≡ true → whole_binlog_dump_gtid p ≡ false →
+    gtid_cause p ≡ Some TooLong
+long_name p named short h = rw (named, short, h) refl
+
+none : (p : replica.BinlogDumpGtid) → are_named binlog_dump_flags p.flags ≡ true →
+    nat_lt (length (block_bytes p.sids)) (2 ^ 32) ≡ true → whole_binlog_dump_gtid p ≡ true → gtid_cause p ≡ None
+none p named short h = rw (named, short, h) refl
+
+pub returns-then-not-have_names : goal.returns-then-not-have_names
+returns-then-not-have_names c =
+    let p = binlog_dump_gtid_view c.args.request.now in
+    let named : are_named binlog_dump_flags p.flags ≡ false =
+    ap (are_named binlog_dump_flags) (sym c.flags.ensures) ∙ sym c.have_names.ensures ∙ c.if-not-have_names.true in
+    let parts : HasGtidParts p = record {
+      flags = omega arith;
+      server_id = omega arith;
+      pos = omega arith;
+      sids = subst (AllByRecursion IsSid) c.sids.ensures c.sids_are.ensures;
+    } in
+    λ _. (nameless p named, nameless_gtids c.args.capabilities (option_copied c.args.parameters) p parts named)
+
+pub returns-then-not-branch : goal.returns-then-not-branch
+returns-then-not-branch c =
+    let p = binlog_dump_gtid_view c.args.request.now in
+    let named : are_named binlog_dump_flags p.flags ≡ true =
+    ap (are_named binlog_dump_flags) (sym c.flags.ensures) ∙ sym c.have_names.ensures ∙ c.if-not-have_names.false in
+    let short : nat_lt (length (block_bytes p.sids)) (2 ^ 32) ≡ false =
+    sym c.in_ok-has_short_block.ensures ∙ c.if-not-branch.true in
+    let parts : HasGtidParts p = record {
+      flags = omega arith;
+      server_id = omega arith;
+      pos = omega arith;
+      sids = subst (AllByRecursion IsSid) c.sids.ensures c.sids_are.ensures;
+    } in
+    λ _. (
+      long_block p named short,
+      long_sids c.args.capabilities (option_copied c.args.parameters) p parts named (ltb-false (length (block_bytes p.sids)) (2 ^ 32) short),
+    )
+
+pub returns-then-not-is_whole : goal.returns-then-not-is_whole
+returns-then-not-is_whole c =
+    let p = binlog_dump_gtid_view c.args.request.now in
+    let named : are_named binlog_dump_flags p.flags ≡ true =
+    ap (are_named binlog_dump_flags) (sym c.flags.ensures) ∙ sym c.have_names.ensures ∙ c.if-not-have_names.false in
+    let short : nat_lt (length (block_bytes p.sids)) (2 ^ 32) ≡ true =
+    sym c.in_ok-has_short_block.ensures ∙ c.if-not-branch.false in
+    let whole : whole_binlog_dump_gtid p ≡ false = sym c.is_whole.ensures ∙ c.if-not-is_whole.true in
+    let parts : HasGtidParts p = record {
+      flags = omega arith;
+      server_id = omega arith;
+      pos = omega arith;
+      sids = subst (AllByRecursion IsSid) c.sids.ensures c.sids_are.ensures;
+    } in
+    λ _. (
+      long_name p named short whole,
+      long_names c.args.capabilities (option_copied c.args.parameters) p parts named (ltb-false (length p.filename) (2 ^ 32) whole)
+          (ltb-true (length (block_bytes p.sids)) (2 ^ 32) short),
+    )
+
+pub returns : goal.returns
+returns c =
+    let p = binlog_dump_gtid_view c.args.request.now in
+    let named : are_named binlog_dump_flags p.flags ≡ true =
+    ap (are_named binlog_dump_flags) (sym c.flags.ensures) ∙ sym c.have_names.ensures ∙ c.if-not-have_names.false in
+    let short : nat_lt (length (block_bytes p.sids)) (2 ^ 32) ≡ true =
+    sym c.in_ok-has_short_block.ensures ∙ c.if-not-branch.false in
+    let whole : whole_binlog_dump_gtid p ≡ true = sym c.is_whole.ensures ∙ c.if-not-is_whole.false in
+    let parts : HasGtidParts p = record {
+      flags = omega arith;
+      server_id = omega arith;
+      pos = omega arith;
+      sids = subst (AllByRecursion IsSid) c.sids.ensures c.sids_are.ensures;
+    } in (
+      none p named short whole,
+      gtids_read c.args.capabilities (option_copied c.args.parameters) p parts named (ltb-true (length p.filename) (2 ^ 32) whole)
+          (ltb-true (length (block_bytes p.sids)) (2 ^ 32) short),
+    )
