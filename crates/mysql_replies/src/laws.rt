@@ -11,6 +11,7 @@ ghost use Rattle.mysql_replies.specs.Together.{EventsAreTheAnswer, FaultsAreTheA
 ghost use Rattle.mysql_replies.specs.Manual.{EachSuchListIsWhole, OnlySuchListsAreWhole, EachFramingIsWhole};
 ghost use Rattle.mysql_replies.specs.Manual.{OnlyFramingsAreWhole};
 
+use mysql_columns::laws::extended_columns_read_back;
 use mysql_wire::laws::{one_split, reader_laws};
 
 /// Each list of payloads, with whatever rest, has one answer.
@@ -101,4 +102,6 @@ pub fn answers_have_what_stands()
 pub fn events_are_the_answer()
     ensures whole { EventsAreTheAnswer }
     ensures fault { FaultsAreTheAnswers }
-{}
+{
+    extended_columns_read_back();
+}
