@@ -8,6 +8,7 @@ use Rattle.mysql_columns.specs.Columns.{ColumnDefinition}
 use Rattle.mysql_columns.specs.Statements.{PlainColumnsAreColumns}
 use Rattle.mysql_server_packets.specs.Packets.{PrepareOk, ProgressReport}
 use Rattle.mysql_wire.specs.Stream.{Rest}
+use Rattle.mysql_reply_events.specs.declared.context.Context.{Context as EventContext}
 use Rattle.mysql_reply_events.specs.declared.fault.ReplyFault.{ReplyFault as EventFault}
 use Rattle.mysql_reply_events.specs.declared.fault.ReplyFault.TheVariants as event_faults
 use Rattle.mysql_reply_events.specs.Events as events
@@ -19,7 +20,7 @@ use Rattle.mysql_replies.specs.declared.fault.ReplyFault.TheVariants as faults
 use Rattle.mysql_replies.specs.Grammar.{Payload, Outcome, PreparedResult, Results}
 use Rattle.mysql_replies.specs.Reply.{Answer, End, FaultAt, IsReply, GoingOn, Answered, OpenReply, PayloadsDecide, Continues, end_of, fresh, rest_of, First}
 use Rattle.mysql_replies.specs.Steps.{IsAwaiting, IsSettled, OfResultSet, OfParameters, OfPrepared, listed_of}
-use Rattle.mysql_replies.specs.Together.{Part, NoPart, Gathered, gather, gather_all, gathered, completed, reported, listed, put_together, ending, context_of, fault_of, is_common, AreEvents, none, first, HaveEvents, EventsAreTheAnswer, FaultsAreTheAnswers}
+use Rattle.mysql_replies.specs.Together.{Part, NoPart, Gathered, gather, gather_all, gathered, completed, reported, listed, put_together, ending, context_of, fault_of, is_common, AreEvents, none, first, HaveEvents, HaveEventsUpTo, AllHaveEvents, at_end, no_place, EventsAreTheAnswer, FaultsAreTheAnswers}
 use Rattle.mysql_replies.proofs.Stepping.{listed_group, settled_group}
 use Rattle.mysql_replies.proofs.GoingOn.{StateGoesOn, fresh_decides}
 use Rattle.mysql_replies.proofs.Taking.{went_on, went_wrong, went_over}
@@ -100,7 +101,7 @@ all_go plain c always s u payloads these (first {t = t} {payload = payload} {eve
       holds = more.holds;
       told = more.told;
       said = more.said;
-      gathers = ap (λ (k : Part). gather_all (record { results = told; progress = said; part = k }) later) g.lands.opens ∙ more.gathers;
+      gathers = ◌∙◌ {c = gathered_at more.told more.said more.next} (ap (λ (k : Part). gather_all (record { results = told; progress = said; part = k }) later) g.lands.opens) more.gathers;
       goes = subst (λ (k : ℕ). StateGoesOn (open_at c results progress count p) (payload ∷ others) (GoingOn (open_at c more.told more.said k more.next))) e
           (λ z rest answer h. one (others ++ z) rest answer (more.goes z rest answer h));
     }
@@ -192,3 +193,30 @@ faults_are plain c payloads these s payload later rest fault h wrong =
     let stopped : Continues (open_at c r.told r.said (0 + length payloads) r.next) (payload ∷ later) rest answer =
     fault_goes c r.told r.said (0 + length payloads) r.next payload fault alike later rest answer known in
     fresh_decides c (payloads ++ payload ∷ later) rest answer (r.goes (payload ∷ later) rest answer stopped)
+
+-- Any payloads have events up to the end or one without a place.
+up_to : (c : EventContext) (s : ReplySoFar) (payload : Payload) (later : List Payload) → ((t : ReplySoFar) → HaveEventsUpTo c t later) → (r : table.Step) → table.event_at c s payload ≡ r → HaveEventsUpTo c s (payload ∷ later)
+up_to c s payload later more (Ok x) is =
+    let h = more x.1 in
+    record {
+      front = payload ∷ h.front;
+      left = h.left;
+      cut = ap (λ (k : List Payload). payload ∷ k) h.cut;
+      these = x.0 ∷ h.these;
+      behind = h.behind;
+      are = first is h.are;
+      stopped = h.stopped;
+    }
+up_to c s payload later more (Err fault) is = record {
+  front = [];
+  left = payload ∷ later;
+  cut = refl;
+  these = [];
+  behind = s;
+  are = none;
+  stopped = no_place later is;
+}
+
+pub all_have_events : AllHaveEvents
+all_have_events c s [] = record { front = []; left = []; cut = refl; these = []; behind = s; are = none; stopped = at_end }
+all_have_events c s (payload ∷ later) = up_to c s payload later (λ t. all_have_events c t later) (table.event_at c s payload) refl

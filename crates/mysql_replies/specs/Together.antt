@@ -146,6 +146,25 @@ pub data AreEvents (c : EventContext) : ReplySoFar → List Payload → List Eve
       event_at c s payload ≡ Ok (event, t) → AreEvents c t payloads others u →
       AreEvents c s (payload ∷ payloads) (event ∷ others) u
 
+-- No payload is left, or the first of these has no place behind a reply so far.
+pub data IsStopped (c : EventContext) (s : ReplySoFar) : List Payload → Type 0 where
+  at_end : IsStopped c s []
+  no_place : {payload : Payload} (later : List Payload) {fault : EventFault} → event_at c s payload ≡ Err fault →
+      IsStopped c s (payload ∷ later)
+
+-- Any payloads have events, one each, up to the end or to one that has no place.
+pub record HaveEventsUpTo (c : EventContext) (s : ReplySoFar) (payloads : List Payload) : Type 0 where
+  pub front : List Payload
+  pub left : List Payload
+  pub cut : payloads ≡ front ++ left
+  pub these : List Event
+  pub behind : ReplySoFar
+  pub are : AreEvents c s front these behind
+  pub stopped : IsStopped c behind left
+
+abbrev pub AllHaveEvents : Type 0
+AllHaveEvents = (c : EventContext) (s : ReplySoFar) (payloads : List Payload) → HaveEventsUpTo c s payloads
+
 -- An event that is taken alike in a reply that is read as a whole: there a status has bits alone that MySQL names,
 -- and rows follow the EOF behind columns also where a cursor exists.
 abbrev pub is_common : EventContext → Event → Bool
