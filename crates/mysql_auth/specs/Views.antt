@@ -9,6 +9,7 @@ use Rattle.mysql_auth.specs.Plugins.{Plugin, OldPassword, NativePassword, Cachin
 use Rattle.mysql_auth.specs.Plugins.{Other}
 use Rattle.mysql_auth.specs.declared.more_data.AuthMoreData.{AuthMoreData}
 use Rattle.mysql_auth.specs.declared.more_data.PublicKeyResponse.{PublicKeyResponse}
+use Rattle.mysql_auth.specs.declared.next_factor.AuthNextFactor.{AuthNextFactor}
 use Rattle.mysql_auth.specs.declared.plugin_data.AuthPluginData.{AuthPluginData}
 use Rattle.mysql_auth.specs.declared.plugin_data.AuthPluginData.TheVariants as sent
 use Rattle.mysql_auth.specs.declared.switch.AuthSwitchRequest.{AuthSwitchRequest}
@@ -45,6 +46,14 @@ key_view packet = cow_slice_items packet.rsa_key
 -- the fields of a request for another plugin
 abbrev pub switch_view : AuthSwitchRequest → SwitchFields
 switch_view packet = record {
+  auth_plugin = cow_slice_items packet.auth_plugin;
+  plugin_data =
+      cow_slice_items packet.plugin_data;
+}
+
+-- the fields of a request for one more plugin
+abbrev pub next_factor_view : AuthNextFactor → SwitchFields
+next_factor_view packet = record {
   auth_plugin = cow_slice_items packet.auth_plugin;
   plugin_data =
       cow_slice_items packet.plugin_data;

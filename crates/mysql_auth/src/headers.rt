@@ -35,3 +35,11 @@ pub struct InvalidAuthSwitchRequestHeader;
 /// The byte that begins [`AuthSwitchRequest`](crate::AuthSwitchRequest) and
 /// [`OldAuthSwitchRequest`](crate::OldAuthSwitchRequest).
 pub type AuthSwitchRequestHeader = ConstU8<InvalidAuthSwitchRequestHeader, 0xfe>;
+
+/// Another byte than 02 begins a request for one more plugin.
+#[derive(Clone, Copy, Debug, Default, PartialEq, Eq, Hash, Error)]
+#[error("Invalid AuthNextFactor header")]
+pub struct InvalidAuthNextFactorHeader;
+
+/// The byte that begins [`AuthNextFactor`](crate::AuthNextFactor).
+pub type AuthNextFactorHeader = ConstU8<InvalidAuthNextFactorHeader, 0x02>;

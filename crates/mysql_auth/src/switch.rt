@@ -3,10 +3,11 @@
 //!     let request: AuthSwitchRequest = ParseBuf(payload).parse(alloc, ())?;
 //!     let plugin = request.auth_plugin();
 
-ghost use Rattle.std.specs.Prelude.{◌≡◌, IfOk, None, Some, ℕ, false};
+ghost use Rattle.std.specs.Prelude.{◌≡◌, IfOk, None, Some, [], ℕ, false};
 ghost use Rattle.std.specs.Cow.{cow_slice_items};
 ghost use Rattle.byteorder.specs.Endian.{little_bytes};
-ghost use Rattle.mysql_auth.specs.Packets.{SwitchFields, switch, switch_at};
+ghost use Rattle.mysql_auth.specs.PacketLaws.{switch_at-back};
+ghost use Rattle.mysql_auth.specs.Packets.{SwitchFields, switch, switch_at, switch_kept};
 ghost use Rattle.mysql_auth.specs.Plugins.{OldPassword, plugin_named, without_zero};
 ghost use Rattle.mysql_auth.specs.Views.{plugin_view, switch_view};
 ghost use Rattle.mysql_fields.specs.Laws.{unsized};
@@ -18,8 +19,8 @@ use crate::plugin::AuthPlugin;
 use crate::zero::without_zero;
 use mysql_buf::ParseBuf;
 use mysql_fields::{
-    EofBytes, MyDeserialize, MySerialize, NullBytes, ParseExt, RawBytes, Readable, WireError,
-    copy_bytes, in_order, own_bytes,
+    EofBytes, MyDeserialize, MySerialize, NullBytes, ParseExt, RawBytes, Readable, ReadsBack,
+    WireError, copy_bytes, in_order, own_bytes,
 };
 use std::alloc::{AllocError, Global};
 use std::borrow::CowSlice;
@@ -92,8 +93,9 @@ impl<'de> MyDeserialize<'de> for OldAuthSwitchRequest {
 /// A server's request to go on with another plugin.
 /// (MySQL: Client/Server Protocol, "Protocol::AuthSwitchRequest".)
 ///
-/// Promise: its bytes are a function of its fields, and any bytes are read exactly as its layout
-/// says, with the first refusal from the left (`switch`, `switch_at`).
+/// Promise: its bytes are a function of its fields, any bytes are read exactly as its layout says,
+/// with the first refusal from the left, and what was written is read back where nothing follows, the
+/// name before its first zero (`switch`, `switch_at`, `switch_kept`).
 #[derive(Debug, PartialEq, Eq, Drop)]
 pub struct AuthSwitchRequest<'a> {
     auth_plugin: CowSlice<'a, u8>,
@@ -124,6 +126,21 @@ impl<'a> AuthSwitchRequest<'a> {
         ensures { plugin_view result ≡ plugin_named (without_zero (switch_view self.now).auth_plugin) }
     {
         AuthPlugin::from_bytes(self.auth_plugin.as_slice())
+    }
+
+    /// The plugin's name, as it stands in the packet.
+    pub fn auth_plugin_ref(&self) -> &[u8]
+        ensures { result.now ≡ (switch_view self.now).auth_plugin }
+    {
+        self.auth_plugin.as_slice()
+    }
+
+    /// The data, as it stands in the packet. A plugin whose data may end with a zero of its own, such as
+    /// MariaDB's ed25519, wants it so.
+    pub fn plugin_data_ref(&self) -> &[u8]
+        ensures { result.now ≡ (switch_view self.now).plugin_data }
+    {
+        self.plugin_data.as_slice()
     }
 
     /// The data, of which one trailing zero is dropped.
@@ -190,7 +207,9 @@ impl<'a> Readable for AuthSwitchRequest<'a> {
 
     ghost read_at = { λ _ bytes. switch_at bytes };
 
-    ghost kept = { switch_view };
+    ghost kept = { λ packet. switch_kept (switch_view packet) };
+
+    ghost IsReadBack = { λ _ _ rest. rest ≡ [] };
 
     ghost sized = { λ _. unsized switch_at };
 
@@ -199,6 +218,10 @@ impl<'a> Readable for AuthSwitchRequest<'a> {
     {
         None
     }
+}
+
+impl<'a> ReadsBack for AuthSwitchRequest<'a> {
+    ghost reads_back = { λ _ packet rest. switch_at-back (switch_view packet) rest };
 }
 
 /// Refused by `UnexpectedEof` where there is no byte, by `BadConstant`, and by `UnexpectedEof`

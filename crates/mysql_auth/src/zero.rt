@@ -17,8 +17,13 @@ pub fn without_zero(text: &[u8]) -> &[u8]
     }
 }
 
-// Appends a text and a zero, or nothing.
-pub(crate) fn put_with_zero(text: &[u8], buf: &mut Vec<u8>) -> Result<(), AllocError>
+/// Appends a text and a zero, or nothing.
+///
+/// # Errors
+/// - `AllocError` for want of memory. The buffer is then as it was.
+///
+/// (MySQL: Client/Server Protocol, "Protocol::AuthSwitchRequest".)
+pub fn put_with_zero(text: &[u8], buf: &mut Vec<u8>) -> Result<(), AllocError>
     ensures { Appends result buf.old.items buf.new.items (text.now ++ 0 ∷ []) }
 {
     let len = buf.len();

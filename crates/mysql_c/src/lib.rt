@@ -12,6 +12,7 @@ ghost use Rattle.mysql_c_handles.specs.Texts.{ends_at_nul};
 ghost use Rattle.mysql_c_handles.specs.declared.object.Object.TheVariants.{Empty};
 
 mod commands;
+mod events;
 mod login;
 mod replies;
 
@@ -22,9 +23,9 @@ use std::mem::replace;
 /// The number of the interface, which changes with each of its declarations.
 #[unsafe(no_mangle)]
 pub extern "C" fn mysql_session_abi() -> u32
-    ensures { result ≡ 4 }
+    ensures { result ≡ 5 }
 {
-    4
+    5
 }
 
 /// Frees what the handle stands for. It stands for nothing then.

@@ -3,7 +3,7 @@
 //!     let attributes = ConnectAttributes::from_texts(alloc, texts)?;
 //!     attributes.serialize(&mut payload)?;
 
-ghost use Rattle.std.specs.Prelude.{◌≡◌, IfOk, IfSome, List, None, [], length, map, IsOkUnless};
+ghost use Rattle.std.specs.Prelude.{◌≡◌, IfOk, IfSome, List, None, [], length, map, slice_get, IsOkUnless, option_map};
 ghost use Rattle.std.specs.Cow.{cow_slice_items};
 ghost use Rattle.std.specs.List.{flat_map};
 ghost use Rattle.std.specs.String.{string_bytes};
@@ -110,6 +110,21 @@ impl<'a> ConnectAttributes<'a> {
             all.put_copy(alloc, key, value)?;
         }
         Ok(all)
+    }
+
+    /// How many attributes there are.
+    pub fn len(&self) -> usize
+        ensures { result ≡ length (attributes_view self.now) }
+    {
+        self.entries.len()
+    }
+
+    /// The key and the value of the attribute at a place, counted from 0.
+    pub fn pair(&self, place: usize) -> Option<(&[u8], &[u8])>
+        ensures { option_map (λ pair. (pair.0.now, pair.1.now)) result ≡ slice_get (attributes_view self.now) place }
+    {
+        let (key, value) = self.entries.get_index(place)?;
+        Some((key.0.as_slice(), value.0.as_slice()))
     }
 
     /// The attributes as texts, where bytes that aren't UTF-8 are replaced. Of keys with the same

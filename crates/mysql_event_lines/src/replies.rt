@@ -1,6 +1,8 @@
 //! What one payload of a reply says, as a line.
 
-use crate::fields::{write_bytes, write_bytes_if, write_flag, write_number, write_value};
+use crate::fields::{
+    write_bytes, write_bytes_if, write_flag, write_number, write_space, write_value,
+};
 use mysql_columns::Column;
 use mysql_ok_packets::OkPacket;
 use mysql_reply_events::ReplyEvent;
@@ -75,9 +77,7 @@ fn write_column<W: Write>(output: &mut W, column: &Column) -> io::Result<()> {
 fn write_row<W: Write>(output: &mut W, row: &Row) -> io::Result<()> {
     output.write_all(b"Row cells=(")?;
     for place in 0..row.len() {
-        if place > 0 {
-            output.write_all(b" ")?;
-        }
+        write_space(output, place)?;
         match row.as_ref(place) {
             Some(value) => write_value(output, value)?,
             None => output.write_all(b"-")?,

@@ -4,7 +4,8 @@ ghost use Rattle.std.specs.Prelude.{◌≡◌, ◌<◌, ◌≤◌, ◌+◌, ◌-
 ghost use Rattle.std.specs.Option.{option_map};
 ghost use Rattle.mysql_const.specs.BulkIndicators.{bulk_indicator_named};
 ghost use Rattle.mysql_executions.specs.Bulks.{are_bulk_flags as are_flags, bulk_execution_at, bulk_head};
-ghost use Rattle.mysql_executions.specs.Bulks.{bulk_value_at, indicated_at, row_at, rows_at};
+ghost use Rattle.mysql_executions.specs.Bulks.{bulk_value_at, indicated_at, row_at, rows_at, send_types_to_server};
+ghost use Rattle.mysql_const.specs.FlagSets.{contains};
 ghost use Rattle.mysql_executions.specs.Types.{has_bulk_operations as has_bulks};
 ghost use Rattle.mysql_executions.specs.Views.{Gives, bulk_head_of, bulk_of, rows_of, types_by, types_of};
 
@@ -44,6 +45,13 @@ fn are_bulk_flags(flags: u16) -> bool
         || flags == SEND_UNIT_RESULTS
         || flags == SEND_TYPES_TO_SERVER
         || flags == SEND_UNIT_RESULTS + SEND_TYPES_TO_SERVER
+}
+
+/// Whether a bulk of these flags carries types.
+pub fn carries_types(flags: u16) -> bool
+    ensures { result ≡ contains flags send_types_to_server }
+{
+    flags & SEND_TYPES_TO_SERVER == SEND_TYPES_TO_SERVER
 }
 
 /// What stands before a bulk's types.
@@ -181,8 +189,13 @@ fn read_body(
     must(s.count() > 0)?;
     let head = read_bulk_head(body)?;
     must(are_bulk_flags(head.flags))?;
-    let bound = head.flags & SEND_TYPES_TO_SERVER == SEND_TYPES_TO_SERVER;
-    let (own, rest) = read_own_types(alloc, bound, false, usize::from(s.count()), head.rest)?;
+    let (own, rest) = read_own_types(
+        alloc,
+        carries_types(head.flags),
+        false,
+        usize::from(s.count()),
+        head.rest,
+    )?;
     check_types(s, &own)?;
     must(!rest.is_empty())?;
     let rows = read_rows(alloc, &own, s.types(), rest)?;

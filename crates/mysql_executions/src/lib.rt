@@ -4,17 +4,22 @@
 pub mod attribute_reading;
 pub mod bulk;
 pub mod bulk_reading;
+pub mod carried_types;
 pub mod execution_reading;
 mod fields;
 mod not_read;
+pub mod refused;
 pub mod statement;
 mod type_reading;
 pub mod types;
 mod value_reading;
+mod waiting;
 
 pub use attribute_reading::read_query_attributes;
 pub use bulk::{BulkExecution, BulkValue};
 pub use bulk_reading::read_bulk_execution;
+pub use carried_types::{read_bulk_types, read_execution_types};
 pub use execution_reading::read_execution;
+pub use refused::Refused;
 pub use statement::StatementParameters;
 pub use types::{Attribute, BoundType, Execution, ParameterType};

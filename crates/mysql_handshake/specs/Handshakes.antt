@@ -1,7 +1,7 @@
 -- The initial handshake packet.
 -- (MySQL: Client/Server Protocol, "Protocol::HandshakeV10"; MariaDB: "Connecting", 'Initial handshake packet'.)
 -- A reading takes bytes from the front: x.0 is what was read and x.1 the bytes left; the first refusal counts.
-use Rattle.std.specs.Prelude.{ℕ, ◌+◌, ◌-◌, max, if◌then◌else◌, ◌∷◌, ◌++◌, [], List, length, replicate, Option, None}
+use Rattle.std.specs.Prelude.{ℕ, ◌+◌, ◌-◌, ◌==◌, Bool, true, max, if◌then◌else◌, ◌∷◌, ◌++◌, [], List, length, replicate, Option, None}
 use Rattle.std.specs.Prelude.{Some, Ok}
 use Rattle.std.specs.Int.RustNames.{bit_and, bit_or}
 use Rattle.std.specs.List.{concat}
@@ -91,6 +91,41 @@ handshake p = concat (
     scramble_written p.scramble_2
     ∷ name_written p.auth_plugin_name ∷ []
     )
+
+-- what is held of fixed length: the length as it was read or made
+abbrev pub fixed_held : HandshakeFields → FixedFields
+fixed_held p = record {
+  connection_id = p.connection_id;
+  scramble_1 = p.scramble_1;
+  capabilities = p.capabilities;
+  default_collation = p.default_collation;
+  status_flags = p.status_flags;
+  data_length = p.data_length;
+  mariadb_ext_capabilities = p.mariadb_ext_capabilities;
+}
+
+-- a second scramble as it is held
+abbrev pub scramble_held : Option (List ℕ) → List ℕ
+scramble_held None = []
+scramble_held (Some text) = text
+
+-- the whole name of a plugin and a zero
+abbrev pub name_held : Option (List ℕ) → List ℕ
+name_held None = []
+name_held (Some name) = name ++ 0 ∷ []
+
+-- the packet as it is held: the length, the second scramble and the plugin's name as they were read or made
+unfoldable pub greeting : HandshakeFields → List ℕ
+greeting p = concat (
+    little_bytes 1 p.protocol_version ∷ null_text p.server_version ∷ fixed (fixed_held p) ∷
+    scramble_held p.scramble_2
+    ∷ name_held p.auth_plugin_name ∷ []
+    )
+
+-- a second scramble has the length that is read of it
+abbrev pub scramble_fits : ℕ → Option (List ℕ) → Bool
+scramble_fits len None = true
+scramble_fits len (Some text) = length text == max 13 (len - 8)
 
 -- The capabilities, around the collation and the status. All bits of the capabilities have names; a
 -- status with a bit that has none is refused.

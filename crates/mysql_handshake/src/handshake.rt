@@ -11,25 +11,28 @@ ghost use Rattle.mysql_fields.specs.Texts.{lossy_text};
 ghost use Rattle.mysql_auth.specs.Plugins.{plugin_named, without_zero};
 ghost use Rattle.mysql_auth.specs.Views.{plugin_view};
 ghost use Rattle.mysql_buf.specs.Writing.{front};
-ghost use Rattle.mysql_handshake.specs.Capabilities.{plugin_auth, secure_connection};
+ghost use Rattle.mysql_handshake.specs.Capabilities.{offered, plugin_auth, secure_connection};
 ghost use Rattle.mysql_handshake.specs.HandshakeViews.{fixed_view, handshake_view};
-ghost use Rattle.mysql_handshake.specs.Handshakes.{HandshakeFields, block_at, fixed, fixed_at, fixed_written, flags_at};
+ghost use Rattle.mysql_handshake.specs.Handshakes.{HandshakeFields, block_at, fixed, fixed_at, fixed_held};
+ghost use Rattle.mysql_handshake.specs.Handshakes.{fixed_written, flags_at, greeting, name_held, scramble_fits};
+ghost use Rattle.mysql_handshake.specs.Handshakes.{scramble_held};
 ghost use Rattle.mysql_handshake.specs.Handshakes.{handshake, handshake_at, name_at, name_written, nonce_of};
 ghost use Rattle.mysql_handshake.specs.Handshakes.{scramble_at, scramble_front, scramble_written, scrambles_length};
 ghost use Rattle.mysql_handshake.specs.Versions.{IsMariadbVersion, IsTheOne, IsVersion};
 ghost use Rattle.mysql_fields.specs.Forms.{bytes_at};
 ghost use Rattle.mysql_fields.specs.Laws.{unsized};
-ghost use Rattle.mysql_fields.specs.Wire.{Tells, TellsPart};
+ghost use Rattle.mysql_fields.specs.Wire.{Appends, Tells, TellsPart};
 ghost use Rattle.mysql_fields.specs.Texts.{null_text};
 ghost use Rattle.mysql_field_constants.specs.Either.{either_written};
 ghost use Rattle.mysql_field_constants.specs.Flags.{contains};
 ghost use Rattle.mysql_fields.specs.declared.error.WireError.TheVariants as wire;
 
+use crate::both_sides::offered_by;
 use crate::versions::{mariadb_version, version_of};
 use bitflags::Flags;
-use mysql_auth::{AuthPlugin, without_zero};
+use mysql_auth::{AuthPlugin, put_with_zero, without_zero};
 use mysql_buf::{ParseBuf, front_of};
-use mysql_const::{CapabilityFlags, MariadbCapabilities, StatusFlags};
+use mysql_const::{Capabilities, CapabilityFlags, MariadbCapabilities, StatusFlags};
 use mysql_field_constants::{Const, Either, RawFlags, Skip};
 use mysql_fields::{
     BareBytes, EofBytes, LeU16, LeU32, LeU32LowerHalf, LeU32UpperHalf, MyDeserialize, MySerialize,
@@ -280,6 +283,16 @@ impl<'a> HandshakePacket<'a> {
         self.mariadb_ext_capabilities
     }
 
+    /// What the server can do, by both words. Those of MariaDB's own count where `CLIENT_LONG_PASSWORD`,
+    /// which MariaDB calls `CLIENT_MYSQL`, isn't set.
+    /// (MariaDB: "Connecting", 'Capabilities'.)
+    pub fn offered(&self) -> Capabilities
+        ensures { result ≡ offered (handshake_view self.now).capabilities
+            (handshake_view self.now).mariadb_ext_capabilities }
+    {
+        offered_by(self.capabilities, self.mariadb_ext_capabilities)
+    }
+
     /// The number of the server's collation.
     pub fn default_collation(&self) -> u8
         ensures { result ≡ (handshake_view self.now).default_collation }
@@ -347,6 +360,43 @@ impl<'a> HandshakePacket<'a> {
         }
         nonce.resize(20, 0)?;
         Ok(nonce)
+    }
+
+    /// Whether the second scramble, where there is one, has the length that is read of it.
+    pub fn has_whole_scramble(&self) -> bool
+        ensures { result ≡ scramble_fits (handshake_view self.now).data_length (handshake_view self.now).scramble_2 }
+    {
+        match &self.scramble_2 {
+            None => true,
+            Some(text) => {
+                let len = usize::from(self.auth_plugin_data_len)
+                    .saturating_sub(8)
+                    .max(13);
+                text.as_slice().len() == len
+            }
+        }
+    }
+
+    /// Appends the packet as it is held. Where it was read that is what was read of it, though its
+    /// length be another than the one of its second scramble, or its plugin's name hold a zero.
+    /// (MySQL: Client/Server Protocol, "Protocol::HandshakeV10".)
+    ///
+    /// Promise: exactly its fields are appended, or nothing (`greeting`).
+    ///
+    /// # Errors
+    /// - `AllocError` for want of memory. The buffer is then as it was.
+    #[tactic(auto, unfolding(crate::specs::Handshakes::greeting))]
+    pub fn put_as_held(&self, buf: &mut Vec<u8>) -> Result<(), AllocError>
+        ensures { Appends result buf.old.items buf.new.items (greeting (handshake_view self.now)) }
+    {
+        let protocol_version: RawInt<u8> = RawInt::new(self.protocol_version);
+        let server_version: RawBytes<NullBytes> = RawBytes::new(CowSlice::Borrowed(
+            self.server_version_ref(),
+        ));
+        let block = self.held_block();
+        let scramble_2 = self.held_scramble();
+        let name = HeldName(&self.auth_plugin_name);
+        in_order!(protocol_version, server_version, block, scramble_2, name).serialize(buf)
     }
 
     /// The packet in bytes of its own: it borrows nothing.
@@ -417,6 +467,32 @@ impl<'a> HandshakePacket<'a> {
         }
     }
 
+    // What is held of fixed length.
+    fn held_block(&self) -> FixedBlock
+        ensures { fixed_view result ≡ fixed_held (handshake_view self.now) }
+    {
+        let scramble_1 = self.scramble_1;
+        FixedBlock {
+            connection_id: self.connection_id,
+            scramble_1,
+            capabilities: self.capabilities,
+            default_collation: self.default_collation,
+            status_flags: self.status_flags,
+            auth_plugin_data_len: self.auth_plugin_data_len,
+            mariadb_ext_capabilities: self.mariadb_ext_capabilities,
+        }
+    }
+
+    // What is held of a second scramble.
+    fn held_scramble(&self) -> RawBytes<'_, EofBytes>
+        ensures { cow_slice_items result.0 ≡ scramble_held (handshake_view self.now).scramble_2 }
+    {
+        match &self.scramble_2 {
+            None => RawBytes::new(CowSlice::Borrowed(&[])),
+            Some(text) => RawBytes::new(CowSlice::Borrowed(text.as_slice())),
+        }
+    }
+
     // What is written of a second scramble.
     fn scramble_2_part(&self) -> RawBytes<'_, EofBytes>
         ensures { cow_slice_items result.0 ≡ scramble_written (handshake_view self.now).scramble_2 }
@@ -453,6 +529,21 @@ impl<'a> MySerialize for HandshakePacket<'a> {
         let scramble_2 = self.scramble_2_part();
         let name = self.name_part();
         in_order!(protocol_version, server_version, block, scramble_2, name).serialize(buf)
+    }
+}
+
+// The whole name of a plugin and a zero, where there is a name.
+#[derive(Drop)]
+struct HeldName<'x, 'a>(&'x Option<CowSlice<'a, u8>>);
+
+impl<'x, 'a> MySerialize for HeldName<'x, 'a> {
+    ghost written = { λ x. name_held (option_map cow_slice_items x.0.now) };
+
+    fn serialize(&self, buf: &mut Vec<u8>) -> Result<(), AllocError> {
+        match self.0 {
+            None => Ok(()),
+            Some(name) => put_with_zero(name.as_slice(), buf),
+        }
     }
 }
 

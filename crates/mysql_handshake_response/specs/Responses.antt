@@ -4,6 +4,7 @@
 -- left; the first refusal counts.
 use Rattle.std.specs.Prelude.{◌==◌, ◌&&◌, ◌||◌, ℕ, nat_le, nat_lt, Bool, is_some, not, if◌then◌else◌, List, [], ◌∷◌}
 use Rattle.std.specs.Prelude.{Option, Ok}
+use Rattle.std.specs.Int.RustNames.{bit_and}
 use Rattle.std.specs.List.{concat}
 use Rattle.mysql_auth.specs.Plugins.{Plugin}
 use Rattle.mysql_buf.specs.Writing.{front, lenenc_str, u8_str}
@@ -48,12 +49,20 @@ has_counted_scramble capabilities = not (contains capabilities plugin_auth_lenen
 abbrev pub counted_scramble : ℕ → List ℕ → List ℕ
 counted_scramble capabilities text = if has_counted_scramble capabilities then front text 255 else text
 
--- the fields in that order
-unfoldable pub response : ResponseFields → List ℕ
-response p = concat (
-    ssl_request p.request ∷ null_text p.user ∷ scramble p.request.capabilities p.scramble ∷ if_held null_text p.database
+-- the fields in that order; these capabilities say in which form the answer to the scramble stands
+unfoldable pub response_by : ℕ → ResponseFields → List ℕ
+response_by capabilities p = concat (
+    ssl_request p.request ∷ null_text p.user ∷ scramble capabilities p.scramble ∷ if_held null_text p.database
     ∷ if_held plugin_text p.plugin ∷ if_held attributes p.attributes ∷ []
     )
+
+-- by the capabilities that it names itself
+abbrev pub response : ResponseFields → List ℕ
+response p = response_by p.request.capabilities p
+
+-- by those of the server that it names too, which are in force
+abbrev pub response_to : ℕ → ResponseFields → List ℕ
+response_to server p = response_by (bit_and server p.request.capabilities) p
 
 -- a database, a plugin and attributes, each where the capabilities name it
 unfoldable pub named_parts_at : ℕ → List ℕ → Reading (Option (List ℕ) × Option Plugin × Option (List Attribute))
@@ -63,16 +72,15 @@ named_parts_at capabilities bytes = do
   attributes ← if_there (contains capabilities connect_attrs) attributes_at plugin.1
   Ok ((database.0, plugin.0, attributes.0), attributes.1)
 
--- the fields that stand first; the capabilities say which of the last three do
-unfoldable pub response_at : List ℕ → Reading ResponseFields
-response_at bytes = do
-  request ← ssl_request_at bytes
-  user ← null_text_at request.1
-  scramble ← scramble_at request.0.capabilities user.1
-  parts ← named_parts_at request.0.capabilities scramble.1
+-- the fields behind the first 32 bytes; these capabilities say which of the last three stand there
+unfoldable pub fields_by_at : ℕ → SslRequestFields → List ℕ → Reading ResponseFields
+fields_by_at capabilities request bytes = do
+  user ← null_text_at bytes
+  scramble ← scramble_at capabilities user.1
+  parts ← named_parts_at capabilities scramble.1
   Ok (
     record {
-      request = request.0;
+      request = request;
       user = user.0;
       scramble = scramble.0;
       database = parts.0.0;
@@ -81,6 +89,18 @@ response_at bytes = do
     },
     parts.1,
   )
+
+-- all fields, by the capabilities that it names itself
+unfoldable pub response_at : List ℕ → Reading ResponseFields
+response_at bytes = do
+  request ← ssl_request_at bytes
+  fields_by_at request.0.capabilities request.0 request.1
+
+-- by those of the server that it names too, which are in force
+unfoldable pub response_to_at : ℕ → List ℕ → Reading ResponseFields
+response_to_at server bytes = do
+  request ← ssl_request_at bytes
+  fields_by_at (bit_and server request.0.capabilities) request.0 request.1
 
 -- a server's version is 5.5.3 or later
 abbrev pub knows_utf8mb4 : ℕ × ℕ × ℕ → Bool

@@ -5,6 +5,7 @@
 
 ghost use Rattle.std.specs.Prelude.{◌≡◌, IfOk, None, map, option_map, IsOkUnless};
 ghost use Rattle.std.specs.Cow.{cow_slice_items};
+ghost use Rattle.std.specs.Int.RustNames.{bit_and};
 ghost use Rattle.mysql_connect_attributes.specs.Attributes.{with_last_values};
 ghost use Rattle.mysql_connect_attributes.specs.AttributeViews.{attributes_view, lossy_attribute, text_attribute};
 ghost use Rattle.mysql_connect_attributes.specs.Parts.{marked, or_empty};
@@ -12,13 +13,15 @@ ghost use Rattle.mysql_auth.specs.Views.{plugin_view};
 ghost use Rattle.mysql_buf.specs.Writing.{front};
 ghost use Rattle.mysql_handshake.specs.Capabilities.{connect_attrs, connect_with_db, plugin_auth};
 ghost use Rattle.mysql_fields.specs.Laws.{unsized};
-ghost use Rattle.mysql_fields.specs.Wire.{GivesPart, Tells};
+ghost use Rattle.mysql_fields.specs.Wire.{Appends, Gives, GivesPart, Tells};
 ghost use Rattle.mysql_fields.specs.declared.error.WireError.TheVariants as wire;
 ghost use Rattle.mysql_handshake_response.specs.Responses.{ResponseFields, collation_for, counted_scramble};
-ghost use Rattle.mysql_handshake_response.specs.Responses.{has_counted_scramble, knows_utf8mb4, marked_capabilities};
-ghost use Rattle.mysql_handshake_response.specs.Responses.{named_parts_at, response, response_at, scramble};
+ghost use Rattle.mysql_handshake_response.specs.Responses.{fields_by_at, has_counted_scramble, knows_utf8mb4};
+ghost use Rattle.mysql_handshake_response.specs.Responses.{marked_capabilities, named_parts_at, response, response_at};
+ghost use Rattle.mysql_handshake_response.specs.Responses.{response_by, response_to, response_to_at, scramble};
 ghost use Rattle.mysql_handshake_response.specs.Responses.{scramble_at};
 ghost use Rattle.mysql_handshake_response.specs.ResponseViews.{response_view};
+ghost use Rattle.mysql_handshake_response.specs.SslRequestViews.{ssl_request_view};
 ghost use Rattle.mysql_connect_attributes.specs.TextViews.{text_view};
 
 use crate::ssl_request::SslRequest;
@@ -44,6 +47,9 @@ use std::borrow::CowSlice;
 ///
 /// Reading is refused by `UnexpectedEof` where a part that the capabilities name is cut off, and by
 /// `Memory`. A plugin's name may end with the bytes.
+///
+/// It is read and written by its own capabilities, or, by [`HandshakeResponse::read_to`] and
+/// [`HandshakeResponse::put_to`], by those that the server has too.
 ///
 /// Promise: its bytes are a function of its fields, and any bytes are read exactly as its layout
 /// says, with the first refusal from the left; each direction stands by itself (`response`,
@@ -249,6 +255,13 @@ impl<'a> HandshakeResponse<'a> {
         Ok((db_name, auth_plugin, connect_attributes))
     }
 
+    /// What stands first in it, as in a request for a secure connection.
+    pub fn request(&self) -> &SslRequest
+        ensures { ssl_request_view result.now ≡ (response_view self.now).request }
+    {
+        &self.request
+    }
+
     /// What the client can do.
     pub fn capabilities(&self) -> CapabilityFlags
         ensures { result.0 ≡ (response_view self.now).request.capabilities }
@@ -283,6 +296,13 @@ impl<'a> HandshakeResponse<'a> {
         }
     }
 
+    /// The whole answer to the server's scramble.
+    pub fn scramble_ref(&self) -> &[u8]
+        ensures { result.now ≡ (response_view self.now).scramble }
+    {
+        self.scramble_buf.as_slice()
+    }
+
     /// The user's name.
     pub fn user(&self) -> &[u8]
         ensures { result.now ≡ (response_view self.now).user }
@@ -305,6 +325,13 @@ impl<'a> HandshakeResponse<'a> {
         ensures { option_map (λ plugin. plugin_view plugin.now) result ≡ (response_view self.now).plugin }
     {
         self.auth_plugin.as_ref()
+    }
+
+    /// The attributes, where there are any.
+    pub fn attributes(&self) -> Option<&ConnectAttributes<'a>>
+        ensures { option_map (λ all. attributes_view all.now) result ≡ (response_view self.now).attributes }
+    {
+        self.connect_attributes.as_ref()
     }
 
     /// The attributes as texts, where there are any and where bytes that aren't UTF-8 are replaced.
@@ -396,15 +423,17 @@ fn named_parts<'de>(
     Ok((db_name, auth_plugin, connect_attributes))
 }
 
-#[tactic(auto, unfolding(crate::specs::Responses::response_at))]
-fn response_fields<'de>(
+// The fields behind the first 32 bytes, by these capabilities.
+#[tactic(auto, unfolding(crate::specs::Responses::fields_by_at))]
+fn fields_by<'de>(
     alloc: Global,
+    capabilities: CapabilityFlags,
+    request: SslRequest,
     rest: &mut ParseBuf<'de>,
 ) -> Result<HandshakeResponse<'de>, WireError>
-    ensures { GivesPart response_view rest.new.0.now result (response_at rest.old.0.now) }
+    ensures { GivesPart response_view rest.new.0.now result
+        (fields_by_at capabilities.0 (ssl_request_view request) rest.old.0.now) }
 {
-    let request: SslRequest = rest.parse(alloc, ())?;
-    let capabilities = request.capabilities();
     let user = rest.parse(alloc, ())?;
     let scramble_buf = parse_scramble(capabilities, rest)?;
     let (db_name, auth_plugin, connect_attributes) = named_parts(alloc, capabilities, rest)?;
@@ -418,26 +447,117 @@ fn response_fields<'de>(
     })
 }
 
-#[tactic(auto, unfolding(crate::specs::Responses::response))]
-impl<'a> MySerialize for HandshakeResponse<'a> {
-    ghost written = { λ p. response (response_view p) };
+#[tactic(auto, unfolding(crate::specs::Responses::response_at))]
+fn response_fields<'de>(
+    alloc: Global,
+    rest: &mut ParseBuf<'de>,
+) -> Result<HandshakeResponse<'de>, WireError>
+    ensures { GivesPart response_view rest.new.0.now result (response_at rest.old.0.now) }
+{
+    let request: SslRequest = rest.parse(alloc, ())?;
+    let capabilities = request.capabilities();
+    fields_by(alloc, capabilities, request, rest)
+}
+
+// An answer, written by capabilities that are handed in.
+#[derive(Drop)]
+struct Laid<'x, 'a> {
+    capabilities: CapabilityFlags,
+    response: &'x HandshakeResponse<'a>,
+}
+
+#[tactic(auto, unfolding(crate::specs::Responses::response_by))]
+impl<'x, 'a> MySerialize for Laid<'x, 'a> {
+    ghost written = { λ x. response_by x.capabilities.0 (response_view x.response.now) };
 
     fn serialize(&self, buf: &mut Vec<u8>) -> Result<(), AllocError> {
+        let response = self.response;
         let scramble_buf = ScrambleBuf {
-            capabilities: self.capabilities(),
-            bytes: self.scramble_buf.as_slice(),
+            capabilities: self.capabilities,
+            bytes: response.scramble_buf.as_slice(),
         };
-        let db_name = IfHeld(&self.db_name);
-        let auth_plugin = IfHeld(&self.auth_plugin);
-        let connect_attributes = IfHeld(&self.connect_attributes);
+        let db_name = IfHeld(&response.db_name);
+        let auth_plugin = IfHeld(&response.auth_plugin);
+        let connect_attributes = IfHeld(&response.connect_attributes);
         in_order!(
-            self.request,
-            self.user,
+            response.request,
+            response.user,
             scramble_buf,
             db_name,
             auth_plugin,
             connect_attributes,
         )
+        .serialize(buf)
+    }
+}
+
+// The capabilities that both have.
+#[tactic(auto, unfolding(bitflags::proofs::OnLiterals::bitflags_on_literals))]
+fn both(server: CapabilityFlags, client: CapabilityFlags) -> CapabilityFlags
+    ensures { result.0 ≡ bit_and server.0 client.0 }
+{
+    CapabilityFlags(server.0 & client.0)
+}
+
+impl<'a> HandshakeResponse<'a> {
+    /// Reads an answer to a server of these capabilities: those that both sides have are in force and
+    /// say which fields stand there. A client may set others, and leave their fields out.
+    /// (MySQL: Client/Server Protocol, "Protocol::HandshakeResponse41" and "Capabilities Flags".)
+    ///
+    /// Promise: any bytes are read exactly as the layout by the capabilities in force says, with the
+    /// first refusal from the left (`response_to_at`).
+    ///
+    /// # Errors
+    /// - `UnexpectedEof` below 32 bytes, and where a part that the capabilities in force name is cut off.
+    /// - `Memory`.
+    ///
+    /// All bytes are left after an error.
+    #[tactic(auto, unfolding(crate::specs::Responses::response_to_at))]
+    pub fn read_to(
+        alloc: Global,
+        server: CapabilityFlags,
+        buf: &mut ParseBuf<'a>,
+    ) -> Result<HandshakeResponse<'a>, WireError>
+        ensures { Gives response_view buf.old.0.now buf.new.0.now result
+            (response_to_at server.0 buf.old.0.now) }
+    {
+        let mut rest = *buf;
+        let request: SslRequest = rest.parse(alloc, ())?;
+        let capabilities = both(server, request.capabilities());
+        let response = fields_by(alloc, capabilities, request, &mut rest)?;
+        *buf = rest;
+        Ok(response)
+    }
+
+    /// Appends the answer as one to a server of these capabilities: the answer to the scramble in the
+    /// form of those that both sides have, and the database, the plugin and the attributes where they
+    /// are held. The capabilities in force should name exactly those.
+    /// (MySQL: Client/Server Protocol, "Protocol::HandshakeResponse41" and "Capabilities Flags".)
+    ///
+    /// Promise: exactly the bytes of that layout are appended, or nothing (`response_to`).
+    ///
+    /// # Errors
+    /// - `AllocError` for want of memory. The buffer is then as it was.
+    pub fn put_to(&self, server: CapabilityFlags, buf: &mut Vec<u8>) -> Result<(), AllocError>
+        ensures { Appends result buf.old.items buf.new.items (response_to server.0 (response_view self.now)) }
+    {
+        let capabilities = both(server, self.capabilities());
+        Laid {
+            capabilities,
+            response: self,
+        }
+        .serialize(buf)
+    }
+}
+
+impl<'a> MySerialize for HandshakeResponse<'a> {
+    ghost written = { λ p. response (response_view p) };
+
+    fn serialize(&self, buf: &mut Vec<u8>) -> Result<(), AllocError> {
+        Laid {
+            capabilities: self.capabilities(),
+            response: self,
+        }
         .serialize(buf)
     }
 }

@@ -5,17 +5,19 @@
 
 ghost use Rattle.std.specs.Prelude.{◌≡◌, Some, false};
 ghost use Rattle.mysql_fields.specs.Wire.{TellsPart};
+ghost use Rattle.mysql_handshake.specs.Capabilities.{offered};
 ghost use Rattle.mysql_handshake_response.specs.SslRequests.{IsSslRequest, SslRequestFields, ssl_fields_at};
 ghost use Rattle.mysql_handshake_response.specs.SslRequests.{ssl_request, ssl_request_at};
 ghost use Rattle.mysql_handshake_response.specs.SslRequestLaws.{ssl_request_at-back, ssl_request_at-sized};
 ghost use Rattle.mysql_handshake_response.specs.SslRequestViews.{ssl_request_view};
 
 use mysql_buf::ParseBuf;
-use mysql_const::{CapabilityFlags, MariadbCapabilities};
+use mysql_const::{Capabilities, CapabilityFlags, MariadbCapabilities};
 use mysql_field_constants::{RawFlags, Skip};
 use mysql_fields::{
     LeU32, MyDeserialize, MySerialize, ParseExt, RawInt, Readable, ReadsBack, WireError, in_order,
 };
+use mysql_handshake::offered_by;
 use std::alloc::{AllocError, Global};
 
 /// The request for a secure connection: the first 32 bytes of a client's answer to the handshake.
@@ -86,6 +88,16 @@ impl SslRequest {
         ensures { result ≡ (ssl_request_view self.now).character_set }
     {
         self.character_set
+    }
+
+    /// What the client can do, by both words. Those of MariaDB's own count where
+    /// `CLIENT_LONG_PASSWORD`, which MariaDB calls `CLIENT_MYSQL`, isn't set.
+    /// (MariaDB: "Connecting", 'Capabilities'.)
+    pub fn offered(&self) -> Capabilities
+        ensures { result ≡ offered (ssl_request_view self.now).capabilities
+            (ssl_request_view self.now).mariadb_capabilities }
+    {
+        offered_by(self.capabilities, self.mariadb_capabilities)
     }
 
     /// What the client can do by MariaDB's own protocol.

@@ -51,9 +51,9 @@ pub type ComChangeUserHeader = ConstU8<InvalidComChangeUserHeader, 0x11>;
 /// `Memory`.
 #[derive(Debug, PartialEq, Eq, Drop)]
 pub struct ComChangeUserMoreData<'a> {
-    character_set: u16,
-    auth_plugin: Option<AuthPlugin<'a>>,
-    connect_attributes: Option<ConnectAttributes<'a>>,
+    pub(crate) character_set: u16,
+    pub(crate) auth_plugin: Option<AuthPlugin<'a>>,
+    pub(crate) connect_attributes: Option<ConnectAttributes<'a>>,
 }
 
 impl<'a> ComChangeUserMoreData<'a> {
@@ -97,6 +97,27 @@ impl<'a> ComChangeUserMoreData<'a> {
     {
         self.connect_attributes = attributes_of_texts(alloc, connect_attributes)?;
         Ok(self)
+    }
+
+    /// The number of the collation.
+    pub fn character_set(&self) -> u16
+        ensures { result ≡ (more_view self.now).character_set }
+    {
+        self.character_set
+    }
+
+    /// The plugin, where there is one.
+    pub fn auth_plugin(&self) -> Option<&AuthPlugin<'a>>
+        ensures { option_map (λ plugin. plugin_view plugin.now) result ≡ (more_view self.now).plugin }
+    {
+        self.auth_plugin.as_ref()
+    }
+
+    /// The attributes, where there are any.
+    pub fn attributes(&self) -> Option<&ConnectAttributes<'a>>
+        ensures { option_map (λ all. attributes_view all.now) result ≡ (more_view self.now).attributes }
+    {
+        self.connect_attributes.as_ref()
     }
 
     /// The value in bytes of its own: it borrows nothing.
@@ -212,17 +233,18 @@ impl<'de> MyDeserialize<'de> for ComChangeUserMoreData<'de> {
 ///
 /// Reading is refused by `BadConstant` where another command's number stands first, by `UnexpectedEof`
 /// where a part is cut off, and by `Memory`, in the order of the parts. Where no byte follows the
-/// database there is no more.
+/// database there is no more. [`ComChangeUser::read_in_force`] and [`ComChangeUser::put_in_force`] go
+/// by the capabilities that both sides have, and let fields at the end be missing.
 ///
 /// Promise: its bytes are a function of its fields, and any bytes are read exactly as its layout
 /// says, with the first refusal from the left; each direction stands by itself (`change_user`,
 /// `change_user_at`).
 #[derive(Debug, PartialEq, Eq, Drop)]
 pub struct ComChangeUser<'a> {
-    user: RawBytes<'a, NullBytes>,
-    auth_plugin_data: RawBytes<'a, U8Bytes>,
-    database: RawBytes<'a, NullBytes>,
-    more_data: Option<ComChangeUserMoreData<'a>>,
+    pub(crate) user: RawBytes<'a, NullBytes>,
+    pub(crate) auth_plugin_data: RawBytes<'a, U8Bytes>,
+    pub(crate) database: RawBytes<'a, NullBytes>,
+    pub(crate) more_data: Option<ComChangeUserMoreData<'a>>,
 }
 
 impl<'a> ComChangeUser<'a> {
@@ -293,6 +315,34 @@ impl<'a> ComChangeUser<'a> {
     {
         self.more_data = more_data;
         self
+    }
+
+    /// The user's name.
+    pub fn user(&self) -> &[u8]
+        ensures { result.now ≡ (change_user_view self.now).user }
+    {
+        self.user.0.as_slice()
+    }
+
+    /// The answer to the scramble.
+    pub fn auth_plugin_data(&self) -> &[u8]
+        ensures { result.now ≡ (change_user_view self.now).scramble }
+    {
+        self.auth_plugin_data.0.as_slice()
+    }
+
+    /// The database's name; no bytes are none.
+    pub fn database(&self) -> &[u8]
+        ensures { result.now ≡ (change_user_view self.now).database }
+    {
+        self.database.0.as_slice()
+    }
+
+    /// The collation, the plugin and the attributes, where they are there.
+    pub fn more_data(&self) -> Option<&ComChangeUserMoreData<'a>>
+        ensures { option_map (λ more. more_view more.now) result ≡ (change_user_view self.now).more }
+    {
+        self.more_data.as_ref()
     }
 
     /// The command in bytes of its own: it borrows nothing.

@@ -3,6 +3,7 @@
 //! packets that a replica sends.
 #![tactic(auto)]
 
+mod change_in_force;
 mod change_user;
 pub mod laws;
 
@@ -11,17 +12,18 @@ pub use crate::change_user::{
 };
 pub use bitflags::Flags;
 pub use mysql_auth::{
-    AuthMoreData, AuthMoreDataHeader, AuthPlugin, AuthPluginData, AuthSwitchRequest,
-    AuthSwitchRequestHeader, InvalidAuthMoreDataHeader, InvalidAuthSwitchRequestHeader,
-    InvalidPublicKeyRequest, InvalidPublicKeyResponse, OldAuthSwitchRequest, PublicKeyRequest,
-    PublicKeyRequestHeader, PublicKeyResponse, PublicKeyResponseHeader, parse_parsec_salt,
+    AuthMoreData, AuthMoreDataHeader, AuthNextFactor, AuthNextFactorHeader, AuthPlugin,
+    AuthPluginData, AuthSwitchRequest, AuthSwitchRequestHeader, InvalidAuthMoreDataHeader,
+    InvalidAuthNextFactorHeader, InvalidAuthSwitchRequestHeader, InvalidPublicKeyRequest,
+    InvalidPublicKeyResponse, OldAuthSwitchRequest, PublicKeyRequest, PublicKeyRequestHeader,
+    PublicKeyResponse, PublicKeyResponseHeader, parse_parsec_salt,
 };
 pub use mysql_buf::ParseBuf;
 pub use mysql_connect_attributes::ConnectAttributes;
-pub use mysql_const::{CapabilityFlags, MariadbCapabilities, StatusFlags};
+pub use mysql_const::{Capabilities, CapabilityFlags, MariadbCapabilities, StatusFlags};
 pub use mysql_field_constants::Either;
 pub use mysql_fields::{MyDeserialize, MySerialize, ParseExt, Readable, WireError};
-pub use mysql_handshake::HandshakePacket;
+pub use mysql_handshake::{HandshakePacket, in_force, offered_by};
 pub use mysql_handshake_response::{HandshakeResponse, SslRequest};
 pub use mysql_replication::{
     BinlogDumpFlags, BinlogRequest, ComBinlogDump, ComBinlogDumpGtid, ComBinlogDumpGtidHeader,

@@ -3,7 +3,7 @@
 -- Internals Manual, "Semi-Sync ACK packet".
 -- A reading takes bytes from the front: x.0 is what was read and x.1 the bytes left; the first refusal counts.
 use Rattle.std.specs.Prelude.{◌≡◌, ℕ, ◌%◌, ◌-◌, ◌^◌, ◌<◌, ◌≤◌, ◌⊎◌, List, [], ◌∷◌, length, min, Bool, true, Ok}
-use Rattle.std.specs.Prelude.{if◌then◌else◌}
+use Rattle.std.specs.Prelude.{if◌then◌else◌, nat_le, nat_lt, ◌&&◌}
 use Rattle.std.proofs.Common.{inl, inr}
 use Rattle.std.specs.Int.RustNames.{bit_and, bit_or}
 use Rattle.std.specs.List.{concat}
@@ -61,6 +61,10 @@ table_dump_at bytes = do
   database ← u8_text_at header.1
   table ← u8_text_at database.1
   Ok (record { database = database.0; table = table.0 }, table.1)
+
+-- Its names are written whole: their lengths fit.
+abbrev pub whole_table_dump : TableDump → Bool
+whole_table_dump p = nat_le (length p.database) 255 && nat_le (length p.table) 255
 
 -- Names that are written whole.
 pub record IsTableDump (p : TableDump) : Type 0 where
@@ -132,6 +136,11 @@ register_slave_fields_at bytes = do
 
 unfoldable pub register_slave_at : List ℕ → Reading RegisterSlave
 register_slave_at bytes = from_block 5 register_slave_fields_at bytes
+
+-- Its names are written whole: their lengths fit.
+abbrev pub whole_register_slave : RegisterSlave → Bool
+whole_register_slave p =
+    nat_le (length p.hostname) 255 && nat_le (length p.user) 255 && nat_le (length p.password) 255
 
 pub record IsRegisterSlave (p : RegisterSlave) : Type 0 where
   pub server_id : p.server_id < 2 ^ 32
@@ -228,6 +237,10 @@ binlog_dump_gtid_fields_at bytes = do
 
 unfoldable pub binlog_dump_gtid_at : List ℕ → Reading BinlogDumpGtid
 binlog_dump_gtid_at bytes = from_block 7 binlog_dump_gtid_fields_at bytes
+
+-- Its file's name is written whole: its length fits.
+abbrev pub whole_binlog_dump_gtid : BinlogDumpGtid → Bool
+whole_binlog_dump_gtid p = nat_lt (length p.filename) (2 ^ 32)
 
 pub record IsBinlogDumpGtid (p : BinlogDumpGtid) : Type 0 where
   pub flags : p.flags < 2 ^ 16

@@ -12,7 +12,7 @@ ghost use Rattle.mysql_fields.specs.Wire.{GivesPart, TellsPart};
 ghost use Rattle.mysql_replication.specs.PacketLaws.{binlog_dump_gtid_at-back};
 ghost use Rattle.mysql_replication.specs.Packets.{BinlogDumpGtid, IsBinlogDumpGtid, binlog_dump_gtid};
 ghost use Rattle.mysql_replication.specs.Packets.{binlog_dump_gtid_at, binlog_dump_gtid_fields_at};
-ghost use Rattle.mysql_replication.specs.Packets.{binlog_dump_gtid_front_at, binlog_dump_gtid_start_at, through_gtid};
+ghost use Rattle.mysql_replication.specs.Packets.{binlog_dump_gtid_front_at, binlog_dump_gtid_start_at, through_gtid, whole_binlog_dump_gtid};
 ghost use Rattle.mysql_replication.specs.Views.{IsLossyText, binlog_dump_gtid_view, start_view};
 
 use crate::headers::ComBinlogDumpGtidHeader;
@@ -193,6 +193,13 @@ impl<'a> ComBinlogDumpGtid<'a> {
         ensures { map sid_view result.now ≡ (binlog_dump_gtid_view self.now).sids }
     {
         self.sids.as_slice()
+    }
+
+    /// Whether its file's name is written whole: it has less than 2^32 bytes.
+    pub fn is_whole(&self) -> bool
+        ensures { result ≡ whole_binlog_dump_gtid (binlog_dump_gtid_view self.now) }
+    {
+        self.filename.as_slice().len() <= u32::MAX as usize
     }
 
     /// A copy, which borrows nothing.

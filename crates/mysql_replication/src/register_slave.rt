@@ -10,7 +10,7 @@ ghost use Rattle.mysql_fields.specs.Laws.{unsized};
 ghost use Rattle.mysql_fields.specs.Wire.{TellsPart};
 ghost use Rattle.mysql_replication.specs.PacketLaws.{register_slave_at-back};
 ghost use Rattle.mysql_replication.specs.Packets.{IsRegisterSlave, RegisterSlave, register_slave, register_slave_at};
-ghost use Rattle.mysql_replication.specs.Packets.{register_slave_fields_at, replica_names_at, replica_numbers_at};
+ghost use Rattle.mysql_replication.specs.Packets.{register_slave_fields_at, replica_names_at, replica_numbers_at, whole_register_slave};
 ghost use Rattle.mysql_replication.specs.Views.{IsLossyText, names_view, numbers_view, register_slave_view};
 
 use crate::headers::ComRegisterSlaveHeader;
@@ -194,6 +194,17 @@ impl<'a> ComRegisterSlave<'a> {
         ensures { result ≡ (register_slave_view self.now).master_id }
     {
         self.master_id
+    }
+
+    /// Whether its names and its password are written whole, so that it is read as it was written:
+    /// each has at most 255 bytes.
+    pub fn is_whole(&self) -> bool
+        ensures { result ≡ whole_register_slave (register_slave_view self.now) }
+    {
+        let hostname = self.hostname.as_slice();
+        let user = self.user.as_slice();
+        let password = self.password.as_slice();
+        hostname.len() <= 255 && user.len() <= 255 && password.len() <= 255
     }
 
     /// A copy, which borrows nothing.

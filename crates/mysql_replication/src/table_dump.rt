@@ -7,7 +7,7 @@ ghost use Rattle.std.specs.Cow.{cow_slice_items};
 ghost use Rattle.mysql_buf.specs.Writing.{front};
 ghost use Rattle.mysql_fields.specs.Laws.{unsized};
 ghost use Rattle.mysql_replication.specs.PacketLaws.{table_dump_at-back};
-ghost use Rattle.mysql_replication.specs.Packets.{IsTableDump, TableDump, table_dump, table_dump_at};
+ghost use Rattle.mysql_replication.specs.Packets.{IsTableDump, TableDump, table_dump, table_dump_at, whole_table_dump};
 ghost use Rattle.mysql_replication.specs.Views.{IsLossyText, table_dump_view};
 
 use crate::headers::ComTableDumpHeader;
@@ -76,6 +76,14 @@ impl<'a> ComTableDump<'a> {
         ensures { IsLossyText result (front (table_dump_view self.now).table 255) }
     {
         lossy_text(alloc, self.table_raw())
+    }
+
+    /// Whether its names are written whole, so that it is read as it was written: each has at most
+    /// 255 bytes.
+    pub fn is_whole(&self) -> bool
+        ensures { result ≡ whole_table_dump (table_dump_view self.now) }
+    {
+        self.database.as_slice().len() <= 255 && self.table.as_slice().len() <= 255
     }
 
     /// A copy, which borrows nothing.

@@ -6,13 +6,13 @@ ghost use Rattle.mysql_ok_packets.specs.Views.{ok_packet_view};
 ghost use Rattle.mysql_wire.specs.Wire.{TellsPart};
 ghost use Rattle.mysql_columns.specs.Views.{column_view};
 ghost use Rattle.mysql_replies.specs.Grammar.{deprecate_eof};
-ghost use Rattle.mysql_replies.specs.Grammar.{column, eof, rows_end, terminator};
+ghost use Rattle.mysql_replies.specs.Grammar.{column, eof, of_mysql, rows_end, terminator};
 ghost use Rattle.mysql_replies.specs.Steps.{reads_as_row};
 ghost use Rattle.mysql_replies.specs.Views.{Gives, Tells, rows_end_view};
 
 use crate::context::Context;
 use crate::fault::ReplyFault;
-use crate::opening::{error_packet, named_of, refused_of};
+use crate::opening::{error_packet, mysql_packet, named_of, refused_of};
 use bitflags::Flags;
 use mysql_columns::Column;
 use mysql_const::CapabilityFlags;
@@ -37,7 +37,6 @@ pub fn column_packet(alloc: Global, payload: &[u8]) -> Result<Column, ReplyFault
 }
 
 /// Reads an EOF packet, which has less than nine bytes.
-#[tactic(auto, unfolding(mysql_ok_packets::specs::OkPackets::old_eof_at))]
 pub fn eof_packet<'a>(
     alloc: Global,
     context: Context,
@@ -48,12 +47,9 @@ pub fn eof_packet<'a>(
     if payload.len() >= 9 {
         return Err(ReplyFault::BadTerminator);
     }
-    let read = ParseBuf(payload).parse::<OkPacketDeserializer<OldEofPacket>>(
-        alloc,
-        context.capabilities,
-    );
-    let eof = refused_of(read, ReplyFault::BadTerminator)?;
-    Ok(eof.into_inner())
+    let mut buf = ParseBuf(payload);
+    let read = eof_terminator_of(alloc, context.capabilities, &mut buf);
+    refused_of(read, ReplyFault::BadTerminator)
 }
 
 /// Whether no EOF packets are due.
@@ -72,10 +68,10 @@ fn ok_terminator_of<'a>(
     buf: &mut ParseBuf<'a>,
 ) -> Result<OkPacket<'a>, WireError>
     ensures { TellsPart ok_packet_view buf.new.0.now result
-        (result_set_terminator_at capabilities.0 buf.old.0.now) }
+        (of_mysql (result_set_terminator_at capabilities.0 buf.old.0.now)) }
 {
     let read: OkPacketDeserializer<ResultSetTerminator> = buf.parse(alloc, capabilities)?;
-    Ok(read.into_inner())
+    mysql_packet(read.into_inner())
 }
 
 // The EOF packet that ends rows, which borrows from the payload.
@@ -85,10 +81,10 @@ fn eof_terminator_of<'a>(
     capabilities: CapabilityFlags,
     buf: &mut ParseBuf<'a>,
 ) -> Result<OkPacket<'a>, WireError>
-    ensures { TellsPart ok_packet_view buf.new.0.now result (old_eof_at buf.old.0.now) }
+    ensures { TellsPart ok_packet_view buf.new.0.now result (of_mysql (old_eof_at buf.old.0.now)) }
 {
     let read: OkPacketDeserializer<OldEofPacket> = buf.parse(alloc, capabilities)?;
-    Ok(read.into_inner())
+    mysql_packet(read.into_inner())
 }
 
 // A terminator, which borrows from the payload.
@@ -98,8 +94,8 @@ fn terminator_of<'a>(
     buf: &mut ParseBuf<'a>,
 ) -> Result<OkPacket<'a>, WireError>
     ensures { TellsPart ok_packet_view buf.new.0.now result
-        (if deprecate_eof capabilities.0 then result_set_terminator_at capabilities.0 buf.old.0.now
-        else old_eof_at buf.old.0.now) }
+        (of_mysql (if deprecate_eof capabilities.0 then result_set_terminator_at capabilities.0 buf.old.0.now
+        else old_eof_at buf.old.0.now)) }
 {
     if deprecates_eof(capabilities) {
         ok_terminator_of(alloc, capabilities, buf)

@@ -1,7 +1,7 @@
 //! The first payload of a result.
 
 ghost use Rattle.std.specs.Prelude.{◌≡◌, ◌≤◌, List, length, drop, Ok, Err};
-ghost use Rattle.mysql_replies.specs.Grammar.{opening, or_fault, is_prepare, count_within, map_ok};
+ghost use Rattle.mysql_replies.specs.Grammar.{opening, or_fault, of_mysql, is_prepare, count_within, map_ok};
 ghost use Rattle.mysql_ok_packets.specs.OkPackets.{ok_packet_at};
 ghost use Rattle.mysql_server_packets.specs.Packets.{error_at, prepare_ok_at};
 ghost use Rattle.mysql_wire.specs.Forms.{lenenc_number_at};
@@ -9,12 +9,12 @@ ghost use Rattle.mysql_ok_packets.specs.Views.{ok_packet_view};
 ghost use Rattle.mysql_server_packets.specs.Views.{local_infile_view, prepare_ok_view, server_error_view};
 ghost use Rattle.mysql_replies.specs.declared.fault.ReplyFault.TheVariants.{BadOk, BadError, BadPrepare};
 ghost use Rattle.mysql_replies.specs.Grammar as grammar;
-ghost use Rattle.mysql_replies.specs.Views.{Gives, Tells, named, refused, opening_view};
+ghost use Rattle.mysql_replies.specs.Views.{Gives, Tells, TellsMysql, named, refused, opening_view};
 
 use crate::context::{Context, ReplyKind};
 use crate::fault::ReplyFault;
 use mysql_const::CapabilityFlags;
-use mysql_ok_packets::{CommonOkPacket, OkPacket, OkPacketDeserializer};
+use mysql_ok_packets::{CommonOkPacket, OkPacket, OkPacketDeserializer, has_mysql_status};
 use mysql_row_refs::starts_with;
 use mysql_server_packets::err_packet::server_error_of;
 use mysql_server_packets::{LocalInfilePacket, ServerError, StmtPacket};
@@ -53,18 +53,29 @@ pub fn refused_of<T: Drop>(read: Result<T, WireError>, fault: ReplyFault) -> Res
     }
 }
 
-/// Reads an OK packet.
+/// The packet, where MySQL names each bit of its status.
+pub fn mysql_packet(packet: OkPacket<'_>) -> Result<OkPacket<'_>, WireError>
+    ensures { TellsMysql result (ok_packet_view packet.entry) }
+{
+    if !has_mysql_status(packet.status_flags()) {
+        return Err(WireError::UnknownValue);
+    }
+    Ok(packet)
+}
+
+/// Reads an OK packet of MySQL.
 #[tactic(auto, unfolding(mysql_ok_packets::specs::OkPackets::ok_packet_at))]
 pub fn ok_packet(
     alloc: Global,
     capabilities: CapabilityFlags,
     payload: &[u8],
 ) -> Result<OkPacket<'static>, ReplyFault>
-    ensures { Gives ok_packet_view result (or_fault BadOk (ok_packet_at capabilities.0 payload.now)) }
+    ensures { Gives ok_packet_view result (or_fault BadOk (of_mysql (ok_packet_at capabilities.0 payload.now))) }
 {
     let read = ParseBuf(payload).parse::<OkPacketDeserializer<CommonOkPacket>>(alloc, capabilities);
     let ok = refused_of(read, ReplyFault::BadOk)?;
-    match ok.into_inner().into_owned(alloc) {
+    let ok = refused_of(mysql_packet(ok.into_inner()), ReplyFault::BadOk)?;
+    match ok.into_owned(alloc) {
         Ok(ok) => Ok(ok),
         Err(_) => Err(ReplyFault::Memory),
     }

@@ -1,0 +1,4 @@
+pub mod Events
+pub mod Readings
+pub mod Views
+pub mod Written

@@ -1,0 +1,3 @@
+pub mod FieldLists
+pub mod ReadAgain
+pub mod Replication

@@ -1,0 +1,6 @@
+use Rattle.std.proofs.Common.{arith, refl}
+use Rattle.mysql_command_writer.proofs.ReadAgain.{last_number-back}
+use Rattle.mysql_command_writer.proofs.testing.refresh_reads.Goals as goal
+
+pub returns : goal.returns
+returns c = rw (last_number-back 1 c.args.flags (omega arith)) refl

@@ -1,0 +1,37 @@
+//! Why a command isn't put.
+
+ghost use Rattle.std.specs.Prelude.{◌≡◌};
+ghost use Rattle.mysql_command_writer.specs.declared.refusal.CommandRefusal.TheVariants.{Memory};
+
+use std::alloc::{AllocError, AllocFailed};
+use thiserror::Error;
+
+/// Why a command isn't put: its payload would read as another one.
+///
+/// MySQL: Client/Server Protocol, "Command Phase".
+#[derive(Clone, Copy, Debug, PartialEq, Eq, Error)]
+pub enum CommandRefusal {
+    /// A zero in a name that ends at its first zero.
+    #[error("a zero in a name that ends at its first zero")]
+    ZeroByte,
+    /// A text that is longer than its length can say.
+    #[error("a text that is longer than its length can say")]
+    TooLong,
+    /// Flags that have no name.
+    #[error("flags that have no name")]
+    NamelessFlags,
+    /// Bytes that say nothing known, but are laid out as a command.
+    #[error("bytes of another command that are laid out as one that is known")]
+    ReadsAsCommand,
+    /// A growth of a buffer was refused.
+    #[error("out of memory")]
+    Memory,
+}
+
+impl From<AllocError> for CommandRefusal {
+    ghost from_gives = { λ _ refusal. refusal ≡ Memory };
+
+    fn from(_: AllocError) -> CommandRefusal {
+        CommandRefusal::Memory
+    }
+}

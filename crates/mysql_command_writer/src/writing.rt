@@ -1,0 +1,114 @@
+//! A command's payload.
+
+ghost use Rattle.std.specs.Prelude.{◌∷◌};
+ghost use Rattle.byteorder.specs.Endian.{little_bytes};
+ghost use Rattle.mysql_fields.specs.Wire.{Appends};
+ghost use Rattle.mysql_command_writer.specs.Refusals.{Puts};
+ghost use Rattle.mysql_commands.specs.Views.{command_view};
+ghost use Rattle.mysql_command_writer.specs.Written.{command_bytes};
+
+use crate::command::Command;
+use crate::refusal::CommandRefusal;
+use crate::testing::test;
+use mysql_const::Capabilities;
+use mysql_fields::{EofBytes, LeU16, LeU32, MySerialize, NullBytes, RawBytes, RawInt, in_order};
+use std::alloc::{AllocError, Global};
+
+/// A number and the fields behind it.
+fn append<T: MySerialize>(number: u8, fields: &T, out: &mut Vec<u8>) -> Result<(), AllocError>
+    ensures { Appends result out.old.items out.new.items (number ∷ T.written fields.now) }
+{
+    in_order!([number], *fields).serialize(out)
+}
+
+/// A number and a text behind it.
+fn append_text(number: u8, text: &[u8], out: &mut Vec<u8>) -> Result<(), AllocError>
+    ensures { Appends result out.old.items out.new.items (number ∷ text.now) }
+{
+    let text: RawBytes<EofBytes> = RawBytes::from(text);
+    append(number, &text, out)
+}
+
+/// A number and an id behind it.
+fn append_id(number: u8, id: u32, out: &mut Vec<u8>) -> Result<(), AllocError>
+    ensures { Appends result out.old.items out.new.items (number ∷ little_bytes 4 id) }
+{
+    let id: RawInt<LeU32> = RawInt::new(id);
+    append(number, &id, out)
+}
+
+/// A command's payload.
+fn append_command(command: &Command, out: &mut Vec<u8>) -> Result<(), AllocError>
+    ensures { Appends result out.old.items out.new.items (command_bytes (command_view command.now)) }
+{
+    match command {
+        Command::Quit => append(0x01, &(), out),
+        Command::InitDb(schema) => append_text(0x02, schema.as_slice(), out),
+        Command::Query(sql) => append_text(0x03, sql.as_slice(), out),
+        Command::FieldList { table, wildcard } => {
+            let table: RawBytes<NullBytes> = RawBytes::from(table.as_slice());
+            let wildcard: RawBytes<EofBytes> = RawBytes::from(wildcard.as_slice());
+            append(0x04, &(table, wildcard), out)
+        }
+        Command::CreateDb(schema) => append_text(0x05, schema.as_slice(), out),
+        Command::DropDb(schema) => append_text(0x06, schema.as_slice(), out),
+        Command::Refresh(flags) => append(0x07, &RawInt::<u8>::new(*flags), out),
+        Command::Shutdown(None) => append(0x08, &(), out),
+        Command::Shutdown(Some(level)) => append(0x08, &RawInt::<u8>::new(*level), out),
+        Command::Statistics => append(0x09, &(), out),
+        Command::ProcessInfo => append(0x0a, &(), out),
+        Command::ProcessKill(id) => append_id(0x0c, *id, out),
+        Command::Debug => append(0x0d, &(), out),
+        Command::Ping => append(0x0e, &(), out),
+        Command::BinlogDump(request) => request.serialize(out),
+        Command::TableDump(request) => request.serialize(out),
+        Command::RegisterSlave(replica) => replica.serialize(out),
+        Command::Prepare(sql) => append_text(0x16, sql.as_slice(), out),
+        Command::LongData {
+            stmt_id,
+            place,
+            bytes,
+        } => {
+            let stmt_id: RawInt<LeU32> = RawInt::new(*stmt_id);
+            let place: RawInt<LeU16> = RawInt::new(*place);
+            let bytes: RawBytes<EofBytes> = RawBytes::from(bytes.as_slice());
+            append(0x18, &(stmt_id, (place, bytes)), out)
+        }
+        Command::Close(id) => append_id(0x19, *id, out),
+        Command::ResetStatement(id) => append_id(0x1a, *id, out),
+        Command::SetOption(option) => append(0x1b, &RawInt::<LeU16>::new(*option), out),
+        Command::Fetch { stmt_id, rows } => {
+            let stmt_id: RawInt<LeU32> = RawInt::new(*stmt_id);
+            let rows: RawInt<LeU32> = RawInt::new(*rows);
+            append(0x1c, &(stmt_id, rows), out)
+        }
+        Command::BinlogDumpGtid(request) => request.serialize(out),
+        Command::ResetConnection => append(0x1f, &(), out),
+        Command::Clone(arguments) => append_text(0x20, arguments.as_slice(), out),
+        Command::Other(payload) => out.extend_from_slice(payload.as_slice()),
+    }
+}
+
+impl<'a> Command<'a> {
+    /// Appends the command's payload, which reads as the command by the same capabilities.
+    ///
+    /// # Errors
+    /// - The cause why its payload would read otherwise: `ZeroByte`, `ReadsAsCommand`.
+    /// - `Memory`.
+    ///
+    /// Nothing is appended then.
+    ///
+    /// MySQL: Client/Server Protocol, "Command Phase".
+    pub fn put(
+        &self,
+        alloc: Global,
+        capabilities: Capabilities,
+        out: &mut Vec<u8>,
+    ) -> Result<(), CommandRefusal>
+        ensures { Puts capabilities (command_view self.now) out.old.items out.new.items result }
+    {
+        test(alloc, capabilities, self)?;
+        append_command(self, out)?;
+        Ok(())
+    }
+}

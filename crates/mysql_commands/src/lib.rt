@@ -1,0 +1,13 @@
+//! A client's commands, one enum, read from any payload.
+#![tactic(auto)]
+
+pub mod command;
+mod reading;
+pub mod reply;
+
+pub use command::Command;
+pub use mysql_const::{Capabilities, CapabilityFlags, MariadbCapabilities};
+pub use mysql_executions::{
+    Attribute, BoundType, BulkExecution, BulkValue, Execution, ParameterType, StatementParameters,
+};
+pub use reply::Reply;

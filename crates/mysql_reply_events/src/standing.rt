@@ -1,0 +1,89 @@
+//! The columns that stand, by which rows are read.
+
+ghost use Rattle.std.specs.Prelude.{◌≡◌, Some, None, IfErr, IfSome, OnOk, option_map};
+ghost use Rattle.mysql_rows.specs.Views.{shared_columns};
+ghost use Rattle.mysql_row_refs.specs.RowRefs.{HoldsRow, row_held, row_of};
+ghost use Rattle.mysql_reply_events.specs.Standing.{columns_of};
+ghost use Rattle.mysql_reply_events.specs.Table.{are_so_many};
+
+use mysql_columns::Column;
+use mysql_row_refs::{RowFormat, RowReader};
+use std::alloc::{AllocError, Global};
+use std::marker::Model;
+use std::rc::RcSlice;
+
+/// The columns that stand, if some do, and what reads rows under them to be lent.
+#[derive(Drop)]
+pub struct StandingColumns {
+    columns: Option<RcSlice<Column>>,
+    format: RowFormat,
+    // There once a row was lent.
+    reader: Option<RowReader>,
+}
+
+impl Model for StandingColumns {
+    ghost use Rattle.mysql_reply_events.specs.Standing.{Standing};
+
+    ghost Value = { Standing };
+
+    ghost use Rattle.mysql_reply_events.specs.Standing.{IsReaderOf, columns_of};
+
+    ghost view = { λ s. record {
+      columns = columns_of s.columns;
+      format = s.format;
+      reader = s.reader;
+    } };
+
+    ghost invariant = { λ s. IsReaderOf (columns_of s.columns) s.format s.reader };
+}
+
+impl StandingColumns {
+    /// These columns, and rows in this format.
+    pub fn new(columns: Option<RcSlice<Column>>, format: RowFormat) -> StandingColumns
+        ensures { result ≡ record { columns = columns_of columns; format = format; reader = None } }
+    {
+        StandingColumns {
+            columns,
+            format,
+            reader: None,
+        }
+    }
+
+    /// These columns stand now.
+    pub fn replace(&mut self, columns: RcSlice<Column>)
+        ensures { self.new ≡
+            record { columns = Some (shared_columns columns); format = self.old.format; reader = None } }
+    {
+        self.columns = Some(columns);
+        self.reader = None;
+    }
+
+    /// The columns.
+    pub fn columns(&self) -> &Option<RcSlice<Column>>
+        ensures { columns_of result.now ≡ self.now.columns }
+    {
+        &self.columns
+    }
+
+    /// Whether so many columns stand.
+    pub fn are_so_many(&self, count: u16) -> bool
+        ensures { result ≡ are_so_many count self.now.columns }
+    {
+        match &self.columns {
+            Some(columns) => columns.len() == count as usize,
+            None => false,
+        }
+    }
+
+    /// The columns, taken.
+    pub fn into_columns(self) -> Option<RcSlice<Column>>
+        ensures { columns_of result ≡ self.columns }
+    {
+        let StandingColumns {
+            columns,
+            format: _,
+            reader: _,
+        } = self;
+        columns
+    }
+}
