@@ -115,6 +115,30 @@ impl ExtendedColumn {
         self
     }
 
+    /// Appends to metadata the value that names the column's type, as `point` or `uuid`.
+    ///
+    /// # Errors
+    /// - `AllocError` for want of memory. The metadata are then as they were.
+    ///
+    /// MariaDB: Client/Server Protocol, "Result Set Packets", 'Column Definition Packet'.
+    pub fn put_type_name(name: &[u8], metadata: &mut Vec<u8>) -> Result<(), AllocError>
+        ensures { Appends result metadata.old.items metadata.new.items (metadata_value 0 name.now) }
+    {
+        put_value(TYPE_NAME, name, metadata)
+    }
+
+    /// Appends to metadata the value that names the format of the column's texts, as `json`.
+    ///
+    /// # Errors
+    /// - `AllocError` for want of memory. The metadata are then as they were.
+    ///
+    /// MariaDB: Client/Server Protocol, "Result Set Packets", 'Column Definition Packet'.
+    pub fn put_format(format: &[u8], metadata: &mut Vec<u8>) -> Result<(), AllocError>
+        ensures { Appends result metadata.old.items metadata.new.items (metadata_value 1 format.now) }
+    {
+        put_value(FORMAT, format, metadata)
+    }
+
     /// The column itself.
     pub fn column(&self) -> &Column
         ensures { column_view result.now ≡ (extended_view self.now).column }
@@ -182,30 +206,6 @@ impl ExtendedColumn {
             metadata: copy_of(alloc, lent(&self.metadata))?,
         })
     }
-}
-
-/// Appends to metadata the value that names the column's type, as `point` or `uuid`.
-///
-/// # Errors
-/// - `AllocError` for want of memory. The metadata are then as they were.
-///
-/// MariaDB: Client/Server Protocol, "Result Set Packets", 'Column Definition Packet'.
-pub fn put_type_name(name: &[u8], metadata: &mut Vec<u8>) -> Result<(), AllocError>
-    ensures { Appends result metadata.old.items metadata.new.items (metadata_value 0 name.now) }
-{
-    put_value(TYPE_NAME, name, metadata)
-}
-
-/// Appends to metadata the value that names the format of the column's texts, as `json`.
-///
-/// # Errors
-/// - `AllocError` for want of memory. The metadata are then as they were.
-///
-/// MariaDB: Client/Server Protocol, "Result Set Packets", 'Column Definition Packet'.
-pub fn put_format(format: &[u8], metadata: &mut Vec<u8>) -> Result<(), AllocError>
-    ensures { Appends result metadata.old.items metadata.new.items (metadata_value 1 format.now) }
-{
-    put_value(FORMAT, format, metadata)
 }
 
 // Appends a value of metadata.

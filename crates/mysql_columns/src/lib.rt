@@ -7,7 +7,7 @@ pub mod headers;
 pub mod laws;
 
 pub use column::Column;
-pub use extended::{ExtendedColumn, ListedColumn, put_format, put_type_name};
+pub use extended::{ExtendedColumn, ListedColumn};
 pub use headers::{
     Catalog, ColumnDefinitionCatalog, FixedLengthFieldsLen, InvalidCatalog,
     InvalidFixedLengthFieldsLen,
