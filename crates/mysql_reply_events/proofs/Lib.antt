@@ -1,1 +1,2 @@
 mod BinaryRows
+mod RowsInPlace

@@ -3,6 +3,7 @@
 -- "COM_FIELD_LIST Response" and "COM_STATISTICS"; MariaDB: 'Progress report' of "ERR_Packet".
 use Rattle.std.specs.Prelude.{ℕ, Bool, List, Option}
 use Rattle.mysql_columns.specs.Columns.{ColumnDefinition}
+use Rattle.mysql_columns.specs.Extended.{ExtendedDefinition, ListedDefinition}
 use Rattle.mysql_ok_packets.specs.OkPackets.{OkPacket}
 use Rattle.mysql_rows.specs.Rows.{Row}
 use Rattle.mysql_server_packets.specs.Packets.{PrepareOk, ProgressReport, ServerError}
@@ -17,9 +18,9 @@ pub data Event : Type 0 where
   ProgressEvent : ProgressReport → Event
   -- So many columns; whether they follow.
   CountEvent : ℕ → Bool → Event
-  ColumnEvent : ColumnDefinition → Event
+  ColumnEvent : ExtendedDefinition → Event
   -- A column of a table, and its default value, where it has one.
-  FieldEvent : ColumnDefinition → Option (List ℕ) → Event
+  FieldEvent : ListedDefinition → Event
   -- The EOF behind columns.
   ColumnsEndEvent : OkPacket → Event
   RowEvent : Row → Event

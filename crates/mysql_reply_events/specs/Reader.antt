@@ -1,18 +1,20 @@
 -- What a reader of events holds, and what its calls do.
 -- MySQL: Client/Server Protocol, "COM_QUERY Response", "LOCAL INFILE Request" and "Text Resultset Row".
-use Rattle.std.specs.Prelude.{◌≡◌, List, Option, Some, None, Result, Ok, Err}
+use Rattle.std.specs.Prelude.{◌≡◌, List, Bool, true, false, not, ◌&&◌, Option, Some, None, is_some, Result, Ok, Err}
 use Rattle.mysql_columns.specs.Columns.{ColumnDefinition}
-use Rattle.mysql_row_refs.specs.RowRefs.{HoldsRow, row_held}
+use Rattle.mysql_row_refs.specs.Lines.{is_row}
 use Rattle.mysql_row_refs.specs.declared.reader.RowReader.{RowReader}
 use Rattle.mysql_rows.specs.Rows.{Row}
 use Rattle.mysql_reply_events.specs.declared.context.Context.{Context}
 use Rattle.mysql_reply_events.specs.declared.event.ReplyEvent.{ReplyEvent}
 use Rattle.mysql_reply_events.specs.declared.fault.ReplyFault.{ReplyFault}
 use Rattle.mysql_reply_events.specs.declared.fault.ReplyFault.TheVariants.{Memory}
-use Rattle.mysql_reply_events.specs.Events.{Payload, ReplySoFar}
-use Rattle.mysql_reply_events.specs.Events.Awaited.{Nothing}
+use Rattle.mysql_reply_events.specs.Events.{Awaited, Payload, ReplySoFar}
+use Rattle.mysql_reply_events.specs.Events.Awaited.{First, Nothing, Rows}
 use Rattle.mysql_reply_events.specs.Events.Event.{RowEvent}
-use Rattle.mysql_reply_events.specs.Table.{event_at, file_data_at, fresh}
+use Rattle.mysql_reply_events.specs.Readings.{deprecate_eof, has_report_form}
+use Rattle.mysql_reply_events.specs.Table.{event_at, file_data_at, fresh, is_fetch}
+use Rattle.mysql_reply_events.specs.Standing.{RowAt}
 use Rattle.mysql_reply_events.specs.Views.{event_view}
 
 -- What a reader holds: what it reads by, the reply so far, the fault that it found, and what reads rows to be lent,
@@ -54,11 +56,6 @@ TakesFileData old payload (Ok _) new =
 TakesFileData old payload (Err fault) new =
     (file_data_at old.so_far old.so_far.awaited payload ≡ Err fault) × HasFailed old fault new
 
--- A row lies in a payload: the reader has found there the place of each of its cells.
-abbrev pub RowAt : Option RowReader → Payload → Row → Type 0
-RowAt (Some reader) payload row = HoldsRow reader payload × (row ≡ row_held reader payload)
-RowAt None payload row = ⊥
-
 -- The payload is a row, which lies in it.
 pub record ReadsRow (old : ReaderState) (payload : Payload) (new : ReaderState) : Type 0 where
   pub row : Row
@@ -71,3 +68,14 @@ abbrev pub ReadsInPlace : ReaderState → Payload → Result (Option ReplyEvent)
 ReadsInPlace old payload (Ok None) new = ReadsRow old payload new
 ReadsInPlace old payload (Ok (Some event)) new = ReadsOn old payload (Ok event) new
 ReadsInPlace old payload (Err fault) new = ReadsOn old payload (Err fault) new
+
+-- A row is due that may be lent: under columns that stand.
+abbrev pub awaits_rows : Context → ReplySoFar → Awaited → Bool
+awaits_rows c s (Rows true) = is_some s.columns
+awaits_rows c s First = is_fetch c.kind && is_some s.columns
+awaits_rows c s awaited = false
+
+-- The payload is one in a row's place that is read as a row.
+abbrev pub is_row_due : Context → ReplySoFar → Payload → Bool
+is_row_due c s payload =
+    awaits_rows c s s.awaited && not (has_report_form c payload) && is_row (deprecate_eof c) payload

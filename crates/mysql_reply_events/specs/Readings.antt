@@ -6,11 +6,11 @@
 use Rattle.std.specs.Prelude.{ℕ, zero, suc, List, [], ◌∷◌, length, take, Bool, true, false, Option, Some, None, Result}
 use Rattle.std.specs.Prelude.{Ok, Err, nat_lt, ◌==◌, ◌&&◌, ◌||◌, if◌then◌else◌, bytes_eq}
 use Rattle.mysql_fields.specs.Forms.{fixed_number_at, lenenc_number_at}
-use Rattle.mysql_fields.specs.Texts.{lenenc_text_at}
 use Rattle.mysql_fields.specs.Wire.{Reading, ◌>>=◌}
 use Rattle.mysql_field_constants.specs.Constants.{named_at}
 use Rattle.mysql_field_constants.specs.Flags.{contains}
-use Rattle.mysql_columns.specs.Columns.{ColumnDefinition, column_at}
+use Rattle.mysql_columns.specs.Columns.{ColumnDefinition}
+use Rattle.mysql_columns.specs.Extended.{ExtendedDefinition, ListedDefinition, extended_column_at, listed_column_at}
 use Rattle.mysql_ok_packets.specs.OkPackets.{OkPacket, old_eof_at, ok_packet_at, result_set_terminator_at}
 use Rattle.mysql_row_refs.specs.Lines.{begins_with, terminator_limit}
 use Rattle.mysql_rows.specs.Rows.{Row, as_row, binary_resultset_row_at, text_row_at}
@@ -124,26 +124,13 @@ prepared_at c bytes = do
 abbrev pub prepared : Context → Payload → Result (PrepareOk × Bool) ReplyFault
 prepared c payload = or_fault BadPrepare (prepared_at c payload)
 
--- A column packet.
-abbrev pub column : Context → Payload → Result ColumnDefinition ReplyFault
-column c payload = or_fault BadColumn (column_at payload)
-
--- The default value behind a column of a table: a text behind its length; fb, or nothing at all, is none.
-abbrev pub default_at : List ℕ → Reading (Option (List ℕ))
-default_at [] = Ok (None, [])
-default_at (b ∷ bytes) =
-    if b == 251 then Ok (None, bytes)
-    else (lenenc_text_at (b ∷ bytes) >>= λ text. Ok (Some text.0, text.1))
+-- A column packet, with MariaDB's extended metadata where they are agreed on.
+abbrev pub column : Context → Payload → Result ExtendedDefinition ReplyFault
+column c payload = or_fault BadColumn (extended_column_at (mariadb c) payload)
 
 -- A column of a table, and its default value.
-abbrev pub field_at : Context → List ℕ → Reading (ColumnDefinition × Option (List ℕ))
-field_at c bytes = do
-  column ← column_at bytes
-  default ← default_at column.1
-  Ok ((column.0, default.0), default.1)
-
-abbrev pub field : Context → Payload → Result (ColumnDefinition × Option (List ℕ)) ReplyFault
-field c payload = or_fault BadColumn (field_at c payload)
+abbrev pub field : Context → Payload → Result ListedDefinition ReplyFault
+field c payload = or_fault BadColumn (listed_column_at (mariadb c) payload)
 
 -- The EOF packet: fe, below nine bytes.
 abbrev pub eof : Payload → Result OkPacket ReplyFault

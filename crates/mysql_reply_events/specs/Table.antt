@@ -9,7 +9,6 @@ use Rattle.mysql_field_constants.specs.Flags.{contains}
 use Rattle.mysql_columns.specs.Columns.{ColumnDefinition}
 use Rattle.mysql_ok_packets.specs.OkPackets.{OkPacket, more_results_exist}
 use Rattle.mysql_row_refs.specs.Lines.{begins_with}
-use Rattle.mysql_server_packets.specs.Packets.{PrepareOk}
 use Rattle.mysql_reply_events.specs.declared.context.Context.{Context}
 use Rattle.mysql_reply_events.specs.declared.context.ReplyKind.{ReplyKind}
 use Rattle.mysql_reply_events.specs.declared.context.ReplyKind.TheVariants as kinds
@@ -45,6 +44,10 @@ after_result c ok = if has_results c.kind && more_results_exist ok.status_flags 
 abbrev pub is_execution : ReplyKind → Bool
 is_execution kinds.Binary = true
 is_execution kind = false
+
+abbrev pub is_fetch : ReplyKind → Bool
+is_fetch kinds.Fetch = true
+is_fetch kind = false
 
 -- A cursor was opened: its rows are fetched later.
 abbrev pub cursor_exists : OkPacket → Bool
@@ -87,7 +90,7 @@ column_came c s group (suc n) columns = record s { awaited = Columns group n col
 abbrev pub in_columns : Context → ReplySoFar → Group → ℕ → List ColumnDefinition → Payload → Step
 in_columns c s group n earlier payload = do
   column ← column c payload
-  Ok (ColumnEvent column, column_came c s group n (with_column group earlier column))
+  Ok (ColumnEvent column, column_came c s group n (with_column group earlier column.column))
 
 -- Behind the EOF of columns: where it says that a cursor exists it ends a binary result.
 abbrev pub after_columns_end : Context → Group → Bool → OkPacket → Awaited
@@ -182,8 +185,8 @@ abbrev pub in_fields : Context → ReplySoFar → Payload → Step
 in_fields c s payload =
     if begins_terminator c payload then in_end c s payload
     else (do
-      x ← field c payload
-      goes_on s (FieldEvent x.0 x.1) Fields)
+      field ← field c payload
+      goes_on s (FieldEvent field) Fields)
 
 -- THE TABLE
 

@@ -1,9 +1,7 @@
 -- What the code holds, as values; and what its functions answer.
 -- MySQL: Client/Server Protocol, "COM_QUERY Response", its packets as the code holds them.
-use Rattle.std.specs.Prelude.{◌≡◌, ℕ, List, Option, option_map, Result, Ok, Err}
-use Rattle.mysql_columns.specs.Columns.{ColumnDefinition}
-use Rattle.mysql_columns.specs.Views.{column_view}
-use Rattle.mysql_columns.specs.declared.column.Column.{Column}
+use Rattle.std.specs.Prelude.{◌≡◌, Result, Ok, Err}
+use Rattle.mysql_columns.specs.Views.{extended_view, listed_view}
 use Rattle.mysql_fields.specs.declared.error.WireError.{WireError}
 use Rattle.mysql_fields.specs.declared.error.WireError.TheVariants as wire
 use Rattle.mysql_ok_packets.specs.Views.{ok_packet_view}
@@ -32,9 +30,8 @@ event_view (events.Ok ok) = OkEvent (ok_packet_view ok)
 event_view (events.Error error) = ErrorEvent (server_error_view error)
 event_view (events.Progress report) = ProgressEvent (progress_report_view report)
 event_view (events.ColumnCount count columns_follow) = CountEvent count columns_follow
-event_view (events.Column column) = ColumnEvent (column_view column)
-event_view (events.Field column default) =
-    FieldEvent (column_view column) (option_map (λ bytes. bytes.items) default)
+event_view (events.Column column) = ColumnEvent (extended_view column)
+event_view (events.Field column) = FieldEvent (listed_view column)
 event_view (events.ColumnsEnd ok) = ColumnsEndEvent (ok_packet_view ok)
 event_view (events.Row row) = RowEvent (row_view row)
 event_view (events.RawRow bytes) = RawRowEvent bytes.items

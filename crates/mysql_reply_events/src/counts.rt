@@ -1,22 +1,19 @@
-//! Counts of columns, statement packets and columns of tables, by what is agreed on.
+//! Counts of columns and statement packets, by what is agreed on.
 
-ghost use Rattle.std.specs.Prelude.{◌≡◌, Option, option_map};
+ghost use Rattle.std.specs.Prelude.{◌≡◌};
 ghost use Rattle.mysql_fields.specs.Forms.{lenenc_number_at};
-ghost use Rattle.mysql_fields.specs.Wire.{GivesPart, TellsPart};
-ghost use Rattle.mysql_columns.specs.Columns.{column_at};
-ghost use Rattle.mysql_columns.specs.Views.{column_view};
+ghost use Rattle.mysql_fields.specs.Wire.{TellsPart};
 ghost use Rattle.mysql_server_packets.specs.Views.{prepare_ok_view};
-ghost use Rattle.mysql_reply_events.specs.Readings.{column_count, count_at, default_at, field, field_at, follow_at};
+ghost use Rattle.mysql_reply_events.specs.Readings.{column_count, count_at, follow_at};
 ghost use Rattle.mysql_reply_events.specs.Readings.{prepared, prepared_at};
-ghost use Rattle.mysql_reply_events.specs.Views.{Gives, Tells};
+ghost use Rattle.mysql_reply_events.specs.Views.{Tells};
 
 use crate::context::Context;
 use crate::fault::ReplyFault;
 use crate::forms::{has_cached_metadata, has_optional_metadata};
-use crate::packets::{named_of, refused_of};
+use crate::packets::refused_of;
 use mysql_buf::ParseBuf;
-use mysql_columns::Column;
-use mysql_fields::{ParseExt, WireError, read_lenenc_text};
+use mysql_fields::{ParseExt, WireError};
 use mysql_server_packets::StmtPacket;
 use std::alloc::Global;
 
@@ -104,59 +101,4 @@ pub fn prepared_packet(
         prepared_of(alloc, context, &mut buf),
         ReplyFault::BadPrepare,
     )
-}
-
-// The default value behind a column of a table.
-fn default_of(alloc: Global, buf: &mut ParseBuf) -> Result<Option<Vec<u8>>, WireError>
-    ensures { GivesPart (λ default. option_map (λ bytes. bytes.items) default) buf.new.0.now result
-        (default_at buf.old.0.now) }
-{
-    match buf.0 {
-        [] => Ok(None),
-        [251, rest @ ..] => {
-            *buf = ParseBuf(rest);
-            Ok(None)
-        }
-        _ => {
-            let text = read_lenenc_text(buf)?;
-            match Vec::from_slice(alloc, text) {
-                Ok(bytes) => Ok(Some(bytes)),
-                Err(_) => Err(WireError::Memory),
-            }
-        }
-    }
-}
-
-// A column.
-fn column_of(alloc: Global, _context: Context, buf: &mut ParseBuf) -> Result<Column, WireError>
-    ensures { GivesPart column_view buf.new.0.now result (column_at buf.old.0.now) }
-{
-    buf.parse(alloc, ())
-}
-
-// A column of a table, and its default value.
-fn field_of(
-    alloc: Global,
-    context: Context,
-    buf: &mut ParseBuf,
-) -> Result<(Column, Option<Vec<u8>>), WireError>
-    ensures { GivesPart (λ x. (column_view x.0, option_map (λ bytes. bytes.items) x.1)) buf.new.0.now result
-        (field_at context buf.old.0.now) }
-{
-    let column = column_of(alloc, context, buf)?;
-    let default = default_of(alloc, buf)?;
-    Ok((column, default))
-}
-
-/// Reads a column of a table, and its default value.
-pub fn field_packet(
-    alloc: Global,
-    context: Context,
-    payload: &[u8],
-) -> Result<(Column, Option<Vec<u8>>), ReplyFault>
-    ensures { Gives (λ x. (column_view x.0, option_map (λ bytes. bytes.items) x.1)) result
-        (field context payload.now) }
-{
-    let mut buf = ParseBuf(payload);
-    named_of(field_of(alloc, context, &mut buf), ReplyFault::BadColumn)
 }

@@ -1,6 +1,6 @@
 //! What one payload of a reply says.
 
-use mysql_columns::Column;
+use mysql_columns::{ExtendedColumn, ListedColumn};
 use mysql_ok_packets::OkPacket;
 use mysql_rows::Row;
 use mysql_server_packets::{LocalInfilePacket, ProgressReport, ServerError, StmtPacket};
@@ -24,13 +24,11 @@ pub enum ReplyEvent {
         count: u16,
         columns_follow: bool,
     },
-    /// A column of a result set, or a parameter or a column of a prepared statement.
-    Column(Column),
+    /// A column of a result set, or a parameter or a column of a prepared statement; with MariaDB's
+    /// extended metadata, where they are agreed on.
+    Column(ExtendedColumn),
     /// A column of a table, and its default value, where it has one.
-    Field {
-        column: Column,
-        default: Option<Vec<u8>>,
-    },
+    Field(ListedColumn),
     /// The EOF packet behind columns.
     ColumnsEnd(OkPacket<'static>),
     /// A row.

@@ -2,12 +2,12 @@
 
 ghost use Rattle.std.specs.Prelude.{◌≡◌, ◌≤◌, if◌then◌else◌, length, drop, Ok};
 ghost use Rattle.mysql_fields.specs.Wire.{TellsPart};
-ghost use Rattle.mysql_columns.specs.Views.{column_view};
+ghost use Rattle.mysql_columns.specs.Views.{extended_view, listed_view};
 ghost use Rattle.mysql_ok_packets.specs.OkPackets.{old_eof_at, result_set_terminator_at};
 ghost use Rattle.mysql_ok_packets.specs.Views.{ok_packet_view};
 ghost use Rattle.mysql_server_packets.specs.Packets.{progress_report_at};
 ghost use Rattle.mysql_server_packets.specs.Views.{local_infile_view, progress_report_view, server_error_view};
-ghost use Rattle.mysql_reply_events.specs.Readings.{column, deprecate_eof, eof, ok_packet, protocol, report};
+ghost use Rattle.mysql_reply_events.specs.Readings.{column, deprecate_eof, eof, field, protocol, report};
 ghost use Rattle.mysql_reply_events.specs.Readings.{server_error, terminator};
 ghost use Rattle.mysql_reply_events.specs.Readings as readings;
 ghost use Rattle.mysql_reply_events.specs.Views.{Gives, named, refused};
@@ -16,7 +16,7 @@ use crate::context::Context;
 use crate::fault::ReplyFault;
 use crate::forms::deprecates_eof;
 use mysql_buf::ParseBuf;
-use mysql_columns::Column;
+use mysql_columns::{ExtendedColumn, ListedColumn};
 use mysql_const::CapabilityFlags;
 use mysql_fields::{ParseExt, WireError};
 use mysql_ok_packets::{
@@ -127,11 +127,28 @@ pub fn report_packet(alloc: Global, payload: &[u8]) -> Result<ProgressReport<'st
     }
 }
 
-/// Reads a column packet.
-pub fn column_packet(alloc: Global, context: Context, payload: &[u8]) -> Result<Column, ReplyFault>
-    ensures { Gives column_view result (column context payload.now) }
+/// Reads a column packet, with MariaDB's extended metadata where they are agreed on.
+pub fn column_packet(
+    alloc: Global,
+    context: Context,
+    payload: &[u8],
+) -> Result<ExtendedColumn, ReplyFault>
+    ensures { Gives extended_view result (column context payload.now) }
 {
-    named_of(ParseBuf(payload).parse(alloc, ()), ReplyFault::BadColumn)
+    let read = ParseBuf(payload).parse(alloc, context.capabilities.mariadb);
+    named_of(read, ReplyFault::BadColumn)
+}
+
+/// Reads a column of a table, and its default value.
+pub fn field_packet(
+    alloc: Global,
+    context: Context,
+    payload: &[u8],
+) -> Result<ListedColumn, ReplyFault>
+    ensures { Gives listed_view result (field context payload.now) }
+{
+    let read = ParseBuf(payload).parse(alloc, context.capabilities.mariadb);
+    named_of(read, ReplyFault::BadColumn)
 }
 
 // The OK packet that ends rows, which borrows from the payload.

@@ -1,9 +1,12 @@
 //! The reader of a reply's payloads.
 
-ghost use Rattle.std.specs.Prelude.{◌≡◌, Err, IfSome, None, Some, OnErr, option_map};
+ghost use Rattle.std.specs.Prelude.{◌≡◌, Err, IfSome, None, Some, OnErr, option_map, true};
+ghost use Rattle.mysql_row_refs.specs.RowRefs.{row_ref_view};
+ghost use Rattle.mysql_rows.specs.Rows.{Row};
 ghost use Rattle.mysql_rows.specs.Views.{shared_columns};
-ghost use Rattle.mysql_reply_events.specs.Reader.{ReadsOn, TakesFileData, fresh_reader};
-ghost use Rattle.mysql_reply_events.specs.Standing.{columns_of, format_of};
+ghost use Rattle.mysql_reply_events.specs.Reader.{HasFailed, ReadsInPlace, ReadsOn, TakesFileData, awaits_rows};
+ghost use Rattle.mysql_reply_events.specs.Reader.{fresh_reader, is_row_due};
+ghost use Rattle.mysql_reply_events.specs.Standing.{RowAt, columns_of, format_of};
 ghost use Rattle.mysql_reply_events.specs.States.{Steps, so_far};
 ghost use Rattle.mysql_reply_events.specs.Table as table;
 ghost use Rattle.mysql_reply_events.specs.Views.{awaited_view, turn_of};
@@ -12,7 +15,7 @@ use crate::awaited::{Awaited, Turn};
 use crate::context::{Context, ReplyKind};
 use crate::event::ReplyEvent;
 use crate::fault::ReplyFault;
-use crate::forms::is_report_like;
+use crate::forms::{deprecates_eof, is_report_like};
 use crate::packets::report_packet;
 use crate::rows::has_binary_rows;
 use crate::standing::StandingColumns;
@@ -20,7 +23,7 @@ use crate::state::ReplyState;
 use crate::steps::place_step;
 use mysql_columns::Column;
 use mysql_const::Capabilities;
-use mysql_row_refs::RowFormat;
+use mysql_row_refs::{RowFormat, RowRef, is_row};
 use std::alloc::Global;
 use std::marker::Model;
 use std::rc::RcSlice;
@@ -52,6 +55,36 @@ fn step(
     } else {
         place_step(alloc, context, state, payload)
     }
+}
+
+/// The command is a fetch.
+fn is_fetch(kind: ReplyKind) -> bool
+    ensures { result ≡ table.is_fetch kind }
+{
+    match kind {
+        ReplyKind::Fetch => true,
+        _ => false,
+    }
+}
+
+/// A row is due that may be lent.
+fn awaits_rows(context: Context, state: &ReplyState) -> bool
+    ensures { result ≡ awaits_rows context (so_far state.now) (awaited_view state.now.awaited) }
+{
+    match &state.awaited {
+        Awaited::Rows { known } => *known && state.standing.columns().is_some(),
+        Awaited::First => is_fetch(context.kind) && state.standing.columns().is_some(),
+        _ => false,
+    }
+}
+
+/// The payload is one in a row's place that is read as a row.
+fn is_row_due(context: Context, state: &ReplyState, payload: &[u8]) -> bool
+    ensures { result ≡ is_row_due context (so_far state.now) payload.now }
+{
+    awaits_rows(context, state)
+        && !is_report_like(context, payload)
+        && is_row(payload, deprecates_eof(context))
 }
 
 /// The format of rows, by the kind of the command.
@@ -156,11 +189,7 @@ impl EventReader {
         }
         match step(self.alloc, self.context, &mut self.state, payload) {
             Ok(event) => Ok(event),
-            Err(fault) => {
-                self.state.awaited = Awaited::Nothing;
-                self.fault = Some(fault);
-                Err(fault)
-            }
+            Err(fault) => Err(self.fail(fault)),
         }
     }
 
@@ -184,12 +213,72 @@ impl EventReader {
                 }
                 Ok(())
             }
-            _ => {
-                self.state.awaited = Awaited::Nothing;
-                self.fault = Some(ReplyFault::NotDue);
-                Err(ReplyFault::NotDue)
-            }
+            _ => Err(self.fail(ReplyFault::NotDue)),
         }
+    }
+
+    // The payload has no place, or memory ran out.
+    fn fail(&mut self, fault: ReplyFault) -> ReplyFault
+        ensures fails { HasFailed self.old fault self.new }
+        ensures same { result ≡ fault }
+    {
+        self.state.awaited = Awaited::Nothing;
+        self.fault = Some(fault);
+        fault
+    }
+
+    // Reads a row that is due, where it lies.
+    fn row_in_place(&mut self, payload: &[u8]) -> Result<Option<ReplyEvent>, ReplyFault>
+        requires going { self.old.fault ≡ None }
+        requires due { is_row_due self.old.context self.old.so_far payload.now ≡ true }
+        ensures { ReadsInPlace self.old payload.now result self.new }
+    {
+        match self.state.standing.read(self.alloc, payload) {
+            Ok(()) => {
+                self.state.awaited = Awaited::Rows { known: true };
+                Ok(None)
+            }
+            Err(fault) => Err(self.fail(fault)),
+        }
+    }
+
+    /// Reads the next payload of the server as [`EventReader::read`] does, but a row where it lies.
+    ///
+    /// `None` is a row: [`EventReader::row_ref`] of this payload then gives it. None of it is copied,
+    /// and memory is asked for at the first row of a result alone.
+    ///
+    /// Promise: the row is the one that `read` would answer, and so is what is awaited behind it
+    /// (`ReadsInPlace`).
+    ///
+    /// # Errors
+    /// - Those of [`EventReader::read`], in the same order.
+    ///
+    /// MySQL: Client/Server Protocol, "Text Resultset Row" and "Binary Protocol Resultset Row"; C
+    /// API, "mysql_use_result()".
+    pub fn read_in_place(&mut self, payload: &[u8]) -> Result<Option<ReplyEvent>, ReplyFault>
+        ensures failed { IfSome self.old.fault (λ fault. (result ≡ Err fault) × (self.new ≡ self.old)) }
+        ensures reads { self.old.fault ≡ None → ReadsInPlace self.old payload.now result self.new }
+    {
+        if self.fault.is_none() && is_row_due(self.context, &self.state, payload) {
+            return self.row_in_place(payload);
+        }
+        match self.read(payload) {
+            Ok(event) => Ok(Some(event)),
+            Err(fault) => Err(fault),
+        }
+    }
+
+    /// The row that [`EventReader::read_in_place`] read last, which borrows its payload.
+    ///
+    /// MySQL: Client/Server Protocol, "Text Resultset Row" and "Binary Protocol Resultset Row".
+    pub fn row_ref<'r, 'p>(&'r self, payload: &'p [u8]) -> RowRef<'r, 'p>
+        requires { (row : Row) × RowAt self.now.rows payload.now row }
+        ensures { RowAt self.now.rows payload.now (row_ref_view result) }
+    {
+        let Some(reader) = self.state.standing.reader() else {
+            unreachable!()
+        };
+        reader.row_ref(payload)
     }
 
     /// Whose payload is due. Behind a fault nobody's is.

@@ -1,11 +1,12 @@
 //! The columns that stand, by which rows are read.
 
-ghost use Rattle.std.specs.Prelude.{◌≡◌, Some, None, IfErr, IfSome, OnOk, option_map};
+ghost use Rattle.std.specs.Prelude.{◌≡◌, List, Some, None, IsSome, OnOk};
+ghost use Rattle.mysql_columns.specs.Columns.{ColumnDefinition};
 ghost use Rattle.mysql_rows.specs.Views.{shared_columns};
-ghost use Rattle.mysql_row_refs.specs.RowRefs.{HoldsRow, row_held, row_of};
-ghost use Rattle.mysql_reply_events.specs.Standing.{columns_of};
+ghost use Rattle.mysql_reply_events.specs.Standing.{ReadsAt, columns_of};
 ghost use Rattle.mysql_reply_events.specs.Table.{are_so_many};
 
+use crate::fault::ReplyFault;
 use mysql_columns::Column;
 use mysql_row_refs::{RowFormat, RowReader};
 use std::alloc::{AllocError, Global};
@@ -85,5 +86,48 @@ impl StandingColumns {
             reader: _,
         } = self;
         columns
+    }
+
+    // Makes a reader of rows under these columns.
+    #[inline(never)]
+    fn make_reader(&mut self, alloc: Global) -> Result<(), AllocError>
+        requires { IsSome self.old.columns }
+        ensures rest { self.new ≡ record self.old { reader = self.new.reader } }
+        ensures reader { OnOk result (IsSome self.new.reader) }
+    {
+        let Some(columns) = &self.columns else {
+            unreachable!()
+        };
+        let reader = RowReader::new(alloc, columns.clone()?, self.format)?;
+        self.reader = Some(reader);
+        Ok(())
+    }
+
+    /// Reads the places of the cells of the row that a payload is, under the columns that stand.
+    ///
+    /// Memory is asked for at the first row alone.
+    pub fn read(&mut self, alloc: Global, payload: &[u8]) -> Result<(), ReplyFault>
+        requires { IsSome self.old.columns }
+        ensures rest { self.new ≡ record self.old { reader = self.new.reader } }
+        ensures row { (columns : List ColumnDefinition) → self.old.columns ≡ Some columns →
+            ReadsAt self.old.format columns payload.now result self.new.reader }
+    {
+        if self.reader.is_none() && self.make_reader(alloc).is_err() {
+            return Err(ReplyFault::Memory);
+        }
+        let Some(reader) = &mut self.reader else {
+            unreachable!()
+        };
+        match reader.read(payload) {
+            Ok(()) => Ok(()),
+            Err(_) => Err(ReplyFault::BadRow),
+        }
+    }
+
+    /// What reads rows to be lent, once one was.
+    pub fn reader(&self) -> &Option<RowReader>
+        ensures { result.now ≡ self.now.reader }
+    {
+        &self.reader
     }
 }

@@ -20,12 +20,13 @@ ghost use Rattle.mysql_reply_events.specs.States.{Steps, so_far};
 
 use crate::awaited::{Awaited, ColumnGroup};
 use crate::context::{Context, ReplyKind};
-use crate::counts::{count_packet, field_packet, prepared_packet};
+use crate::counts::{count_packet, prepared_packet};
 use crate::event::ReplyEvent;
 use crate::fault::ReplyFault;
 use crate::forms::{begins_ok, begins_terminator, deprecates_eof, has_optional_metadata};
 use crate::packets::{
-    bytes_of, column_packet, eof_packet, error_packet, file_packet, ok_packet, terminator_packet,
+    bytes_of, column_packet, eof_packet, error_packet, field_packet, file_packet, ok_packet,
+    terminator_packet,
 };
 use crate::rows::row_packet;
 use crate::standing::StandingColumns;
@@ -410,9 +411,9 @@ fn fields_step(
     if begins_terminator(context, payload) {
         end_step(alloc, context, state, payload)
     } else {
-        let (column, default) = field_packet(alloc, context, payload)?;
+        let field = field_packet(alloc, context, payload)?;
         state.awaited = Awaited::Fields;
-        Ok(ReplyEvent::Field { column, default })
+        Ok(ReplyEvent::Field(field))
     }
 }
 
@@ -534,7 +535,7 @@ fn column_step(
     ensures format { state.new.standing.format ≡ state.old.standing.format }
 {
     let column = column_packet(alloc, context, payload)?;
-    keep_column(alloc, group, &mut columns, &column)?;
+    keep_column(alloc, group, &mut columns, column.column())?;
     column_came(alloc, context, state, group, left, columns)?;
     Ok(ReplyEvent::Column(column))
 }
