@@ -4,6 +4,10 @@ use Rattle.std.proofs.Common.{◌≡◌, ℕ, zero, suc, ◌+◌, ◌-◌, ◌<�
 use Rattle.std.proofs.lemmas.Bool.{true≢false}
 use Rattle.std.proofs.lemmas.List.{append-nil, append_assoc, length-append}
 use Rattle.mysql_columns.specs.Columns.{ColumnDefinition, column_at}
+use Rattle.mysql_columns.specs.Extended.{ExtendedDefinition}
+use Rattle.mysql_columns.specs.Statements.{PlainColumnsAreColumns}
+use Rattle.mysql_fields.specs.declared.error.WireError.TheVariants.{UnknownValue}
+use Rattle.mysql_ok_packets.specs.Written.{is_mysql_status}
 use Rattle.mysql_fields.specs.Forms.{lenenc_number_at}
 use Rattle.mysql_fields.specs.Wire.{Reading, ◌>>=◌}
 use Rattle.mysql_ok_packets.specs.OkPackets.{OkPacket, more_results_exist, ok_packet_at, old_eof_at, result_set_terminator_at}
@@ -21,10 +25,10 @@ use Rattle.mysql_replies.specs.declared.context.ReplyKind.{ReplyKind}
 use Rattle.mysql_replies.specs.declared.context.ReplyKind.TheVariants as kinds
 use Rattle.mysql_replies.specs.declared.fault.ReplyFault.{ReplyFault}
 use Rattle.mysql_replies.specs.declared.fault.ReplyFault.TheVariants as faults
-use Rattle.mysql_replies.specs.Grammar.{Payload, Outcome, OkResult, RowsResult, PreparedResult, ErrorResult, FileResult, Parsed, Complete, Faulty, ResultGroup, Results, Wrong, faulty, deprecate_eof, has_report_form, is_report, progress_obsolete, begins_with, terminator_limit, terminator, is_binary, is_prepare, or_fault, whole_or_fault, map_ok, eof, column, Line, RowLine, TerminatorLine, ErrorLine, line, rows, Opening, OkOpening, ErrorOpening, FileOpening, CountOpening, StatementOpening, opening, count_within, one_result}
+use Rattle.mysql_replies.specs.Grammar.{Payload, Outcome, OkResult, RowsResult, PreparedResult, ErrorResult, FileResult, Parsed, Complete, Faulty, ResultGroup, Results, Wrong, faulty, deprecate_eof, has_report_form, is_report, progress_obsolete, begins_with, terminator_limit, terminator, is_binary, is_prepare, or_fault, whole_or_fault, map_ok, of_mysql, eof, column, Line, RowLine, TerminatorLine, ErrorLine, line, rows, Opening, OkOpening, ErrorOpening, FileOpening, CountOpening, StatementOpening, opening, count_within, one_result}
 use Rattle.mysql_replies.specs.Reply.{Awaited, First, Rows, Nothing, rest_of, report_of, read_report}
 use Rattle.mysql_replies.specs.Steps.{Moves, Fails, Leads, Group, OfResultSet, OfParameters, OfPrepared, group_awaited, after_group, IsGroupSettled, IsSettled, IsAwaiting, listed_of}
-use Rattle.mysql_replies.specs.Together.{Part, NoPart, SetPart, StatementPart, completed, opened, reported, context_of, kind_of, fault_of, is_common, has_mariadb_bit}
+use Rattle.mysql_replies.specs.Together.{Part, NoPart, SetPart, StatementPart, completed, opened, reported, context_of, kind_of, fault_of, is_common}
 use Rattle.mysql_replies.proofs.Stepping.{step_awaits, step_stands, group_stands, settled_due, eof_leads, eof_fails, column_leads, column_fails, listed_group, settled_group, rows_are, first_found, first_faulty}
 use Rattle.mysql_replies.proofs.Taking.{report_passes, report_refused}
 
@@ -216,7 +220,11 @@ kept_more OfResultSet earlier found = refl
 kept_more (OfParameters statement) earlier found = refl
 kept_more (OfPrepared statement parameters) earlier found = refl
 
-part_more : (g : Group) (earlier : List ColumnDefinition) (found : ColumnDefinition) → group_part g (earlier ++ found ∷ []) ≡ opened (group_part g earlier) (ColumnEvent found)
+-- A column without MariaDB's metadata.
+abbrev plain : ColumnDefinition → ExtendedDefinition
+plain column = record { column = column; metadata = None }
+
+part_more : (g : Group) (earlier : List ColumnDefinition) (found : ColumnDefinition) → group_part g (earlier ++ found ∷ []) ≡ opened (group_part g earlier) (ColumnEvent (plain found))
 part_more OfResultSet earlier found = refl
 part_more (OfParameters statement) earlier found = refl
 part_more (OfPrepared statement parameters) earlier found = ap (StatementPart statement) (sym (append_assoc parameters earlier (found ∷ [])))
@@ -229,7 +237,7 @@ some_there : (earlier : List ColumnDefinition) (found : ColumnDefinition) → le
 some_there earlier found none = omega (arith, length-append earlier (found ∷ []))
 
 -- A column of a group.
-column_alike : (c : Context) (g : Group) (n : ℕ) (earlier : List ColumnDefinition) (before : Option (List ColumnDefinition)) (payload : Payload) → has_report_form c payload ≡ false → Counts c g (suc n + length earlier) → (read : Reading ColumnDefinition) → column_at payload ≡ read → TakesAlike c (InGroup g n earlier) payload (readings.or_fault event_faults.BadColumn read >>= λ found. Ok (ColumnEvent found, table.column_came (context_of c) (state_at (InGroup g n earlier) before) (group_of g) n (table.with_column (group_of g) (kept g earlier) found)))
+column_alike : (c : Context) (g : Group) (n : ℕ) (earlier : List ColumnDefinition) (before : Option (List ColumnDefinition)) (payload : Payload) → has_report_form c payload ≡ false → Counts c g (suc n + length earlier) → (read : Reading ColumnDefinition) → column_at payload ≡ read → TakesAlike c (InGroup g n earlier) payload (readings.or_fault event_faults.BadColumn (◌>>=◌ {B = ExtendedDefinition × List ℕ} read (λ column. Ok (plain column.0, column.1))) >>= λ found. Ok (ColumnEvent found, table.column_came (context_of c) (state_at (InGroup g n earlier) before) (group_of g) n (table.with_column (group_of g) (kept g earlier) found.column)))
 column_alike c g n earlier before payload form counts (Ok x) is = λ common.
     let q : List Payload → Parsed ResultGroup = λ z. rest_of c (group_awaited g (suc n) earlier) (payload ∷ z) in
     let s : ReplySoFar = state_at (InGroup g n earlier) before in
@@ -238,7 +246,7 @@ column_alike c g n earlier before payload form counts (Ok x) is = λ common.
     let lands : Lands c q payload (group_part g (earlier ++ x.0 ∷ [])) [] (table.column_came (context_of c) s (group_of g) n (kept g (earlier ++ x.0 ∷ []))) =
     column_lands c g n (earlier ++ x.0 ∷ []) (events.Columns (group_of g) n (kept g earlier)) before payload q (more_left c g n earlier x.0 counts) (some_there earlier x.0) goes in
     record {
-      lands = subst (λ (k : List ColumnDefinition). Lands c q payload (opened (group_part g earlier) (ColumnEvent x.0)) [] (table.column_came (context_of c) s (group_of g) n k)) (sym (kept_more g earlier x.0))
+      lands = subst (λ (k : List ColumnDefinition). Lands c q payload (opened (group_part g earlier) (ColumnEvent (plain x.0))) [] (table.column_came (context_of c) s (group_of g) n k)) (sym (kept_more g earlier x.0))
           (subst (λ (k : Part). Lands c q payload k [] (table.column_came (context_of c) s (group_of g) n (kept g (earlier ++ x.0 ∷ [])))) (part_more g earlier x.0) lands);
       reports = no_report c payload form;
     }
@@ -257,21 +265,31 @@ not_first false b h = refl
 
 behind_end : (c : Context) (g : Group) (ok : OkPacket) → is_common (context_of c) (ColumnsEndEvent ok) ≡ true → table.after_group (context_of c) (group_of g) true ≡ table.after_columns_end (context_of c) (group_of g) true ok
 behind_end c OfResultSet ok common =
-    ap (λ (b : Bool). if b then table.after_result (context_of c) ok else events.Rows true) (sym (not_first (table.is_execution (kind_of c.kind) && table.cursor_exists ok) (not (has_mariadb_bit ok)) common))
+    ap (λ (b : Bool). if b then table.after_result (context_of c) ok else events.Rows true) (sym (not_first (table.is_execution (kind_of c.kind) && table.cursor_exists ok) (is_mysql_status ok.status_flags) common))
 behind_end c (OfParameters statement) ok common = refl
 behind_end c (OfPrepared statement parameters) ok common = refl
+
+mysql_status : (a b : Bool) → (a && b) ≡ true → b ≡ true
+mysql_status true b h = h
+mysql_status false b h = cc
+
+-- A status with named bits alone is let through.
+named_status : (x : OkPacket × List ℕ) → is_mysql_status x.0.status_flags ≡ true → of_mysql (Ok x) ≡ Ok x
+named_status x named = ap (λ (b : Bool). if b then Ok x else Err UnknownValue) named
 
 -- The EOF behind a group.
 pub end_alike : (c : Context) (g : Group) (these : List ColumnDefinition) (before : Option (List ColumnDefinition)) (payload : Payload) → has_report_form c payload ≡ false → Holds c (BehindGroup g these) → (b : Bool) → nat_lt (length payload) 9 ≡ b → (read : Reading OkPacket) → old_eof_at payload ≡ read → TakesAlike c (BehindGroup g these) payload ((if b then readings.or_fault event_faults.BadTerminator read else Err event_faults.BadTerminator) >>= λ ok. table.goes_on (state_at (BehindGroup g these) before) (ColumnsEndEvent ok) (table.after_columns_end (context_of c) (group_of g) true ok))
 end_alike c g these before payload form holds true short (Ok x) is = λ common.
     let q : List Payload → Parsed ResultGroup = λ z. rest_of c (group_awaited g 0 these) (payload ∷ z) in
+    let seen : eof payload ≡ or_fault faults.BadTerminator (of_mysql (Ok x)) = λ i. if (short i) then or_fault faults.BadTerminator (of_mysql (is i)) else Err faults.BadTerminator in
+    let read : eof payload ≡ Ok x.0 = seen ∙ ap (or_fault faults.BadTerminator) (named_status x (mysql_status (not (table.is_execution (kind_of c.kind) && table.cursor_exists x.0)) (is_mysql_status x.0.status_flags) common)) in
     record {
       lands = subst (λ (a : events.Awaited). Lands c q payload (group_part g these) [] (record { awaited = a; columns = table.standing (group_of g) (kept g these) before })) (behind_end c g x.0 common)
-          (group_ends c g these before payload q holds.1 (eof_leads c g these payload x.0 form holds.0 (λ i. if (short i) then or_fault faults.BadTerminator (is i) else Err faults.BadTerminator)));
+          (group_ends c g these before payload q holds.1 (eof_leads c g these payload x.0 form holds.0 read));
       reports = no_report c payload form;
     }
-end_alike c g these before payload form holds true short (Err e) is = end_fails c g these payload form holds.0 (λ i. if (short i) then or_fault faults.BadTerminator (is i) else Err faults.BadTerminator)
-end_alike c g these before payload form holds false short read is = end_fails c g these payload form holds.0 (ap (λ (b : Bool). if b then or_fault faults.BadTerminator (old_eof_at payload) else Err faults.BadTerminator) short)
+end_alike c g these before payload form holds true short (Err e) is = end_fails c g these payload form holds.0 (λ i. if (short i) then or_fault faults.BadTerminator (of_mysql (is i)) else Err faults.BadTerminator)
+end_alike c g these before payload form holds false short read is = end_fails c g these payload form holds.0 (ap (λ (b : Bool). if b then or_fault faults.BadTerminator (of_mysql (old_eof_at payload)) else Err faults.BadTerminator) short)
 
 -- Behind a result another one may follow, where the command has results.
 result_after : (k : ReplyKind) (b : Bool) → is_prepare k ≡ false → (if b then events.First else events.Nothing) ≡ (if table.has_results (kind_of k) && b then events.First else events.Nothing)
@@ -302,14 +320,14 @@ row_alike c columns these before payload form kind found true is = λ common. re
 }
 row_alike c columns these before payload form kind found false is = line_fails c columns these payload faults.BadRow form is
 
-pub rows_alike : (c : Context) (columns : List ColumnDefinition) (these : List Row) (before : Option (List ColumnDefinition)) (payload : Payload) → has_report_form c payload ≡ false → is_prepare c.kind ≡ false → (error ends : Bool) (e : Reading ServerError) (t : Reading OkPacket) (r : Reading Row) → line c columns payload ≡ (if error then map_ok ErrorLine (or_fault faults.BadError e) else if ends then map_ok TerminatorLine (or_fault faults.BadTerminator t) else map_ok RowLine (whole_or_fault faults.BadRow r)) → TakesAlike c (InRows columns these) payload (if error then (readings.or_fault event_faults.BadError e >>= λ error. table.goes_on (state_at (InRows columns these) before) (ErrorEvent error) events.Nothing) else if ends then (readings.or_fault event_faults.BadTerminator t >>= λ ok. table.goes_on (state_at (InRows columns these) before) (RowsEndEvent ok) (table.after_result (context_of c) ok)) else ((readings.whole_or_fault event_faults.BadRow r >>= λ row. Ok (RowEvent row)) >>= λ event. table.goes_on (state_at (InRows columns these) before) event (events.Rows true)))
+pub rows_alike : (c : Context) (columns : List ColumnDefinition) (these : List Row) (before : Option (List ColumnDefinition)) (payload : Payload) → has_report_form c payload ≡ false → is_prepare c.kind ≡ false → (error ends : Bool) (e : Reading ServerError) (t : Reading OkPacket) (r : Reading Row) → line c columns payload ≡ (if error then map_ok ErrorLine (or_fault faults.BadError e) else if ends then map_ok TerminatorLine (or_fault faults.BadTerminator (of_mysql t)) else map_ok RowLine (whole_or_fault faults.BadRow r)) → TakesAlike c (InRows columns these) payload (if error then (readings.or_fault event_faults.BadError e >>= λ error. table.goes_on (state_at (InRows columns these) before) (ErrorEvent error) events.Nothing) else if ends then (readings.or_fault event_faults.BadTerminator t >>= λ ok. table.goes_on (state_at (InRows columns these) before) (RowsEndEvent ok) (table.after_result (context_of c) ok)) else ((readings.whole_or_fault event_faults.BadRow r >>= λ row. Ok (RowEvent row)) >>= λ event. table.goes_on (state_at (InRows columns these) before) event (events.Rows true)))
 rows_alike c columns these before payload form kind true ends (Ok x) t r is = λ common. record {
   lands = result_lands c (Some columns) payload (λ z. rows c columns these (payload ∷ z)) (RowsResult columns these None ∷ ErrorResult x.0 ∷ []) false (rows_are c columns these payload (Ok (ErrorLine x.0)) form is);
   reports = no_report c payload form;
 }
 rows_alike c columns these before payload form kind true ends (Err x) t r is = line_fails c columns these payload faults.BadError form is
 rows_alike c columns these before payload form kind false true e (Ok x) r is = λ common. record {
-  lands = ok_lands c (Some columns) payload (λ z. rows c columns these (payload ∷ z)) (RowsResult columns these (Some x.0) ∷ []) x.0 kind (rows_are c columns these payload (Ok (TerminatorLine x.0)) form is);
+  lands = ok_lands c (Some columns) payload (λ z. rows c columns these (payload ∷ z)) (RowsResult columns these (Some x.0) ∷ []) x.0 kind (rows_are c columns these payload (Ok (TerminatorLine x.0)) form (is ∙ ap (λ (k : Reading OkPacket). map_ok TerminatorLine (or_fault faults.BadTerminator k)) (named_status x common)));
   reports = no_report c payload form;
 }
 rows_alike c columns these before payload form kind false true e (Err x) r is = line_fails c columns these payload faults.BadTerminator form is
@@ -362,10 +380,10 @@ count_packet_alike : (c : Context) (before : Option (List ColumnDefinition)) (pa
 count_packet_alike c before payload form kind (Ok x) is = count_alike c before payload form kind x.0 (length x.1 == 0) is
 count_packet_alike c before payload form kind (Err x) is = first_fails c payload faults.BadCount form is
 
-pub first_alike : (c : Context) (before : Option (List ColumnDefinition)) (payload : Payload) → has_report_form c payload ≡ false → is_prepare c.kind ≡ false → (error ok file none : Bool) (e : Reading ServerError) (o : Reading OkPacket) (n : Reading ℕ) → opening c payload ≡ (if error then map_ok ErrorOpening (or_fault faults.BadError e) else if ok then map_ok OkOpening (or_fault faults.BadOk o) else if file then Ok (FileOpening (drop 1 payload)) else if none then Err faults.BadHeader else map_ok CountOpening (count_within n)) → TakesAlike c AtFirst payload (if error then (readings.or_fault event_faults.BadError e >>= λ error. table.goes_on (state_at AtFirst before) (ErrorEvent error) events.Nothing) else if ok && true then (readings.or_fault event_faults.BadOk o >>= λ ok. table.goes_on (state_at AtFirst before) (OkEvent ok) (table.after_result (context_of c) ok)) else if file then table.goes_on (state_at AtFirst before) (FileEvent (drop 1 payload)) events.FileData else if none then Err event_faults.BadHeader else ((readings.whole_or_fault event_faults.BadCount (n >>= λ count. Ok ((count.0, true), count.1)) >>= readings.within) >>= λ count. (table.after_count (context_of c) before count >>= λ next. table.goes_on (state_at AtFirst before) (CountEvent count.0 count.1) next)))
+pub first_alike : (c : Context) (before : Option (List ColumnDefinition)) (payload : Payload) → has_report_form c payload ≡ false → is_prepare c.kind ≡ false → (error ok file none : Bool) (e : Reading ServerError) (o : Reading OkPacket) (n : Reading ℕ) → opening c payload ≡ (if error then map_ok ErrorOpening (or_fault faults.BadError e) else if ok then map_ok OkOpening (or_fault faults.BadOk (of_mysql o)) else if file then Ok (FileOpening (drop 1 payload)) else if none then Err faults.BadHeader else map_ok CountOpening (count_within n)) → TakesAlike c AtFirst payload (if error then (readings.or_fault event_faults.BadError e >>= λ error. table.goes_on (state_at AtFirst before) (ErrorEvent error) events.Nothing) else if ok && true then (readings.or_fault event_faults.BadOk o >>= λ ok. table.goes_on (state_at AtFirst before) (OkEvent ok) (table.after_result (context_of c) ok)) else if file then table.goes_on (state_at AtFirst before) (FileEvent (drop 1 payload)) events.FileData else if none then Err event_faults.BadHeader else ((readings.whole_or_fault event_faults.BadCount (n >>= λ count. Ok ((count.0, true), count.1)) >>= readings.within) >>= λ count. (table.after_count (context_of c) before count >>= λ next. table.goes_on (state_at AtFirst before) (CountEvent count.0 count.1) next)))
 first_alike c before payload form kind true ok file none e o n is = error_alike c before payload form e is
 first_alike c before payload form kind false true file none e (Ok x) n is = λ common. record {
-  lands = ok_lands c before payload (λ z. one_result c (payload ∷ z)) (OkResult x.0 ∷ []) x.0 kind (first_found c payload (OkOpening x.0) form is);
+  lands = ok_lands c before payload (λ z. one_result c (payload ∷ z)) (OkResult x.0 ∷ []) x.0 kind (first_found c payload (OkOpening x.0) form (is ∙ ap (λ (k : Reading OkPacket). map_ok OkOpening (or_fault faults.BadOk k)) (named_status x common)));
   reports = no_report c payload form;
 }
 first_alike c before payload form kind false true file none e (Err x) n is = first_fails c payload faults.BadOk form is
@@ -455,7 +473,7 @@ due_alike c p before payload holds settled some other alike =
     (form_alike c p before payload holds settled some other alike (has_report_form c payload) refl)
 
 -- The first payload, by the kind of the command.
-opening_result : (c : Context) (payload : Payload) → is_prepare c.kind ≡ false → opening c payload ≡ (if begins_with 255 payload then map_ok ErrorOpening (or_fault faults.BadError (error_at c.capabilities.0 payload)) else if begins_with 0 payload then map_ok OkOpening (or_fault faults.BadOk (ok_packet_at c.capabilities.0 payload)) else if begins_with 251 payload then Ok (FileOpening (drop 1 payload)) else if length payload == 0 then Err faults.BadHeader else map_ok CountOpening (count_within (lenenc_number_at payload)))
+opening_result : (c : Context) (payload : Payload) → is_prepare c.kind ≡ false → opening c payload ≡ (if begins_with 255 payload then map_ok ErrorOpening (or_fault faults.BadError (error_at c.capabilities.0 payload)) else if begins_with 0 payload then map_ok OkOpening (or_fault faults.BadOk (of_mysql (ok_packet_at c.capabilities.0 payload))) else if begins_with 251 payload then Ok (FileOpening (drop 1 payload)) else if length payload == 0 then Err faults.BadHeader else map_ok CountOpening (count_within (lenenc_number_at payload)))
 opening_result c payload kind = rw kind refl
 
 opening_statement : (c : Context) (payload : Payload) → is_prepare c.kind ≡ true → opening c payload ≡ (if begins_with 255 payload then map_ok ErrorOpening (or_fault faults.BadError (error_at c.capabilities.0 payload)) else if begins_with 0 payload then map_ok StatementOpening (or_fault faults.BadPrepare (prepare_ok_at payload)) else Err faults.BadHeader)
@@ -494,19 +512,20 @@ settled_in c (OfParameters statement) n these = tt
 settled_in c (OfPrepared statement parameters) n these = tt
 
 -- Each payload is taken alike.
-pub taken_alike : (c : Context) (p : Place) (before : Option (List ColumnDefinition)) (payload : Payload) → readings.optional_metadata (context_of c) ≡ false → Holds c p → TakesAlike c p payload (table.event_at (context_of c) (state_at p before) payload)
-taken_alike c AtFirst before payload always holds =
+pub taken_alike : PlainColumnsAreColumns → (c : Context) (p : Place) (before : Option (List ColumnDefinition)) (payload : Payload) → readings.optional_metadata (context_of c) ≡ false → Holds c p → TakesAlike c p payload (table.event_at (context_of c) (state_at p before) payload)
+taken_alike plain_columns c AtFirst before payload always holds =
     due_alike c AtFirst before payload tt tt tt (table.error_or (context_of c) (state_at AtFirst before) payload (table.first (context_of c) (state_at AtFirst before) (kind_of c.kind) payload))
     (λ form. kind_alike c before payload always form c.kind refl)
-taken_alike c (InGroup g n earlier) before payload always holds =
+taken_alike plain_columns c (InGroup g n earlier) before payload always holds =
     due_alike c (InGroup g n earlier) before payload holds (settled_group c g (suc n) earlier tt) (settled_in c g (suc n) earlier) (table.in_columns (context_of c) (state_at (InGroup g n earlier) before) (group_of g) n (kept g earlier) payload)
-    (λ form. column_alike c g n earlier before payload form holds (column_at payload) refl)
-taken_alike c (BehindGroup g these) before payload always holds =
+    (λ form. subst (λ (k : Reading ExtendedDefinition). TakesAlike c (InGroup g n earlier) payload (readings.or_fault event_faults.BadColumn k >>= λ found. Ok (ColumnEvent found, table.column_came (context_of c) (state_at (InGroup g n earlier) before) (group_of g) n (table.with_column (group_of g) (kept g earlier) found.column))))
+    (sym (plain_columns 0 payload refl)) (column_alike c g n earlier before payload form holds (column_at payload) refl))
+taken_alike plain_columns c (BehindGroup g these) before payload always holds =
     due_alike c (BehindGroup g these) before payload holds (settled_group c g 0 these holds.0) (settled_in c g 0 these) (table.in_columns_end (context_of c) (state_at (BehindGroup g these) before) (group_of g) true payload)
     (λ form. end_alike c g these before payload form holds (nat_lt (length payload) 9) refl (old_eof_at payload) refl)
-taken_alike c (InRows columns these) before payload always holds =
+taken_alike plain_columns c (InRows columns these) before payload always holds =
     due_alike c (InRows columns these) before payload holds tt tt (table.error_or (context_of c) (state_at (InRows columns these) before) payload (table.in_rows (context_of c) (state_at (InRows columns these) before) true payload))
     (λ form. lines_alike c columns these before payload form holds)
-taken_alike c AtEnd before payload always holds = refl
-taken_alike c (AtStatementEnd statement parameters columns) before payload always holds = refl
-taken_alike c AtFile before payload always holds = refl
+taken_alike plain_columns c AtEnd before payload always holds = refl
+taken_alike plain_columns c (AtStatementEnd statement parameters columns) before payload always holds = refl
+taken_alike plain_columns c AtFile before payload always holds = refl

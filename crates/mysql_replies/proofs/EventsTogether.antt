@@ -5,8 +5,10 @@ use Rattle.std.proofs.Common.{◌≡◌, ℕ, zero, suc, ◌+◌, List, [], ◌�
 use Rattle.std.proofs.lemmas.List.{append-nil, append_assoc, length-append}
 use Rattle.std.proofs.Math.Seq.{take-append_seam, drop-append_seam}
 use Rattle.mysql_columns.specs.Columns.{ColumnDefinition}
+use Rattle.mysql_columns.specs.Statements.{PlainColumnsAreColumns}
 use Rattle.mysql_server_packets.specs.Packets.{PrepareOk, ProgressReport}
 use Rattle.mysql_wire.specs.Stream.{Rest}
+use Rattle.mysql_reply_events.specs.declared.context.Context.{Context as EventContext}
 use Rattle.mysql_reply_events.specs.declared.fault.ReplyFault.{ReplyFault as EventFault}
 use Rattle.mysql_reply_events.specs.declared.fault.ReplyFault.TheVariants as event_faults
 use Rattle.mysql_reply_events.specs.Events as events
@@ -18,7 +20,7 @@ use Rattle.mysql_replies.specs.declared.fault.ReplyFault.TheVariants as faults
 use Rattle.mysql_replies.specs.Grammar.{Payload, Outcome, PreparedResult, Results}
 use Rattle.mysql_replies.specs.Reply.{Answer, End, FaultAt, IsReply, GoingOn, Answered, OpenReply, PayloadsDecide, Continues, end_of, fresh, rest_of, First}
 use Rattle.mysql_replies.specs.Steps.{IsAwaiting, IsSettled, OfResultSet, OfParameters, OfPrepared, listed_of}
-use Rattle.mysql_replies.specs.Together.{Part, NoPart, Gathered, gather, gather_all, gathered, completed, reported, listed, put_together, ending, context_of, fault_of, is_common, AreEvents, none, first, HaveEvents, EventsAreTheAnswer, FaultsAreTheAnswers}
+use Rattle.mysql_replies.specs.Together.{Part, NoPart, Gathered, gather, gather_all, gathered, completed, reported, listed, put_together, ending, context_of, fault_of, is_common, AreEvents, none, first, HaveEvents, HaveEventsUpTo, AllHaveEvents, at_end, no_place, EventsAreTheAnswer, FaultsAreTheAnswers}
 use Rattle.mysql_replies.proofs.Stepping.{listed_group, settled_group}
 use Rattle.mysql_replies.proofs.GoingOn.{StateGoesOn, fresh_decides}
 use Rattle.mysql_replies.proofs.Taking.{went_on, went_wrong, went_over}
@@ -70,8 +72,8 @@ second_of_both true b h = h
 second_of_both false b h = cc
 
 -- Payloads with events lead from a place to another.
-all_go : (c : Context) → readings.optional_metadata (context_of c) ≡ false → (s u : ReplySoFar) (payloads : List Payload) (these : List Event) → AreEvents (context_of c) s payloads these u → list_all (is_common (context_of c)) these ≡ true → (p : Place) (before : Option (List ColumnDefinition)) → s ≡ state_at p before → Holds c p → (results : List Outcome) (progress : List ProgressReport) (count : ℕ) → Reaches c results progress count p payloads these u
-all_go c always s u payloads these none common p before is holds results progress count =
+all_go : PlainColumnsAreColumns → (c : Context) → readings.optional_metadata (context_of c) ≡ false → (s u : ReplySoFar) (payloads : List Payload) (these : List Event) → AreEvents (context_of c) s payloads these u → list_all (is_common (context_of c)) these ≡ true → (p : Place) (before : Option (List ColumnDefinition)) → s ≡ state_at p before → Holds c p → (results : List Outcome) (progress : List ProgressReport) (count : ℕ) → Reaches c results progress count p payloads these u
+all_go plain c always s u payloads these none common p before is holds results progress count =
     let e : count ≡ count + 0 = omega arith in
     record {
       next = p;
@@ -83,14 +85,14 @@ all_go c always s u payloads these none common p before is holds results progres
       gathers = refl;
       goes = subst (λ (k : ℕ). StateGoesOn (open_at c results progress count p) [] (GoingOn (open_at c results progress k p))) e (λ z rest answer h. h);
     }
-all_go c always s u payloads these (first {t = t} {payload = payload} {event = event} {payloads = others} {others = later} found are) common p before is holds results progress count =
+all_go plain c always s u payloads these (first {t = t} {payload = payload} {event = event} {payloads = others} {others = later} found are) common p before is holds results progress count =
     let here : table.event_at (context_of c) (state_at p before) payload ≡ Ok (event, t) = subst (λ (k : ReplySoFar). table.event_at (context_of c) k payload ≡ Ok (event, t)) is found in
-    let alike : TakesAlike c p payload (Ok (event, t)) = subst (TakesAlike c p payload) here (taken_alike c p before payload always holds) in
+    let alike : TakesAlike c p payload (Ok (event, t)) = subst (TakesAlike c p payload) here (taken_alike plain c p before payload always holds) in
     let g : Goes c p payload event t = alike (first_of_both (is_common (context_of c) event) (list_all (is_common (context_of c)) later) common) in
     let told : List Outcome = results ++ completed (part_at p) event in
     let said : List ProgressReport = progress ++ reported event in
     let one = one_goes c results progress count p payload event t (untold_nothing c p before payload event t here) g in
-    let more = all_go c always t u others later are (second_of_both (is_common (context_of c) event) (list_all (is_common (context_of c)) later) common) g.lands.next g.lands.before g.lands.is g.lands.holds told said (count + 1) in
+    let more = all_go plain c always t u others later are (second_of_both (is_common (context_of c) event) (list_all (is_common (context_of c)) later) common) g.lands.next g.lands.before g.lands.is g.lands.holds told said (count + 1) in
     let e : (count + 1) + length others ≡ count + length (payload ∷ others) = omega arith in
     record {
       next = more.next;
@@ -99,7 +101,7 @@ all_go c always s u payloads these (first {t = t} {payload = payload} {event = e
       holds = more.holds;
       told = more.told;
       said = more.said;
-      gathers = ap (λ (k : Part). gather_all (record { results = told; progress = said; part = k }) later) g.lands.opens ∙ more.gathers;
+      gathers = ◌∙◌ {c = gathered_at more.told more.said more.next} (ap (λ (k : Part). gather_all (record { results = told; progress = said; part = k }) later) g.lands.opens) more.gathers;
       goes = subst (λ (k : ℕ). StateGoesOn (open_at c results progress count p) (payload ∷ others) (GoingOn (open_at c more.told more.said k more.next))) e
           (λ z rest answer h. one (others ++ z) rest answer (more.goes z rest answer h));
     }
@@ -143,8 +145,8 @@ settles c AtEnd holds = tt
 settles c (AtStatementEnd statement parameters columns) holds = tt
 settles c AtFile holds = tt
 
-reached : (c : Context) (payloads : List Payload) (these : List Event) (s : ReplySoFar) → HaveEvents c payloads these s → Reaches c [] [] 0 AtFirst payloads these s
-reached c payloads these s h = all_go c h.always_columns (table.fresh h.columns) s payloads these h.are h.common AtFirst h.columns refl tt [] [] 0
+reached : PlainColumnsAreColumns → (c : Context) (payloads : List Payload) (these : List Event) (s : ReplySoFar) → HaveEvents c payloads these s → Reaches c [] [] 0 AtFirst payloads these s
+reached plain c payloads these s h = all_go plain c h.always_columns (table.fresh h.columns) s payloads these h.are h.common AtFirst h.columns refl tt [] [] 0
 
 -- The results and reports that are put together are those that are listed.
 results_are : (c : Context) (payloads : List Payload) (these : List Event) (s : ReplySoFar) → (r : Reaches c [] [] 0 AtFirst payloads these s) → (gathered these).results ++ listed (gathered these).part s.awaited ≡ (r.told ++ untold r.next) ++ listed_of (awaited_at r.next)
@@ -153,9 +155,9 @@ results_are c payloads these s r =
     λ i. (r.gathers i).results ++ listed (r.gathers i).part (r.is i).awaited in
     same ∙ ap (λ (k : List Outcome). r.told ++ k) (lists c r.next r.before r.holds) ∙ sym (append_assoc r.told (untold r.next) (listed_of (awaited_at r.next)))
 
-pub events_are : EventsAreTheAnswer
-events_are c payloads these s rest h =
-    let r = reached c payloads these s h in
+pub events_are : PlainColumnsAreColumns → EventsAreTheAnswer
+events_are plain c payloads these s rest h =
+    let r = reached plain c payloads these s h in
     let answer : Answer = put_together these s.awaited (end_of (length payloads) rest (ending s.awaited)) in
     let n : length payloads ≡ 0 + length payloads = omega arith in
     let end : end_of (length payloads) rest (ending s.awaited) ≡ end_of (0 + length payloads) rest (ending_at (awaited_at r.next)) =
@@ -177,17 +179,44 @@ fault_goes c results progress count p payload event_faults.BadTerminator leads =
 fault_goes c results progress count p payload event_faults.BadPrepare leads = went_wrong (open_at c results progress count p) payload faults.BadPrepare leads
 fault_goes c results progress count p payload event_faults.Memory leads = went_wrong (open_at c results progress count p) payload faults.Memory leads
 
-pub faults_are : FaultsAreTheAnswers
-faults_are c payloads these s payload later rest fault h wrong =
-    let r = reached c payloads these s h in
+pub faults_are : PlainColumnsAreColumns → FaultsAreTheAnswers
+faults_are plain c payloads these s payload later rest fault h wrong =
+    let r = reached plain c payloads these s h in
     let end : End = FaultAt (length payloads) (fault_of fault) in
     let answer : Answer = put_together these s.awaited end in
     let n : length payloads ≡ 0 + length payloads = omega arith in
     let here : table.event_at (context_of c) (state_at r.next r.before) payload ≡ Err fault = subst (λ (k : ReplySoFar). table.event_at (context_of c) k payload ≡ Err fault) r.is wrong in
-    let alike : TakesAlike c r.next payload (Err fault) = subst (TakesAlike c r.next payload) here (taken_alike c r.next r.before payload h.always_columns r.holds) in
+    let alike : TakesAlike c r.next payload (Err fault) = subst (TakesAlike c r.next payload) here (taken_alike plain c r.next r.before payload h.always_columns r.holds) in
     let results = results_are c payloads these s r in
     let known : answer ≡ record { results = (r.told ++ untold r.next) ++ listed_of (awaited_at r.next); progress = r.said; end = FaultAt (0 + length payloads) (fault_of fault) } =
     λ i. record { results = results i; progress = (r.gathers i).progress; end = FaultAt (n i) (fault_of fault) } in
     let stopped : Continues (open_at c r.told r.said (0 + length payloads) r.next) (payload ∷ later) rest answer =
     fault_goes c r.told r.said (0 + length payloads) r.next payload fault alike later rest answer known in
     fresh_decides c (payloads ++ payload ∷ later) rest answer (r.goes (payload ∷ later) rest answer stopped)
+
+-- Any payloads have events up to the end or one without a place.
+up_to : (c : EventContext) (s : ReplySoFar) (payload : Payload) (later : List Payload) → ((t : ReplySoFar) → HaveEventsUpTo c t later) → (r : table.Step) → table.event_at c s payload ≡ r → HaveEventsUpTo c s (payload ∷ later)
+up_to c s payload later more (Ok x) is =
+    let h = more x.1 in
+    record {
+      front = payload ∷ h.front;
+      left = h.left;
+      cut = ap (λ (k : List Payload). payload ∷ k) h.cut;
+      these = x.0 ∷ h.these;
+      behind = h.behind;
+      are = first is h.are;
+      stopped = h.stopped;
+    }
+up_to c s payload later more (Err fault) is = record {
+  front = [];
+  left = payload ∷ later;
+  cut = refl;
+  these = [];
+  behind = s;
+  are = none;
+  stopped = no_place later is;
+}
+
+pub all_have_events : AllHaveEvents
+all_have_events c s [] = record { front = []; left = []; cut = refl; these = []; behind = s; are = none; stopped = at_end }
+all_have_events c s (payload ∷ later) = up_to c s payload later (λ t. all_have_events c t later) (table.event_at c s payload) refl

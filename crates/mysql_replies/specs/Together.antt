@@ -5,9 +5,9 @@
 use Rattle.std.specs.Prelude.{◌≡◌, ℕ, List, [], ◌∷◌, ◌++◌, length, take, drop, Bool, true, false, not, ◌&&◌}
 use Rattle.std.specs.Prelude.{Option, Some, None, Ok, Err}
 use Rattle.std.specs.List.{list_all}
-use Rattle.mysql_const.specs.FlagSets.{contains}
 use Rattle.mysql_columns.specs.Columns.{ColumnDefinition}
 use Rattle.mysql_ok_packets.specs.OkPackets.{OkPacket}
+use Rattle.mysql_ok_packets.specs.Written.{is_mysql_status}
 use Rattle.mysql_rows.specs.Rows.{Row}
 use Rattle.mysql_server_packets.specs.Packets.{PrepareOk, ProgressReport}
 use Rattle.mysql_wire.specs.Stream.{Rest}
@@ -57,8 +57,8 @@ completed part event = []
 abbrev pub opened : Part → Event → Part
 opened part (CountEvent count follow) = SetPart [] []
 opened part (PreparedEvent statement follow) = StatementPart statement []
-opened (SetPart columns rows) (ColumnEvent column) = SetPart (columns ++ column ∷ []) rows
-opened (StatementPart statement columns) (ColumnEvent column) = StatementPart statement (columns ++ column ∷ [])
+opened (SetPart columns rows) (ColumnEvent found) = SetPart (columns ++ found.column ∷ []) rows
+opened (StatementPart statement columns) (ColumnEvent found) = StatementPart statement (columns ++ found.column ∷ [])
 opened (SetPart columns rows) (RowEvent row) = SetPart columns (rows ++ row ∷ [])
 opened part (ColumnsEndEvent ok) = part
 opened part (ProgressEvent report) = part
@@ -146,16 +146,31 @@ pub data AreEvents (c : EventContext) : ReplySoFar → List Payload → List Eve
       event_at c s payload ≡ Ok (event, t) → AreEvents c t payloads others u →
       AreEvents c s (payload ∷ payloads) (event ∷ others) u
 
--- A status with MariaDB's bit for the mode ANSI_QUOTES.
-abbrev pub has_mariadb_bit : OkPacket → Bool
-has_mariadb_bit ok = contains ok.status_flags 0x8000
+-- No payload is left, or the first of these has no place behind a reply so far.
+pub data IsStopped (c : EventContext) (s : ReplySoFar) : List Payload → Type 0 where
+  at_end : IsStopped c s []
+  no_place : {payload : Payload} (later : List Payload) {fault : EventFault} → event_at c s payload ≡ Err fault →
+      IsStopped c s (payload ∷ later)
 
--- An event that isn't taken otherwise in a reply that is read as a whole: there a status with MariaDB's bit has no
--- place, and rows follow the EOF behind columns also where a cursor exists.
+-- Any payloads have events, one each, up to the end or to one that has no place.
+pub record HaveEventsUpTo (c : EventContext) (s : ReplySoFar) (payloads : List Payload) : Type 0 where
+  pub front : List Payload
+  pub left : List Payload
+  pub cut : payloads ≡ front ++ left
+  pub these : List Event
+  pub behind : ReplySoFar
+  pub are : AreEvents c s front these behind
+  pub stopped : IsStopped c behind left
+
+abbrev pub AllHaveEvents : Type 0
+AllHaveEvents = (c : EventContext) (s : ReplySoFar) (payloads : List Payload) → HaveEventsUpTo c s payloads
+
+-- An event that is taken alike in a reply that is read as a whole: there a status has bits alone that MySQL names,
+-- and rows follow the EOF behind columns also where a cursor exists.
 abbrev pub is_common : EventContext → Event → Bool
-is_common c (OkEvent ok) = not (has_mariadb_bit ok)
-is_common c (RowsEndEvent ok) = not (has_mariadb_bit ok)
-is_common c (ColumnsEndEvent ok) = not (is_execution c.kind && cursor_exists ok) && not (has_mariadb_bit ok)
+is_common c (OkEvent ok) = is_mysql_status ok.status_flags
+is_common c (RowsEndEvent ok) = is_mysql_status ok.status_flags
+is_common c (ColumnsEndEvent ok) = not (is_execution c.kind && cursor_exists ok) && is_mysql_status ok.status_flags
 is_common c event = true
 
 -- These payloads have these events, behind which the reply has come so far. No optional metadata is agreed on, and
