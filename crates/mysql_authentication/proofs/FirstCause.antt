@@ -43,3 +43,20 @@ seven_passed a b c d e f g A B C D E F G h =
     let four = first_passed d D (unless e E ∷ unless f F ∷ unless g G ∷ []) three.1 in
     let rest = three_passed e f g E F G four.1 in
     (one.0, two.0, three.0, four.0, rest.0, rest.1, rest.2)
+
+pub cons_none : (one : Option LoginRefusal) (others : List (Option LoginRefusal)) → first_cause (one ∷ others) ≡ None →
+    (one ≡ None) × (first_cause others ≡ None)
+cons_none None others h = (refl, h)
+cons_none (Some cause) others h = cc
+
+-- a test, a cause, and five tests more
+pub fields_passed : (a c d e f g : Bool) (A C D E F G : LoginRefusal) (one : Option LoginRefusal)
+    → first_cause (unless a A ∷ one ∷ unless c C ∷ unless d D ∷ unless e E ∷ unless f F ∷ unless g G ∷ []) ≡ None
+    → (a ≡ true) × (one ≡ None) × (c ≡ true) × (d ≡ true) × (e ≡ true) × (f ≡ true) × (g ≡ true)
+fields_passed a c d e f g A C D E F G one h =
+    let first = first_passed a A (one ∷ unless c C ∷ unless d D ∷ unless e E ∷ unless f F ∷ unless g G ∷ []) h in
+    let second = cons_none one (unless c C ∷ unless d D ∷ unless e E ∷ unless f F ∷ unless g G ∷ []) first.1 in
+    let third = first_passed c C (unless d D ∷ unless e E ∷ unless f F ∷ unless g G ∷ []) second.1 in
+    let fourth = first_passed d D (unless e E ∷ unless f F ∷ unless g G ∷ []) third.1 in
+    let rest = three_passed e f g E F G fourth.1 in
+    (first.0, second.0, third.0, fourth.0, rest.0, rest.1, rest.2)

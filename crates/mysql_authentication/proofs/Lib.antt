@@ -7,3 +7,6 @@ pub mod AuthenticationsPut
 pub mod HandshakesBack
 pub mod GreetingsBack
 pub mod GreetingsPut
+pub mod PluginsBack
+pub mod ResponsesBack
+pub mod AttributesBack

@@ -1,13 +1,18 @@
 -- The laws of logging in: what is put is read as it was, and what was read is put.
 use Rattle.std.specs.Prelude.{◌≡◌, ◌≢◌, ◌<◌, ◌^◌, ℕ, List, length, Option, None, Some, ⊤, Ok}
+use Rattle.std.specs.List.{flat_map}
 use Rattle.mysql_authentication.specs.Events.{Accepted, AuthMore, AuthSwitch, Authentication, Denied, NextFactor}
-use Rattle.mysql_authentication.specs.Events.{Greeted, Greeting, OldAuthSwitch, PluginData, Rejected}
-use Rattle.mysql_authentication.specs.Readings.{authentication_at, greeting_at}
+use Rattle.mysql_authentication.specs.Events.{CutOff, Greeted, Greeting, LoggedIn, OldAuthSwitch, PluginData, Rejected}
+use Rattle.mysql_authentication.specs.Events.{Response, SecureRequest, Whole}
+use Rattle.mysql_authentication.specs.Readings.{authentication_at, greeting_at, response_at}
 use Rattle.mysql_authentication.specs.Written.{authentication_bytes, authentication_cause, greeting_bytes}
-use Rattle.mysql_authentication.specs.Written.{greeting_cause}
+use Rattle.mysql_authentication.specs.Written.{greeting_cause, response_bytes, response_cause}
 use Rattle.mysql_authentication.specs.declared.refusal.LoginRefusal.{LoginRefusal}
 use Rattle.mysql_buf.specs.Bytes.{AreBytes}
+use Rattle.mysql_connect_attributes.specs.Attributes.{Attribute, attribute, with_last_values}
 use Rattle.mysql_handshake.specs.Handshakes.{HandshakeFields}
+use Rattle.mysql_handshake_response.specs.Responses.{ResponseFields}
+use Rattle.mysql_handshake_response.specs.SslRequests.{SslRequestFields}
 use Rattle.mysql_ok_packets.specs.OkPackets.{OkPacket}
 use Rattle.mysql_ok_packets.specs.Written.{or_empty, or_zero}
 use Rattle.mysql_server_packets.specs.Packets.{ServerError}
@@ -50,6 +55,35 @@ pub record HoldsHandshake (p : HandshakeFields) : Type 0 where
 abbrev pub HoldsGreeting : Greeting → Type 0
 HoldsGreeting (Rejected error) = HoldsError error
 HoldsGreeting (Greeted p) = HoldsHandshake p
+
+-- what the types of the 32 bytes' fields hold
+pub record HoldsRequest (p : SslRequestFields) : Type 0 where
+  pub capabilities : p.capabilities < 2 ^ 32
+  pub max_packet_size : p.max_packet_size < 2 ^ 32
+  pub character_set : p.character_set < 2 ^ 8
+  pub mariadb_capabilities : p.mariadb_capabilities < 2 ^ 32
+
+-- each key stands once, and all texts together are no longer than a length can say
+abbrev pub HoldsAttributes : Option (List Attribute) → Type 0
+HoldsAttributes None = ⊤
+HoldsAttributes (Some all) = (with_last_values all ≡ all) × (length (flat_map attribute all) < 2 ^ 64)
+
+pub record HoldsLogin (p : ResponseFields) : Type 0 where
+  pub request : HoldsRequest p.request
+  pub scramble : length p.scramble < 2 ^ 64
+  pub attributes : HoldsAttributes p.attributes
+
+abbrev pub HoldsResponse : Response → Type 0
+HoldsResponse (SecureRequest request) = HoldsRequest request
+HoldsResponse (LoggedIn (CutOff request)) = HoldsRequest request
+HoldsResponse (LoggedIn (Whole p)) = HoldsLogin p
+
+-- A CLIENT'S FIRST PAYLOAD
+
+-- a payload that is put is read as the event
+abbrev pub ResponsesReadBack : Type 0
+ResponsesReadBack = (server : ℕ) (event : Response) → HoldsResponse event → response_cause server event ≡ None →
+    response_at server (response_bytes server event) ≡ Ok event
 
 -- A SERVER'S FIRST PAYLOAD
 

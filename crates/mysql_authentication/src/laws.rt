@@ -3,7 +3,7 @@
 ghost use Rattle.mysql_authentication.specs.Statements.{AuthenticationsArePut, AuthenticationsReadBack};
 ghost use Rattle.mysql_authentication.specs.Statements.{GreetingsArePut, GreetingsReadBack};
 ghost use Rattle.mysql_authentication.specs.Statements.{RefusedAuthenticationsReadOtherwise};
-ghost use Rattle.mysql_authentication.specs.Statements.{RefusedGreetingsReadOtherwise};
+ghost use Rattle.mysql_authentication.specs.Statements.{RefusedGreetingsReadOtherwise, ResponsesReadBack};
 
 /// A payload of an authentication that is put is read as the event.
 #[tactic(auto, using(crate::proofs::AuthenticationsBack::authentications_read_back))]
@@ -39,4 +39,10 @@ pub fn greetings_are_put()
 #[tactic(auto, using(crate::proofs::GreetingsPut::refused_greetings_read_otherwise))]
 pub fn refused_greetings_read_otherwise()
     ensures { RefusedGreetingsReadOtherwise }
+{}
+
+/// A client's first payload that is put is read as the event.
+#[tactic(auto, using(crate::proofs::ResponsesBack::responses_read_back))]
+pub fn responses_read_back()
+    ensures { ResponsesReadBack }
 {}
