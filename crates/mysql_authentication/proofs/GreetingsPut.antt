@@ -30,7 +30,7 @@ use Rattle.mysql_handshake.specs.Handshakes.{FixedFields, HandshakeFields, block
 use Rattle.mysql_server_packets.specs.Packets.{ServerError, error_at, error_code_at, server_error_at}
 
 -- n bytes were read
-length_own : (n : ℕ) (bytes : List ℕ) (x : List ℕ × List ℕ) → bytes_at n bytes ≡ Ok x → length x.0 ≡ n
+pub length_own : (n : ℕ) (bytes : List ℕ) (x : List ℕ × List ℕ) → bytes_at n bytes ≡ Ok x → length x.0 ≡ n
 length_own n bytes x h = elim (cases_lt (length bytes) n) [
   | inl lt ↦ absurd (let no = ap or_end (first-short n (take n) bytes lt) in cc)
   | inr le ↦
@@ -61,7 +61,7 @@ flags_own bytes x h =
     subst (λ (y : (ℕ × ℕ × ℕ) × List ℕ). are_named all_status_flags y.0.2 ≡ true) (ok_same made x high.2) (status_own collation.0.1 status.0 status.1)
 
 -- bits without a name are dropped
-dropped : (m k : ℕ) → (bit_and (bit_and m k) k == bit_and m k) ≡ true
+pub dropped : (m k : ℕ) → (bit_and (bit_and m k) k == bit_and m k) ≡ true
 dropped m k = eq-eqb (bit_and (bit_and m k) k) (bit_and m k) (and_assoc k m k ∙ ap (bit_and m) (and_self k))
 
 abbrev pub AreNamed : FixedFields → Type 0

@@ -10,3 +10,4 @@ pub mod GreetingsPut
 pub mod PluginsBack
 pub mod ResponsesBack
 pub mod AttributesBack
+pub mod ResponsesPut

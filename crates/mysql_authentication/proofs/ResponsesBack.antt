@@ -63,7 +63,7 @@ first_word c rest =
     ∙ ap (λ (n : ℕ). done (n, rest)) value
 
 -- which says whether PROTOCOL_41 stands there
-word_41 : (server c : ℕ) → bit_and (bit_and server (c % 2 ^ 16)) protocol_41 ≡ bit_and (bit_and server c) protocol_41
+pub word_41 : (server c : ℕ) → bit_and (bit_and server (c % 2 ^ 16)) protocol_41 ≡ bit_and (bit_and server c) protocol_41
 word_41 server c =
     let low : bit_and (c % 2 ^ 16) protocol_41 ≡ bit_and c protocol_41 =
     ap (λ (n : ℕ). bit_and n protocol_41) (sym (and_mask c 16)) ∙ and_assoc protocol_41 c (2 ^ 16 - 1) in

@@ -85,6 +85,17 @@ abbrev pub ResponsesReadBack : Type 0
 ResponsesReadBack = (server : ℕ) (event : Response) → HoldsResponse event → response_cause server event ≡ None →
     response_at server (response_bytes server event) ≡ Ok event
 
+-- an event that a payload was read as is put
+abbrev pub ResponsesArePut : Type 0
+ResponsesArePut = (server : ℕ) (payload : List ℕ) (event : Response) → AreBytes payload →
+    response_at server payload ≡ Ok event → response_cause server event ≡ None
+
+-- an event that isn't put would be read otherwise
+abbrev pub RefusedResponsesReadOtherwise : Type 0
+RefusedResponsesReadOtherwise = (server : ℕ) (event : Response) (cause : LoginRefusal) →
+    AreBytes (response_bytes server event) → response_cause server event ≡ Some cause →
+    response_at server (response_bytes server event) ≢ Ok event
+
 -- A SERVER'S FIRST PAYLOAD
 
 -- a payload that is put is read as the event

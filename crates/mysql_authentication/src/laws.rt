@@ -3,7 +3,8 @@
 ghost use Rattle.mysql_authentication.specs.Statements.{AuthenticationsArePut, AuthenticationsReadBack};
 ghost use Rattle.mysql_authentication.specs.Statements.{GreetingsArePut, GreetingsReadBack};
 ghost use Rattle.mysql_authentication.specs.Statements.{RefusedAuthenticationsReadOtherwise};
-ghost use Rattle.mysql_authentication.specs.Statements.{RefusedGreetingsReadOtherwise, ResponsesReadBack};
+ghost use Rattle.mysql_authentication.specs.Statements.{RefusedGreetingsReadOtherwise, RefusedResponsesReadOtherwise};
+ghost use Rattle.mysql_authentication.specs.Statements.{ResponsesArePut, ResponsesReadBack};
 
 /// A payload of an authentication that is put is read as the event.
 #[tactic(auto, using(crate::proofs::AuthenticationsBack::authentications_read_back))]
@@ -45,4 +46,16 @@ pub fn refused_greetings_read_otherwise()
 #[tactic(auto, using(crate::proofs::ResponsesBack::responses_read_back))]
 pub fn responses_read_back()
     ensures { ResponsesReadBack }
+{}
+
+/// An event that a client's first payload was read as is put, and reads as itself.
+#[tactic(auto, using(crate::proofs::ResponsesPut::responses_are_put))]
+pub fn responses_are_put()
+    ensures { ResponsesArePut }
+{}
+
+/// A client's first payload that isn't put would be read otherwise.
+#[tactic(auto, using(crate::proofs::ResponsesPut::refused_responses_read_otherwise))]
+pub fn refused_responses_read_otherwise()
+    ensures { RefusedResponsesReadOtherwise }
 {}
