@@ -1,13 +1,12 @@
 -- Attributes that were written are read again.
-use Rattle.std.proofs.Common.{◌≡◌, ◌<◌, ◌≤◌, ◌+◌, ◌^◌, if◌then◌else◌, nat_lt, Bool, true, false, ℕ, zero, suc, List, [], ◌∷◌, ◌++◌, length, Ok}
-use Rattle.std.proofs.Common.{refl, sym, ap, ◌∙◌, append_assoc, length-append, arith}
+use Rattle.std.proofs.Common.{◌≡◌, ◌<◌, ◌≤◌, ◌^◌, if◌then◌else◌, nat_lt, Bool, true, false, ℕ, zero, suc, List, [], ◌∷◌, ◌++◌, length, Ok}
+use Rattle.std.proofs.Common.{refl, append_assoc, length-append, arith}
 use Rattle.std.specs.List.{flat_map}
 use Rattle.byteorder.specs.Endian.{little_bytes}
 use Rattle.mysql_buf.specs.Writing.{lenenc_int, lenenc_str}
-use Rattle.mysql_connect_attributes.specs.Attributes.{Attribute, at_most_at, attribute, attribute_at, attributes, attributes_at, kept_attributes_at, put_after, with_attributes, with_last_values}
-use Rattle.mysql_fields.specs.Laws.{bytes_at-back, done, lenenc_number_at-back}
+use Rattle.mysql_connect_attributes.specs.Attributes.{Attribute, at_most_at, attribute, attribute_at, attributes, attributes_at, with_last_values}
+use Rattle.mysql_fields.specs.Laws.{bytes_at-back, lenenc_number_at-back}
 use Rattle.mysql_fields.specs.TextLaws.{lenenc_text_at-back}
-use Rattle.mysql_fields.specs.Wire.{Reading, ◌>>=◌}
 
 -- an attribute, whatever follows it
 one-back : (a : Attribute) (rest : List ℕ) → length (attribute a) < 2 ^ 64 → attribute_at (attribute a ++ rest) ≡ Ok (a, rest)

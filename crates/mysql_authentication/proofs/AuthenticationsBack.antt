@@ -1,19 +1,19 @@
 -- Payloads of an authentication that are put are read as their events.
-use Rattle.std.proofs.Common.{◌≡◌, ◌<◌, ◌==◌, ◌&&◌, ◌||◌, ℕ, Bool, true, false, not, List, [], ◌∷◌, ◌++◌, length, Option, None, Some, is_some, Ok, Err}
-use Rattle.std.proofs.Common.{refl, sym, ap, ◌∙◌, append-nil, length-append, arith}
+use Rattle.std.proofs.Common.{◌≡◌, ◌<◌, ◌==◌, ◌&&◌, ◌||◌, ℕ, Bool, true, false, not, List, [], ◌∷◌, ◌++◌, length, None, is_some, Ok}
+use Rattle.std.proofs.Common.{refl, ap, ◌∙◌, append-nil, length-append, arith}
 use Rattle.std.specs.List.{before_first}
 use Rattle.mysql_buf.specs.Reading.{is_zero}
 use Rattle.mysql_fields.specs.Laws.{done}
 use Rattle.mysql_fields.specs.Texts.{null_text}
-use Rattle.mysql_auth.specs.PacketLaws.{headed_at-back, next_factor_at-back, switch_at-back}
+use Rattle.mysql_auth.specs.PacketLaws.{next_factor_at-back, switch_at-back}
 use Rattle.mysql_auth.specs.Packets.{SwitchFields, headed, next_factor, next_factor_at, switch, switch_at, switch_kept}
 use Rattle.mysql_authentication.proofs.FirstCause.{both_passed, passed, three_passed}
 use Rattle.mysql_authentication.proofs.Packets.{both-hold, error-back, ok-back}
 use Rattle.mysql_authentication.proofs.Zeros.{front_whole}
-use Rattle.mysql_authentication.specs.Events.{Accepted, AuthMore, AuthSwitch, Authentication, Denied, NextFactor, OldAuthSwitch, PluginData}
+use Rattle.mysql_authentication.specs.Events.{Accepted, AuthMore, AuthSwitch, Denied, NextFactor, OldAuthSwitch, PluginData}
 use Rattle.mysql_authentication.specs.Readings.{authentication_at, multi_factor, or_fault, switch_of}
 use Rattle.mysql_authentication.specs.Statements.{AuthenticationsReadBack, HoldsError, HoldsOk}
-use Rattle.mysql_authentication.specs.Written.{accepted_cause, authentication_bytes, authentication_cause, has_no_zero, is_bare, is_normal, same}
+use Rattle.mysql_authentication.specs.Written.{accepted_cause, authentication_cause, has_no_zero, is_bare, is_normal, same}
 use Rattle.mysql_authentication.specs.declared.fault.LoginFault.TheVariants.{BadSwitch}
 use Rattle.mysql_authentication.specs.declared.refusal.LoginRefusal.TheVariants.{NamelessFlags, NotAgreed, ReadsOtherwise, ZeroByte}
 use Rattle.mysql_field_constants.specs.Flags.{contains}

@@ -1,6 +1,6 @@
 -- Events that a payload of an authentication was read as are put.
-use Rattle.std.proofs.Common.{◌≡◌, ◌<◌, ◌^◌, ◌==◌, ◌||◌, ◌&&◌, if◌then◌else◌, ℕ, zero, suc, Bool, true, false, not, List, [], ◌∷◌, length, Option, None, Some, is_some, Ok, Err}
-use Rattle.std.proofs.Common.{refl, sym, ap, ◌∙◌, subst}
+use Rattle.std.proofs.Common.{◌≡◌, ◌<◌, ◌^◌, ◌==◌, ◌||◌, ◌&&◌, if◌then◌else◌, ℕ, zero, suc, Bool, true, false, not, List, [], ◌∷◌, length, Option, None, Some, is_some, Ok}
+use Rattle.std.proofs.Common.{refl, ap, subst}
 use Rattle.std.proofs.Math.Dec.{eqb-suc-zero}
 use Rattle.mysql_auth.specs.Packets.{next_factor_at, switch_at}
 use Rattle.mysql_authentication.proofs.Packets.{both-hold}
@@ -8,14 +8,13 @@ use Rattle.mysql_authentication.proofs.Read.{error_own, factor_own, read_as, swi
 use Rattle.mysql_authentication.specs.Events.{Accepted, AuthMore, AuthSwitch, Authentication, Denied, NextFactor, OldAuthSwitch, PluginData}
 use Rattle.mysql_authentication.specs.Readings.{authentication_at, multi_factor, or_fault, switch_of}
 use Rattle.mysql_authentication.specs.Statements.{AuthenticationsArePut, RefusedAuthenticationsReadOtherwise}
-use Rattle.mysql_authentication.specs.Written.{accepted_cause, authentication_bytes, authentication_cause, if_some, is_normal}
-use Rattle.mysql_authentication.specs.declared.fault.LoginFault.{LoginFault}
+use Rattle.mysql_authentication.specs.Written.{accepted_cause, authentication_bytes, authentication_cause, if_some}
 use Rattle.mysql_authentication.specs.declared.fault.LoginFault.TheVariants.{BadError, BadOk, BadSwitch}
 use Rattle.mysql_buf.specs.Bytes.{AreBytes}
 use Rattle.mysql_field_constants.specs.Flags.{contains}
 use Rattle.mysql_ok_packets.specs.OkPackets.{OkPacket, ok_packet_at, unless_empty, unless_zero}
 use Rattle.mysql_ok_packets.specs.OwnLaws.{ok_packet_own}
-use Rattle.mysql_ok_packets.specs.Written.{as_ok, or_empty, or_zero, tells_state}
+use Rattle.mysql_ok_packets.specs.Written.{or_empty, or_zero, tells_state}
 use Rattle.mysql_server_packets.specs.Packets.{error_at}
 
 nonzero : (n : ℕ) → not (suc n == 0) ≡ true

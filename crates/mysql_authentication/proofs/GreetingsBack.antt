@@ -1,28 +1,24 @@
 -- Greetings and refusals that are put are read as their events.
-use Rattle.std.proofs.Common.{◌≡◌, ◌<◌, ◌≤◌, ◌-◌, ◌%◌, ◌^◌, ◌==◌, ◌||◌, if◌then◌else◌, ℕ, max, Bool, true, false, not, List, [], ◌∷◌, ◌++◌, length, slice_index_or, Option, None, Some, is_some, Ok, Err}
-use Rattle.std.proofs.Common.{refl, sym, ap, ◌∙◌, append-nil, arith}
+use Rattle.std.proofs.Common.{◌≡◌, ◌<◌, ◌-◌, ◌%◌, ◌==◌, ◌||◌, ℕ, max, Bool, true, false, not, List, [], ◌∷◌, ◌++◌, length, slice_index_or, Option, None, Some, is_some, Ok}
+use Rattle.std.proofs.Common.{refl, ap, append-nil, arith}
 use Rattle.std.proofs.lemmas.Bool.{eqb-true, le-ltb}
-use Rattle.std.specs.List.{before_first}
-use Rattle.byteorder.specs.Endian.{little_bytes}
-use Rattle.mysql_auth.specs.Plugins.{without_zero}
 use Rattle.mysql_authentication.proofs.FirstCause.{first_passed, passed, seven_passed}
 use Rattle.mysql_authentication.proofs.HandshakesBack.{block-back, fixed-back}
 use Rattle.mysql_authentication.proofs.Packets.{error-back}
 use Rattle.mysql_authentication.proofs.Zeros.{front_whole, last_zero}
-use Rattle.mysql_authentication.specs.Events.{Greeted, Greeting, Rejected}
+use Rattle.mysql_authentication.specs.Events.{Greeted, Rejected}
 use Rattle.mysql_authentication.specs.Readings.{early_error_at, greeting_at}
 use Rattle.mysql_authentication.specs.Statements.{GreetingsReadBack, HoldsError, HoldsHandshake}
 use Rattle.mysql_authentication.specs.Written.{greeted_cause, has_no_zero, same}
 use Rattle.mysql_authentication.specs.declared.refusal.LoginRefusal.TheVariants.{NamelessFlags, NotAgreed, ReadsOtherwise, ZeroByte}
-use Rattle.mysql_buf.specs.Reading.{is_zero}
 use Rattle.mysql_const.specs.MariadbCapabilities.{mariadb_capabilities}
 use Rattle.mysql_field_constants.specs.Flags.{all_status_flags, are_named, contains}
-use Rattle.mysql_fields.specs.Laws.{bytes_at-back, done, fixed_number_at-back}
+use Rattle.mysql_fields.specs.Laws.{bytes_at-back, fixed_number_at-back}
 use Rattle.mysql_fields.specs.TextLaws.{null_text_at-back}
-use Rattle.mysql_fields.specs.Texts.{bare_at, null_text}
+use Rattle.mysql_fields.specs.Texts.{null_text}
 use Rattle.mysql_handshake.specs.Capabilities.{plugin_auth, secure_connection}
 use Rattle.mysql_handshake.specs.Handshakes.{HandshakeFields, fixed, fixed_held, greeting, handshake_at, name_at, name_held, scramble_at, scramble_fits, scramble_held}
-use Rattle.mysql_server_packets.specs.Packets.{Error, ServerError, err_packet, error_at, protocol_41, server_error, sql_state, state_part}
+use Rattle.mysql_server_packets.specs.Packets.{Error, ServerError, err_packet, server_error, sql_state}
 
 -- the second scramble, which stands there where the capabilities name it
 scramble-back : (there : Bool) (capabilities len : ℕ) (text : Option (List ℕ)) (rest : List ℕ) → contains capabilities secure_connection ≡ there
@@ -49,14 +45,14 @@ handshake-back : (p : HandshakeFields) → HoldsHandshake p → greeted_cause p 
 unfolding handshake_at greeting
 handshake-back p h none =
     let all = seven_passed (p.protocol_version == 10) (has_no_zero p.server_version) (are_named all_status_flags p.status_flags)
-        (are_named mariadb_capabilities p.mariadb_ext_capabilities) (same (is_some p.scramble_2) (contains p.capabilities secure_connection))
-        (same (is_some p.auth_plugin_name) (contains p.capabilities plugin_auth)) (scramble_fits p.data_length p.scramble_2)
-        ReadsOtherwise ZeroByte NamelessFlags NamelessFlags NotAgreed NotAgreed ReadsOtherwise none in
+    (are_named mariadb_capabilities p.mariadb_ext_capabilities) (same (is_some p.scramble_2) (contains p.capabilities secure_connection))
+    (same (is_some p.auth_plugin_name) (contains p.capabilities plugin_auth)) (scramble_fits p.data_length p.scramble_2)
+    ReadsOtherwise ZeroByte NamelessFlags NamelessFlags NotAgreed NotAgreed ReadsOtherwise none in
     let name : List ℕ = name_held p.auth_plugin_name ++ [] in
     let scramble : List ℕ = scramble_held p.scramble_2 ++ (name_held p.auth_plugin_name ++ []) in
     let block : List ℕ = fixed (fixed_held p) ++ (scramble_held p.scramble_2 ++ (name_held p.auth_plugin_name ++ [])) in
     let fixed = fixed-back (fixed_held p) h.connection_id h.scramble_1 h.capabilities h.default_collation h.status_flags all.2 h.data_length
-        h.mariadb_ext_capabilities all.3 in
+    h.mariadb_ext_capabilities all.3 in
     rw (
       fixed_number_at-back 1 p.protocol_version (null_text p.server_version ++ block) h.protocol_version,
       null_text_at-back p.server_version block,

@@ -1,7 +1,7 @@
 -- Events that a server's first payload was read as are put.
-use Rattle.std.proofs.Common.{◌≡◌, ◌<◌, ◌≤◌, ◌-◌, ◌^◌, ◌==◌, ◌||◌, if◌then◌else◌, ℕ, max, nat_lt, Bool, true, false, not, List, [], ◌∷◌, ◌++◌, length, take, drop, slice_index_or, Option, None, Some, is_some, Ok, Err}
+use Rattle.std.proofs.Common.{◌≡◌, ◌≤◌, ◌-◌, ◌==◌, ◌||◌, if◌then◌else◌, ℕ, max, nat_lt, Bool, true, false, not, List, [], ◌∷◌, length, take, drop, slice_index_or, Option, None, Some, is_some, Ok, Err}
 use Rattle.std.proofs.Common.{refl, sym, ap, ◌∙◌, subst, eq-eqb, arith, inl, inr}
-use Rattle.std.proofs.lemmas.Bool.{cases_lt, eqb-true}
+use Rattle.std.proofs.lemmas.Bool.{cases_lt}
 use Rattle.std.proofs.lemmas.List.{get_or-drop, length-take-le}
 use Rattle.std.proofs.lemmas.Nat.{and_assoc}
 use Rattle.std.specs.Int.Bits.{and_self}
@@ -13,7 +13,7 @@ use Rattle.mysql_authentication.proofs.Read.{error_own, null_own, read_as}
 use Rattle.mysql_authentication.specs.Events.{Greeted, Greeting, Rejected}
 use Rattle.mysql_authentication.specs.Readings.{early_error_at, greeting_at, or_fault}
 use Rattle.mysql_authentication.specs.Statements.{GreetingsArePut, RefusedGreetingsReadOtherwise}
-use Rattle.mysql_authentication.specs.Written.{greeted_cause, greeting_bytes, greeting_cause, has_no_zero, same}
+use Rattle.mysql_authentication.specs.Written.{greeted_cause, greeting_bytes, greeting_cause, same}
 use Rattle.mysql_authentication.specs.declared.fault.LoginFault.TheVariants.{BadError, BadGreeting, OldProtocol}
 use Rattle.mysql_buf.specs.FirstBytes.{first-enough, first-short}
 use Rattle.mysql_const.specs.MariadbCapabilities.{mariadb_capabilities}
@@ -23,7 +23,7 @@ use Rattle.mysql_field_constants.specs.Flags.{all_status_flags, are_named, conta
 use Rattle.mysql_fields.specs.Forms.{bytes_at, fixed_number_at, upper_half_at}
 use Rattle.mysql_fields.specs.Laws.{bind_ok, bytes_at-sized, done, eaten_first, ok_same}
 use Rattle.mysql_fields.specs.Texts.{bare_at, null_text_at}
-use Rattle.mysql_fields.specs.Wire.{Reading, or_end, ◌>>=◌}
+use Rattle.mysql_fields.specs.Wire.{or_end, ◌>>=◌}
 use Rattle.mysql_fields.specs.declared.error.WireError.TheVariants.{TooManyBytes}
 use Rattle.mysql_handshake.specs.Capabilities.{plugin_auth, protocol_41, secure_connection}
 use Rattle.mysql_handshake.specs.Handshakes.{FixedFields, HandshakeFields, block_at, fixed_at, flags_at, handshake_at, name_at, scramble_at, scramble_fits}
@@ -34,21 +34,21 @@ pub length_own : (n : ℕ) (bytes : List ℕ) (x : List ℕ × List ℕ) → byt
 length_own n bytes x h = elim (cases_lt (length bytes) n) [
   | inl lt ↦ absurd (let no = ap or_end (first-short n (take n) bytes lt) in cc)
   | inr le ↦
-    let whole = ap or_end (first-enough n (take n) bytes le) in
-    let same : (take n bytes, drop n bytes) ≡ x = ok_same (take n bytes, drop n bytes) x (sym whole ∙ h) in
-    subst (λ (y : List ℕ × List ℕ). length y.0 ≡ n) same (length-take-le n bytes le)
+      let whole = ap or_end (first-enough n (take n) bytes le) in
+      let same : (take n bytes, drop n bytes) ≡ x = ok_same (take n bytes, drop n bytes) x (sym whole ∙ h) in
+      subst (λ (y : List ℕ × List ℕ). length y.0 ≡ n) same (length-take-le n bytes le)
 ]
 
 status_own : (bytes : List ℕ) (x : StatusFlags × List ℕ) → named_at status_named (fixed_number_at 2) bytes ≡ Ok x → are_named all_status_flags x.0.0 ≡ true
 status_own bytes x h =
     let number = bind_ok (fixed_number_at 2 bytes) _ x h in
     go number.0.0 number.0.1 (are_named all_status_flags number.0.0) refl number.2 where
-  go : (n : ℕ) (rest : List ℕ) (named : Bool) → are_named all_status_flags n ≡ named
-      → or_unknown (if named then Some (record { 0 = n }) else None) rest ≡ Ok x → are_named all_status_flags x.0.0 ≡ true
-  go n rest true is e =
-      let flags : StatusFlags = record { 0 = n } in
-      subst (λ (y : StatusFlags × List ℕ). are_named all_status_flags y.0.0 ≡ true) (ok_same (flags, rest) x e) is
-  go n rest false is e = absurd cc
+      go : (n : ℕ) (rest : List ℕ) (named : Bool) → are_named all_status_flags n ≡ named
+          → or_unknown (if named then Some (record { 0 = n }) else None) rest ≡ Ok x → are_named all_status_flags x.0.0 ≡ true
+      go n rest true is e =
+          let flags : StatusFlags = record { 0 = n } in
+          subst (λ (y : StatusFlags × List ℕ). are_named all_status_flags y.0.0 ≡ true) (ok_same (flags, rest) x e) is
+      go n rest false is e = absurd cc
 
 flags_own : (bytes : List ℕ) (x : (ℕ × ℕ × ℕ) × List ℕ) → flags_at bytes ≡ Ok x → are_named all_status_flags x.0.2 ≡ true
 unfolding flags_at

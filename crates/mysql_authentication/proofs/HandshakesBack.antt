@@ -1,20 +1,18 @@
 -- A greeting that was written as it is held is read again.
-use Rattle.std.proofs.Common.{◌≡◌, ◌<◌, ◌≤◌, ◌+◌, ◌*◌, ◌/◌, ◌%◌, ◌-◌, ◌^◌, ◌==◌, ◌&&◌, if◌then◌else◌, ℕ, max, Bool, true, false, not, List, [], ◌∷◌, ◌++◌, length, replicate, Option, None, Some, is_some, Ok, Err}
-use Rattle.std.proofs.Common.{refl, sym, ap, ◌∙◌, subst, append-nil, length-append, arith}
-use Rattle.std.proofs.lemmas.Bool.{eqb-true, le-ltb}
+use Rattle.std.proofs.Common.{◌≡◌, ◌<◌, ◌*◌, ◌/◌, ◌%◌, ◌^◌, ℕ, true, List, [], ◌++◌, length, replicate, Ok}
+use Rattle.std.proofs.Common.{refl, sym, ap, ◌∙◌, length-append, arith}
+use Rattle.std.proofs.lemmas.Bool.{eqb-true}
 use Rattle.std.proofs.lemmas.Nat.{or_comm, or_shifted}
 use Rattle.std.specs.Int.RustNames.{bit_and, bit_or}
 use Rattle.byteorder.specs.Endian.{little_bytes}
 use Rattle.bitflags.specs.Sets.{known_bits}
-use Rattle.mysql_authentication.specs.Statements.{HoldsHandshake}
-use Rattle.mysql_authentication.specs.Written.{same}
 use Rattle.mysql_const.specs.MariadbCapabilities.{mariadb_capabilities}
 use Rattle.mysql_field_constants.specs.ConstantLaws.{named_at-back, skipped_at-back}
 use Rattle.mysql_field_constants.specs.Constants.{named_at}
 use Rattle.mysql_field_constants.specs.FlagLaws.{flags_named-back}
-use Rattle.mysql_field_constants.specs.Flags.{all_status_flags, are_named, contains, status_named}
+use Rattle.mysql_field_constants.specs.Flags.{all_status_flags, are_named, status_named}
 use Rattle.mysql_fields.specs.Forms.{fixed_number_at, upper_half, upper_half_at}
-use Rattle.mysql_fields.specs.Laws.{bytes_at-back, done, fixed_number_at-back}
+use Rattle.mysql_fields.specs.Laws.{bytes_at-back, fixed_number_at-back}
 use Rattle.mysql_handshake.specs.Handshakes.{FixedFields, fixed, fixed_at, flags_at, block_at}
 
 -- the low half of a number of four bytes
@@ -68,9 +66,9 @@ fixed-back q id eight caps collation status status_named len mariadb mariadb_nam
     let r : List ℕ = replicate 6 0 ++ (little_bytes 4 q.mariadb_ext_capabilities ++ []) in
     let l = little_bytes 1 q.data_length ++ (replicate 6 0 ++ (little_bytes 4 q.mariadb_ext_capabilities ++ [])) in
     let f = little_bytes 2 q.capabilities ++ (little_bytes 1 q.default_collation ++ (little_bytes 2 q.status_flags ++ (upper_half q.capabilities
-        ++ (little_bytes 1 q.data_length ++ (replicate 6 0 ++ (little_bytes 4 q.mariadb_ext_capabilities ++ [])))))) in
+    ++ (little_bytes 1 q.data_length ++ (replicate 6 0 ++ (little_bytes 4 q.mariadb_ext_capabilities ++ [])))))) in
     let z : List ℕ = replicate 1 0 ++ (little_bytes 2 q.capabilities ++ (little_bytes 1 q.default_collation ++ (little_bytes 2 q.status_flags ++ (upper_half q.capabilities
-        ++ (little_bytes 1 q.data_length ++ (replicate 6 0 ++ (little_bytes 4 q.mariadb_ext_capabilities ++ []))))))) in
+    ++ (little_bytes 1 q.data_length ++ (replicate 6 0 ++ (little_bytes 4 q.mariadb_ext_capabilities ++ []))))))) in
     let all_named : bit_and q.mariadb_ext_capabilities (known_bits mariadb_capabilities) ≡ q.mariadb_ext_capabilities =
     eqb-true (bit_and q.mariadb_ext_capabilities (known_bits mariadb_capabilities)) q.mariadb_ext_capabilities mariadb_named in
     rw (
@@ -88,7 +86,7 @@ fixed-length : (q : FixedFields) → length q.scramble_1 ≡ 8 → length (fixed
 unfolding fixed
 fixed-length q eight =
     let z : List ℕ = replicate 1 0 ++ (little_bytes 2 q.capabilities ++ (little_bytes 1 q.default_collation ++ (little_bytes 2 q.status_flags ++ (upper_half q.capabilities
-        ++ (little_bytes 1 q.data_length ++ (replicate 6 0 ++ (little_bytes 4 q.mariadb_ext_capabilities ++ []))))))) in
+    ++ (little_bytes 1 q.data_length ++ (replicate 6 0 ++ (little_bytes 4 q.mariadb_ext_capabilities ++ []))))))) in
     omega (arith, eight, length-append q.scramble_1 z)
 
 pub block-back : (q : FixedFields) (rest : List ℕ) → length q.scramble_1 ≡ 8 → fixed_at (fixed q) ≡ Ok (q, []) → block_at (fixed q ++ rest) ≡ Ok (q, rest)

@@ -1,7 +1,6 @@
 -- Errors and OK packets that were written are read again.
 use Rattle.std.proofs.Common.{◌≡◌, ◌<◌, ◌^◌, ◌==◌, ◌&&◌, ◌||◌, if◌then◌else◌, ℕ, zero, suc, Bool, true, false, not, List, [], ◌∷◌, ◌++◌, length, Option, None, Some, is_some, Ok}
-use Rattle.std.proofs.Common.{refl, sym, ap, ◌∙◌, append-nil, arith, lit<}
-use Rattle.std.proofs.lemmas.Bool.{eqb-true}
+use Rattle.std.proofs.Common.{refl, ap, ◌∙◌, lit<}
 use Rattle.byteorder.specs.Endian.{little_bytes}
 use Rattle.mysql_authentication.specs.Statements.{HoldsError, HoldsOk, HoldsState}
 use Rattle.mysql_authentication.specs.Written.{if_some, is_normal, same}

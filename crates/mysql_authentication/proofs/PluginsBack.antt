@@ -1,6 +1,6 @@
 -- A plugin that was written by its name is read again.
-use Rattle.std.proofs.Common.{◌≡◌, ◌<◌, ◌≤◌, ◌-◌, ◌==◌, ◌&&◌, if◌then◌else◌, nat_lt, ℕ, Bool, true, false, List, [], ◌∷◌, ◌++◌, length, take, replicate, slice_index_or, codes, Option, None, Some, Ok, Err}
-use Rattle.std.proofs.Common.{refl, sym, ap, ◌∙◌, subst, arith}
+use Rattle.std.proofs.Common.{◌≡◌, ◌≤◌, ◌-◌, ◌==◌, if◌then◌else◌, nat_lt, ℕ, Bool, true, false, List, [], ◌∷◌, ◌++◌, length, replicate, codes, Ok, Err}
+use Rattle.std.proofs.Common.{refl, sym, ap, ◌∙◌, arith}
 use Rattle.std.proofs.lemmas.Bool.{eqb-true}
 use Rattle.std.proofs.lemmas.List.{length-take}
 use Rattle.std.proofs.lemmas.List.Sums.{fails_before_first}
@@ -14,7 +14,7 @@ use Rattle.mysql_buf.specs.Reading.{is_zero}
 use Rattle.mysql_connect_attributes.specs.Parts.{plugin_text, plugin_to_zero_at}
 use Rattle.mysql_fields.specs.Laws.{done, ok_same}
 use Rattle.mysql_fields.specs.TextLaws.{null_text_at-back}
-use Rattle.mysql_fields.specs.Texts.{null_text, null_text_at}
+use Rattle.mysql_fields.specs.Texts.{null_text_at}
 use Rattle.mysql_fields.specs.declared.error.WireError.TheVariants.{UnexpectedEof}
 
 -- what stands before the first zero and behind it
@@ -52,17 +52,17 @@ other_named : (name : List ℕ) → is_other (plugin_named name) ≡ true → pl
 other_named name h =
     go (bytes_eq name (codes "mysql_old_password")) (bytes_eq name (codes "mysql_native_password")) (bytes_eq name (codes "caching_sha2_password"))
     (bytes_eq name (codes "mysql_clear_password")) (bytes_eq name (codes "client_ed25519")) (bytes_eq name (codes "parsec")) h where
-  go : (a b c d e f : Bool) → is_other (if a then OldPassword else if b then NativePassword else if c then CachingSha2 else if d then ClearPassword
-      else if e then Ed25519 else if f then Parsec 0 (replicate 18 0) else Other name) ≡ true
-      → (if a then OldPassword else if b then NativePassword else if c then CachingSha2 else if d then ClearPassword
-      else if e then Ed25519 else if f then Parsec 0 (replicate 18 0) else Other name) ≡ Other name
-  go true b c d e f h = cc
-  go false true c d e f h = cc
-  go false false true d e f h = cc
-  go false false false true e f h = cc
-  go false false false false true f h = cc
-  go false false false false false true h = cc
-  go false false false false false false h = refl
+      go : (a b c d e f : Bool) → is_other (if a then OldPassword else if b then NativePassword else if c then CachingSha2 else if d then ClearPassword
+          else if e then Ed25519 else if f then Parsec 0 (replicate 18 0) else Other name) ≡ true
+          → (if a then OldPassword else if b then NativePassword else if c then CachingSha2 else if d then ClearPassword
+          else if e then Ed25519 else if f then Parsec 0 (replicate 18 0) else Other name) ≡ Other name
+      go true b c d e f h = cc
+      go false true c d e f h = cc
+      go false false true d e f h = cc
+      go false false false true e f h = cc
+      go false false false false true f h = cc
+      go false false false false false true h = cc
+      go false false false false false false h = refl
 
 bytes_same : (xs ys : List ℕ) → bytes_eq xs ys ≡ true → xs ≡ ys
 bytes_same [] [] h = refl

@@ -1,6 +1,6 @@
 -- What is so of fields that were read.
-use Rattle.std.proofs.Common.{◌≡◌, ◌==◌, ◌||◌, ◌&&◌, if◌then◌else◌, ℕ, zero, suc, nat_lt, Bool, true, false, not, cond, List, [], ◌∷◌, length, Option, None, Some, is_some, Result, Ok, Err}
-use Rattle.std.proofs.Common.{refl, sym, ap, ◌∙◌, subst}
+use Rattle.std.proofs.Common.{◌≡◌, if◌then◌else◌, ℕ, nat_lt, Bool, true, false, List, [], length, Option, None, Some, is_some, Ok, Err}
+use Rattle.std.proofs.Common.{refl, subst}
 use Rattle.std.specs.List.{after_first, before_first, position_or_len}
 use Rattle.mysql_auth.specs.Packets.{SwitchFields, next_factor_at, switch_at}
 use Rattle.mysql_authentication.proofs.Zeros.{front_has_none}
@@ -11,7 +11,7 @@ use Rattle.mysql_buf.specs.Reading.{is_zero}
 use Rattle.mysql_field_constants.specs.Constants.{constant_at}
 use Rattle.mysql_fields.specs.Laws.{bind_ok, done, ok_same}
 use Rattle.mysql_fields.specs.Texts.{null_text_at}
-use Rattle.mysql_fields.specs.Wire.{Reading, ◌>>=◌}
+use Rattle.mysql_fields.specs.Wire.{Reading}
 use Rattle.mysql_fields.specs.declared.error.WireError.TheVariants.{UnexpectedEof}
 use Rattle.mysql_server_packets.specs.Packets.{ServerError, error_at, error_code_at, protocol_41, server_error_at, sql_state_at, state_part_at}
 

@@ -1,41 +1,37 @@
 -- Answers that are put are read as their events.
-use Rattle.std.proofs.Common.{◌≡◌, ◌<◌, ◌≤◌, ◌+◌, ◌*◌, ◌/◌, ◌%◌, ◌-◌, ◌^◌, ◌==◌, ◌&&◌, if◌then◌else◌, nat_le, ℕ, zero, suc, Bool, true, false, not, List, [], ◌∷◌, ◌++◌, length, take, Option, None, Some, is_some, Ok, Err}
-use Rattle.std.proofs.Common.{refl, sym, ap, ◌∙◌, subst, append-nil, append_assoc, length-append, arith}
+use Rattle.std.proofs.Common.{◌≡◌, ◌<◌, ◌≤◌, ◌/◌, ◌%◌, ◌-◌, ◌^◌, ◌==◌, if◌then◌else◌, nat_le, ℕ, Bool, true, false, List, [], ◌∷◌, ◌++◌, length, Option, None, Some, is_some, Ok}
+use Rattle.std.proofs.Common.{refl, sym, ap, ◌∙◌, subst, append-nil, arith}
 use Rattle.std.proofs.lemmas.Bool.{eqb-true, leb-true}
 use Rattle.std.proofs.lemmas.List.{take_all}
 use Rattle.std.proofs.lemmas.Nat.{and_assoc, and_mask}
 use Rattle.std.specs.Int.RustNames.{bit_and}
-use Rattle.std.specs.List.{before_first, flat_map}
-use Rattle.bitflags.specs.Sets.{known_bits}
 use Rattle.bitflags.proofs.OnLiterals.{bitflags_on_literals}
-use Rattle.byteorder.specs.Endian.{little_bytes, little_number}
+use Rattle.byteorder.specs.Endian.{little_number}
 use Rattle.mysql_auth.specs.Plugins.{Plugin}
 use Rattle.mysql_authentication.proofs.FirstCause.{fields_passed, none_of_two, passed, three_passed}
 use Rattle.mysql_authentication.proofs.AttributesBack.{attributes-back}
 use Rattle.mysql_authentication.proofs.PluginsBack.{plugin-back}
 use Rattle.mysql_authentication.proofs.Zeros.{front_whole}
-use Rattle.mysql_authentication.specs.Events.{CutOff, LoggedIn, Response, SecureRequest, Whole}
-use Rattle.mysql_authentication.specs.Readings.{agrees_41, by_request, login_of, response_at, response_of}
+use Rattle.mysql_authentication.specs.Events.{CutOff, LoggedIn, SecureRequest, Whole}
+use Rattle.mysql_authentication.specs.Readings.{agrees_41, login_of, response_at, response_of}
 use Rattle.mysql_authentication.specs.Statements.{HoldsAttributes, HoldsLogin, HoldsRequest, ResponsesReadBack}
-use Rattle.mysql_authentication.specs.Written.{fields_cause, has_no_zero, if_some, names_itself, request_cause, response_cause, same, scramble_cause, unless}
-use Rattle.mysql_authentication.specs.declared.refusal.LoginRefusal.{LoginRefusal}
+use Rattle.mysql_authentication.specs.Written.{fields_cause, has_no_zero, if_some, names_itself, request_cause, same, scramble_cause, unless}
 use Rattle.mysql_authentication.specs.declared.refusal.LoginRefusal.TheVariants.{NamelessFlags, NotAgreed, ReadsOtherwise, TooLong, ZeroByte}
 use Rattle.mysql_buf.specs.FirstBytes.{first-enough}
-use Rattle.mysql_buf.specs.Reading.{is_zero}
-use Rattle.mysql_buf.specs.Writing.{front, lenenc_int, lenenc_str, u8_str}
-use Rattle.mysql_connect_attributes.specs.Attributes.{Attribute, attribute, attribute_at, attributes, attributes_at, at_most_at, with_last_values}
+use Rattle.mysql_buf.specs.Writing.{front, lenenc_str, u8_str}
+use Rattle.mysql_connect_attributes.specs.Attributes.{Attribute, attributes, attributes_at}
 use Rattle.mysql_connect_attributes.specs.Parts.{if_held, if_there, plugin_text, plugin_to_zero_at}
 use Rattle.mysql_const.specs.MariadbCapabilities.{mariadb_capabilities}
 use Rattle.mysql_field_constants.specs.Flags.{are_named, contains}
 use Rattle.mysql_fields.specs.Forms.{fixed_number_at}
-use Rattle.mysql_fields.specs.Laws.{bytes_at-back, done, lenenc_number_at-back}
+use Rattle.mysql_fields.specs.Laws.{done}
 use Rattle.mysql_fields.specs.TextLaws.{lenenc_text_at-back, null_text_at-back, u8_text_at-back}
 use Rattle.mysql_fields.specs.Texts.{lenenc_text_at, null_text, null_text_at, u8_text_at}
-use Rattle.mysql_fields.specs.Wire.{Reading, or_end, ◌>>=◌}
+use Rattle.mysql_fields.specs.Wire.{Reading, or_end}
 use Rattle.mysql_handshake.specs.Capabilities.{connect_attrs, connect_with_db, plugin_auth, plugin_auth_lenenc_client_data, protocol_41, secure_connection, ssl}
 use Rattle.mysql_handshake_response.specs.Responses.{ResponseFields, fields_by_at, named_parts_at, response_by, response_to, response_to_at, scramble, scramble_at}
 use Rattle.mysql_handshake_response.specs.SslRequestLaws.{ssl_request_at-back}
-use Rattle.mysql_handshake_response.specs.SslRequests.{IsSslRequest, SslRequestFields, capability_bits, mariadb_bits, ssl_request, ssl_request_at}
+use Rattle.mysql_handshake_response.specs.SslRequests.{IsSslRequest, SslRequestFields, capability_bits, mariadb_bits, ssl_request}
 
 -- THE 32 BYTES
 
@@ -92,17 +88,17 @@ scramble-back : (capabilities : ℕ) (text rest : List ℕ) → length text < 2 
 unfolding scramble_at scramble front
 scramble-back capabilities text rest few none =
     go (contains capabilities plugin_auth_lenenc_client_data) (contains capabilities secure_connection) none where
-  go : (lenenc counted : Bool) → (if lenenc then None else if counted then unless (nat_le (length text) 255) TooLong else unless (has_no_zero text) ZeroByte) ≡ None
-      → (if lenenc then lenenc_text_at ((if lenenc then lenenc_str text else if counted then u8_str text else null_text text) ++ rest)
-      else if counted then u8_text_at ((if lenenc then lenenc_str text else if counted then u8_str text else null_text text) ++ rest)
-      else null_text_at ((if lenenc then lenenc_str text else if counted then u8_str text else null_text text) ++ rest))
-      ≡ done (text, rest)
-  go true counted none = lenenc_text_at-back text rest few
-  go false true none =
-      let short : length text ≤ 255 = leb-true (length text) 255 (passed (nat_le (length text) 255) TooLong none) in
-      u8_text_at-back text rest ∙ ap (λ (t : List ℕ). done (t, rest)) (take_all 255 text short)
-  go false false none =
-      null_text_at-back text rest ∙ ap (λ (t : List ℕ). done (t, rest)) (front_whole text (passed (has_no_zero text) ZeroByte none))
+      go : (lenenc counted : Bool) → (if lenenc then None else if counted then unless (nat_le (length text) 255) TooLong else unless (has_no_zero text) ZeroByte) ≡ None
+          → (if lenenc then lenenc_text_at ((if lenenc then lenenc_str text else if counted then u8_str text else null_text text) ++ rest)
+          else if counted then u8_text_at ((if lenenc then lenenc_str text else if counted then u8_str text else null_text text) ++ rest)
+          else null_text_at ((if lenenc then lenenc_str text else if counted then u8_str text else null_text text) ++ rest))
+          ≡ done (text, rest)
+      go true counted none = lenenc_text_at-back text rest few
+      go false true none =
+          let short : length text ≤ 255 = leb-true (length text) 255 (passed (nat_le (length text) 255) TooLong none) in
+          u8_text_at-back text rest ∙ ap (λ (t : List ℕ). done (t, rest)) (take_all 255 text short)
+      go false false none =
+          null_text_at-back text rest ∙ ap (λ (t : List ℕ). done (t, rest)) (front_whole text (passed (has_no_zero text) ZeroByte none))
 
 -- a part that is held exactly where the capabilities name it
 part-back : {X : Type 0} (there : Bool) (read_at : List ℕ → Reading X) (written : X → List ℕ) (part : Option X) (rest : List ℕ)
@@ -139,9 +135,9 @@ fields-back : (capabilities : ℕ) (p : ResponseFields) → HoldsLogin p → fie
 unfolding fields_by_at named_parts_at
 fields-back capabilities p h none =
     let all = fields_passed (has_no_zero p.user) (same (is_some p.database) (contains capabilities connect_with_db)) (if_some has_no_zero p.database)
-        (same (is_some p.plugin) (contains capabilities plugin_auth)) (if_some names_itself p.plugin)
-        (same (is_some p.attributes) (contains capabilities connect_attrs))
-        ZeroByte NotAgreed ZeroByte NotAgreed ReadsOtherwise NotAgreed (scramble_cause capabilities p.scramble) none in
+    (same (is_some p.plugin) (contains capabilities plugin_auth)) (if_some names_itself p.plugin)
+    (same (is_some p.attributes) (contains capabilities connect_attrs))
+    ZeroByte NotAgreed ZeroByte NotAgreed ReadsOtherwise NotAgreed (scramble_cause capabilities p.scramble) none in
     let three : List ℕ = if_held attributes p.attributes ++ [] in
     let two : List ℕ = if_held plugin_text p.plugin ++ (if_held attributes p.attributes ++ []) in
     let one : List ℕ = if_held null_text p.database ++ (if_held plugin_text p.plugin ++ (if_held attributes p.attributes ++ [])) in

@@ -1,6 +1,6 @@
 -- Events that a client's first payload was read as are put.
-use Rattle.std.proofs.Common.{◌≡◌, ◌<◌, ◌≤◌, ◌+◌, ◌*◌, ◌%◌, ◌-◌, ◌^◌, ◌==◌, ◌&&◌, if◌then◌else◌, nat_le, nat_lt, ℕ, Bool, true, false, not, List, [], ◌∷◌, ◌++◌, length, take, drop, replicate, slice_index, codes, Option, None, Some, is_some, Ok, Err}
-use Rattle.std.proofs.Common.{refl, sym, ap, ◌∙◌, subst, eq-eqb, arith, inl, inr}
+use Rattle.std.proofs.Common.{◌≡◌, ◌+◌, ◌%◌, ◌^◌, ◌==◌, if◌then◌else◌, nat_le, nat_lt, ℕ, Bool, true, false, List, length, drop, replicate, codes, Option, None, Some, is_some, Ok, Err}
+use Rattle.std.proofs.Common.{refl, sym, ap, ◌∙◌, subst, arith, inl, inr}
 use Rattle.std.proofs.lemmas.Bool.{cases_lt, le-leb}
 use Rattle.std.proofs.lemmas.List.{get_or-drop}
 use Rattle.std.proofs.lemmas.Nat.{and_assoc}
@@ -15,11 +15,11 @@ use Rattle.mysql_authentication.proofs.PluginsBack.{no_last_zero}
 use Rattle.mysql_authentication.proofs.Read.{null_own}
 use Rattle.mysql_authentication.proofs.ResponsesBack.{word_41}
 use Rattle.mysql_authentication.proofs.Zeros.{front_has_none}
-use Rattle.mysql_authentication.specs.Events.{CutOff, LoggedIn, Login, Response, SecureRequest, Whole}
+use Rattle.mysql_authentication.specs.Events.{LoggedIn, Response, SecureRequest}
 use Rattle.mysql_authentication.specs.Readings.{agrees_41, by_request, login_of, response_at, response_of}
 use Rattle.mysql_authentication.specs.Statements.{RefusedResponsesReadOtherwise, ResponsesArePut}
-use Rattle.mysql_authentication.specs.Written.{fields_cause, has_no_zero, if_some, is_other, names_itself, request_cause, response_bytes, response_cause, same, scramble_cause, unless}
-use Rattle.mysql_authentication.specs.declared.fault.LoginFault.TheVariants.{BadLogin, OldProtocol}
+use Rattle.mysql_authentication.specs.Written.{fields_cause, has_no_zero, if_some, names_itself, request_cause, response_bytes, response_cause, same, scramble_cause, unless}
+use Rattle.mysql_authentication.specs.declared.fault.LoginFault.TheVariants.{OldProtocol}
 use Rattle.mysql_authentication.specs.declared.refusal.LoginRefusal.TheVariants.{TooLong, ZeroByte}
 use Rattle.mysql_buf.specs.Bytes.{AreBytes}
 use Rattle.mysql_buf.specs.FirstBytes.{first-enough, first-short}
@@ -29,10 +29,10 @@ use Rattle.mysql_connect_attributes.specs.Parts.{if_there, plugin_to_zero_at}
 use Rattle.mysql_const.specs.MariadbCapabilities.{mariadb_capabilities}
 use Rattle.mysql_field_constants.specs.Constants.{skipped_at}
 use Rattle.mysql_field_constants.specs.Flags.{are_named, contains}
-use Rattle.mysql_fields.specs.Forms.{bytes_at, fixed_number_at}
+use Rattle.mysql_fields.specs.Forms.{fixed_number_at}
 use Rattle.mysql_fields.specs.Laws.{bind_ok, done, eaten_first, ok_same}
 use Rattle.mysql_fields.specs.Texts.{lenenc_text_at, null_text_at, u8_text_at}
-use Rattle.mysql_fields.specs.Wire.{Reading, lacks, or_end, ◌>>=◌}
+use Rattle.mysql_fields.specs.Wire.{Reading, lacks, or_end}
 use Rattle.mysql_fields.specs.declared.error.WireError.TheVariants.{UnexpectedEof}
 use Rattle.mysql_handshake.specs.Capabilities.{connect_attrs, connect_with_db, plugin_auth, plugin_auth_lenenc_client_data, protocol_41, secure_connection, ssl}
 use Rattle.mysql_handshake_response.specs.Responses.{ResponseFields, fields_by_at, named_parts_at, response_to_at, scramble_at}
@@ -49,9 +49,9 @@ number_own : (n : ℕ) (bytes : List ℕ) (x : ℕ × List ℕ) → fixed_number
 number_own n bytes x h = elim (cases_lt (length bytes) n) [
   | inl lt ↦ absurd (let no = ap or_end (first-short n (little_number n) bytes lt) in cc)
   | inr le ↦
-    let whole = ap or_end (first-enough n (little_number n) bytes le) in
-    let same : (little_number n bytes, drop n bytes) ≡ x = ok_same (little_number n bytes, drop n bytes) x (sym whole ∙ h) in
-    subst (λ (y : ℕ × List ℕ). (y.0 ≡ little_number n bytes) × (y.1 ≡ drop n bytes)) same (refl, refl)
+      let whole = ap or_end (first-enough n (little_number n) bytes le) in
+      let same : (little_number n bytes, drop n bytes) ≡ x = ok_same (little_number n bytes, drop n bytes) x (sym whole ∙ h) in
+      subst (λ (y : ℕ × List ℕ). (y.0 ≡ little_number n bytes) × (y.1 ≡ drop n bytes)) same (refl, refl)
 ]
 
 -- what is left behind a zero
@@ -158,18 +158,18 @@ named_own name whole =
     ap (λ (n : List ℕ). names_itself (plugin_named n)) (no_last_zero name whole)
     ∙ go (bytes_eq name (codes "mysql_old_password")) (bytes_eq name (codes "mysql_native_password")) (bytes_eq name (codes "caching_sha2_password"))
     (bytes_eq name (codes "mysql_clear_password")) (bytes_eq name (codes "client_ed25519")) (bytes_eq name (codes "parsec")) refl refl refl refl refl refl where
-  go : (a b c d e f : Bool) → bytes_eq name (codes "mysql_old_password") ≡ a → bytes_eq name (codes "mysql_native_password") ≡ b
-      → bytes_eq name (codes "caching_sha2_password") ≡ c → bytes_eq name (codes "mysql_clear_password") ≡ d → bytes_eq name (codes "client_ed25519") ≡ e
-      → bytes_eq name (codes "parsec") ≡ f
-      → names_itself (if a then OldPassword else if b then NativePassword else if c then CachingSha2 else if d then ClearPassword
-      else if e then Ed25519 else if f then Parsec 0 (replicate 18 0) else Other name) ≡ true
-  go true b c d e f ia ib ic id ie iff = refl
-  go false true c d e f ia ib ic id ie iff = refl
-  go false false true d e f ia ib ic id ie iff = refl
-  go false false false true e f ia ib ic id ie iff = refl
-  go false false false false true f ia ib ic id ie iff = refl
-  go false false false false false true ia ib ic id ie iff = refl
-  go false false false false false false ia ib ic id ie ig = rw (whole, no_last_zero name whole, ia, ib, ic, id, ie, ig) refl
+      go : (a b c d e f : Bool) → bytes_eq name (codes "mysql_old_password") ≡ a → bytes_eq name (codes "mysql_native_password") ≡ b
+          → bytes_eq name (codes "caching_sha2_password") ≡ c → bytes_eq name (codes "mysql_clear_password") ≡ d → bytes_eq name (codes "client_ed25519") ≡ e
+          → bytes_eq name (codes "parsec") ≡ f
+          → names_itself (if a then OldPassword else if b then NativePassword else if c then CachingSha2 else if d then ClearPassword
+          else if e then Ed25519 else if f then Parsec 0 (replicate 18 0) else Other name) ≡ true
+      go true b c d e f ia ib ic id ie iff = refl
+      go false true c d e f ia ib ic id ie iff = refl
+      go false false true d e f ia ib ic id ie iff = refl
+      go false false false true e f ia ib ic id ie iff = refl
+      go false false false false true f ia ib ic id ie iff = refl
+      go false false false false false true ia ib ic id ie iff = refl
+      go false false false false false false ia ib ic id ie ig = rw (whole, no_last_zero name whole, ia, ib, ic, id, ie, ig) refl
 
 plugin_own : (bytes : List ℕ) (x : Plugin × List ℕ) → plugin_to_zero_at bytes ≡ Ok x → names_itself x.0 ≡ true
 plugin_own bytes x h =
@@ -216,15 +216,18 @@ behind_own capabilities r bytes x all h =
     ) in
     let left = subst AreBytes (sym (null_rest bytes user.0 user.1)) (bytes_behind (position_or_len is_zero bytes + 1) bytes all) in
     let fit = parts_own capabilities scramble.0.1 parts.0 parts.1 in
-    subst (λ (y : ResponseFields × List ℕ). (y.0.request ≡ r) × (fields_cause capabilities y.0 ≡ None)) (ok_same made x parts.2) (refl, rw (
-      null_own bytes user.0 user.1,
-      scramble_own capabilities user.0.1 scramble.0 left scramble.1,
-      fit.0,
-      fit.1,
-      fit.2,
-      fit.3,
-      fit.4,
-    ) refl)
+    subst (λ (y : ResponseFields × List ℕ). (y.0.request ≡ r) × (fields_cause capabilities y.0 ≡ None)) (ok_same made x parts.2) (
+      refl,
+      rw (
+        null_own bytes user.0 user.1,
+        scramble_own capabilities user.0.1 scramble.0 left scramble.1,
+        fit.0,
+        fit.1,
+        fit.2,
+        fit.3,
+        fit.4,
+      ) refl,
+    )
 
 -- THE WHOLE PAYLOAD
 

@@ -1,8 +1,8 @@
 -- The laws of logging in: what is put is read as it was, and what was read is put.
 use Rattle.std.specs.Prelude.{◌≡◌, ◌≢◌, ◌<◌, ◌^◌, ℕ, List, length, Option, None, Some, ⊤, Ok}
 use Rattle.std.specs.List.{flat_map}
-use Rattle.mysql_authentication.specs.Events.{Accepted, AuthMore, AuthSwitch, Authentication, Denied, NextFactor}
-use Rattle.mysql_authentication.specs.Events.{CutOff, Greeted, Greeting, LoggedIn, OldAuthSwitch, PluginData, Rejected}
+use Rattle.mysql_authentication.specs.Events.{Accepted, Authentication, Denied}
+use Rattle.mysql_authentication.specs.Events.{CutOff, Greeted, Greeting, LoggedIn, Rejected}
 use Rattle.mysql_authentication.specs.Events.{Response, SecureRequest, Whole}
 use Rattle.mysql_authentication.specs.Readings.{authentication_at, greeting_at, response_at}
 use Rattle.mysql_authentication.specs.Written.{authentication_bytes, authentication_cause, greeting_bytes}

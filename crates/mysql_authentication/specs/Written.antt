@@ -1,16 +1,16 @@
 -- What is written of each event, and why one isn't: its payload would be read as another one.
 -- (MySQL: Client/Server Protocol, "Connection Phase"; MariaDB: Client/Server Protocol, "Connecting".)
-use Rattle.std.specs.Prelude.{◌≡◌, ◌≢◌, ◌==◌, ◌&&◌, ◌||◌, ◌^◌, ℕ, nat_le, Bool, true, false, not, if◌then◌else◌, List, [], ◌∷◌}
+use Rattle.std.specs.Prelude.{◌≡◌, ◌≢◌, ◌==◌, ◌&&◌, ◌||◌, ℕ, nat_le, Bool, true, false, not, if◌then◌else◌, List, [], ◌∷◌}
 use Rattle.std.specs.Prelude.{◌++◌, length, replicate, slice_index_or, Option, None, Some, is_some, Result, Ok, Err}
 use Rattle.std.specs.Int.RustNames.{bit_and}
 use Rattle.std.specs.List.{before_first}
 use Rattle.std.specs.Str.{bytes_eq}
 use Rattle.byteorder.specs.Endian.{little_bytes}
 use Rattle.mysql_auth.specs.Packets.{headed, next_factor, switch}
-use Rattle.mysql_auth.specs.Plugins.{CachingSha2, ClearPassword, Ed25519, NativePassword, OldPassword, Other, Parsec, Plugin}
+use Rattle.mysql_auth.specs.Plugins.{Other, Parsec, Plugin}
 use Rattle.mysql_auth.specs.Plugins.{plugin_named, without_zero}
 use Rattle.mysql_authentication.specs.Events.{Accepted, AuthMore, AuthSwitch, Authentication, CutOff, Denied, Greeted}
-use Rattle.mysql_authentication.specs.Events.{Greeting, LoggedIn, Login, NextFactor, OldAuthSwitch, PluginData}
+use Rattle.mysql_authentication.specs.Events.{Greeting, LoggedIn, NextFactor, OldAuthSwitch, PluginData}
 use Rattle.mysql_authentication.specs.Events.{Rejected, Response, SecureRequest, Whole}
 use Rattle.mysql_authentication.specs.Readings.{multi_factor}
 use Rattle.mysql_authentication.specs.declared.refusal.LoginRefusal.{LoginRefusal}
@@ -26,7 +26,7 @@ use Rattle.mysql_handshake_response.specs.Responses.{ResponseFields, response_to
 use Rattle.mysql_handshake_response.specs.SslRequests.{SslRequestFields, ssl_request}
 use Rattle.mysql_ok_packets.specs.OkPackets.{OkPacket}
 use Rattle.mysql_ok_packets.specs.Written.{is_named_status, ok_packet_bytes, tells_state}
-use Rattle.mysql_server_packets.specs.Packets.{Error, ServerError, err_packet}
+use Rattle.mysql_server_packets.specs.Packets.{Error, err_packet}
 
 -- PAYLOADS
 
