@@ -370,8 +370,8 @@ fn assert_states(assert: &impl Assert, alloc: Global, packet: &OkPacket, told: &
     }
 }
 
-/// Packets, and what their states are decoded to. The last is as a server writes it that leaves the
-/// inner length out: the packet and the state are read, and the state isn't decoded.
+/// Packets, and what their states are decoded to. The last is as MariaDB writes it, which leaves the
+/// inner length out.
 const WITH_STATES: [(&[u8], &[Told]); 6] = [
     (DONE, &[]),
     (CHANGED, &[Told::Variables(&[(b"autocommit", b"OFF")])]),
@@ -389,7 +389,7 @@ const WITH_STATES: [(&[u8], &[Told]); 6] = [
     ),
     (
         b"\x00\x00\x00\x02\x40\x00\x00\x00\x03\x02\x011",
-        &[Told::Refused(WireError::UnexpectedEof)],
+        &[Told::Tracked(true)],
     ),
 ];
 

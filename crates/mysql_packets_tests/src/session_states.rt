@@ -73,7 +73,7 @@ pub fn assert_decoded(assert: &impl Assert, alloc: Global, state: &SessionStateI
 /// A state, its type, and what it is decoded to.
 type State = (&'static [u8], SessionStateType, Told);
 
-const STATES: [State; 12] = [
+const STATES: [State; 11] = [
     (
         b"\x00\x0f\x0aautocommit\x03OFF",
         SessionStateType::SESSION_TRACK_SYSTEM_VARIABLES,
