@@ -1,8 +1,8 @@
 -- Loops that append one thing after another, or look at one after another.
-use Rattle.std.proofs.Common.{◌≡◌, ℕ, suc, ◌+◌, ◌<◌, ◌≤◌, Bool, true, false, List, [], ◌∷◌, ◌++◌, length, map, get_or, drop, Option, Some, None, refl, sym, ap, ◌∙◌, append_assoc, append-nil, add-one, drop-cons, arith}
+use Rattle.std.proofs.Common.{◌≡◌, ℕ, ◌+◌, ◌<◌, ◌≤◌, Bool, true, false, List, [], ◌∷◌, ◌++◌, length, map, get_or, drop, Option, Some, None, refl, sym, ap, ◌∙◌, append_assoc, append-nil, add-one, drop-cons}
 use Rattle.std.specs.Prelude.{◌&&◌, IfNone, IfSome, is_some, not}
 use Rattle.std.specs.List.{flat_map}
-use Rattle.std.proofs.lemmas.List.{drop-map, drop_all, length-map}
+use Rattle.std.proofs.lemmas.List.{drop-map, drop_all}
 use Rattle.mysql_cells.specs.declared.value.Value.{Value}
 use Rattle.mysql_executions.specs.declared.types.BoundType.{BoundType}
 use Rattle.mysql_executions.specs.declared.types.ParameterType.{ParameterType}
@@ -102,11 +102,11 @@ module _ (waiting : List (Option (List ℕ))) (place : ℕ) (types : List Parame
       let one : are_parameters waiting place types values ≡ false = rw (some, nothing) refl in
       sym one ∙ so_far
 
-none_of : (none : Bool) → true ≡ not none → none ≡ false
+pub none_of : (none : Bool) → true ≡ not none → none ≡ false
 none_of true e = absurd cc
 none_of false e = refl
 
-some_of : (none : Bool) → false ≡ not none → none ≡ true
+pub some_of : (none : Bool) → false ≡ not none → none ≡ true
 some_of true e = refl
 some_of false e = absurd cc
 

@@ -82,11 +82,15 @@ can_be_put capabilities s e =
     && are_parameters s.long_data 0 (types_by e.types s.types) e.parameters
     && are_attributes (has_query_attributes capabilities) e.attributes
 
--- what an execution is read as: each value as it is read
+-- what attributes are read as, each value as it is read
+abbrev pub attributes_as_read : List Attribute → List Attribute
+attributes_as_read attributes = map (λ a. record { bound_type = a.bound_type; value = as_read a.value }) attributes
+
+-- what an execution is read as
 abbrev pub execution_as_read : Execution → Execution
 execution_as_read e = record e {
   parameters = map as_read e.parameters;
-  attributes = map (λ a. record { bound_type = a.bound_type; value = as_read a.value }) e.attributes;
+  attributes = attributes_as_read e.attributes;
 }
 
 -- ATTRIBUTES OF A QUERY

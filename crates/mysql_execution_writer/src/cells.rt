@@ -68,14 +68,14 @@ fn is_negative_zero(value: &Value) -> bool
 }
 
 /// Whether a value has a cell by a type.
-fn has_cell(kind: ParameterType, value: &Value) -> bool
+pub fn has_cell(kind: ParameterType, value: &Value) -> bool
     ensures { result ≡ is_some (parameter_cell kind value.now) }
 {
     cell_of(kind.column_type, kind.unsigned, value).is_some()
 }
 
 /// Appends the cell of a value by a type, where it has one.
-fn put_value(kind: ParameterType, value: &Value, out: &mut Vec<u8>) -> Result<(), AllocError>
+pub fn put_value(kind: ParameterType, value: &Value, out: &mut Vec<u8>) -> Result<(), AllocError>
     ensures { OnOk result (out.new.items ≡ out.old.items ++ unwrap_or (parameter_cell kind value.now) []) }
 {
     match cell_of(kind.column_type, kind.unsigned, value) {
@@ -113,7 +113,7 @@ fn kept_type_at(s: &StatementParameters, place: usize) -> Option<ParameterType>
 }
 
 /// The type of a parameter: the command's own, else that in force; None where there is none.
-fn type_at(
+pub fn type_at(
     own: &Option<Vec<BoundType>>,
     s: &StatementParameters,
     place: usize,

@@ -1,6 +1,6 @@
-use Rattle.std.proofs.Common.{◌≡◌, ◌+◌, ◌-◌, ◌++◌, ap, ◌∙◌, drop, Bool, ℕ, arith}
+use Rattle.std.proofs.Common.{◌+◌, ◌-◌, ◌++◌, ap, ◌∙◌, drop, Bool, arith}
 use Rattle.std.specs.Prelude.{if◌then◌else◌}
-use Rattle.mysql_execution_writer.specs.Written.{null_at, values_of}
+use Rattle.mysql_execution_writer.specs.Written.{values_of}
 use Rattle.mysql_execution_writer.proofs.Bits.{none_yet, one_bit, one_more, small}
 use Rattle.mysql_execution_writer.proofs.bitmap.null_byte.Goals as goal
 

@@ -1,5 +1,4 @@
-use Rattle.std.proofs.Common.{◌≡◌, ◌++◌, [], List, ℕ, ap, ◌∙◌}
-use Rattle.std.specs.Prelude.{unwrap_or}
+use Rattle.std.proofs.Common.{◌++◌, List, ℕ, ap, ◌∙◌}
 use Rattle.std.specs.List.{flat_map}
 use Rattle.mysql_execution_writer.specs.Cells.{type_bytes}
 use Rattle.mysql_execution_writer.proofs.Loops.{flat_done, flat_goes_on, flat_of_map}

@@ -1,5 +1,4 @@
-use Rattle.std.proofs.Common.{◌≡◌, ◌++◌, [], drop}
-use Rattle.std.specs.Prelude.{unwrap_or}
+use Rattle.std.proofs.Common.{◌≡◌, ◌++◌, drop}
 use Rattle.std.specs.List.{flat_map}
 use Rattle.mysql_execution_writer.specs.Cells.{type_bytes}
 use Rattle.mysql_execution_writer.proofs.cells.put_attribute_types.Given as goal

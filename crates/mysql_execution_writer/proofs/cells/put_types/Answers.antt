@@ -1,8 +1,7 @@
-use Rattle.std.proofs.Common.{◌≡◌, ◌++◌, [], List, ℕ, ap, ◌∙◌}
-use Rattle.std.specs.Prelude.{unwrap_or}
+use Rattle.std.proofs.Common.{◌++◌}
 use Rattle.std.specs.List.{flat_map}
 use Rattle.mysql_execution_writer.specs.Cells.{type_bytes}
-use Rattle.mysql_execution_writer.proofs.Loops.{flat_done, flat_goes_on, flat_of_map}
+use Rattle.mysql_execution_writer.proofs.Loops.{flat_done, flat_goes_on}
 use Rattle.mysql_execution_writer.proofs.cells.put_types.Goals as goal
 
 pub loop-kind-preserved : goal.loop-kind-preserved

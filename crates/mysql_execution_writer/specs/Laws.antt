@@ -1,0 +1,47 @@
+-- What holds of executions and attributes that are written: they are read again. MySQL:
+-- Client/Server Protocol, "COM_STMT_EXECUTE", "COM_QUERY".
+use Rattle.std.specs.Prelude.{◌≡◌, ℕ, ◌^◌, ◌<◌, true, List, [], ◌++◌, length, Some, unwrap_or}
+use Rattle.std.specs.List.{AllByRecursion}
+use Rattle.mysql_const.specs.declared.capabilities.Capabilities.{Capabilities}
+use Rattle.mysql_cells.specs.AsSql.{FitsFields}
+use Rattle.mysql_executions.specs.Attributes.{query_attributes_at}
+use Rattle.mysql_executions.specs.Executions.{Execution, execution_at}
+use Rattle.mysql_executions.specs.InForce.{InForce}
+use Rattle.mysql_executions.specs.declared.types.Attribute.{Attribute}
+use Rattle.mysql_executions.specs.declared.types.BoundType.{BoundType}
+use Rattle.mysql_execution_writer.specs.Cells.{are_attributes}
+use Rattle.mysql_execution_writer.specs.Written.{all_values, attributes_as_read, can_be_put, execution_as_read}
+use Rattle.mysql_execution_writer.specs.Written.{execution_bytes, query_attributes_bytes, types_of_attributes, values_of}
+
+-- names are no longer than a length can say
+abbrev pub HaveLengths : List BoundType → Type 0
+HaveLengths types = AllByRecursion (λ t. length t.name < 2 ^ 64) types
+
+-- each number of an execution fits its field
+pub record FitsExecution (e : Execution) : Type 0 where
+  pub statement : e.statement < 2 ^ 32
+  pub count : length (all_values e) < 2 ^ 64
+  pub parameters : AllByRecursion (λ value. FitsFields value) e.parameters
+  pub attributes : AllByRecursion (λ value. FitsFields value) (values_of e.attributes)
+  pub names : HaveLengths (unwrap_or e.types [])
+  pub attribute_names : HaveLengths (types_of_attributes e.attributes)
+
+-- An execution that can be written is read again: each value as itself, but an unsigned number below 2 ^ 63 as Int.
+abbrev pub ExecutionsReadBack : Type 0
+ExecutionsReadBack =
+    (capabilities : Capabilities) (s : InForce) (e : Execution) → FitsExecution e →
+    can_be_put capabilities s e ≡ true
+    → execution_at capabilities s (execution_bytes capabilities s e) ≡ Some (execution_as_read e)
+
+-- each number of attributes fits its field
+pub record FitsAttributes (attributes : List Attribute) : Type 0 where
+  pub count : length attributes < 2 ^ 64
+  pub values : AllByRecursion (λ value. FitsFields value) (values_of attributes)
+  pub names : HaveLengths (types_of_attributes attributes)
+
+-- Attributes that all have a cell are read again, whatever text follows.
+abbrev pub AttributesReadBack : Type 0
+AttributesReadBack =
+    (attributes : List Attribute) (text : List ℕ) → FitsAttributes attributes →
+    are_attributes true attributes ≡ true
+    → query_attributes_at (query_attributes_bytes attributes ++ text) ≡ Some (attributes_as_read attributes, text)
