@@ -2,6 +2,7 @@
 #![tactic(auto)]
 
 mod payloads;
+mod same;
 pub mod refusal;
 
 pub use refusal::PutRefusal;
