@@ -1,2 +1,3 @@
 mod BinaryRows
 mod RowsInPlace
+mod Peeking

@@ -49,6 +49,13 @@ ReadsOn old payload (Err Memory) new = HasFailed old Memory new
 ReadsOn old payload (Err fault) new =
     (event_at old.context old.so_far payload ≡ Err fault) × HasFailed old fault new
 
+-- What the payload would be, if it were read: its event, or its fault. Where memory ran out nothing is known.
+abbrev pub Peeks : ReaderState → Payload → Result ReplyEvent ReplyFault → Type 0
+Peeks old payload (Ok event) =
+    (next : ReplySoFar) × (event_at old.context old.so_far payload ≡ Ok (event_view event, next))
+Peeks old payload (Err Memory) = Unit {0}
+Peeks old payload (Err fault) = event_at old.context old.so_far payload ≡ Err fault
+
 -- What it makes of a payload of the client's file.
 abbrev pub TakesFileData : ReaderState → Payload → Result (Unit {0}) ReplyFault → ReaderState → Type 0
 TakesFileData old payload (Ok _) new =

@@ -4,10 +4,10 @@ ghost use Rattle.std.specs.Prelude.{◌≡◌, Err, IfSome, None, Some, OnErr, o
 ghost use Rattle.mysql_row_refs.specs.RowRefs.{row_ref_view};
 ghost use Rattle.mysql_rows.specs.Rows.{Row};
 ghost use Rattle.mysql_rows.specs.Views.{shared_columns};
-ghost use Rattle.mysql_reply_events.specs.Reader.{HasFailed, ReadsInPlace, ReadsOn, TakesFileData, awaits_rows};
+ghost use Rattle.mysql_reply_events.specs.Reader.{HasFailed, Peeks, ReadsInPlace, ReadsOn, TakesFileData, awaits_rows};
 ghost use Rattle.mysql_reply_events.specs.Reader.{fresh_reader, is_row_due};
 ghost use Rattle.mysql_reply_events.specs.Standing.{RowAt, columns_of, format_of};
-ghost use Rattle.mysql_reply_events.specs.States.{Steps, so_far};
+ghost use Rattle.mysql_reply_events.specs.States.{PeeksStep, Steps, bare, bare_reply, so_far};
 ghost use Rattle.mysql_reply_events.specs.Table as table;
 ghost use Rattle.mysql_reply_events.specs.Views.{awaited_view, turn_of};
 
@@ -55,6 +55,46 @@ fn step(
     } else {
         place_step(alloc, context, state, payload)
     }
+}
+
+/// What is awaited, without the columns of a group that came before.
+fn bare(alloc: Global, awaited: &Awaited) -> Awaited
+    ensures { awaited_view result ≡ bare (awaited_view awaited.now) }
+{
+    match awaited {
+        Awaited::First => Awaited::First,
+        Awaited::Columns {
+            group,
+            left,
+            columns: _,
+        } => Awaited::Columns {
+            group: *group,
+            left: *left,
+            columns: Vec::new(alloc),
+        },
+        Awaited::ColumnsEnd { group, known } => Awaited::ColumnsEnd {
+            group: *group,
+            known: *known,
+        },
+        Awaited::Rows { known } => Awaited::Rows { known: *known },
+        Awaited::Fields => Awaited::Fields,
+        Awaited::FileData => Awaited::FileData,
+        Awaited::Nothing => Awaited::Nothing,
+    }
+}
+
+/// What a payload would be to a state, by another one that is the same but for earlier columns.
+fn peek_step(
+    alloc: Global,
+    context: Context,
+    bare_state: &mut ReplyState,
+    state: &ReplyState,
+    payload: &[u8],
+) -> Result<ReplyEvent, ReplyFault>
+    requires { so_far bare_state.old ≡ bare_reply (so_far state.now) }
+    ensures { PeeksStep (table.event_at context (so_far state.now) payload.now) result }
+{
+    step(alloc, context, bare_state, payload)
 }
 
 /// The command is a fetch.
@@ -191,6 +231,32 @@ impl EventReader {
             Ok(event) => Ok(event),
             Err(fault) => Err(self.fail(fault)),
         }
+    }
+
+    /// What the next payload of the server would be, which isn't taken.
+    ///
+    /// Promise: the event is the one that [`EventReader::read`] would answer, or the fault
+    /// (`event_at`).
+    ///
+    /// # Errors
+    /// - Those of [`EventReader::read`], in the same order.
+    ///
+    /// MySQL: Client/Server Protocol, "COM_QUERY Response".
+    pub fn peek(&self, payload: &[u8]) -> Result<ReplyEvent, ReplyFault>
+        ensures failed { IfSome self.now.fault (λ fault. result ≡ Err fault) }
+        ensures peeks { self.now.fault ≡ None → Peeks self.now payload.now result }
+    {
+        if let Some(fault) = self.fault {
+            return Err(fault);
+        }
+        let Ok(standing) = self.state.standing.share() else {
+            return Err(ReplyFault::Memory);
+        };
+        let mut state = ReplyState {
+            awaited: bare(self.alloc, &self.state.awaited),
+            standing,
+        };
+        peek_step(self.alloc, self.context, &mut state, &self.state, payload)
     }
 
     /// Takes a payload of the client's file; an empty one ends the file.

@@ -1,6 +1,6 @@
 //! The columns that stand, by which rows are read.
 
-ghost use Rattle.std.specs.Prelude.{◌≡◌, List, Some, None, IsSome, OnOk};
+ghost use Rattle.std.specs.Prelude.{◌≡◌, List, Some, None, IfOk, IsSome, OnOk};
 ghost use Rattle.mysql_columns.specs.Columns.{ColumnDefinition};
 ghost use Rattle.mysql_rows.specs.Views.{shared_columns};
 ghost use Rattle.mysql_reply_events.specs.Standing.{ReadsAt, columns_of};
@@ -129,5 +129,23 @@ impl StandingColumns {
         ensures { result.now ≡ self.now.reader }
     {
         &self.reader
+    }
+
+    /// The same columns, shared.
+    ///
+    /// # Errors
+    /// - `AllocError` for want of memory.
+    pub fn share(&self) -> Result<StandingColumns, AllocError>
+        ensures { IfOk result (λ same. same ≡ record self.now { reader = None }) }
+    {
+        let columns = match &self.columns {
+            Some(columns) => Some(columns.clone()?),
+            None => None,
+        };
+        Ok(StandingColumns {
+            columns,
+            format: self.format,
+            reader: None,
+        })
     }
 }

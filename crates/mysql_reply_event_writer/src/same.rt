@@ -1,0 +1,94 @@
+//! Whether two events are the same.
+
+ghost use Rattle.std.specs.Prelude.{◌≡◌, option_map};
+ghost use Rattle.std.specs.Bool.{Decides};
+ghost use Rattle.mysql_columns.specs.Views.{column_view, extended_view, listed_view};
+ghost use Rattle.mysql_ok_packets.specs.Views.{ok_packet_view};
+ghost use Rattle.mysql_rows.specs.Views.{row_view};
+ghost use Rattle.mysql_server_packets.specs.Views.{local_infile_view, prepare_ok_view, progress_report_view};
+ghost use Rattle.mysql_server_packets.specs.Views.{server_error_view};
+
+use mysql_columns::{Column, ExtendedColumn, ListedColumn};
+use mysql_ok_packets::OkPacket;
+use mysql_rows::Row;
+use mysql_server_packets::{ProgressReport, ServerError, StmtPacket};
+
+fn same_bytes(a: &[u8], b: &[u8]) -> bool
+    ensures { Decides result (a.now ≡ b.now) }
+{
+    a == b
+}
+
+fn same_text(a: Option<&[u8]>, b: Option<&[u8]>) -> bool
+    ensures { Decides result (option_map (λ t. t.now) a.entry ≡ option_map (λ t. t.now) b.entry) }
+{
+    match a {
+        None => match b {
+            None => true,
+            Some(_) => false,
+        },
+        Some(a) => match b {
+            None => false,
+            Some(b) => same_bytes(a, b),
+        },
+    }
+}
+
+fn same_ok(a: &OkPacket, b: &OkPacket) -> bool
+    ensures { Decides result (ok_packet_view a.now ≡ ok_packet_view b.now) }
+{
+    a.affected_rows() == b.affected_rows()
+        && a.last_insert_id() == b.last_insert_id()
+        && a.status_flags() == b.status_flags()
+        && a.warnings() == b.warnings()
+        && same_text(a.info_ref(), b.info_ref())
+        && same_text(a.session_state_info_ref(), b.session_state_info_ref())
+}
+
+fn same_statement(a: &StmtPacket, b: &StmtPacket) -> bool
+    ensures { Decides result (prepare_ok_view a.now ≡ prepare_ok_view b.now) }
+{
+    a.statement_id() == b.statement_id()
+        && a.num_columns() == b.num_columns()
+        && a.num_params() == b.num_params()
+        && a.warning_count() == b.warning_count()
+}
+
+fn same_report(a: &ProgressReport, b: &ProgressReport) -> bool
+    ensures { Decides result (progress_report_view a.now ≡ progress_report_view b.now) }
+{
+    a.stage() == b.stage()
+        && a.max_stage() == b.max_stage()
+        && a.progress() == b.progress()
+        && same_bytes(a.stage_info_ref(), b.stage_info_ref())
+}
+
+fn same_error(a: &ServerError, b: &ServerError) -> bool
+    ensures { Decides result (server_error_view a.now ≡ server_error_view b.now) }
+{
+    a == b
+}
+
+fn same_column(a: &Column, b: &Column) -> bool
+    ensures { Decides result (column_view a.now ≡ column_view b.now) }
+{
+    a == b
+}
+
+fn same_extended(a: &ExtendedColumn, b: &ExtendedColumn) -> bool
+    ensures { Decides result (extended_view a.now ≡ extended_view b.now) }
+{
+    same_column(a.column(), b.column()) && same_text(a.metadata_ref(), b.metadata_ref())
+}
+
+fn same_listed(a: &ListedColumn, b: &ListedColumn) -> bool
+    ensures { Decides result (listed_view a.now ≡ listed_view b.now) }
+{
+    same_extended(a.column(), b.column()) && same_text(a.default_ref(), b.default_ref())
+}
+
+fn same_row(a: &Row, b: &Row) -> bool
+    ensures { Decides result (row_view a.now ≡ row_view b.now) }
+{
+    a == b
+}
