@@ -1,6 +1,6 @@
 -- A request for a table's columns reads as it exactly where the table's name has no zero.
 use Rattle.std.proofs.Common.{◌≡◌, ◌≤◌, ◌<◌, ℕ, ◌^◌, List, [], ◌∷◌, ◌++◌, Ok, Option, Some, None, Bool, true, false, length, take}
-use Rattle.std.proofs.Common.{refl, sym, ap, ◌∙◌, append-nil, append_assoc, arith, not}
+use Rattle.std.proofs.Common.{refl, sym, ap, ◌∙◌, append-nil, append_assoc, arith, not, nat_lt}
 use Rattle.std.proofs.lemmas.Bool.{ltb-false, ltb-true}
 use Rattle.std.proofs.lemmas.List.{take_all}
 use Rattle.std.proofs.lemmas.List.Folds.{length-prefix_len}
@@ -11,12 +11,16 @@ use Rattle.mysql_const.specs.declared.capabilities.Capabilities.{Capabilities}
 use Rattle.mysql_fields.specs.TextLaws.{null_text_at-back}
 use Rattle.mysql_fields.specs.Texts.{null_text, null_text_at}
 use Rattle.mysql_commands.specs.Commands.{Command, FieldList, command_at}
-use Rattle.mysql_command_writer.specs.Refusals.{ReadsBack, Tests, has_zero}
+use Rattle.mysql_command_writer.specs.Refusals.{ReadsBack}
 use Rattle.mysql_command_writer.specs.Written.{command_bytes}
+
+-- a zero stands in a name
+abbrev pub has_zero : List ℕ → Bool
+has_zero name = nat_lt (position_or_len is_zero name) (length name)
 
 -- what is read of a name that is written to its first zero
 pub cut : (capabilities : Capabilities) (parameters : Option InForce) (table wildcard : List ℕ) →
-    command_at capabilities parameters (command_bytes capabilities (FieldList table wildcard)) ≡ FieldList (before_first is_zero table) wildcard
+    command_at capabilities parameters (command_bytes capabilities parameters (FieldList table wildcard)) ≡ FieldList (before_first is_zero table) wildcard
 cut capabilities parameters table wildcard = rw (null_text_at-back table wildcard) refl
 
 -- a name without a zero is written whole

@@ -43,7 +43,7 @@ pub record HasGtidParts (p : replica.BinlogDumpGtid) : Type 0 where
 
 gtids_back : (capabilities : Capabilities) (parameters : Option InForce) (p q : replica.BinlogDumpGtid) →
     binlog_dump_gtid_at (binlog_dump_gtid p) ≡ Ok (q, []) →
-    command_at capabilities parameters (command_bytes capabilities (BinlogDumpGtid p)) ≡ BinlogDumpGtid q
+    command_at capabilities parameters (command_bytes capabilities parameters (BinlogDumpGtid p)) ≡ BinlogDumpGtid q
 unfolding binlog_dump_gtid
 gtids_back capabilities parameters p q e = rw e refl
 
@@ -116,7 +116,7 @@ other_is_no_gtid p payload e = cc
 -- a request that isn't read whole is another payload
 unread : (capabilities : Capabilities) (parameters : Option InForce) (p : replica.BinlogDumpGtid) →
     all_of (binlog_dump_gtid_at (binlog_dump_gtid p)) ≡ None →
-    command_at capabilities parameters (command_bytes capabilities (BinlogDumpGtid p)) ≡ Other (binlog_dump_gtid p)
+    command_at capabilities parameters (command_bytes capabilities parameters (BinlogDumpGtid p)) ≡ Other (binlog_dump_gtid p)
 unfolding binlog_dump_gtid
 unread capabilities parameters p h = rw h refl
 

@@ -31,7 +31,7 @@ plain_back false sql = refl
 
 -- what is read where a query is put: it without attributes
 pub plain_reads : (capabilities : Capabilities) (parameters : Option InForce) (attributes : List Attribute)
-    (sql : List ℕ) → command_at capabilities parameters (command_bytes capabilities (Query attributes sql)) ≡ Query [] sql
+    (sql : List ℕ) → command_at capabilities parameters (command_bytes capabilities parameters (Query attributes sql)) ≡ Query [] sql
 plain_reads capabilities parameters attributes sql =
     ap (or_other (3 ∷ plain_query capabilities sql)) (plain_back (has_query_attributes capabilities) sql)
 

@@ -59,7 +59,7 @@ three_fail a b c x y z h = grind (arith, nat_tests)
 
 -- a request that is read of what was put
 tables_back : (capabilities : Capabilities) (parameters : Option InForce) (p q : replica.TableDump) → table_dump_at (table_dump p) ≡ Ok (q, []) →
-    command_at capabilities parameters (command_bytes capabilities (TableDump p)) ≡ TableDump q
+    command_at capabilities parameters (command_bytes capabilities parameters (TableDump p)) ≡ TableDump q
 unfolding table_dump
 tables_back capabilities parameters p q e = rw e refl
 
@@ -83,7 +83,7 @@ cut_table_bytes p =
     ∙ ap (λ (name : List ℕ). concat (little_bytes 1 19 ∷ u8_str p.database ∷ name ∷ [])) (cut_is_same p.table)
 
 cut_table_reads : (capabilities : Capabilities) (parameters : Option InForce) (p : replica.TableDump) →
-    command_at capabilities parameters (command_bytes capabilities (TableDump p)) ≡ TableDump (cut_table p)
+    command_at capabilities parameters (command_bytes capabilities parameters (TableDump p)) ≡ TableDump (cut_table p)
 unfolding cut_table
 cut_table_reads capabilities parameters p =
     let short : IsTableDump (cut_table p) =
@@ -108,7 +108,7 @@ cut_tables capabilities parameters p h e =
 
 replicas_back : (capabilities : Capabilities) (parameters : Option InForce) (p q : replica.RegisterSlave) →
     register_slave_at (register_slave p) ≡ Ok (q, []) →
-    command_at capabilities parameters (command_bytes capabilities (RegisterSlave p)) ≡ RegisterSlave q
+    command_at capabilities parameters (command_bytes capabilities parameters (RegisterSlave p)) ≡ RegisterSlave q
 unfolding register_slave
 replicas_back capabilities parameters p q e = rw e refl
 
@@ -159,7 +159,7 @@ cut_replica_bytes p =
     ∙ ap (λ (name : List ℕ). of_names p (u8_str p.hostname) (u8_str p.user) name) (cut_is_same p.password)
 
 cut_replica_reads : (capabilities : Capabilities) (parameters : Option InForce) (p : replica.RegisterSlave) → HasReplicaNumbers p →
-    command_at capabilities parameters (command_bytes capabilities (RegisterSlave p)) ≡ RegisterSlave (cut_replica p)
+    command_at capabilities parameters (command_bytes capabilities parameters (RegisterSlave p)) ≡ RegisterSlave (cut_replica p)
 unfolding cut_replica
 cut_replica_reads capabilities parameters p n =
     let short : IsRegisterSlave (cut_replica p) = record {
@@ -191,7 +191,7 @@ cut_replicas capabilities parameters p n h e =
 -- REQUESTS FOR THE BINARY LOG FROM A PLACE
 
 dumps_back : (capabilities : Capabilities) (parameters : Option InForce) (p q : replica.BinlogDump) → binlog_dump_at (binlog_dump p) ≡ Ok (q, []) →
-    command_at capabilities parameters (command_bytes capabilities (BinlogDump p)) ≡ BinlogDump q
+    command_at capabilities parameters (command_bytes capabilities parameters (BinlogDump p)) ≡ BinlogDump q
 unfolding binlog_dump
 dumps_back capabilities parameters p q e = rw e refl
 
@@ -232,7 +232,7 @@ nameless_at p n h =
 
 nameless_is_other : (capabilities : Capabilities) (parameters : Option InForce) (p : replica.BinlogDump) (e : WireError) →
     binlog_dump_at (binlog_dump p) ≡ Err e →
-    command_at capabilities parameters (command_bytes capabilities (BinlogDump p)) ≡ Other (binlog_dump p)
+    command_at capabilities parameters (command_bytes capabilities parameters (BinlogDump p)) ≡ Other (binlog_dump p)
 unfolding binlog_dump
 nameless_is_other capabilities parameters p e h = rw h refl
 

@@ -2,6 +2,7 @@
 #![tactic(auto)]
 
 pub mod refusal;
+mod same;
 mod sids;
 mod testing;
 mod writing;

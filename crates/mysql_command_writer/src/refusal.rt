@@ -26,6 +26,10 @@ pub enum CommandRefusal {
     /// Bytes that say nothing known, but are laid out as a command.
     #[error("bytes of another command that are laid out as one that is known")]
     ReadsAsCommand,
+    /// A payload that would read otherwise: of a change of user, fields that the capabilities in force
+    /// don't have, a zero in a name, a plugin that isn't the one that its name says.
+    #[error("the payload would read otherwise")]
+    ReadsOtherwise,
     /// A growth of a buffer was refused.
     #[error("out of memory")]
     Memory,

@@ -1,32 +1,38 @@
 //! Whether a command's payload reads as it.
 
-ghost use Rattle.std.specs.Prelude.{◌≡◌, ◌^◌, IfOk, Some, [], length, nat_lt};
+ghost use Rattle.std.specs.Prelude.{◌≡◌, ◌^◌, ◌↔◌, IfOk, IsTrue, Ok, Some, [], length, nat_lt};
+ghost use Rattle.std.specs.List.{position_or_len};
 ghost use Rattle.std.specs.Option.{option_copied};
+ghost use Rattle.mysql_buf.specs.Reading.{is_zero};
 ghost use Rattle.mysql_const.specs.BinlogDumpFlags.{binlog_dump_flags};
 ghost use Rattle.mysql_field_constants.specs.Flags.{are_named};
 ghost use Rattle.mysql_executions.specs.Types.{has_query_attributes};
 ghost use Rattle.mysql_gtid.specs.Blocks.{block_bytes};
+ghost use Rattle.mysql_login.specs.ChangedUserViews.{change_user_view};
+ghost use Rattle.mysql_login.specs.ChangedUsers.{change_in_force_at};
 ghost use Rattle.mysql_replication.specs.Views.{binlog_dump_gtid_view, binlog_dump_view, register_slave_view, table_dump_view};
 ghost use Rattle.std.specs.Cow.{cow_slice_items};
 ghost use Rattle.mysql_commands.specs.Commands as said;
-ghost use Rattle.mysql_command_writer.specs.Refusals.{ReadsBack, Tests, has_zero};
+ghost use Rattle.mysql_command_writer.specs.Refusals.{ReadsBack, Tests};
 ghost use Rattle.mysql_commands.specs.Views.{command_view};
 
 use crate::refusal::CommandRefusal;
+use crate::same::same_login;
 use crate::sids::sids_are;
 use bitflags::Flags;
 use mysql_buf::ParseBuf;
 use mysql_commands::{Attribute, Capabilities, CapabilityFlags, Command, StatementParameters};
 use mysql_const::BinlogDumpFlags;
-use mysql_fields::MySerialize;
+use mysql_fields::{MySerialize, WireError};
 use mysql_gtid::SidBlock;
+use mysql_login::ComChangeUser;
 use mysql_replication::{ComBinlogDump, ComBinlogDumpGtid, ComRegisterSlave, ComTableDump};
 use std::alloc::{AllocError, Global};
 use std::borrow::CowSlice;
 
 /// A zero stands in a text.
 fn has_zero(text: &[u8]) -> bool
-    ensures { result ≡ has_zero text.now }
+    ensures { result ≡ nat_lt (position_or_len is_zero text.now) (length text.now) }
 {
     let mut rest = ParseBuf(text);
     rest.eat_null_str().len() < text.len()
@@ -89,6 +95,42 @@ fn test_field_list(
         return Err(CommandRefusal::ZeroByte);
     }
     Ok(())
+}
+
+/// Whether a payload reads as a change of user.
+fn reads_as_login(
+    alloc: Global,
+    capabilities: Capabilities,
+    login: &ComChangeUser,
+    payload: &[u8],
+) -> Result<bool, AllocError>
+    ensures { IfOk result (λ same. IsTrue same ↔
+        (change_in_force_at capabilities.protocol.0 payload.now ≡ Ok (change_user_view login.now, []))) }
+{
+    let mut rest = ParseBuf(payload);
+    match ComChangeUser::read_in_force(alloc, capabilities.protocol, &mut rest) {
+        Ok(read) => Ok(rest.is_empty() && same_login(&read, login)),
+        Err(WireError::Memory) => Err(AllocError),
+        Err(_) => Ok(false),
+    }
+}
+
+/// A change of user is read again from its payload.
+#[tactic(auto, using(crate::proofs::Logins::logins_read, crate::proofs::Logins::logins_are_read))]
+fn test_change_user(
+    alloc: Global,
+    capabilities: Capabilities,
+    parameters: Option<&StatementParameters>,
+    login: &ComChangeUser,
+) -> Result<(), CommandRefusal>
+    ensures { Tests capabilities (option_copied parameters.entry) (said.ChangeUser (change_user_view login.now)) result }
+{
+    let mut payload = Vec::new(alloc);
+    login.put_in_force(capabilities.protocol, &mut payload)?;
+    if reads_as_login(alloc, capabilities, login, payload.as_slice())? {
+        return Ok(());
+    }
+    Err(CommandRefusal::ReadsOtherwise)
 }
 
 /// All flags of a request for the binary log have names.
@@ -267,9 +309,8 @@ pub(crate) fn test(
             attributes.as_slice(),
             sql.as_slice(),
         ),
-        Command::ChangeUser(_) | Command::Execute(_) | Command::BulkExecute(_) => Err(
-            CommandRefusal::Memory,
-        ),
+        Command::ChangeUser(login) => test_change_user(alloc, capabilities, parameters, login),
+        Command::Execute(_) | Command::BulkExecute(_) => Err(CommandRefusal::Memory),
         Command::Other(payload) => test_other(alloc, capabilities, parameters, payload.as_slice()),
         Command::Refresh(flags) => {
             refresh_reads(capabilities, parameters, *flags);

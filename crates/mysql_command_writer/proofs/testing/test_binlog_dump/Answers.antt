@@ -13,7 +13,7 @@ returns-then-have_names c =
     ap (are_named binlog_dump_flags) (sym c.flags.ensures) ∙ sym c.have_names.ensures ∙ c.if-have_names.true in
     let numbers : HasDumpNumbers p =
     record { pos = omega arith; flags = omega arith; server_id = omega arith } in
-    (rw named refl, dumps_read c.args.capabilities (option_copied c.args.parameters) p numbers named)
+    dumps_read c.args.capabilities (option_copied c.args.parameters) p numbers named
 
 pub returns-else-have_names : goal.returns-else-have_names
 returns-else-have_names c =
@@ -22,4 +22,4 @@ returns-else-have_names c =
     ap (are_named binlog_dump_flags) (sym c.flags.ensures) ∙ sym c.have_names.ensures ∙ c.if-have_names.false in
     let numbers : HasDumpNumbers p =
     record { pos = omega arith; flags = omega arith; server_id = omega arith } in
-    λ _. (rw nameless refl, nameless_dumps c.args.capabilities (option_copied c.args.parameters) p numbers nameless)
+    λ _. (refl, nameless_dumps c.args.capabilities (option_copied c.args.parameters) p numbers nameless)

@@ -10,27 +10,7 @@ use Rattle.mysql_replication.specs.Packets.{whole_binlog_dump_gtid}
 use Rattle.mysql_replication.specs.Packets as replica
 use Rattle.mysql_replication.specs.Views.{binlog_dump_gtid_view}
 use Rattle.mysql_command_writer.proofs.GtidDumps.{HasGtidParts, gtids_read, long_names, long_sids, nameless_gtids}
-use Rattle.mysql_command_writer.specs.Refusals.{gtid_cause}
-use Rattle.mysql_command_writer.specs.declared.refusal.CommandRefusal.TheVariants.{NamelessFlags, TooLong}
 use Rattle.mysql_command_writer.proofs.testing.test_binlog_dump_gtid.Goals as goal
-
--- THE CAUSE BY THE THREE TESTS
-
-nameless : (p : replica.BinlogDumpGtid) → are_named binlog_dump_flags p.flags ≡ false → gtid_cause p ≡ Some NamelessFlags
-nameless p h = rw h refl
-
-long_block : (p : replica.BinlogDumpGtid) → are_named binlog_dump_flags p.flags ≡ true →
-    nat_lt (length (block_bytes p.sids)) (2 ^ 32) ≡ false → gtid_cause p ≡ Some TooLong
-long_block p named h = rw (named, h) refl
-
-long_name : (p : replica.BinlogDumpGtid) → are_named binlog_dump_flags p.flags ≡ true →
-    nat_lt (length (block_bytes p.sids)) (2 ^ 32) ≡ true → whole_binlog_dump_gtid p ≡ false →
-    gtid_cause p ≡ Some TooLong
-long_name p named short h = rw (named, short, h) refl
-
-none : (p : replica.BinlogDumpGtid) → are_named binlog_dump_flags p.flags ≡ true →
-    nat_lt (length (block_bytes p.sids)) (2 ^ 32) ≡ true → whole_binlog_dump_gtid p ≡ true → gtid_cause p ≡ None
-none p named short h = rw (named, short, h) refl
 
 pub returns-then-not-have_names : goal.returns-then-not-have_names
 returns-then-not-have_names c =
@@ -43,7 +23,7 @@ returns-then-not-have_names c =
       pos = omega arith;
       sids = subst (AllByRecursion IsSid) c.sids.ensures c.sids_are.ensures;
     } in
-    λ _. (nameless p named, nameless_gtids c.args.capabilities (option_copied c.args.parameters) p parts named)
+    λ _. (rw named refl, nameless_gtids c.args.capabilities (option_copied c.args.parameters) p parts named)
 
 pub returns-then-not-branch : goal.returns-then-not-branch
 returns-then-not-branch c =
@@ -59,7 +39,7 @@ returns-then-not-branch c =
       sids = subst (AllByRecursion IsSid) c.sids.ensures c.sids_are.ensures;
     } in
     λ _. (
-      long_block p named short,
+      rw named refl,
       long_sids c.args.capabilities (option_copied c.args.parameters) p parts named (ltb-false (length (block_bytes p.sids)) (2 ^ 32) short),
     )
 
@@ -78,7 +58,7 @@ returns-then-not-is_whole c =
       sids = subst (AllByRecursion IsSid) c.sids.ensures c.sids_are.ensures;
     } in
     λ _. (
-      long_name p named short whole,
+      rw named refl,
       long_names c.args.capabilities (option_copied c.args.parameters) p parts named (ltb-false (length p.filename) (2 ^ 32) whole)
           (ltb-true (length (block_bytes p.sids)) (2 ^ 32) short),
     )
@@ -96,8 +76,6 @@ returns c =
       server_id = omega arith;
       pos = omega arith;
       sids = subst (AllByRecursion IsSid) c.sids.ensures c.sids_are.ensures;
-    } in (
-      none p named short whole,
-      gtids_read c.args.capabilities (option_copied c.args.parameters) p parts named (ltb-true (length p.filename) (2 ^ 32) whole)
-          (ltb-true (length (block_bytes p.sids)) (2 ^ 32) short),
-    )
+    } in
+    gtids_read c.args.capabilities (option_copied c.args.parameters) p parts named (ltb-true (length p.filename) (2 ^ 32) whole)
+    (ltb-true (length (block_bytes p.sids)) (2 ^ 32) short)

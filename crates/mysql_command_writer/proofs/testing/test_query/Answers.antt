@@ -7,7 +7,7 @@ pub returns-then-not-is_empty : goal.returns-then-not-is_empty
 returns-then-not-is_empty c =
     let some : (length c.args.attributes.now == 0) ≡ false = sym c.is_empty.ensures ∙ c.if-not-is_empty.true in
     λ _. (
-      rw some refl,
+      refl,
       λ e. let none = attributes_lost c.args.capabilities (option_copied c.args.parameters) c.args.attributes.now
           c.args.sql.now e in
           true≢false (ap (λ n. n == 0) (sym none) ∙ some),

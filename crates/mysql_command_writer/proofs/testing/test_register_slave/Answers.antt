@@ -15,7 +15,7 @@ returns-then-is_whole c =
       replication_rank = omega arith;
       master_id = omega arith;
     } in
-    (rw whole refl, replicas_read c.args.capabilities (option_copied c.args.parameters) p numbers whole)
+    replicas_read c.args.capabilities (option_copied c.args.parameters) p numbers whole
 
 pub returns-else-is_whole : goal.returns-else-is_whole
 returns-else-is_whole c =
@@ -27,4 +27,4 @@ returns-else-is_whole c =
       replication_rank = omega arith;
       master_id = omega arith;
     } in
-    λ _. (rw cut refl, cut_replicas c.args.capabilities (option_copied c.args.parameters) p numbers cut)
+    λ _. (refl, cut_replicas c.args.capabilities (option_copied c.args.parameters) p numbers cut)

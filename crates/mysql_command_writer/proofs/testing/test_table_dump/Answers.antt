@@ -9,10 +9,10 @@ pub returns-then-is_whole : goal.returns-then-is_whole
 returns-then-is_whole c =
     let p = table_dump_view c.args.request.now in
     let whole : whole_table_dump p ≡ true = sym c.is_whole.ensures ∙ c.if-is_whole.true in
-    (rw whole refl, tables_read c.args.capabilities (option_copied c.args.parameters) p whole)
+    tables_read c.args.capabilities (option_copied c.args.parameters) p whole
 
 pub returns-else-is_whole : goal.returns-else-is_whole
 returns-else-is_whole c =
     let p = table_dump_view c.args.request.now in
     let cut : whole_table_dump p ≡ false = sym c.is_whole.ensures ∙ c.if-is_whole.false in
-    λ _. (rw cut refl, cut_tables c.args.capabilities (option_copied c.args.parameters) p cut)
+    λ _. (refl, cut_tables c.args.capabilities (option_copied c.args.parameters) p cut)
