@@ -1,6 +1,6 @@
 -- What a payload's event is in the grammar of whole replies.
 use Rattle.std.specs.Prelude.{drop, take, nat_lt, not, ◌==◌, ◌&&◌, ◌||◌, is_ok, bytes_eq}
-use Rattle.std.proofs.Common.{◌≡◌, ℕ, zero, suc, ◌+◌, ◌-◌, ◌<◌, List, [], ◌∷◌, ◌++◌, length, Bool, true, false, Option, Some, None, Result, Ok, Err, refl, ap, sym, subst, arith, if◌then◌else◌, ◌∙◌, inl, inr}
+use Rattle.std.proofs.Common.{◌≡◌, ℕ, zero, suc, ◌+◌, ◌-◌, List, [], ◌∷◌, ◌++◌, length, Bool, true, false, Option, Some, None, Ok, Err, refl, ap, sym, subst, arith, if◌then◌else◌, ◌∙◌, inl, inr}
 use Rattle.std.proofs.lemmas.Bool.{true≢false}
 use Rattle.std.proofs.lemmas.List.{append-nil, append_assoc, length-append}
 use Rattle.mysql_columns.specs.Columns.{ColumnDefinition, column_at}
@@ -13,7 +13,6 @@ use Rattle.mysql_fields.specs.Wire.{Reading, ◌>>=◌}
 use Rattle.mysql_ok_packets.specs.OkPackets.{OkPacket, more_results_exist, ok_packet_at, old_eof_at, result_set_terminator_at}
 use Rattle.mysql_rows.specs.Rows.{Row, as_row, text_row_at, binary_resultset_row_at}
 use Rattle.mysql_server_packets.specs.Packets.{PrepareOk, ProgressReport, ServerError, error_at, prepare_ok_at, progress_report_at}
-use Rattle.mysql_reply_events.specs.declared.fault.ReplyFault.{ReplyFault as EventFault}
 use Rattle.mysql_reply_events.specs.declared.fault.ReplyFault.TheVariants as event_faults
 use Rattle.mysql_reply_events.specs.Events as events
 use Rattle.mysql_reply_events.specs.Events.{Event, ReplySoFar}
@@ -25,7 +24,7 @@ use Rattle.mysql_replies.specs.declared.context.ReplyKind.{ReplyKind}
 use Rattle.mysql_replies.specs.declared.context.ReplyKind.TheVariants as kinds
 use Rattle.mysql_replies.specs.declared.fault.ReplyFault.{ReplyFault}
 use Rattle.mysql_replies.specs.declared.fault.ReplyFault.TheVariants as faults
-use Rattle.mysql_replies.specs.Grammar.{Payload, Outcome, OkResult, RowsResult, PreparedResult, ErrorResult, FileResult, Parsed, Complete, Faulty, ResultGroup, Results, Wrong, faulty, deprecate_eof, has_report_form, is_report, progress_obsolete, begins_with, terminator_limit, terminator, is_binary, is_prepare, or_fault, whole_or_fault, map_ok, of_mysql, eof, column, Line, RowLine, TerminatorLine, ErrorLine, line, rows, Opening, OkOpening, ErrorOpening, FileOpening, CountOpening, StatementOpening, opening, count_within, one_result}
+use Rattle.mysql_replies.specs.Grammar.{Payload, Outcome, OkResult, RowsResult, PreparedResult, ErrorResult, FileResult, Parsed, Complete, Faulty, ResultGroup, Results, Wrong, faulty, deprecate_eof, has_report_form, is_report, progress_obsolete, begins_with, terminator_limit, terminator, is_binary, is_prepare, or_fault, whole_or_fault, map_ok, of_mysql, eof, column, RowLine, TerminatorLine, ErrorLine, line, rows, OkOpening, ErrorOpening, FileOpening, CountOpening, StatementOpening, opening, count_within, one_result}
 use Rattle.mysql_replies.specs.Reply.{Awaited, First, Rows, Nothing, rest_of, report_of, read_report}
 use Rattle.mysql_replies.specs.Steps.{Moves, Fails, Leads, Group, OfResultSet, OfParameters, OfPrepared, group_awaited, after_group, IsGroupSettled, IsSettled, IsAwaiting, listed_of}
 use Rattle.mysql_replies.specs.Together.{Part, NoPart, SetPart, StatementPart, completed, opened, reported, context_of, kind_of, fault_of, is_common}

@@ -1,31 +1,29 @@
 -- The events of payloads, put together, are the answer that the payloads have.
 use Rattle.std.specs.Prelude.{take, drop, ◌&&◌}
 use Rattle.std.specs.List.{list_all}
-use Rattle.std.proofs.Common.{◌≡◌, ℕ, zero, suc, ◌+◌, List, [], ◌∷◌, ◌++◌, length, Bool, true, false, Option, Some, None, Result, Ok, Err, refl, ap, sym, subst, arith, ◌∙◌}
-use Rattle.std.proofs.lemmas.List.{append-nil, append_assoc, length-append}
+use Rattle.std.proofs.Common.{◌≡◌, ℕ, suc, ◌+◌, List, [], ◌∷◌, ◌++◌, length, Bool, true, false, Option, Ok, Err, refl, ap, sym, subst, arith, ◌∙◌}
+use Rattle.std.proofs.lemmas.List.{append-nil, append_assoc}
 use Rattle.std.proofs.Math.Seq.{take-append_seam, drop-append_seam}
 use Rattle.mysql_columns.specs.Columns.{ColumnDefinition}
 use Rattle.mysql_columns.specs.Statements.{PlainColumnsAreColumns}
-use Rattle.mysql_server_packets.specs.Packets.{PrepareOk, ProgressReport}
-use Rattle.mysql_wire.specs.Stream.{Rest}
+use Rattle.mysql_server_packets.specs.Packets.{ProgressReport}
 use Rattle.mysql_reply_events.specs.declared.context.Context.{Context as EventContext}
 use Rattle.mysql_reply_events.specs.declared.fault.ReplyFault.{ReplyFault as EventFault}
 use Rattle.mysql_reply_events.specs.declared.fault.ReplyFault.TheVariants as event_faults
-use Rattle.mysql_reply_events.specs.Events as events
 use Rattle.mysql_reply_events.specs.Events.{Event, ReplySoFar}
 use Rattle.mysql_reply_events.specs.Readings as readings
 use Rattle.mysql_reply_events.specs.Table as table
 use Rattle.mysql_replies.specs.declared.context.Context.{Context}
 use Rattle.mysql_replies.specs.declared.fault.ReplyFault.TheVariants as faults
-use Rattle.mysql_replies.specs.Grammar.{Payload, Outcome, PreparedResult, Results}
-use Rattle.mysql_replies.specs.Reply.{Answer, End, FaultAt, IsReply, GoingOn, Answered, OpenReply, PayloadsDecide, Continues, end_of, fresh, rest_of, First}
-use Rattle.mysql_replies.specs.Steps.{IsAwaiting, IsSettled, OfResultSet, OfParameters, OfPrepared, listed_of}
-use Rattle.mysql_replies.specs.Together.{Part, NoPart, Gathered, gather, gather_all, gathered, completed, reported, listed, put_together, ending, context_of, fault_of, is_common, AreEvents, none, first, HaveEvents, HaveEventsUpTo, AllHaveEvents, at_end, no_place, EventsAreTheAnswer, FaultsAreTheAnswers}
-use Rattle.mysql_replies.proofs.Stepping.{listed_group, settled_group}
+use Rattle.mysql_replies.specs.Grammar.{Payload, Outcome, PreparedResult}
+use Rattle.mysql_replies.specs.Reply.{Answer, End, FaultAt, GoingOn, Answered, OpenReply, Continues, end_of}
+use Rattle.mysql_replies.specs.Steps.{IsSettled, OfResultSet, OfParameters, OfPrepared, listed_of}
+use Rattle.mysql_replies.specs.Together.{Part, Gathered, gather_all, gathered, completed, reported, listed, put_together, ending, context_of, fault_of, is_common, AreEvents, none, first, HaveEvents, HaveEventsUpTo, AllHaveEvents, at_end, no_place, EventsAreTheAnswer, FaultsAreTheAnswers}
+use Rattle.mysql_replies.proofs.Stepping.{settled_group}
 use Rattle.mysql_replies.proofs.GoingOn.{StateGoesOn, fresh_decides}
 use Rattle.mysql_replies.proofs.Taking.{went_on, went_wrong, went_over}
 use Rattle.mysql_replies.proofs.Finishing.{stops_at, ending_at}
-use Rattle.mysql_replies.proofs.EventSteps.{Place, AtFirst, InGroup, BehindGroup, InRows, AtEnd, AtStatementEnd, AtFile, Holds, TakesAlike, Goes, Lands, awaited_at, state_at, part_at, untold, taken_alike}
+use Rattle.mysql_replies.proofs.EventSteps.{Place, AtFirst, InGroup, BehindGroup, InRows, AtEnd, AtStatementEnd, AtFile, Holds, TakesAlike, Goes, awaited_at, state_at, part_at, untold, taken_alike}
 
 -- What the reader of whole replies has, and what is put together, at a place.
 abbrev open_at : Context → List Outcome → List ProgressReport → ℕ → Place → OpenReply

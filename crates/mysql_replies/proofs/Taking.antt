@@ -14,7 +14,7 @@ use Rattle.mysql_replies.specs.declared.awaited.Awaited.TheVariants as awaiting
 use Rattle.mysql_replies.specs.Grammar.{Payload, Outcome, Faulty, Wrong, Results, last, faulty, has_report_form, is_report, next_payload, columns, columns_end, column_group, rows, one_result}
 use Rattle.mysql_replies.specs.Reply.{FaultAt, report_of, Awaited, First, Columns, Rows, Parameters, PreparedColumns, Nothing, rest_of, OpenReply, GoingOn, Answered, PayloadsDecide}
 use Rattle.mysql_wire.specs.Wire.{Reading}
-use Rattle.mysql_server_packets.specs.Views.{prepare_ok_view, progress_report_view}
+use Rattle.mysql_server_packets.specs.Views.{progress_report_view}
 use Rattle.mysql_replies.specs.declared.fault.ReplyFault.TheVariants.{Memory}
 use Rattle.mysql_replies.specs.declared.awaited.Stepped.TheVariants.{Failed}
 use Rattle.mysql_replies.specs.declared.state.ReplyState.{ReplyState}
@@ -24,7 +24,7 @@ use Rattle.mysql_replies.specs.Reply.{read_report}
 use Rattle.mysql_replies.specs.Steps.{IsStep}
 use Rattle.mysql_replies.specs.States.{open_reply, faulted, reply_so_far, HasRoom, IsSpared, IsReading, UnlessMemory, OnMemory, IsShortOf}
 use Rattle.mysql_replies.specs.States as states
-use Rattle.mysql_replies.specs.Views.{Refuses, outcome_views, awaited_view, column_views}
+use Rattle.mysql_replies.specs.Views.{Refuses, outcome_views, awaited_view}
 use Rattle.mysql_replies.specs.Steps.{Moves, Fails, Over, Leads, Group, OfResultSet, OfParameters, OfPrepared, group_awaited, IsGroupSettled, IsSettled, IsAwaiting, listed_of}
 use Rattle.mysql_replies.proofs.GoingOn.{StateGoesOn, after_move, go_over}
 use Rattle.mysql_replies.proofs.Stepping.{failed_settled, group_from, group_same, step_awaits}

@@ -2,11 +2,10 @@
 -- which the payloads have.
 -- MySQL: Client/Server Protocol, "COM_QUERY Response", "Text Resultset", "Binary Protocol Resultset" and
 -- "COM_STMT_PREPARE Response"; MariaDB: 'Progress report' of "ERR_Packet".
-use Rattle.std.specs.Prelude.{◌≡◌, ℕ, List, [], ◌∷◌, ◌++◌, length, take, drop, Bool, true, false, not, ◌&&◌}
-use Rattle.std.specs.Prelude.{Option, Some, None, Ok, Err}
+use Rattle.std.specs.Prelude.{◌≡◌, List, [], ◌∷◌, ◌++◌, length, take, drop, Bool, true, false, not, ◌&&◌}
+use Rattle.std.specs.Prelude.{Option, Some, None, Result, Ok, Err}
 use Rattle.std.specs.List.{list_all}
 use Rattle.mysql_columns.specs.Columns.{ColumnDefinition}
-use Rattle.mysql_ok_packets.specs.OkPackets.{OkPacket}
 use Rattle.mysql_ok_packets.specs.Written.{is_mysql_status}
 use Rattle.mysql_rows.specs.Rows.{Row}
 use Rattle.mysql_server_packets.specs.Packets.{PrepareOk, ProgressReport}
@@ -136,6 +135,11 @@ fault_of event_faults.BadTerminator = faults.BadTerminator
 fault_of event_faults.BadPrepare = faults.BadPrepare
 fault_of event_faults.NotDue = faults.AfterEnd
 fault_of event_faults.Memory = faults.Memory
+
+-- What was read, or the fault by its name.
+abbrev pub by_name : {X : Type 0} → Result X EventFault → Result X ReplyFault
+by_name (Ok x) = Ok x
+by_name (Err fault) = Err (fault_of fault)
 
 -- THE EVENTS OF A REPLY
 

@@ -1,17 +1,12 @@
 -- What the code holds, as values; and what its functions answer. Public clauses have `answer_view`,
 -- `outcome_views`, `row_views` and `report_views` alone. MySQL: Client/Server Protocol, "COM_QUERY
 -- Response", its packets as the code holds them.
-use Rattle.std.specs.Prelude.{◌≡◌, List, map, Result, Ok, Err, true, false}
-use Rattle.mysql_wire.specs.WireError.{WireError}
-use Rattle.mysql_wire.specs.WireError.TheVariants as wire
+use Rattle.std.specs.Prelude.{◌≡◌, List, map, Result, Ok, Err}
 use Rattle.mysql_rows.specs.declared.row.Row.{Row}
 use Rattle.mysql_rows.specs.Rows as rows
 use Rattle.mysql_rows.specs.Views.{row_view, shared_columns}
 use Rattle.mysql_columns.specs.Columns.{ColumnDefinition}
-use Rattle.mysql_ok_packets.specs.OkPackets.{OkPacket}
 use Rattle.mysql_ok_packets.specs.Views.{ok_packet_view}
-use Rattle.mysql_ok_packets.specs.Written.{is_mysql_status}
-use Rattle.mysql_ok_packets.specs.declared.ok_packet.OkPacket.{OkPacket as OkPacketOf}
 use Rattle.mysql_server_packets.specs.declared.progress_report.ProgressReport.{ProgressReport as ProgressReportOf}
 use Rattle.mysql_server_packets.specs.Packets.{ProgressReport}
 use Rattle.mysql_server_packets.specs.Views.{local_infile_view, prepare_ok_view, progress_report_view}
@@ -50,17 +45,6 @@ Gives view (Err e) read = Refuses e read
 abbrev pub Tells : {X Y : Type 0} → (X → Y) → Result X ReplyFault → Result Y ReplyFault → Type 0
 Tells view (Ok x) read = read ≡ Ok (view x)
 Tells view (Err e) read = read ≡ Err e
-
--- What a packet's reader answered, where a refusal has this name.
-abbrev pub named : {X : Type 0} → Result X WireError → ReplyFault → Result X ReplyFault
-named (Ok x) fault = Ok x
-named (Err wire.Memory) fault = Err Memory
-named (Err e) fault = Err fault
-
--- What a packet's reader that asks for no memory answered, where a refusal has this name.
-abbrev pub refused : {X : Type 0} → Result X WireError → ReplyFault → Result X ReplyFault
-refused (Ok x) fault = Ok x
-refused (Err e) fault = Err fault
 
 abbrev pub opening_view : Opening → grammar.Opening
 opening_view (openings.Ok ok) = grammar.OkOpening (ok_packet_view ok)
@@ -120,8 +104,3 @@ answer_view r = record {
       map progress_report_view r.progress.items;
   end = end_view r.end;
 }
-
--- a packet whose status MySQL names is answered as it is; another one is of an unknown value
-abbrev pub TellsMysql : Result OkPacketOf WireError → OkPacket → Type 0
-TellsMysql (Ok same) packet = (ok_packet_view same ≡ packet) × (is_mysql_status packet.status_flags ≡ true)
-TellsMysql (Err e) packet = (e ≡ wire.UnknownValue) × (is_mysql_status packet.status_flags ≡ false)
