@@ -74,4 +74,13 @@ TASKS = {
         ('acknowledge an event', ['SemiSyncAckPacket']),
         ('read and print a set of transaction identifiers', ['Sid::parse']),
     ],
+    'mysql_connection': [
+        ('read what a client asks for', ['Command::read', 'Command::statement_id', 'Command::reply']),
+        ('put a command', ['put_command']),
+        ('follow what is in force of a statement', ['StatementParameters::execute', 'StatementParameters::take_back']),
+        ('read a reply, one event a payload', ['EventReader::read', 'EventReader::turn']),
+        ('read a login', ['read_greeting', 'read_response', 'read_authentication']),
+        ('put a login', ['put_greeting', 'put_response', 'put_authentication']),
+        ('print an event as a line', ['write_command', 'write_reply_event']),
+    ],
 }
