@@ -25,27 +25,27 @@ mod laws {
 
 // The faces below: one item each, since each has a list of its own.
 mod login_face {
-    use mysql_connection::mysql_login::AuthMoreData;
+    use mysql_connection::mysql_login::Sid;
 
     mod wire_face {
-        use mysql_connection::mysql_login::mysql_wire::BareBytes;
+        use mysql_connection::mysql_login::mysql_wire::Seq;
     }
 }
 
 mod session_face {
-    use mysql_connection::mysql_session::Audit;
+    use mysql_connection::mysql_session::End;
 
     mod packets_face {
-        use mysql_connection::mysql_session::mysql_packets::BitmapBytes;
+        use mysql_connection::mysql_session::mysql_packets::Row;
 
         mod convert_face {
-            use mysql_connection::mysql_session::mysql_packets::mysql_convert::FromValue;
+            use mysql_connection::mysql_session::mysql_packets::mysql_convert::ParseIr;
 
             mod values_face {
-                use mysql_connection::mysql_session::mysql_packets::mysql_convert::mysql_values::AsSqlError;
+                use mysql_connection::mysql_session::mysql_packets::mysql_convert::mysql_values::Mode;
 
                 mod wire_face {
-                    use mysql_connection::mysql_session::mysql_packets::mysql_convert::mysql_values::mysql_wire::BareBytes;
+                    use mysql_connection::mysql_session::mysql_packets::mysql_convert::mysql_values::mysql_wire::Seq;
                 }
             }
         }

@@ -40,5 +40,5 @@ mod laws {
 
 // The faces below: one item each, since each has a list of its own.
 mod wire_face {
-    use mysql_login::mysql_wire::BareBytes;
+    use mysql_login::mysql_wire::Seq;
 }

@@ -58,13 +58,13 @@ mod statement {
 
 // The faces below: one item each, since each has a list of its own.
 mod convert_face {
-    use mysql_packets::mysql_convert::FromValue;
+    use mysql_packets::mysql_convert::ParseIr;
 
     mod values_face {
-        use mysql_packets::mysql_convert::mysql_values::AsSqlError;
+        use mysql_packets::mysql_convert::mysql_values::Mode;
 
         mod wire_face {
-            use mysql_packets::mysql_convert::mysql_values::mysql_wire::BareBytes;
+            use mysql_packets::mysql_convert::mysql_values::mysql_wire::Seq;
         }
     }
 }

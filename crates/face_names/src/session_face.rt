@@ -106,16 +106,16 @@ mod laws {
 
 // The faces below: one item each, since each has a list of its own.
 mod packets_face {
-    use mysql_session::mysql_packets::BitmapBytes;
+    use mysql_session::mysql_packets::Row;
 
     mod convert_face {
-        use mysql_session::mysql_packets::mysql_convert::FromValue;
+        use mysql_session::mysql_packets::mysql_convert::ParseIr;
 
         mod values_face {
-            use mysql_session::mysql_packets::mysql_convert::mysql_values::AsSqlError;
+            use mysql_session::mysql_packets::mysql_convert::mysql_values::Mode;
 
             mod wire_face {
-                use mysql_session::mysql_packets::mysql_convert::mysql_values::mysql_wire::BareBytes;
+                use mysql_session::mysql_packets::mysql_convert::mysql_values::mysql_wire::Seq;
             }
         }
     }

@@ -1,6 +1,8 @@
 -- What was written of a column with its metadata and its default is read back.
-use Rattle.std.proofs.Common.{◌≡◌, ◌≢◌, ◌==◌, ◌<◌, ◌≤◌, ◌^◌, ◌%◌, nat_lt, ℕ, zero, suc, Bool, true, false, if◌then◌else◌, List, [], ◌∷◌}
-use Rattle.std.proofs.Common.{◌++◌, length, Option, Some, None, Result, Ok, Err, refl, sym, ap, ◌∙◌, append_assoc, arith, length-append}
+use Rattle.std.proofs.Common.{◌≡◌, ◌≢◌, ◌==◌, ◌<◌, ◌≤◌, ◌^◌, ◌%◌, nat_lt, ℕ, zero, suc, Bool, true, false}
+use Rattle.std.proofs.Common.{if◌then◌else◌, List, [], ◌∷◌}
+use Rattle.std.proofs.Common.{◌++◌, length, Option, Some, None, Result, Ok, Err, refl, sym, ap, ◌∙◌, append_assoc}
+use Rattle.std.proofs.Common.{arith, length-append}
 use Rattle.std.specs.Prelude.{is_some}
 use Rattle.std.specs.Option.{IfSome}
 use Rattle.std.specs.List.{AllByRecursion, flat_map}
@@ -66,7 +68,8 @@ default_read : (b : ℕ) (bytes : List ℕ) → b ≢ 251 →
     default_at (b ∷ bytes) ≡ (lenenc_text_at (b ∷ bytes) >>= λ text. Ok (Some text.0, text.1))
 default_read b bytes other = rw (ne_eqb b 251 other) refl
 
-default_at-text : (text rest : List ℕ) → length text < 2 ^ 64 → default_at (lenenc_str text ++ rest) ≡ Ok (Some text, rest)
+default_at-text : (text rest : List ℕ) → length text < 2 ^ 64 →
+    default_at (lenenc_str text ++ rest) ≡ Ok (Some text, rest)
 default_at-text text rest small =
     let first = lenenc_first (length text) in
     let front : lenenc_str text ++ rest ≡ first.0 ∷ (first.1 ++ (text ++ rest)) =
@@ -85,7 +88,8 @@ pub listed_column_at-back : (capabilities : ℕ) (p : ListedDefinition) (rest : 
     listed_column_at capabilities (listed_column p ++ rest) ≡ Ok (p, rest)
 unfolding listed_column listed_column_at
 listed_column_at-back capabilities p rest h =
-    ap (listed_column_at capabilities) (append_assoc (extended_column p.column) (default_bytes p.default_value) rest) ∙ rw (
+    ap (listed_column_at capabilities)
+    (append_assoc (extended_column p.column) (default_bytes p.default_value) rest) ∙ rw (
       extended_column_at-back capabilities p.column (default_bytes p.default_value ++ rest) h.column,
       default_at-back p.default_value rest h.default_value,
     ) refl
@@ -118,8 +122,11 @@ metadata_value-back kind text rest byte small =
       lenenc_text_at-back text rest small,
     ) refl
 
-found_among : (kind most : ℕ) (values : List (ℕ × List ℕ)) → length (flat_map (λ value. metadata_value value.0 value.1) values) ≤ most →
-    AllByRecursion IsValue values → first_of_kind kind most (flat_map (λ value. metadata_value value.0 value.1) values) ≡ first_text kind values
+found_among : (kind most : ℕ) (values : List (ℕ × List ℕ)) →
+    length (flat_map (λ value. metadata_value value.0 value.1) values) ≤ most →
+    AllByRecursion IsValue values →
+    first_of_kind kind most (flat_map (λ value. metadata_value value.0 value.1) values) ≡
+    first_text kind values
 unfolding first_of_kind first
 found_among kind zero [] room are = refl
 found_among kind (suc most) [] room are = refl
@@ -135,4 +142,6 @@ found_among kind (suc most) (value ∷ values) room are =
 
 pub values_found : (kind : ℕ) (values : List (ℕ × List ℕ)) → AllByRecursion IsValue values →
     value_of_kind kind (Some (flat_map (λ value. metadata_value value.0 value.1) values)) ≡ first_text kind values
-values_found kind values are = found_among kind (length (flat_map (λ value. metadata_value value.0 value.1) values)) values (omega arith) are
+values_found kind values are =
+    found_among kind (length (flat_map (λ value. metadata_value value.0 value.1) values)) values
+    (omega arith) are

@@ -1,5 +1,6 @@
 -- The laws of columns: what was written is read again.
-use Rattle.std.specs.Prelude.{◌≡◌, ◌<◌, ◌^◌, ◌==◌, ℕ, List, [], ◌∷◌, ◌++◌, length, false, Ok, Some, None, Option, if◌then◌else◌}
+use Rattle.std.specs.Prelude.{◌≡◌, ◌<◌, ◌^◌, ◌==◌, ℕ, List, [], ◌∷◌, ◌++◌, length, false, Ok, Some, None, Option}
+use Rattle.std.specs.Prelude.{if◌then◌else◌}
 use Rattle.std.specs.List.{AllByRecursion, flat_map}
 use Rattle.mysql_fields.specs.Wire.{◌>>=◌}
 use Rattle.mysql_columns.specs.Columns.{ColumnDefinition, IsColumn, column, column_at}

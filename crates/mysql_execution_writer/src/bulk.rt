@@ -94,7 +94,8 @@ fn put_row(
     row: &[BulkValue],
     out: &mut Vec<u8>,
 ) -> Result<(), AllocError>
-    ensures { OnOk result (out.new.items ≡ out.old.items ++ row_bytes (types_by (types_of own.now) s.now.types) row.now) }
+    ensures { OnOk result (out.new.items ≡ out.old.items ++
+        row_bytes (types_by (types_of own.now) s.now.types) row.now) }
 {
     for (place, value) in row.iter().enumerate() {
         match type_at(own, s, place) {

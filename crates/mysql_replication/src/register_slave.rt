@@ -10,7 +10,8 @@ ghost use Rattle.mysql_fields.specs.Laws.{unsized};
 ghost use Rattle.mysql_fields.specs.Wire.{TellsPart};
 ghost use Rattle.mysql_replication.specs.PacketLaws.{register_slave_at-back};
 ghost use Rattle.mysql_replication.specs.Packets.{IsRegisterSlave, RegisterSlave, register_slave, register_slave_at};
-ghost use Rattle.mysql_replication.specs.Packets.{register_slave_fields_at, replica_names_at, replica_numbers_at, whole_register_slave};
+ghost use Rattle.mysql_replication.specs.Packets.{register_slave_fields_at, replica_names_at, replica_numbers_at};
+ghost use Rattle.mysql_replication.specs.Packets.{whole_register_slave};
 ghost use Rattle.mysql_replication.specs.Views.{IsLossyText, names_view, numbers_view, register_slave_view};
 
 use crate::headers::ComRegisterSlaveHeader;

@@ -238,7 +238,8 @@ opening c payload =
     else if is_prepare c.kind then
     (if begins_with 0 payload then map_ok StatementOpening
     (or_fault BadPrepare (prepare_ok_at payload)) else Err BadHeader)
-    else if begins_with 0 payload then map_ok OkOpening (or_fault BadOk (of_mysql (ok_packet_at c.capabilities.0 payload)))
+    else if begins_with 0 payload then
+    map_ok OkOpening (or_fault BadOk (of_mysql (ok_packet_at c.capabilities.0 payload)))
     else if begins_with 251 payload then Ok (FileOpening (drop 1 payload))
     else if length payload == 0 then Err BadHeader
     else map_ok CountOpening (count_within (lenenc_number_at payload))
