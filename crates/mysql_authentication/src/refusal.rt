@@ -16,8 +16,8 @@ pub enum LoginRefusal {
     NamelessFlags,
     /// The capabilities in force name a part that isn't held, or don't name one that is.
     NotAgreed,
-    /// A value is read as another one: another version than 10, a plugin by another's name, data that
-    /// begins with a byte of another meaning.
+    /// A value is read as another one. It is another version than 10, a plugin by another's name,
+    /// or data that begins with a byte of another meaning.
     ReadsOtherwise,
     /// Memory ran out.
     Memory,

@@ -99,8 +99,8 @@ pub extern "C" fn mysql_session_events_new(
     events_new(alloc, handle, kind, capabilities, earlier)
 }
 
-/// Appends what a payload of the server says, as a line, to the bytes that a handle stands for, and
-/// tells who is due then.
+/// Appends what a payload of the server says, as a line, to a handle's bytes. It tells who is due
+/// then.
 #[unsafe(no_mangle)]
 pub extern "C" fn mysql_session_events_line(
     alloc: Global,

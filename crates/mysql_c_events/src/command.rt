@@ -37,9 +37,9 @@ fn print(
     put_line(alloc, out, &line, written)
 }
 
-/// Appends what a payload of a client asks for, as a line, to the bytes that a handle stands for: by
-/// the capabilities in force, and by what is in force of its statement, or nothing where the
-/// statement isn't known.
+/// Appends what a payload of a client asks for, as a line. It goes to the bytes that a handle
+/// stands for, and is read by the capabilities in force and by what is in force of its statement,
+/// or nothing where the statement isn't known.
 pub fn command_line(
     alloc: Global,
     statement: &mut Handle,

@@ -126,8 +126,8 @@ fn read_in(object: &mut Object, payload: &[u8], line: &mut Vec<u8>, turn: &mut u
     }
 }
 
-/// Appends what a payload of the server says, as a line, to the bytes that a handle stands for, and
-/// tells who is due then: 0 the server, 1 the client with bytes of its file, 2 nobody.
+/// Appends what a payload of the server says, as a line, to a handle's bytes. It tells who is due
+/// then: 0 the server, 1 the client with bytes of its file, 2 nobody.
 pub fn events_line(
     alloc: Global,
     handle: &mut Handle,
@@ -175,8 +175,8 @@ fn take_file_in(object: &mut Object, payload: &[u8], turn: &mut u32) -> Code
     }
 }
 
-/// Takes a payload of the client's file, of which an empty one is the end, and tells who is due then.
-/// Where no file is due the reader has failed.
+/// Takes a payload of the client's file, and tells who is due then. An empty payload is the file's
+/// end. Where no file is due the reader has failed.
 pub fn events_file(alloc: Global, handle: &mut Handle, payload: &[u8], turn: &mut u32) -> u32
     ensures { KeepsContext handle.old.object result handle.new.object }
 {

@@ -4,8 +4,8 @@ use mysql_columns::Column;
 use mysql_executions::{Refused, StatementParameters};
 use mysql_receive::{Audit, Receiver};
 use mysql_recoding::Recoder;
-use mysql_reply_events::EventReader;
 use mysql_replies::{Reply, ReplyReader, ReplyResult};
+use mysql_reply_events::EventReader;
 use mysql_reply_writer::ReplyWriter;
 use mysql_values::{Params, Value};
 use mysql_wire::PacketReader;
@@ -31,8 +31,8 @@ pub struct WrittenReply {
     pub columns: Vec<Column>,
 }
 
-/// An execution that may be answered by an error: what was in force before it, whether it was a bulk
-/// execution, and how many types it carried.
+/// An execution that may be answered by an error. It has what was in force before it, whether it
+/// was a bulk execution, and how many types it carried.
 #[derive(Drop)]
 pub struct Unanswered {
     pub before: StatementParameters,

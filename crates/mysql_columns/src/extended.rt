@@ -30,8 +30,8 @@ const TYPE_NAME: u8 = 0;
 /// The kind of a value that names the format of the column's texts, as `json`.
 const FORMAT: u8 = 1;
 
-/// A column and its extended metadata, which a MariaDB sends behind the names where both sides have
-/// EXTENDED_METADATA; where they haven't, it is the column alone.
+/// A column, and the metadata that a MariaDB sends behind its names. They stand there where both
+/// sides have EXTENDED_METADATA; where they haven't, it is the column alone.
 ///
 /// The metadata are kept as their bytes. What they say is looked at by [`ExtendedColumn::type_name`]
 /// and [`ExtendedColumn::format`]; metadata that aren't laid out as values are no error, as long as
@@ -106,8 +106,8 @@ impl ExtendedColumn {
         }
     }
 
-    /// The column with these bytes as its metadata; none of them for a column of which nothing is
-    /// told where EXTENDED_METADATA is in force.
+    /// The column with these bytes as its metadata. There are none of them for a column of which
+    /// nothing is told where EXTENDED_METADATA is in force.
     pub fn with_metadata(mut self, metadata: Vec<u8>) -> ExtendedColumn
         ensures { extended_view result ≡ record (extended_view self) { metadata = Some metadata.items } }
     {

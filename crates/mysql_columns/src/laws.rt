@@ -9,8 +9,8 @@ pub fn columns_read_back()
     ensures { ColumnsReadBack }
 {}
 
-/// A column with metadata is read again by the capabilities that it is written for, and a listed one
-/// with its default, whatever follows. Without metadata a column is read as [`Column`] is.
+/// A column with metadata is read again by the capabilities that it is written for. So is a listed
+/// one with its default, whatever follows. Without metadata a column is read as [`Column`] is.
 ///
 /// [`Column`]: crate::Column
 #[tactic(auto, using(crate::proofs::Back::extended_read_back))]

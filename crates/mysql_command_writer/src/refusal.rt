@@ -26,8 +26,8 @@ pub enum CommandRefusal {
     /// Bytes that say nothing known, but are laid out as a command.
     #[error("bytes of another command that are laid out as one that is known")]
     ReadsAsCommand,
-    /// A payload that would read otherwise: of a change of user, fields that the capabilities in force
-    /// don't have, a zero in a name, a plugin that isn't the one that its name says.
+    /// A payload that would read otherwise. Of a change of user it has fields that the capabilities
+    /// in force don't have, a zero in a name, or a plugin that isn't the one that its name says.
     #[error("the payload would read otherwise")]
     ReadsOtherwise,
     /// A growth of a buffer was refused.

@@ -110,8 +110,8 @@ fn append_command(
     }
 }
 
-/// Appends a command's payload, by the capabilities in force, and of an execution by what is in force
-/// of its statement's parameters. It reads as the command, by the same.
+/// Appends a command's payload, by the capabilities in force; by the same it reads as the command.
+/// An execution is written by what is in force of its statement's parameters too.
 ///
 /// # Errors
 /// - The cause why it would read otherwise.

@@ -367,10 +367,11 @@ fn said<'a>(
 }
 
 impl<'a> Command<'a> {
-    /// Reads a payload by the capabilities in force, and an execution by what is in force of its
-    /// statement's parameters, where the statement is known ([`Command::statement_id`] tells which it
-    /// is). No payload is refused: one that isn't laid out as its number says, or whose number has no
-    /// row, is [`Command::Other`]; so is an execution of a statement that isn't known.
+    /// Reads a payload by the capabilities in force, an execution also by its statement's
+    /// parameters. Those are handed in where the statement is known ([`Command::statement_id`]
+    /// tells which it is). No payload is refused: one that isn't laid out as its number says, or
+    /// whose number has no row, is [`Command::Other`]; so is an execution of a statement that isn't
+    /// known.
     ///
     /// # Errors
     /// - `AllocError` for want of memory.

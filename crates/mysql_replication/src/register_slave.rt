@@ -197,8 +197,8 @@ impl<'a> ComRegisterSlave<'a> {
         self.master_id
     }
 
-    /// Whether its names and its password are written whole, so that it is read as it was written:
-    /// each has at most 255 bytes.
+    /// Whether its names and its password are written whole: each has at most 255 bytes. It is then
+    /// read as it was written.
     pub fn is_whole(&self) -> bool
         ensures { result ≡ whole_register_slave (register_slave_view self.now) }
     {

@@ -15,8 +15,8 @@ pub enum ReplyKind {
     Prepare,
     /// Commands without a result, as COM_PING: an OK packet, or an EOF packet in its place.
     Plain,
-    /// COM_STATISTICS, whose answer is one text; and the first payload of what goes on in a form of
-    /// its own: a binary log, a table's dump, a clone.
+    /// COM_STATISTICS, whose answer is one text. Also the first payload of what goes on in a form
+    /// of its own: a binary log, a table's dump, a clone.
     Line,
     /// COM_FIELD_LIST: columns of a table with their default values.
     FieldList,

@@ -24,8 +24,8 @@ pub enum ReplyEvent {
         count: u16,
         columns_follow: bool,
     },
-    /// A column of a result set, or a parameter or a column of a prepared statement; with MariaDB's
-    /// extended metadata, where they are agreed on.
+    /// A column of a result set, or a parameter or a column of a prepared statement. It has
+    /// MariaDB's extended metadata where they are agreed on.
     Column(ExtendedColumn),
     /// A column of a table, and its default value, where it has one.
     Field(ListedColumn),

@@ -10,8 +10,9 @@ use std::fmt;
 pub enum ReplyFault {
     /// A first payload is empty, or begins with no byte that its command allows.
     BadHeader,
-    /// A count of columns is not from 1 to 65535, a byte that says whether they follow is neither 0
-    /// nor 1, or bytes follow them; or columns don't follow and none of that number are known.
+    /// A count of columns isn't from 1 to 65535, or bytes follow it. Or a byte that says whether
+    /// columns follow is neither 0 nor 1. Or columns don't follow, and none of that number are
+    /// known.
     BadCount,
     /// A column packet can't be read.
     BadColumn,

@@ -372,8 +372,8 @@ impl EventReader {
         self.fault
     }
 
-    /// The columns that stand: those of the last result set or statement whose columns came, before
-    /// that those that the statement had.
+    /// The columns that stand. They are those of the last result set or statement whose columns
+    /// came, before that those that the statement had.
     pub fn columns(&self) -> Option<&RcSlice<Column>>
         ensures { option_map (λ columns. shared_columns columns.now) result ≡ self.now.so_far.columns }
     {
