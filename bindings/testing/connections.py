@@ -9,7 +9,7 @@ lines of logging in, each with the capabilities by which it is read.
 
 Each payload is handed to the library with what it needs: the capabilities in force, what is in
 force of a statement, the kind of a reply. Here, and not in the library, it is kept which is due.
-Each line has to be as it stands. Fronts of payloads, payloads with a changed byte and random bytes
+Each line has to be as it stands, and each command is put again as one that reads the same. Fronts of payloads, payloads with a changed byte and random bytes
 have to be read as an event or a fault.
 """
 
@@ -35,6 +35,7 @@ CALLS = {
     "statement_command": (_HANDLE, _U32, _U32, *_BYTES),
     "statement_error": (_HANDLE, _U16),
     "command_line": (_HANDLE, _U32, _U32, *_BYTES, _HANDLE),
+    "command_again": (_HANDLE, _U32, _U32, *_BYTES, _HANDLE),
     "events_new": (_HANDLE, _U32, _U32, _U32, _HANDLE),
     "events_line": (_HANDLE, *_BYTES, _HANDLE, _OUT),
     "events_file": (_HANDLE, *_BYTES, _OUT),
@@ -161,6 +162,10 @@ class Walk:
         of = statement.parameters if statement else _Handle()
         given = (ctypes.byref(of), *self.in_force(), payload, len(payload))
         line = self.library.written("command_line", *given)
+        again = self.library.written("command_again", *given)
+        given = (*given[:3], again, len(again))
+        if self.library.written("command_line", *given) != line:
+            raise ValueError(f"{line} is put as {again.hex()}")
         self.begin(payload, line, statement)
         return line
 
