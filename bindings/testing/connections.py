@@ -4,13 +4,13 @@
 
 FOLDER has recorded connections: NAME.client and NAME.server, the bytes of both sides, and
 NAME.events, what each payload is, a line each. A file NAME.payloads has payloads written by hand:
-first the capabilities in force, then lines of a side, the payload in hexadecimal and what it is.
+the capabilities in force, and then lines of a side, the payload in hexadecimal and what it is; or
+lines of logging in, each with the capabilities by which it is read.
 
 Each payload is handed to the library with what it needs: the capabilities in force, what is in
 force of a statement, the kind of a reply. Here, and not in the library, it is kept which is due.
-Each line has to be as it stands. Each command is written again, and has to read the same; so has
-each event of a reply. Fronts of payloads, payloads with a changed byte and random bytes have to be
-read as an event or a fault.
+Each line has to be as it stands, and each command is put again as one that reads the same. Fronts of payloads, payloads with a changed byte and random bytes
+have to be read as an event or a fault.
 """
 
 import ctypes
@@ -28,12 +28,14 @@ LONGEST_CHUNK = 0xFFFFFF
 LONG_PASSWORD, PROTOCOL_41, COMPRESS, SSL = 0x1, 0x200, 0x20, 0x800
 ZSTD = 0x4000000
 LAST_ID = 0xFFFFFFFF
+STRANGE = 5000
 
 CALLS = {
     "statement_new": (_HANDLE, _U16),
     "statement_command": (_HANDLE, _U32, _U32, *_BYTES),
     "statement_error": (_HANDLE, _U16),
     "command_line": (_HANDLE, _U32, _U32, *_BYTES, _HANDLE),
+    "command_again": (_HANDLE, _U32, _U32, *_BYTES, _HANDLE),
     "events_new": (_HANDLE, _U32, _U32, _U32, _HANDLE),
     "events_line": (_HANDLE, *_BYTES, _HANDLE, _OUT),
     "events_file": (_HANDLE, *_BYTES, _OUT),
@@ -160,6 +162,10 @@ class Walk:
         of = statement.parameters if statement else _Handle()
         given = (ctypes.byref(of), *self.in_force(), payload, len(payload))
         line = self.library.written("command_line", *given)
+        again = self.library.written("command_again", *given)
+        given = (*given[:3], again, len(again))
+        if self.library.written("command_line", *given) != line:
+            raise ValueError(f"{line} is put as {again.hex()}")
         self.begin(payload, line, statement)
         return line
 
@@ -287,11 +293,60 @@ def walk_payloads(library, name):
             walk.phase = "commands"
             continue
         side, payload, wanted = words
-        found = walk.see(side, bytes.fromhex(payload))
+        payload = bytes.fromhex(payload)
+        found = (walk.see(side, payload) if side in ("client", "server")
+                 else f"{side} {logging_in(library, side, payload).decode()}")
         count += 1
         if found != f"{side} {wanted}":
             raise ValueError(f"{name}: {line}\nis {found}")
     return count
+
+
+def logging_in(library, phase, payload):
+    """What a payload of a phase of logging in is; behind the phase stand capabilities."""
+    name, *capabilities = phase.split(" ")
+    return library.written(name + "_line", *(int(word, 16) for word in capabilities), payload,
+                           len(payload))
+
+
+def strange(payloads, at):
+    """A front of a payload, one with a changed byte, or random bytes."""
+    payload = at.choice(payloads)
+    kind = at.randrange(3)
+    if kind == 0 and payload:
+        return payload[:at.randrange(len(payload))]
+    if kind == 1 and payload:
+        changed = bytearray(payload)
+        changed[at.randrange(len(payload))] = at.randrange(256)
+        return bytes(changed)
+    return bytes(at.randrange(256) for _ in range(at.randrange(40)))
+
+
+def read_strange(library, folder, many):
+    """Reads bytes that no peer sends; each has to be an event or a fault."""
+    at = random.Random(1)
+    payloads = {side: [payload for name in sorted(glob.glob(os.path.join(folder, "*." + side)))
+                       for payload in payloads_of(read_file(name))][:4000]
+                for side in ("client", "server")}
+    statement = Statement(library, 2, None)
+    for _ in range(many):
+        words = at.choice(((0x200, 0), (0xFFFFFFFF, 0xFFFFFFFF), (0x81BEA205, 0x1D), (0x3000200, 0)))
+        payload = strange(payloads["client"], at)
+        given = (ctypes.byref(statement.parameters), *words, payload, len(payload))
+        library.written("command_line", *given)
+        library.call("statement_command", *given)
+        library.written("response_line", words[0], payload, len(payload))
+        payload = strange(payloads["server"], at)
+        library.written("greeting_line", payload, len(payload))
+        library.written("authentication_line", words[0], payload, len(payload))
+        reader, turn = _Handle(), _U32()
+        library.call("events_new", ctypes.byref(reader), at.randrange(7), *words,
+                     ctypes.byref(_Handle()))
+        for _ in range(4):
+            library.written("events_line", ctypes.byref(reader), payload, len(payload),
+                            behind=(ctypes.byref(turn),))
+            payload = strange(payloads["server"], at)
+        library.free(reader)
 
 
 def main():
@@ -300,7 +355,8 @@ def main():
         count += walk_recording(library, events[:-len(".events")])
     for payloads in sorted(glob.glob(os.path.join(sys.argv[1], "*.payloads"))):
         count += walk_payloads(library, payloads)
-    print(f"{count} payloads are what their lines say")
+    read_strange(library, sys.argv[1], STRANGE)
+    print(f"{count} payloads are what their lines say, and {9 * STRANGE} strange ones are read")
 
 
 if __name__ == "__main__":

@@ -11,3 +11,6 @@ pub mod PluginsBack
 pub mod ResponsesBack
 pub mod AttributesBack
 pub mod ResponsesPut
+pub mod AttributesHeld
+pub mod Held
+pub mod ReadAgain

@@ -41,11 +41,11 @@ use Rattle.mysql_handshake_response.specs.SslRequests.{SslRequestFields, capabil
 
 -- BYTES
 
-bytes_behind : (n : ℕ) (bytes : List ℕ) → AreBytes bytes → AreBytes (drop n bytes)
+pub bytes_behind : (n : ℕ) (bytes : List ℕ) → AreBytes bytes → AreBytes (drop n bytes)
 bytes_behind n bytes all i = rw (get_or-drop n bytes i 0) (all (n + i))
 
 -- the number that the first bytes are
-number_own : (n : ℕ) (bytes : List ℕ) (x : ℕ × List ℕ) → fixed_number_at n bytes ≡ Ok x → (x.0 ≡ little_number n bytes) × (x.1 ≡ drop n bytes)
+pub number_own : (n : ℕ) (bytes : List ℕ) (x : ℕ × List ℕ) → fixed_number_at n bytes ≡ Ok x → (x.0 ≡ little_number n bytes) × (x.1 ≡ drop n bytes)
 number_own n bytes x h = elim (cases_lt (length bytes) n) [
   | inl lt ↦ absurd (let no = ap or_end (first-short n (little_number n) bytes lt) in cc)
   | inr le ↦
@@ -55,7 +55,7 @@ number_own n bytes x h = elim (cases_lt (length bytes) n) [
 ]
 
 -- what is left behind a zero
-null_rest : (bytes : List ℕ) (x : List ℕ × List ℕ) → null_text_at bytes ≡ Ok x → x.1 ≡ drop (position_or_len is_zero bytes + 1) bytes
+pub null_rest : (bytes : List ℕ) (x : List ℕ × List ℕ) → null_text_at bytes ≡ Ok x → x.1 ≡ drop (position_or_len is_zero bytes + 1) bytes
 null_rest bytes x h = go (nat_lt (position_or_len is_zero bytes) (length bytes)) h where
   go : (b : Bool) → (if b then done (before_first is_zero bytes, after_first is_zero bytes) else Err UnexpectedEof) ≡ done x
       → x.1 ≡ drop (position_or_len is_zero bytes + 1) bytes

@@ -96,6 +96,11 @@ RefusedResponsesReadOtherwise = (server : ℕ) (event : Response) (cause : Login
     AreBytes (response_bytes server event) → response_cause server event ≡ Some cause →
     response_at server (response_bytes server event) ≢ Ok event
 
+-- an event that a payload was read as is read again of what is put
+abbrev pub ResponsesReadAgain : Type 0
+ResponsesReadAgain = (server : ℕ) (payload : List ℕ) (event : Response) → AreBytes payload → length payload < 2 ^ 64 →
+    response_at server payload ≡ Ok event → response_at server (response_bytes server event) ≡ Ok event
+
 -- A SERVER'S FIRST PAYLOAD
 
 -- a payload that is put is read as the event
@@ -111,6 +116,11 @@ GreetingsArePut = (payload : List ℕ) (event : Greeting) → greeting_at payloa
 abbrev pub RefusedGreetingsReadOtherwise : Type 0
 RefusedGreetingsReadOtherwise = (event : Greeting) (cause : LoginRefusal) → greeting_cause event ≡ Some cause →
     greeting_at (greeting_bytes event) ≢ Ok event
+
+-- an event that a payload was read as is read again of what is put
+abbrev pub GreetingsReadAgain : Type 0
+GreetingsReadAgain = (payload : List ℕ) (event : Greeting) → AreBytes payload →
+    greeting_at payload ≡ Ok event → greeting_at (greeting_bytes event) ≡ Ok event
 
 -- A SERVER'S PAYLOADS OF AN AUTHENTICATION
 
@@ -132,3 +142,9 @@ RefusedAuthenticationsReadOtherwise = (capabilities : ℕ) (event : Authenticati
     AreBytes (authentication_bytes capabilities event) → length (authentication_bytes capabilities event) < 2 ^ 64 →
     authentication_cause capabilities event ≡ Some cause →
     authentication_at capabilities (authentication_bytes capabilities event) ≢ Ok event
+
+-- an event that a payload was read as is read again of what is put
+abbrev pub AuthenticationsReadAgain : Type 0
+AuthenticationsReadAgain = (capabilities : ℕ) (payload : List ℕ) (event : Authentication) → AreBytes payload →
+    length payload < 2 ^ 64 → authentication_at capabilities payload ≡ Ok event →
+    authentication_at capabilities (authentication_bytes capabilities event) ≡ Ok event

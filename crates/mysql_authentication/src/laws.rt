@@ -1,5 +1,6 @@
 //! Laws of the payloads of logging in. Functions without a result do nothing: their contracts are the laws.
 
+ghost use Rattle.mysql_authentication.specs.Statements.{AuthenticationsReadAgain, GreetingsReadAgain, ResponsesReadAgain};
 ghost use Rattle.mysql_authentication.specs.Statements.{AuthenticationsArePut, AuthenticationsReadBack};
 ghost use Rattle.mysql_authentication.specs.Statements.{GreetingsArePut, GreetingsReadBack};
 ghost use Rattle.mysql_authentication.specs.Statements.{RefusedAuthenticationsReadOtherwise};
@@ -12,7 +13,7 @@ pub fn authentications_read_back()
     ensures { AuthenticationsReadBack }
 {}
 
-/// An event that a payload of an authentication was read as is put, and reads as itself.
+/// An event that a payload of an authentication was read as is put.
 #[tactic(auto, using(crate::proofs::AuthenticationsPut::authentications_are_put))]
 pub fn authentications_are_put()
     ensures { AuthenticationsArePut }
@@ -30,7 +31,7 @@ pub fn greetings_read_back()
     ensures { GreetingsReadBack }
 {}
 
-/// An event that a server's first payload was read as is put, and reads as itself.
+/// An event that a server's first payload was read as is put.
 #[tactic(auto, using(crate::proofs::GreetingsPut::greetings_are_put))]
 pub fn greetings_are_put()
     ensures { GreetingsArePut }
@@ -48,7 +49,7 @@ pub fn responses_read_back()
     ensures { ResponsesReadBack }
 {}
 
-/// An event that a client's first payload was read as is put, and reads as itself.
+/// An event that a client's first payload was read as is put.
 #[tactic(auto, using(crate::proofs::ResponsesPut::responses_are_put))]
 pub fn responses_are_put()
     ensures { ResponsesArePut }
@@ -58,4 +59,22 @@ pub fn responses_are_put()
 #[tactic(auto, using(crate::proofs::ResponsesPut::refused_responses_read_otherwise))]
 pub fn refused_responses_read_otherwise()
     ensures { RefusedResponsesReadOtherwise }
+{}
+
+/// What a server's first payload was read as is read again of what is put.
+#[tactic(auto, using(crate::proofs::ReadAgain::greetings_read_again))]
+pub fn greetings_read_again()
+    ensures { GreetingsReadAgain }
+{}
+
+/// What a client's first payload was read as is read again of what is put.
+#[tactic(auto, using(crate::proofs::ReadAgain::responses_read_again))]
+pub fn responses_read_again()
+    ensures { ResponsesReadAgain }
+{}
+
+/// What a payload of an authentication was read as is read again of what is put.
+#[tactic(auto, using(crate::proofs::ReadAgain::authentications_read_again))]
+pub fn authentications_read_again()
+    ensures { AuthenticationsReadAgain }
 {}

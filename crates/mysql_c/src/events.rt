@@ -6,8 +6,8 @@ ghost use Rattle.mysql_c_events.specs.Following.{IsEvents, IsStatement, KeepsCon
 ghost use Rattle.mysql_c_events.specs.Printing.{PutsLine};
 
 use mysql_c_events::{
-    authentication_line, command_line, events_file, events_line, events_new, greeting_line,
-    response_line, statement_command, statement_error, statement_new,
+    authentication_line, command_again, command_line, events_file, events_line, events_new,
+    greeting_line, response_line, statement_command, statement_error, statement_new,
 };
 use mysql_c_handles::Handle;
 use mysql_const::{Capabilities, CapabilityFlags, MariadbCapabilities};
@@ -78,6 +78,23 @@ pub extern "C" fn mysql_session_command_line(
 {
     let capabilities = both_words(capabilities, mariadb);
     command_line(alloc, statement, capabilities, payload, out)
+}
+
+/// Appends the payload that is put of what a payload of a client asks for.
+#[unsafe(no_mangle)]
+pub extern "C" fn mysql_session_command_again(
+    alloc: Global,
+    statement: &mut Handle,
+    capabilities: u32,
+    mariadb: u32,
+    payload: &[u8],
+    out: &mut Handle,
+) -> u32
+    ensures statement { statement.new.object ≡ statement.old.object }
+    ensures put { PutsLine out.old.object result out.new.object ⊎ (out.new.object ≡ out.old.object) }
+{
+    let capabilities = both_words(capabilities, mariadb);
+    command_again(alloc, statement, capabilities, payload, out)
 }
 
 /// Makes the handle stand for a reader of the reply to a command of this kind.

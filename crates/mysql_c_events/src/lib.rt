@@ -8,7 +8,7 @@ mod printing;
 mod reply;
 mod statement;
 
-pub use command::command_line;
+pub use command::{command_again, command_line};
 pub use login::{authentication_line, greeting_line, response_line};
 pub use reply::{events_file, events_line, events_new};
 pub use statement::{statement_command, statement_error, statement_new};

@@ -2,6 +2,6 @@ pub mod FieldLists
 pub mod GtidDumps
 pub mod Lists
 pub mod Logins
-pub mod Queries
+pub mod WithValues
 pub mod ReadAgain
 pub mod Replication

@@ -1,2 +1,4 @@
+pub mod Causes
+pub mod Plain
 pub mod Refusals
 pub mod Written

@@ -1,17 +1,19 @@
 -- Why a command isn't put: its payload would read as another one. (MySQL: Client/Server Protocol, "Command Phase".)
-use Rattle.std.specs.Prelude.{◌≡◌, ◌≢◌, ◌==◌, ℕ, Bool, false, if◌then◌else◌, List, ◌++◌, length, Option, None, Some}
+use Rattle.std.specs.Prelude.{◌≡◌, ◌≢◌, ◌==◌, ℕ, Bool, true, false, if◌then◌else◌, List, ◌++◌, length, Option, None, Some}
 use Rattle.std.specs.Prelude.{Result, Ok, Err}
 use Rattle.mysql_const.specs.BinlogDumpFlags.{binlog_dump_flags}
 use Rattle.mysql_const.specs.declared.capabilities.Capabilities.{Capabilities}
+use Rattle.mysql_execution_writer.specs.Bulks.{bulk_as_read, can_put_bulk}
 use Rattle.mysql_execution_writer.specs.Cells.{are_attributes}
-use Rattle.mysql_execution_writer.specs.Laws.{FitsAttributes, FitsExecution}
+use Rattle.mysql_execution_writer.specs.Laws.{FitsAttributes, FitsBulk, FitsExecution}
 use Rattle.mysql_execution_writer.specs.Written.{attributes_as_read, can_be_put, execution_as_read}
+use Rattle.mysql_executions.specs.Bulks.{BulkExecution}
 use Rattle.mysql_executions.specs.Executions.{Execution}
 use Rattle.mysql_executions.specs.InForce.{InForce}
 use Rattle.mysql_executions.specs.Types.{has_query_attributes}
 use Rattle.mysql_executions.specs.declared.types.Attribute.{Attribute}
 use Rattle.mysql_field_constants.specs.Flags.{are_named}
-use Rattle.mysql_commands.specs.Commands.{BinlogDump, BinlogDumpGtid, Command, Execute, FieldList, Other, Query}
+use Rattle.mysql_commands.specs.Commands.{BinlogDump, BinlogDumpGtid, BulkExecute, Command, Execute, FieldList, Other, Query}
 use Rattle.mysql_commands.specs.Commands.{RegisterSlave, TableDump, command_at}
 use Rattle.mysql_command_writer.specs.Written.{command_bytes}
 use Rattle.mysql_command_writer.specs.declared.refusal.CommandRefusal.{CommandRefusal}
@@ -31,6 +33,8 @@ cause_against capabilities parameters (TableDump request) = TooLong
 cause_against capabilities parameters (RegisterSlave replica) = TooLong
 cause_against capabilities None (Execute execution) = UnknownStatement
 cause_against capabilities (Some parameters) (Execute execution) = ReadsOtherwise
+cause_against capabilities None (BulkExecute execution) = UnknownStatement
+cause_against capabilities (Some parameters) (BulkExecute execution) = ReadsOtherwise
 cause_against capabilities parameters (BinlogDumpGtid request) =
     if are_named binlog_dump_flags request.flags then TooLong else NamelessFlags
 cause_against capabilities parameters (Other payload) = ReadsAsCommand
@@ -40,6 +44,7 @@ cause_against capabilities parameters _ = ReadsOtherwise
 abbrev pub as_read : Command → Command
 as_read (Query attributes sql) = Query (attributes_as_read attributes) sql
 as_read (Execute execution) = Execute (execution_as_read execution)
+as_read (BulkExecute execution) = BulkExecute (bulk_as_read execution)
 as_read command = command
 
 -- a command's payload reads as it
@@ -53,6 +58,8 @@ Reads capabilities parameters (Query attributes sql) =
     FitsAttributes attributes → ReadsBack capabilities parameters (Query attributes sql)
 Reads capabilities parameters (Execute execution) =
     FitsExecution execution → ReadsBack capabilities parameters (Execute execution)
+Reads capabilities parameters (BulkExecute execution) =
+    FitsBulk execution → ReadsBack capabilities parameters (BulkExecute execution)
 Reads capabilities parameters command = ReadsBack capabilities parameters command
 
 -- attributes that a query can have: none where they aren't in force, else those with names and cells
@@ -65,10 +72,16 @@ abbrev pub can_execute : Capabilities → Option InForce → Execution → Bool
 can_execute capabilities None execution = false
 can_execute capabilities (Some parameters) execution = can_be_put capabilities parameters execution
 
+-- the same of a bulk execution
+abbrev pub can_execute_bulk : Capabilities → Option InForce → BulkExecution → Bool
+can_execute_bulk capabilities None execution = false
+can_execute_bulk capabilities (Some parameters) execution = can_put_bulk capabilities parameters execution
+
 -- a command's payload reads otherwise; of values no payload is read as them
 abbrev pub DoesNotRead : Capabilities → Option InForce → Command → Type 0
 DoesNotRead capabilities parameters (Query attributes sql) = can_have_attributes capabilities attributes ≡ false
 DoesNotRead capabilities parameters (Execute execution) = can_execute capabilities parameters execution ≡ false
+DoesNotRead capabilities parameters (BulkExecute execution) = can_execute_bulk capabilities parameters execution ≡ false
 DoesNotRead capabilities parameters command = ReadsBack capabilities parameters command → ⊥
 
 -- a command may be put: its payload reads as it; or it reads otherwise, and the cause is told; want of memory may

@@ -4,6 +4,7 @@
 use Rattle.std.specs.Prelude.{ℕ, List, [], ◌∷◌, ◌++◌, None, Option, Some, if◌then◌else◌}
 use Rattle.byteorder.specs.Endian.{little_bytes}
 use Rattle.mysql_const.specs.declared.capabilities.Capabilities.{Capabilities}
+use Rattle.mysql_execution_writer.specs.Bulks.{bulk_bytes}
 use Rattle.mysql_execution_writer.specs.Written.{execution_bytes, query_attributes_bytes}
 use Rattle.mysql_executions.specs.InForce.{InForce}
 use Rattle.mysql_executions.specs.Types.{has_query_attributes}
@@ -60,5 +61,6 @@ command_bytes capabilities parameters (Fetch id rows) = 0x1c ∷ little_bytes 4 
 command_bytes capabilities parameters (BinlogDumpGtid request) = binlog_dump_gtid request
 command_bytes capabilities parameters ResetConnection = 0x1f ∷ []
 command_bytes capabilities parameters (Clone arguments) = 0x20 ∷ arguments
-command_bytes capabilities parameters (BulkExecute execution) = 0xfa ∷ []
+command_bytes capabilities parameters (BulkExecute execution) =
+    0xfa ∷ by_parameters (λ s. bulk_bytes s execution) parameters
 command_bytes capabilities parameters (Other payload) = payload

@@ -5,6 +5,7 @@ pub mod refusal;
 mod same;
 mod sids;
 mod testing;
+mod values;
 mod writing;
 
 pub use mysql_commands;

@@ -1,9 +1,11 @@
 //! Why a command isn't put.
 
 ghost use Rattle.std.specs.Prelude.{◌≡◌};
+ghost use Rattle.mysql_command_writer.specs.Causes.{cause_of};
 ghost use Rattle.mysql_command_writer.specs.declared.refusal.CommandRefusal.TheVariants.{Memory};
 
-use std::alloc::{AllocError, AllocFailed};
+use mysql_execution_writer::PutRefusal;
+use std::alloc::AllocError;
 use thiserror::Error;
 
 /// Why a command isn't put: its payload would read as another one.
@@ -23,16 +25,33 @@ pub enum CommandRefusal {
     /// What isn't in force: attributes, or fields of a change of user.
     #[error("what the capabilities in force don't have")]
     NotAgreed,
+    /// An execution of a statement that isn't known.
+    #[error("an execution of a statement that is not known")]
+    UnknownStatement,
     /// Bytes that say nothing known, but are laid out as a command.
     #[error("bytes of another command that are laid out as one that is known")]
     ReadsAsCommand,
     /// A payload that would read otherwise. Of a change of user it has fields that the capabilities
-    /// in force don't have, a zero in a name, or a plugin that isn't the one that its name says.
+    /// in force don't have, a zero in a name, or a plugin that isn't the one that its name says. Of
+    /// an execution or of attributes it has values without a cell by their types, or types, names or
+    /// flags that it can't have.
     #[error("the payload would read otherwise")]
     ReadsOtherwise,
     /// A growth of a buffer was refused.
     #[error("out of memory")]
     Memory,
+}
+
+/// Why an execution or attributes aren't put, as a command's.
+impl From<PutRefusal> for CommandRefusal {
+    ghost from_gives = { λ refusal cause. cause ≡ cause_of refusal };
+
+    fn from(refusal: PutRefusal) -> CommandRefusal {
+        match refusal {
+            PutRefusal::Unreadable => CommandRefusal::ReadsOtherwise,
+            PutRefusal::Memory => CommandRefusal::Memory,
+        }
+    }
 }
 
 impl From<AllocError> for CommandRefusal {

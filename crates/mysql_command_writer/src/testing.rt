@@ -6,7 +6,6 @@ ghost use Rattle.std.specs.Option.{option_copied};
 ghost use Rattle.mysql_buf.specs.Reading.{is_zero};
 ghost use Rattle.mysql_const.specs.BinlogDumpFlags.{binlog_dump_flags};
 ghost use Rattle.mysql_field_constants.specs.Flags.{are_named};
-ghost use Rattle.mysql_executions.specs.Types.{has_query_attributes};
 ghost use Rattle.mysql_gtid.specs.Blocks.{block_bytes};
 ghost use Rattle.mysql_login.specs.ChangedUserViews.{change_user_view};
 ghost use Rattle.mysql_login.specs.ChangedUsers.{change_in_force_at};
@@ -14,6 +13,7 @@ ghost use Rattle.mysql_replication.specs.Views.{binlog_dump_gtid_view, binlog_du
 ghost use Rattle.mysql_replication.specs.Views.{table_dump_view};
 ghost use Rattle.std.specs.Cow.{cow_slice_items};
 ghost use Rattle.mysql_commands.specs.Commands as said;
+ghost use Rattle.mysql_command_writer.specs.Plain.{IsPlain};
 ghost use Rattle.mysql_command_writer.specs.Refusals.{ReadsBack, Tests};
 ghost use Rattle.mysql_commands.specs.Views.{command_view};
 
@@ -22,7 +22,7 @@ use crate::same::same_login;
 use crate::sids::sids_are;
 use bitflags::Flags;
 use mysql_buf::ParseBuf;
-use mysql_commands::{Attribute, Capabilities, CapabilityFlags, Command, StatementParameters};
+use mysql_commands::{Capabilities, Command, StatementParameters};
 use mysql_const::BinlogDumpFlags;
 use mysql_fields::{MySerialize, WireError};
 use mysql_gtid::SidBlock;
@@ -196,36 +196,6 @@ fn test_register_slave(
     }
 }
 
-/// Whether queries have attributes.
-pub(crate) fn has_query_attributes(capabilities: Capabilities) -> bool
-    ensures { result ≡ has_query_attributes capabilities }
-{
-    capabilities
-        .protocol
-        .contains(CapabilityFlags::CLIENT_QUERY_ATTRIBUTES)
-}
-
-/// A query without attributes is read again.
-fn query_reads(capabilities: Capabilities, parameters: Option<&StatementParameters>, sql: &[u8])
-    ensures { ReadsBack capabilities (option_copied parameters.entry) (said.Query [] sql.now) }
-{}
-
-/// A query has no attributes.
-fn test_query(
-    capabilities: Capabilities,
-    parameters: Option<&StatementParameters>,
-    attributes: &[Attribute],
-    sql: &[u8],
-) -> Result<(), CommandRefusal>
-    ensures { Tests capabilities (option_copied parameters.entry) (said.Query attributes.now sql.now) result }
-{
-    if !attributes.is_empty() {
-        return Err(CommandRefusal::NotAgreed);
-    }
-    query_reads(capabilities, parameters, sql);
-    Ok(())
-}
-
 /// Whether the sets' block fits its length. That it is as long as its length can say at most tells
 /// only the block itself.
 fn has_short_block(alloc: Global, request: &ComBinlogDumpGtid) -> Result<bool, AllocError>
@@ -288,6 +258,7 @@ pub(crate) fn test(
     parameters: Option<&StatementParameters>,
     command: &Command,
 ) -> Result<(), CommandRefusal>
+    requires { IsPlain (command_view command.now) }
     ensures { Tests capabilities (option_copied parameters.entry) (command_view command.now) result }
 {
     match command {
@@ -308,14 +279,8 @@ pub(crate) fn test(
             parameters,
             request,
         ),
-        Command::Query { attributes, sql } => test_query(
-            capabilities,
-            parameters,
-            attributes.as_slice(),
-            sql.as_slice(),
-        ),
         Command::ChangeUser(login) => test_change_user(alloc, capabilities, parameters, login),
-        Command::Execute(_) | Command::BulkExecute(_) => Err(CommandRefusal::Memory),
+        Command::Query { .. } | Command::Execute(_) | Command::BulkExecute(_) => unreachable!(),
         Command::Other(payload) => test_other(alloc, capabilities, parameters, payload.as_slice()),
         Command::Refresh(flags) => {
             refresh_reads(capabilities, parameters, *flags);

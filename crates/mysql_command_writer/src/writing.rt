@@ -6,12 +6,14 @@ ghost use Rattle.std.specs.Prelude.{◌∷◌};
 ghost use Rattle.std.specs.Option.{option_copied};
 ghost use Rattle.byteorder.specs.Endian.{little_bytes};
 ghost use Rattle.mysql_fields.specs.Wire.{Appends};
+ghost use Rattle.mysql_command_writer.specs.Plain.{IsPlain};
 ghost use Rattle.mysql_command_writer.specs.Refusals.{Puts};
-ghost use Rattle.mysql_command_writer.specs.Written.{command_bytes, plain_query};
+ghost use Rattle.mysql_command_writer.specs.Written.{command_bytes};
 ghost use Rattle.mysql_commands.specs.Views.{command_view};
 
 use crate::refusal::CommandRefusal;
-use crate::testing::{has_query_attributes, test};
+use crate::testing::test;
+use crate::values::{put_bulk, put_execute, put_query};
 use mysql_commands::{Capabilities, Command, StatementParameters};
 use mysql_fields::{EofBytes, LeU16, LeU32, MySerialize, NullBytes, RawBytes, RawInt, in_order};
 use std::alloc::{AllocError, Global};
@@ -24,7 +26,7 @@ fn append<T: MySerialize>(number: u8, fields: &T, out: &mut Vec<u8>) -> Result<(
 }
 
 /// A number and a text behind it.
-fn append_text(number: u8, text: &[u8], out: &mut Vec<u8>) -> Result<(), AllocError>
+pub(crate) fn append_text(number: u8, text: &[u8], out: &mut Vec<u8>) -> Result<(), AllocError>
     ensures { Appends result out.old.items out.new.items (number ∷ text.now) }
 {
     let text: RawBytes<EofBytes> = RawBytes::from(text);
@@ -39,30 +41,20 @@ fn append_id(number: u8, id: u32, out: &mut Vec<u8>) -> Result<(), AllocError>
     append(number, &id, out)
 }
 
-/// A query without attributes.
-fn append_query(capabilities: Capabilities, sql: &[u8], out: &mut Vec<u8>) -> Result<(), AllocError>
-    ensures { Appends result out.old.items out.new.items (3 ∷ plain_query capabilities sql.now) }
-{
-    if !has_query_attributes(capabilities) {
-        return append_text(0x03, sql, out);
-    }
-    let sql: RawBytes<EofBytes> = RawBytes::from(sql);
-    // how many attributes, in how many sets
-    append(0x03, &([0, 1], sql), out)
-}
-
 /// A command's payload.
 fn append_command(
     capabilities: Capabilities,
+    parameters: Option<&StatementParameters>,
     command: &Command,
     out: &mut Vec<u8>,
 ) -> Result<(), AllocError>
-    ensures { Appends result out.old.items out.new.items (command_bytes capabilities (command_view command.now)) }
+    requires { IsPlain (command_view command.now) }
+    ensures { Appends result out.old.items out.new.items
+        (command_bytes capabilities (option_copied parameters.entry) (command_view command.now)) }
 {
     match command {
         Command::Quit => append(0x01, &(), out),
         Command::InitDb(schema) => append_text(0x02, schema.as_slice(), out),
-        Command::Query { sql, .. } => append_query(capabilities, sql.as_slice(), out),
         Command::FieldList { table, wildcard } => {
             let table: RawBytes<NullBytes> = RawBytes::from(table.as_slice());
             let wildcard: RawBytes<EofBytes> = RawBytes::from(wildcard.as_slice());
@@ -83,7 +75,6 @@ fn append_command(
         Command::TableDump(request) => request.serialize(out),
         Command::RegisterSlave(replica) => replica.serialize(out),
         Command::Prepare(sql) => append_text(0x16, sql.as_slice(), out),
-        Command::Execute(_) => append(0x17, &(), out),
         Command::LongData {
             stmt_id,
             place,
@@ -105,9 +96,26 @@ fn append_command(
         Command::BinlogDumpGtid(request) => request.serialize(out),
         Command::ResetConnection => append(0x1f, &(), out),
         Command::Clone(arguments) => append_text(0x20, arguments.as_slice(), out),
-        Command::BulkExecute(_) => append(0xfa, &(), out),
+        Command::Query { .. } | Command::Execute(_) | Command::BulkExecute(_) => unreachable!(),
         Command::Other(payload) => out.extend_from_slice(payload.as_slice()),
     }
+}
+
+/// Puts a command without values.
+fn put_plain(
+    alloc: Global,
+    capabilities: Capabilities,
+    parameters: Option<&StatementParameters>,
+    command: &Command,
+    out: &mut Vec<u8>,
+) -> Result<(), CommandRefusal>
+    requires { IsPlain (command_view command.now) }
+    ensures { Puts capabilities (option_copied parameters.entry) (command_view command.now) out.old.items
+        out.new.items result }
+{
+    test(alloc, capabilities, parameters, command)?;
+    append_command(capabilities, parameters, command, out)?;
+    Ok(())
 }
 
 /// Appends a command's payload, by the capabilities in force; by the same it reads as the command.
@@ -130,7 +138,48 @@ pub fn put_command(
     ensures { Puts capabilities (option_copied parameters.entry) (command_view command.now) out.old.items
         out.new.items result }
 {
-    test(alloc, capabilities, parameters, command)?;
-    append_command(capabilities, command, out)?;
-    Ok(())
+    match command {
+        Command::Query { attributes, sql } => put_query(
+            alloc,
+            capabilities,
+            parameters,
+            attributes.as_slice(),
+            sql.as_slice(),
+            out,
+        ),
+        Command::Execute(execution) => put_execute(alloc, capabilities, parameters, execution, out),
+        Command::BulkExecute(execution) => put_bulk(
+            alloc,
+            capabilities,
+            parameters,
+            execution,
+            out,
+        ),
+        Command::Quit
+        | Command::InitDb(_)
+        | Command::FieldList { .. }
+        | Command::CreateDb(_)
+        | Command::DropDb(_)
+        | Command::Refresh(_)
+        | Command::Shutdown(_)
+        | Command::Statistics
+        | Command::ProcessInfo
+        | Command::ProcessKill(_)
+        | Command::Debug
+        | Command::Ping
+        | Command::ChangeUser(_)
+        | Command::BinlogDump(_)
+        | Command::TableDump(_)
+        | Command::RegisterSlave(_)
+        | Command::Prepare(_)
+        | Command::LongData { .. }
+        | Command::Close(_)
+        | Command::ResetStatement(_)
+        | Command::SetOption(_)
+        | Command::Fetch { .. }
+        | Command::BinlogDumpGtid(_)
+        | Command::ResetConnection
+        | Command::Clone(_)
+        | Command::Other(_) => put_plain(alloc, capabilities, parameters, command, out),
+    }
 }

@@ -1,18 +1,15 @@
 -- Attributes of a query that were written are read again.
-use Rattle.std.proofs.Common.{◌≡◌, ℕ, zero, suc, ◌+◌, ◌^◌, ◌<◌, ◌==◌, Bool, true, false, List, [], ◌∷◌, ◌++◌, length, map, get_or, Option, Some, None, refl, sym, ◌∙◌, ap, append_assoc, arith, lit<}
-use Rattle.std.specs.Prelude.{◌||◌}
+use Rattle.std.proofs.Common.{◌≡◌, ℕ, true, List, [], ◌∷◌, ◌++◌, length, Some, refl, sym, ◌∙◌, ap, append_assoc, arith}
 use Rattle.std.proofs.lemmas.List.{length-map}
 use Rattle.mysql_buf.specs.TextLaws.{lenenc_int-reads_back}
 use Rattle.mysql_buf.specs.Writing.{lenenc_int}
 use Rattle.mysql_field_lists.specs.NullBitmap.{is_null_at}
 use Rattle.mysql_cells.specs.TypedCells.{TypedCellsReadBack}
-use Rattle.mysql_cells.specs.Values.{is_null}
-use Rattle.mysql_cells.specs.declared.value.Value.TheVariants.{NULL}
 use Rattle.mysql_stmt.specs.Executions.{null_bitmap}
 use Rattle.mysql_stmt.specs.Statements.{BitmapsSayWhichAreNull}
 use Rattle.mysql_executions.specs.declared.types.Attribute.{Attribute}
 use Rattle.mysql_executions.specs.Attributes.{query_attributes_at}
-use Rattle.mysql_executions.specs.Executions.{attributes_at, binding_at}
+use Rattle.mysql_executions.specs.Executions.{binding_at}
 use Rattle.mysql_executions.specs.Fields.{each_at}
 use Rattle.mysql_executions.specs.Types.{types_read}
 use Rattle.mysql_execution_writer.specs.Cells.{are_attributes, attributes_bytes, types_bytes}

@@ -6,3 +6,4 @@ pub mod ValuesBack
 pub mod ExecutionsBack
 pub mod AttributesBack
 pub mod RowLoops
+pub mod BulksBack

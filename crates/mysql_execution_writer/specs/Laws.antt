@@ -1,14 +1,18 @@
 -- What holds of executions and attributes that are written: they are read again. MySQL:
--- Client/Server Protocol, "COM_STMT_EXECUTE", "COM_QUERY".
+-- Client/Server Protocol, "COM_STMT_EXECUTE", "COM_QUERY"; MariaDB: "COM_STMT_BULK_EXECUTE".
 use Rattle.std.specs.Prelude.{◌≡◌, ℕ, ◌^◌, ◌<◌, true, List, [], ◌++◌, length, Some, unwrap_or}
 use Rattle.std.specs.List.{AllByRecursion}
 use Rattle.mysql_const.specs.declared.capabilities.Capabilities.{Capabilities}
 use Rattle.mysql_cells.specs.AsSql.{FitsFields}
 use Rattle.mysql_executions.specs.Attributes.{query_attributes_at}
+use Rattle.mysql_executions.specs.Bulks.{BulkExecution, bulk_execution_at}
 use Rattle.mysql_executions.specs.Executions.{Execution, execution_at}
+use Rattle.mysql_executions.specs.declared.bulk.BulkValue.{BulkValue}
+use Rattle.mysql_executions.specs.declared.bulk.BulkValue.TheVariants as bulk
 use Rattle.mysql_executions.specs.InForce.{InForce}
 use Rattle.mysql_executions.specs.declared.types.Attribute.{Attribute}
 use Rattle.mysql_executions.specs.declared.types.BoundType.{BoundType}
+use Rattle.mysql_execution_writer.specs.Bulks.{bulk_as_read, bulk_bytes, can_put_bulk}
 use Rattle.mysql_execution_writer.specs.Cells.{are_attributes}
 use Rattle.mysql_execution_writer.specs.Written.{all_values, attributes_as_read, can_be_put, execution_as_read}
 use Rattle.mysql_execution_writer.specs.Written.{execution_bytes, query_attributes_bytes, types_of_attributes}
@@ -46,3 +50,23 @@ AttributesReadBack =
     (attributes : List Attribute) (text : List ℕ) → FitsAttributes attributes →
     are_attributes true attributes ≡ true
     → query_attributes_at (query_attributes_bytes attributes ++ text) ≡ Some (attributes_as_read attributes, text)
+
+-- each number of what a parameter holds in a row fits its field
+abbrev pub FitsBulkValue : BulkValue → Type 0
+FitsBulkValue (bulk.Value value) = FitsFields value
+FitsBulkValue bulk.Default = Unit {0}
+FitsBulkValue bulk.Ignore = Unit {0}
+
+-- each number of a bulk execution fits its field
+pub record FitsBulk (e : BulkExecution) : Type 0 where
+  pub statement : e.statement < 2 ^ 32
+  pub names : HaveLengths (unwrap_or e.types [])
+  pub rows : AllByRecursion (λ row. AllByRecursion (λ value. FitsBulkValue value) row) e.rows
+
+-- A bulk execution that can be written is read again: each value as itself, but an unsigned number
+-- below 2 ^ 63 as Int.
+abbrev pub BulksReadBack : Type 0
+BulksReadBack =
+    (capabilities : Capabilities) (s : InForce) (e : BulkExecution) → FitsBulk e →
+    can_put_bulk capabilities s e ≡ true
+    → bulk_execution_at capabilities s (bulk_bytes s e) ≡ Some (bulk_as_read e)

@@ -1,5 +1,5 @@
 -- What `==` says of lists of values and of columns.
-use Rattle.std.proofs.Common.{◌≡◌, ℕ, List, [], ◌∷◌, Bool, true, false, Option, Some, None, refl, ap, sym, ◌∙◌}
+use Rattle.std.proofs.Common.{◌≡◌, List, [], ◌∷◌, Bool, Option, Some, None, refl, ap}
 use Rattle.std.specs.Prelude.{◌&&◌, map}
 use Rattle.std.specs.Bool.{Decides}
 use Rattle.std.specs.Option.{option_eq}
@@ -48,16 +48,31 @@ FieldsAgree a b =
     ((a.column_length ≡ b.column_length) × ((a.column_type ≡ b.column_type) × ((a.flags ≡ b.flags) × (a.decimals ≡ b.decimals)))))))))
 
 fields_agree : (a b : Column) → column_view a ≡ column_view b → FieldsAgree a b
-fields_agree a b h =
-    (ap (λ (v : ColumnDefinition). v.schema) h,
-    (ap (λ (v : ColumnDefinition). v.table) h,
-    (ap (λ (v : ColumnDefinition). v.org_table) h,
-    (ap (λ (v : ColumnDefinition). v.name) h,
-    (ap (λ (v : ColumnDefinition). v.org_name) h,
-    (ap (λ (v : ColumnDefinition). v.character_set) h,
-    (ap (λ (v : ColumnDefinition). v.column_length) h,
-    (ap (λ (v : ColumnDefinition). v.column_type) h,
-    (ap (λ (v : ColumnDefinition). v.flags) h, ap (λ (v : ColumnDefinition). v.decimals) h)))))))))
+fields_agree a b h = (
+  ap (λ (v : ColumnDefinition). v.schema) h,
+  (
+    ap (λ (v : ColumnDefinition). v.table) h,
+    (
+      ap (λ (v : ColumnDefinition). v.org_table) h,
+      (
+        ap (λ (v : ColumnDefinition). v.name) h,
+        (
+          ap (λ (v : ColumnDefinition). v.org_name) h,
+          (
+            ap (λ (v : ColumnDefinition). v.character_set) h,
+            (
+              ap (λ (v : ColumnDefinition). v.column_length) h,
+              (
+                ap (λ (v : ColumnDefinition). v.column_type) h,
+                (ap (λ (v : ColumnDefinition). v.flags) h, ap (λ (v : ColumnDefinition). v.decimals) h),
+              ),
+            ),
+          ),
+        ),
+      ),
+    ),
+  ),
+)
 
 pub column_decides : (a b : Column) → Decides (columns.TheImpl.eq-value.it a b) (column_view a ≡ column_view b)
 column_decides a b =

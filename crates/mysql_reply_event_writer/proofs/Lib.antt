@@ -1,1 +1,2 @@
 mod Comparing
+mod Putting

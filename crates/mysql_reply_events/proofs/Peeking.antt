@@ -1,6 +1,6 @@
 -- Which event a payload is doesn't depend on the columns that came before.
 use Rattle.std.proofs.Common.{◌≡◌, ℕ, List, [], Bool, true, false, Option, Result, Ok, Err, refl, ap, sym, subst, ◌∙◌}
-use Rattle.std.specs.Prelude.{◌&&◌, if◌then◌else◌}
+use Rattle.std.specs.Prelude.{if◌then◌else◌}
 use Rattle.mysql_columns.specs.Columns.{ColumnDefinition}
 use Rattle.mysql_columns.specs.Extended.{ExtendedDefinition}
 use Rattle.mysql_fields.specs.Wire.{◌>>=◌}

@@ -1,4 +1,4 @@
-use Rattle.std.proofs.Common.{◌≡◌, ◌∙◌, ap, sym}
+use Rattle.std.proofs.Common.{◌∙◌, ap, sym}
 use Rattle.std.specs.List.{list_all}
 use Rattle.mysql_executions.specs.Views.{rows_of, types_by, types_of}
 use Rattle.mysql_execution_writer.specs.Bulks.{is_row}

@@ -1,4 +1,4 @@
-use Rattle.std.proofs.Common.{◌≡◌, ◌++◌, List, ℕ, ap, ◌∙◌}
+use Rattle.std.proofs.Common.{◌++◌, List, ℕ, ap, ◌∙◌}
 use Rattle.std.specs.List.{flat_map}
 use Rattle.mysql_executions.specs.Views.{types_by, types_of}
 use Rattle.mysql_execution_writer.specs.Bulks.{row_bytes}

@@ -1,0 +1,121 @@
+//! Commands with values: queries with their attributes, and executions.
+
+ghost use Rattle.std.specs.Prelude.{◌≡◌};
+ghost use Rattle.std.specs.Option.{option_copied};
+ghost use Rattle.mysql_commands.specs.Commands as said;
+ghost use Rattle.mysql_executions.specs.Types.{has_query_attributes};
+ghost use Rattle.mysql_executions.specs.Views.{bulk_of, execution_of};
+ghost use Rattle.mysql_command_writer.specs.Plain.{PutsAttributed};
+ghost use Rattle.mysql_command_writer.specs.Refusals.{Puts};
+
+use crate::refusal::CommandRefusal;
+use crate::writing::append_text;
+use bitflags::Flags;
+use mysql_commands::{
+    Attribute, BulkExecution, Capabilities, CapabilityFlags, Execution, StatementParameters,
+};
+use mysql_execution_writer::laws::{attributes_read_back, bulks_read_back, executions_read_back};
+use mysql_execution_writer::{put_bulk_execution, put_execution, put_query_attributes};
+use std::alloc::Global;
+
+/// Whether queries have attributes.
+fn has_query_attributes(capabilities: Capabilities) -> bool
+    ensures { result ≡ has_query_attributes capabilities }
+{
+    capabilities
+        .protocol
+        .contains(CapabilityFlags::CLIENT_QUERY_ATTRIBUTES)
+}
+
+/// Puts an execution, by what is in force of its statement's parameters.
+pub(crate) fn put_execute(
+    alloc: Global,
+    capabilities: Capabilities,
+    parameters: Option<&StatementParameters>,
+    execution: &Execution,
+    out: &mut Vec<u8>,
+) -> Result<(), CommandRefusal>
+    ensures { Puts capabilities (option_copied parameters.entry) (said.Execute (execution_of execution.now))
+        out.old.items out.new.items result }
+{
+    let Some(parameters) = parameters else {
+        return Err(CommandRefusal::UnknownStatement);
+    };
+    executions_read_back();
+    let len = out.len();
+    out.extend_from_slice(&[0x17])?;
+    if let Err(refusal) = put_execution(alloc, capabilities, parameters, execution, out) {
+        out.truncate(len);
+        return Err(CommandRefusal::from(refusal));
+    }
+    Ok(())
+}
+
+/// Puts a bulk execution, by what is in force of its statement's parameters.
+pub(crate) fn put_bulk(
+    alloc: Global,
+    capabilities: Capabilities,
+    parameters: Option<&StatementParameters>,
+    execution: &BulkExecution,
+    out: &mut Vec<u8>,
+) -> Result<(), CommandRefusal>
+    ensures { Puts capabilities (option_copied parameters.entry) (said.BulkExecute (bulk_of execution.now))
+        out.old.items out.new.items result }
+{
+    let Some(parameters) = parameters else {
+        return Err(CommandRefusal::UnknownStatement);
+    };
+    bulks_read_back();
+    let len = out.len();
+    out.extend_from_slice(&[0xfa])?;
+    if let Err(refusal) = put_bulk_execution(alloc, capabilities, parameters, execution, out) {
+        out.truncate(len);
+        return Err(CommandRefusal::from(refusal));
+    }
+    Ok(())
+}
+
+/// Puts a query behind its attributes.
+fn put_attributed(
+    alloc: Global,
+    attributes: &[Attribute],
+    sql: &[u8],
+    out: &mut Vec<u8>,
+) -> Result<(), CommandRefusal>
+    ensures { PutsAttributed attributes.now sql.now out.old.items out.new.items result }
+{
+    let len = out.len();
+    out.extend_from_slice(&[0x03])?;
+    if let Err(refusal) = put_query_attributes(alloc, attributes, out) {
+        out.truncate(len);
+        return Err(CommandRefusal::from(refusal));
+    }
+    if out.extend_from_slice(sql).is_err() {
+        out.truncate(len);
+        return Err(CommandRefusal::Memory);
+    }
+    Ok(())
+}
+
+/// Puts a query, behind its attributes where they are in force.
+pub(crate) fn put_query(
+    alloc: Global,
+    capabilities: Capabilities,
+    parameters: Option<&StatementParameters>,
+    attributes: &[Attribute],
+    sql: &[u8],
+    out: &mut Vec<u8>,
+) -> Result<(), CommandRefusal>
+    ensures { Puts capabilities (option_copied parameters.entry) (said.Query attributes.now sql.now)
+        out.old.items out.new.items result }
+{
+    if has_query_attributes(capabilities) {
+        attributes_read_back();
+        return put_attributed(alloc, attributes, sql, out);
+    }
+    if !attributes.is_empty() {
+        return Err(CommandRefusal::NotAgreed);
+    }
+    append_text(0x03, sql, out)?;
+    Ok(())
+}
