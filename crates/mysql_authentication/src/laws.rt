@@ -1,6 +1,7 @@
 //! Laws of the payloads of logging in. Functions without a result do nothing: their contracts are the laws.
 
-ghost use Rattle.mysql_authentication.specs.Statements.{AuthenticationsReadAgain, GreetingsReadAgain, ResponsesReadAgain};
+ghost use Rattle.mysql_authentication.specs.Statements.{AuthenticationsReadAgain, GreetingsReadAgain};
+ghost use Rattle.mysql_authentication.specs.Statements.{ResponsesReadAgain};
 ghost use Rattle.mysql_authentication.specs.Statements.{AuthenticationsArePut, AuthenticationsReadBack};
 ghost use Rattle.mysql_authentication.specs.Statements.{GreetingsArePut, GreetingsReadBack};
 ghost use Rattle.mysql_authentication.specs.Statements.{RefusedAuthenticationsReadOtherwise};

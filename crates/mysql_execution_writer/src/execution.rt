@@ -148,7 +148,7 @@ fn put_body(
 /// Appends the body of an execution, behind the command's first byte, by what is in force.
 ///
 /// Promise: exactly where it can be (`can_be_put`), and the bytes are read as the execution
-/// (`executions_read_back`).
+/// (`ExecutionsReadBack`).
 ///
 /// # Errors
 /// - `Unreadable` where no body is read as this execution: the statement is broken; a cursor of

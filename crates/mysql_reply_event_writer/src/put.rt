@@ -47,7 +47,7 @@ fn take_told(reader: &mut EventReader, event: &ReplyEvent, payload: &[u8]) -> Re
     }
 }
 
-/// Appends the payload of an event, not framed, where it is read as this event; the reader is then
+/// Appends the payload of an event, not framed, where it is read as this event. The reader is then
 /// behind it.
 ///
 /// Promise: what was put is read again as it was, and an event is refused by `BadEvent` exactly where
