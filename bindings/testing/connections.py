@@ -9,8 +9,9 @@ lines of logging in, each with the capabilities by which it is read.
 
 Each payload is handed to the library with what it needs: the capabilities in force, what is in
 force of a statement, the kind of a reply. Here, and not in the library, it is kept which is due.
-Each line has to be as it stands, and each command is put again as one that reads the same. Fronts of payloads, payloads with a changed byte and random bytes
-have to be read as an event or a fault.
+Each line has to be as it stands, and each event is put again as a payload that reads the same.
+Fronts of payloads, payloads with a changed byte and random bytes have to be read as an event or a
+fault.
 """
 
 import ctypes
@@ -38,10 +39,14 @@ CALLS = {
     "command_again": (_HANDLE, _U32, _U32, *_BYTES, _HANDLE),
     "events_new": (_HANDLE, _U32, _U32, _U32, _HANDLE),
     "events_line": (_HANDLE, *_BYTES, _HANDLE, _OUT),
+    "events_again": (_HANDLE, _HANDLE, *_BYTES, _HANDLE),
     "events_file": (_HANDLE, *_BYTES, _OUT),
     "greeting_line": (*_BYTES, _HANDLE),
     "response_line": (_U32, *_BYTES, _HANDLE),
     "authentication_line": (_U32, *_BYTES, _HANDLE),
+    "greeting_again": (*_BYTES, _HANDLE),
+    "response_again": (_U32, *_BYTES, _HANDLE),
+    "authentication_again": (_U32, *_BYTES, _HANDLE),
 }
 
 # Whose payload is due behind one of a reply.
@@ -107,15 +112,25 @@ class Walk:
         self.changes_user = False
         self.statements, self.last, self.prepared = {}, None, None
         self.command, self.reply, self.turn, self.first = 0, None, NOBODY, False
+        self.readers = ()
 
     def see(self, side, payload):
         """Returns what a payload is, as a line."""
         line = getattr(self, self.phase)(side, payload)
         return f"{side} {line.decode()}"
 
+    def of_login(self, phase, payload, *given):
+        """A payload of logging in, which is put again."""
+        line = self.library.written(phase + "_line", *given, payload, len(payload))
+        if not line.startswith(b"Fault"):
+            again = self.library.written(phase + "_again", *given, payload, len(payload))
+            if self.library.written(phase + "_line", *given, again, len(again)) != line:
+                raise ValueError(f"{line} is put as {again.hex()}")
+        return line
+
     def greeting(self, side, payload):
         """The server's first payload."""
-        line = self.library.written("greeting_line", payload, len(payload))
+        line = self.of_login("greeting", payload)
         if line.startswith(b"Greeting "):
             self.server = capabilities_of(line)
             self.phase = "response"
@@ -123,7 +138,7 @@ class Walk:
 
     def response(self, side, payload):
         """The client's answer."""
-        line = self.library.written("response_line", self.server[0], payload, len(payload))
+        line = self.of_login("response", payload, self.server[0])
         if line.startswith(b"Login "):
             client = capabilities_of(line)
             self.protocol = self.server[0] & client[0]
@@ -136,7 +151,7 @@ class Walk:
         """The server's payloads, and the client's answers."""
         if side == "client":
             return b"AuthAnswer data=x" + payload.hex().encode()
-        line = self.library.written("authentication_line", self.protocol, payload, len(payload))
+        line = self.of_login("authentication", payload, self.protocol)
         if line.startswith(b"Accepted ") or line.startswith(b"Denied ") and self.changes_user:
             self.phase = "commands"
         return line
@@ -192,23 +207,28 @@ class Walk:
 
     def await_reply(self, kind, statement):
         """A reply of this kind is due."""
-        self.reply = _Handle()
         columns = statement.columns if statement and statement.columns else _Handle()
-        self.library.call("events_new", ctypes.byref(self.reply), kind, *self.in_force(),
-                          ctypes.byref(columns))
+        self.reply, *self.readers = _Handle(), _Handle(), _Handle()
+        for reader in (self.reply, *self.readers):
+            self.library.call("events_new", ctypes.byref(reader), kind, *self.in_force(),
+                              ctypes.byref(columns))
         self.turn, self.first = SERVER, True
 
     def of_reply(self, side, payload):
         """A payload of a reply, or of a file that it asks for."""
         turn = _U32()
         if side == "client":
-            self.library.call("events_file", ctypes.byref(self.reply), payload, len(payload),
-                              ctypes.byref(turn))
+            for reader in (self.reply, *self.readers):
+                self.library.call("events_file", ctypes.byref(reader), payload, len(payload),
+                                  ctypes.byref(turn))
             self.turn = turn.value
             return b"FileData data=x" + payload.hex().encode()
         line = self.library.written("events_line", ctypes.byref(self.reply), payload, len(payload),
                                     behind=(ctypes.byref(turn),))
         self.turn = turn.value
+        if not line.startswith(b"Fault"):
+            self.library.written("events_again", *map(ctypes.byref, self.readers), payload,
+                                 len(payload))
         self.follow(line)
         return line
 

@@ -6,8 +6,9 @@ ghost use Rattle.mysql_c_events.specs.Following.{IsEvents, IsStatement, KeepsCon
 ghost use Rattle.mysql_c_events.specs.Printing.{PutsLine};
 
 use mysql_c_events::{
-    authentication_line, command_again, command_line, events_file, events_line, events_new,
-    greeting_line, response_line, statement_command, statement_error, statement_new,
+    authentication_again, authentication_line, command_again, command_line, events_again,
+    events_file, events_line, events_new, greeting_again, greeting_line, response_again,
+    response_line, statement_command, statement_error, statement_new,
 };
 use mysql_c_handles::Handle;
 use mysql_const::{Capabilities, CapabilityFlags, MariadbCapabilities};
@@ -181,4 +182,56 @@ pub extern "C" fn mysql_session_authentication_line(
     ensures { PutsLine out.old.object result out.new.object }
 {
     authentication_line(alloc, CapabilityFlags(capabilities), payload, out)
+}
+
+/// Reads a payload of the server by one reader, and appends the payload that is put of it by another.
+#[unsafe(no_mangle)]
+pub extern "C" fn mysql_session_events_again(
+    alloc: Global,
+    handle: &mut Handle,
+    writer: &mut Handle,
+    payload: &[u8],
+    out: &mut Handle,
+) -> u32
+    ensures { PutsLine out.old.object result out.new.object ⊎ (out.new.object ≡ out.old.object) }
+{
+    events_again(alloc, handle, writer, payload, out)
+}
+
+/// Appends the payload that is put of what a server's first payload says.
+#[unsafe(no_mangle)]
+pub extern "C" fn mysql_session_greeting_again(
+    alloc: Global,
+    payload: &[u8],
+    out: &mut Handle,
+) -> u32
+    ensures { PutsLine out.old.object result out.new.object ⊎ (out.new.object ≡ out.old.object) }
+{
+    greeting_again(alloc, payload, out)
+}
+
+/// Appends the payload that is put of what a client's first payload says.
+#[unsafe(no_mangle)]
+pub extern "C" fn mysql_session_response_again(
+    alloc: Global,
+    server: u32,
+    payload: &[u8],
+    out: &mut Handle,
+) -> u32
+    ensures { PutsLine out.old.object result out.new.object ⊎ (out.new.object ≡ out.old.object) }
+{
+    response_again(alloc, CapabilityFlags(server), payload, out)
+}
+
+/// Appends the payload that is put of what a server's payload of an authentication says.
+#[unsafe(no_mangle)]
+pub extern "C" fn mysql_session_authentication_again(
+    alloc: Global,
+    capabilities: u32,
+    payload: &[u8],
+    out: &mut Handle,
+) -> u32
+    ensures { PutsLine out.old.object result out.new.object ⊎ (out.new.object ≡ out.old.object) }
+{
+    authentication_again(alloc, CapabilityFlags(capabilities), payload, out)
 }

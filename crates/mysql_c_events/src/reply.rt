@@ -9,6 +9,7 @@ use mysql_c_handles::{Code, Handle, Object, append};
 use mysql_columns::Column;
 use mysql_const::Capabilities;
 use mysql_event_lines::write_reply_event;
+use mysql_reply_event_writer::{PutRefusal, put_event};
 use mysql_reply_events::{EventReader, ReplyFault, ReplyKind, Turn};
 use std::alloc::{AllocError, Global};
 use std::io;
@@ -186,4 +187,72 @@ pub fn events_file(alloc: Global, handle: &mut Handle, payload: &[u8], turn: &mu
     let code = take_file_in(&mut object, payload, turn);
     handle.put(object);
     code.number()
+}
+
+/// Reads a payload by one reader, and puts what it is by another one.
+fn read_and_put(
+    reader: &mut EventReader,
+    writer: &mut EventReader,
+    payload: &[u8],
+    again: &mut Vec<u8>,
+) -> Code
+    ensures reader { reader.new.context ≡ reader.old.context }
+    ensures writer { writer.new.context ≡ writer.old.context }
+{
+    let Ok(event) = reader.read(payload) else {
+        return Code::BadPacket;
+    };
+    match put_event(writer, &event, again) {
+        Ok(()) => Code::Done,
+        Err(PutRefusal::Memory) => Code::Memory,
+        Err(_) => Code::BadPacket,
+    }
+}
+
+/// Reads a payload by the reader that an object is, and puts it by another one.
+fn read_and_put_in(
+    object: &mut Object,
+    writer: &mut EventReader,
+    payload: &[u8],
+    again: &mut Vec<u8>,
+) -> Code
+    ensures reader { KeepsContext object.old (code_number result) object.new }
+    ensures writer { writer.new.context ≡ writer.old.context }
+{
+    match object {
+        Object::Events(reader) => read_and_put(reader, writer, payload, again),
+        Object::Empty => Code::EmptyHandle,
+        _ => Code::OtherKind,
+    }
+}
+
+/// Reads a payload of the server by the reader of `handle`, and appends the payload that is put of it
+/// by that of `writer`, which stands where the first one stood.
+pub fn events_again(
+    alloc: Global,
+    handle: &mut Handle,
+    writer: &mut Handle,
+    payload: &[u8],
+    out: &mut Handle,
+) -> u32
+    ensures { PutsLine out.old.object result out.new.object ⊎ (out.new.object ≡ out.old.object) }
+{
+    let Some(mut written) = writer.take(alloc) else {
+        return Code::EmptyHandle.number();
+    };
+    let Some(mut object) = handle.take(alloc) else {
+        writer.put(written);
+        return Code::EmptyHandle.number();
+    };
+    let mut again = Vec::new(alloc);
+    let code = match &mut *written {
+        Object::Events(by) => read_and_put_in(&mut object, by, payload, &mut again),
+        _ => Code::OtherKind,
+    };
+    handle.put(object);
+    writer.put(written);
+    match code {
+        Code::Done => append(alloc, out, &again).number(),
+        _ => code.number(),
+    }
 }

@@ -25,5 +25,6 @@ pub use mysql_event_lines::{
 };
 pub use mysql_executions::{Refused, read_bulk_types, read_execution_types};
 pub use mysql_login;
+pub use mysql_reply_event_writer::{PutRefusal, put_event};
 pub use mysql_reply_events::{Context, EventReader, ReplyEvent, ReplyFault, ReplyKind, Turn};
 pub use mysql_session;
