@@ -5,8 +5,8 @@ use mysql_connection::{
     Attribute, AuthenticationEvent, BoundType, BulkExecution, BulkValue, Capabilities,
     CapabilityFlags, Command, CommandRefusal, Context, EventReader, Execution, ExtendedColumn,
     GreetingEvent, ListedColumn, LoginFault, LoginRefusal, LoginResponse, MariadbCapabilities,
-    ParameterType, Refused, Reply, ReplyEvent, ReplyFault, ReplyKind, ResponseEvent,
-    StatementParameters, Turn, capabilities_in_force, put_authentication, put_command,
+    ParameterType, PutRefusal, Refused, Reply, ReplyEvent, ReplyFault, ReplyKind, ResponseEvent,
+    StatementParameters, Turn, capabilities_in_force, put_authentication, put_command, put_event,
     put_greeting, put_response, read_authentication, read_bulk_types, read_execution_types,
     read_greeting, read_response, write_authentication_event, write_command, write_greeting_event,
     write_reply_event, write_response_event,
@@ -15,9 +15,10 @@ use mysql_connection::{
 mod laws {
     mod logins {
         use mysql_connection::laws::logins::{
-            authentications_are_put, authentications_read_back, greetings_are_put,
-            greetings_read_back, refused_authentications_read_otherwise,
-            refused_greetings_read_otherwise, refused_responses_read_otherwise, responses_are_put,
+            authentications_are_put, authentications_read_again, authentications_read_back,
+            greetings_are_put, greetings_read_again, greetings_read_back,
+            refused_authentications_read_otherwise, refused_greetings_read_otherwise,
+            refused_responses_read_otherwise, responses_are_put, responses_read_again,
             responses_read_back,
         };
     }

@@ -56,8 +56,9 @@ fn write_greeting(event: &GreetingEvent, out: &mut Vec<u8>) -> Result<(), AllocE
 /// Appends a server's first payload: one that is read as this event.
 ///
 /// Promise: exactly its bytes are appended where it would be read as it is, and else nothing, for the
-/// first cause (`greeting_bytes`, `greeting_cause`); by the laws below such a payload is read as the
-/// event, and each event that was read is put.
+/// first cause (`greeting_bytes`, `greeting_cause`).
+///
+/// By the laws such a payload is read as the event, and each event that was read is put.
 ///
 /// # Errors
 /// - `ReadsOtherwise` for another version than 10, and for a refusal without an SQL state whose text

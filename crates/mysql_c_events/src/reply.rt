@@ -226,8 +226,8 @@ fn read_and_put_in(
     }
 }
 
-/// Reads a payload of the server by the reader of `handle`, and appends the payload that is put of it
-/// by that of `writer`, which stands where the first one stood.
+/// Reads a payload of the server by the reader of `handle`, and appends the payload put of it. The
+/// second is put by the reader of `writer`, which stands where the first one stood.
 pub fn events_again(
     alloc: Global,
     handle: &mut Handle,

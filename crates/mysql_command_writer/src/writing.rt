@@ -121,6 +121,11 @@ fn put_plain(
 /// Appends a command's payload, by the capabilities in force; by the same it reads as the command.
 /// An execution is written by what is in force of its statement's parameters too.
 ///
+/// Promise: exactly the command's bytes are appended, and they are read as the command, an unsigned
+/// number below 2^63 as `Int`; or nothing is, and the cause is told: of values exactly where their
+/// types, cells or flags can't be written, else exactly where the bytes would be read otherwise
+/// (`Puts`, `command_bytes`, `cause_against`).
+///
 /// # Errors
 /// - The cause why it would read otherwise.
 /// - `Memory`.

@@ -373,6 +373,8 @@ impl<'a> Command<'a> {
     /// whose number has no row, is [`Command::Other`]; so is an execution of a statement that isn't
     /// known.
     ///
+    /// Promise: any bytes are read exactly as the table of commands says (`command_at`).
+    ///
     /// # Errors
     /// - `AllocError` for want of memory.
     ///

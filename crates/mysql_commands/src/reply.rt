@@ -51,6 +51,8 @@ impl<'a> Command<'a> {
     /// payload isn't laid out as the byte says. It is plain where the byte is no command's, or
     /// missing.
     ///
+    /// Promise: exactly the kind that the table of replies has for that byte (`reply_to`).
+    ///
     /// MySQL: Client/Server Protocol, "Command Phase".
     pub fn reply(payload: &[u8]) -> Reply
         ensures { result ≡ reply_to payload.now }
@@ -71,6 +73,8 @@ impl<'a> Command<'a> {
 
     /// The id of the statement that a payload is about. An execution, also a bulk one, long data, a
     /// fetch, a reset and a close have one, also where they aren't laid out so behind it.
+    ///
+    /// Promise: exactly the four bytes behind such a command's number (`statement_of`).
     ///
     /// MySQL: Client/Server Protocol, "Prepared Statements".
     pub fn statement_id(payload: &[u8]) -> Option<u32>

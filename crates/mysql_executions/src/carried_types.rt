@@ -33,6 +33,8 @@ fn read_front(
 ///
 /// None where it carries no types, or what stands before them isn't laid out as in an execution.
 ///
+/// Promise: exactly the types that stand there (`execution_types`).
+///
 /// # Errors
 /// For want of memory.
 ///
@@ -62,6 +64,8 @@ pub fn read_execution_types(
 /// as many as `count`; the types go up to the first that can't be read, whatever stands behind it.
 ///
 /// None where it carries no types, or is cut off before them.
+///
+/// Promise: exactly the types that stand there (`bulk_types`).
 ///
 /// # Errors
 /// For want of memory.

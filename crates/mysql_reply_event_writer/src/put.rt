@@ -51,8 +51,9 @@ fn take_told(reader: &mut EventReader, event: &ReplyEvent, payload: &[u8]) -> Re
 /// behind it.
 ///
 /// Promise: what was put is read again as it was, and an event is refused by `BadEvent` exactly where
-/// no payload of its own is read as it there (`Puts`). So a server that puts its events and a client
-/// that reads them have the same events.
+/// no payload of its own is read as it there (`Puts`, `event_payload`).
+///
+/// So a server that puts its events and a client that reads them have the same events.
 ///
 /// # Errors
 /// - `NotDue` where no payload of the server is due, or the reader has failed.

@@ -261,6 +261,8 @@ impl EventReader {
 
     /// Takes a payload of the client's file; an empty one ends the file.
     ///
+    /// Promise: what is awaited behind it is what the table says, or its fault (`file_data_at`).
+    ///
     /// # Errors
     /// - `NotDue` where no file is due.
     ///
