@@ -1,6 +1,7 @@
 -- What is written of each event, and why one isn't: its payload would be read as another one.
 -- (MySQL: Client/Server Protocol, "Connection Phase"; MariaDB: Client/Server Protocol, "Connecting".)
-use Rattle.std.specs.Prelude.{◌≡◌, ◌≢◌, ◌==◌, ◌&&◌, ◌||◌, ℕ, nat_le, Bool, true, false, not, if◌then◌else◌, List, [], ◌∷◌}
+use Rattle.std.specs.Prelude.{◌≡◌, ◌≢◌, ◌==◌, ◌&&◌, ◌||◌, ℕ, nat_le, Bool, true, false, not, if◌then◌else◌, List, []}
+use Rattle.std.specs.Prelude.{◌∷◌}
 use Rattle.std.specs.Prelude.{◌++◌, length, replicate, slice_index_or, Option, None, Some, is_some, Result, Ok, Err}
 use Rattle.std.specs.Int.RustNames.{bit_and}
 use Rattle.std.specs.List.{before_first}
