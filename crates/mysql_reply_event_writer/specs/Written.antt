@@ -42,7 +42,8 @@ abbrev pub form_cause : Context → Row → Option ℕ
 form_cause c row = if is_binary c.kind then binary_cause row.columns row.cells else text_cause row.cells
 
 abbrev pub cells_bytes : Context → Row → Payload
-cells_bytes c row = if is_binary c.kind then binary_row row.columns (values_of row.cells) else text_row (values_of row.cells)
+cells_bytes c row =
+    if is_binary c.kind then binary_row row.columns (values_of row.cells) else text_row (values_of row.cells)
 
 -- A row has a payload where each cell has a form.
 abbrev pub unless_cause : Option ℕ → Payload → Option Payload
