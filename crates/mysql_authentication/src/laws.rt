@@ -1,9 +1,8 @@
 //! Laws of the payloads of logging in. Functions without a result do nothing: their contracts are the laws.
 
-ghost use Rattle.mysql_authentication.specs.Statements.{AuthenticationsReadAgain, GreetingsReadAgain};
-ghost use Rattle.mysql_authentication.specs.Statements.{ResponsesReadAgain};
-ghost use Rattle.mysql_authentication.specs.Statements.{AuthenticationsArePut, AuthenticationsReadBack};
-ghost use Rattle.mysql_authentication.specs.Statements.{GreetingsArePut, GreetingsReadBack};
+ghost use Rattle.mysql_authentication.specs.Statements.{AuthenticationsArePut, AuthenticationsReadAgain};
+ghost use Rattle.mysql_authentication.specs.Statements.{AuthenticationsReadBack, GreetingsArePut, GreetingsReadAgain};
+ghost use Rattle.mysql_authentication.specs.Statements.{GreetingsReadBack, ResponsesReadAgain};
 ghost use Rattle.mysql_authentication.specs.Statements.{RefusedAuthenticationsReadOtherwise};
 ghost use Rattle.mysql_authentication.specs.Statements.{RefusedGreetingsReadOtherwise, RefusedResponsesReadOtherwise};
 ghost use Rattle.mysql_authentication.specs.Statements.{ResponsesArePut, ResponsesReadBack};

@@ -43,8 +43,7 @@ fn assert_put(
 
 // A greeting of MariaDB, which offers MariaDB's own capabilities.
 const GREETING: &[u8] =
-    b"\x0a5.5.5-10.11.19-MariaDB\0\xb0\x01\0\0#Dls{3+x\0\xfe\xff\x2d\x02\0\xff\x81\x15\0\0\0\0\0\0\
-    \x1d\0\0\0@vPmUC_-hu14\0mysql_native_password\0";
+    b"\x0a10.11\0\xb0\x01\0\0#Dls{3+x\0\xfe\xff\x2d\x02\0\xff\x81\x15\0\0\0\0\0\0\x1d\0\0\0@vPmUC_-hu14\0native\0";
 
 // First payloads of a server.
 const GREETINGS: [(&[u8], &str); 9] = [

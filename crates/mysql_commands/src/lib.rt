@@ -2,6 +2,7 @@
 #![tactic(auto)]
 
 pub mod command;
+mod owned;
 mod reading;
 pub mod reply;
 

@@ -7,3 +7,8 @@ pub mod ExecutionsBack
 pub mod AttributesBack
 pub mod RowLoops
 pub mod BulksBack
+pub mod ReadTypes
+pub mod ReadValues
+pub mod ReadExecutions
+pub mod ReadAttributes
+pub mod ReadBulks

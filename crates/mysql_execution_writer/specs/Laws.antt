@@ -2,6 +2,7 @@
 -- Client/Server Protocol, "COM_STMT_EXECUTE", "COM_QUERY"; MariaDB: "COM_STMT_BULK_EXECUTE".
 use Rattle.std.specs.Prelude.{◌≡◌, ℕ, ◌^◌, ◌<◌, true, List, [], ◌++◌, length, Some, unwrap_or}
 use Rattle.std.specs.List.{AllByRecursion}
+use Rattle.mysql_buf.specs.Bytes.{AreBytes}
 use Rattle.mysql_const.specs.declared.capabilities.Capabilities.{Capabilities}
 use Rattle.mysql_cells.specs.AsSql.{FitsFields}
 use Rattle.mysql_executions.specs.Attributes.{query_attributes_at}
@@ -70,3 +71,26 @@ BulksReadBack =
     (capabilities : Capabilities) (s : InForce) (e : BulkExecution) → FitsBulk e →
     can_put_bulk capabilities s e ≡ true
     → bulk_execution_at capabilities s (bulk_bytes s e) ≡ Some (bulk_as_read e)
+
+-- WHAT WAS READ
+
+-- An execution that was read can be written by what was in force, and is read again as it is.
+abbrev pub ReadExecutionsAreWritten : Type 0
+ReadExecutionsAreWritten =
+    (capabilities : Capabilities) (s : InForce) (body : List ℕ) (e : Execution) → AreBytes body →
+    execution_at capabilities s body ≡ Some e
+    → (can_be_put capabilities s e ≡ true) × (execution_as_read e ≡ e)
+
+-- Attributes that were read can be written, and are read again as they are.
+abbrev pub ReadAttributesAreWritten : Type 0
+ReadAttributesAreWritten =
+    (bytes text : List ℕ) (attributes : List Attribute) → AreBytes bytes →
+    query_attributes_at bytes ≡ Some (attributes, text)
+    → (are_attributes true attributes ≡ true) × (attributes_as_read attributes ≡ attributes)
+
+-- A bulk execution that was read can be written by what was in force, and is read again as it is.
+abbrev pub ReadBulksAreWritten : Type 0
+ReadBulksAreWritten =
+    (capabilities : Capabilities) (s : InForce) (body : List ℕ) (e : BulkExecution) → AreBytes body →
+    bulk_execution_at capabilities s body ≡ Some e
+    → (can_put_bulk capabilities s e ≡ true) × (bulk_as_read e ≡ e)

@@ -247,8 +247,8 @@ fn write_prepared(
 
 /// Appends a row.
 fn write_row(context: Context, row: &Row, out: &mut Vec<u8>) -> Result<(), PutRefusal>
-    ensures { WritesPayload (unless_cause (form_cause context (row_view row.now))
-        (cells_bytes context (row_view row.now)))
+    ensures { WritesPayload
+        (unless_cause (form_cause context (row_view row.now)) (cells_bytes context (row_view row.now)))
         out.old.items out.new.items result }
 {
     let written = if has_binary_rows(context.kind) {
