@@ -79,6 +79,7 @@ TASKS = {
         ('put a command', ['put_command']),
         ('follow what is in force of a statement', ['StatementParameters::execute', 'StatementParameters::take_back']),
         ('read a reply, one event a payload', ['EventReader::read', 'EventReader::turn']),
+        ('put an event of a reply', ['put_event']),
         ('read a login', ['read_greeting', 'read_response', 'read_authentication']),
         ('put a login', ['put_greeting', 'put_response', 'put_authentication']),
         ('print an event as a line', ['write_command', 'write_reply_event']),
