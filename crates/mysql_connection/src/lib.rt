@@ -2,8 +2,8 @@
 //! the capabilities in force.
 //!
 //!     let command = Command::read(alloc, capabilities, parameters, payload)?;
-//!     write_command(&mut output, &command)?;      // Execute id=3 flags=0 parameters=((i 1)) attributes=()
-//!     let event = reader.read(payload)?;          // of an EventReader of the reply
+//!     write_command(&mut output, &command)?;  // Execute id=3 flags=0 parameters=((i 1)) ..
+//!     let event = reader.read(payload)?;      // of an EventReader of the reply
 #![tactic(auto)]
 
 pub mod laws;
