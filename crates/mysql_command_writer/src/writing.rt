@@ -127,7 +127,14 @@ fn put_plain(
 /// (`Puts`, `command_bytes`, `cause_against`).
 ///
 /// # Errors
-/// - The cause why it would read otherwise.
+/// - `NotAgreed` for attributes of a query where they aren't in force.
+/// - `ZeroByte` inside the table's name of a list of its columns.
+/// - `NamelessFlags` in a dump of the binary log.
+/// - `TooLong` for a name in a request of a replica that is longer than its length can say.
+/// - `UnknownStatement` for an execution of which no parameters are handed in.
+/// - `ReadsAsCommand` for other bytes that are laid out as a command.
+/// - `ReadsOtherwise` for values, types or flags of an execution, a bulk one or of attributes that
+///   can't be written, and for a change of user that would be read as another one.
 /// - `Memory`.
 ///
 /// Nothing is appended then.
