@@ -22,7 +22,7 @@ pub enum CommandRefusal {
     /// Flags that have no name.
     #[error("flags that have no name")]
     NamelessFlags,
-    /// What isn't in force: attributes, or fields of a change of user.
+    /// What isn't in force: attributes of a query.
     #[error("what the capabilities in force don't have")]
     NotAgreed,
     /// An execution of a statement that isn't known.
