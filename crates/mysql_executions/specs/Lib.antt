@@ -6,3 +6,4 @@ pub mod Bulks
 pub mod Attributes
 pub mod After
 pub mod Views
+pub mod Laws

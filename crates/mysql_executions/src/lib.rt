@@ -7,6 +7,7 @@ pub mod bulk_reading;
 pub mod carried_types;
 pub mod execution_reading;
 mod fields;
+pub mod laws;
 mod not_read;
 pub mod refused;
 pub mod statement;

@@ -1,4 +1,4 @@
-use Rattle.std.proofs.Common.{◌≡◌, ◌≤◌, ◌+◌, ◌-◌, ◌++◌, length, replicate, vec_capacity, vec_len}
+use Rattle.std.proofs.Common.{◌≡◌, ◌≤◌, ◌+◌, ◌++◌, replicate, vec_capacity, vec_len}
 use Rattle.mysql_executions.proofs.Kept.{none}
 use Rattle.mysql_executions.proofs.waiting.append_behind.Given as goal
 

@@ -1,4 +1,3 @@
-use Rattle.std.proofs.Common.{Some, None}
 use Rattle.mysql_executions.proofs.Kept.{append_none, append_some}
 use Rattle.mysql_executions.proofs.waiting.append_to.Goals as goal
 
