@@ -5,7 +5,8 @@ import sys
 
 ROOT = pathlib.Path(__file__).resolve().parent.parent
 CRATES = ROOT / 'crates'
-FACES = ['mysql_session', 'mysql_convert', 'mysql_values', 'mysql_packets', 'mysql_wire', 'mysql_buf', 'mysql_login']
+FACES = ['mysql_session', 'mysql_convert', 'mysql_values', 'mysql_packets', 'mysql_wire', 'mysql_buf', 'mysql_login',
+         'mysql_connection']
 
 
 class Item:
@@ -124,7 +125,10 @@ class Module:
         self.items, self.uses, self.modules, self.doc = {}, [], {}, []
         self.impls, self.path = [], path
         lines = path.read_text().split('\n')
-        self.doc = [line[3:].strip() for line in lines if line.startswith('//!')]
+        said = [line[3:] for line in lines if line.startswith('//!')]
+        self.example = [line.rstrip() for line in said if line.startswith('     ')]
+        self.doc = [line.strip() for line in said if not line.startswith('     ')]
+        self.doc = [line for line in self.doc if line]
         folder = path.parent if path.name == 'lib.rt' else path.with_suffix('')
         for at, found, doc in documented(lines, 0, len(lines), lambda line: re.match(r'[a-z]\w*.*', line)):
             self.take(lines, at, lines[at], doc, folder)

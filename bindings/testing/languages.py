@@ -110,6 +110,10 @@ def test_python(report, libraries, library, room):
         report.run("bindings/python/Makefile", make_shared_object, libraries, room)
     how = {"cwd": folder, "env": python_environment(library)}
     report.run("Python tests", run, ["python3", "-m", "unittest", "discover"], **how)
+    testing = os.path.join(BINDINGS, "testing")
+    words = ["python3", os.path.join(testing, "connections.py"),
+             os.path.join(testing, "connections")]
+    report.run("payloads of connections", run, words, **how)
     for file in sorted(glob.glob(os.path.join(folder, "examples", "*.py"))):
         words = ["python3", file, "--help"]
         report.run(os.path.relpath(file, ROOT) + " --help", run, words, **how)

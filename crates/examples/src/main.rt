@@ -1,7 +1,7 @@
 //! Short programs over the public calls, one in each file: they audit a captured stream, send a
 //! query, load rows in bulk, read a reply, log in, sort what a client sends, look on at what passes
-//! between a client and a server, answer in a server's place, let rows go that were looked at, and
-//! keep a query, by which sets go to a connection.
+//! between a client and a server, answer in a server's place, let rows go that were looked at,
+//! keep a query, by which sets go to a connection, and print what a client sends.
 #![tactic(auto)]
 
 mod answering;
@@ -10,6 +10,7 @@ mod cents;
 mod keeping;
 mod loading;
 mod looking;
+mod printing;
 mod proxying;
 mod reading;
 mod sending;
@@ -38,5 +39,6 @@ fn main(rt: HostRuntime) -> anyhow::Result<()> {
     keeping::send_each(alloc, &mut out)?;
     let mut connection = Vec::new(alloc);
     keeping::send_all(alloc, &mut connection, &mut out)?;
+    printing::print(alloc, &mut out)?;
     Ok(())
 }

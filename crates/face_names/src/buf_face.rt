@@ -8,15 +8,15 @@ use mysql_buf::{
 
 mod constants {
     use mysql_buf::constants::{
-        BinlogDumpFlags, CapabilityFlags, ColumnFlags, ColumnType, Command, CursorType,
-        DEFAULT_MAX_ALLOWED_PACKET, Flags, GeometryType, ItemResult, MAX_PAYLOAD_LEN,
-        MariadbBulkIndicator, MariadbCapabilities, SessionStateType, StatusFlags,
-        StmtBulkExecuteFlags, StmtExecuteParamFlags, StmtExecuteParamsFlags, UTF8_GENERAL_CI,
-        UTF8MB4_GENERAL_CI, UnknownBinlogDumpFlags, UnknownCapabilityFlags, UnknownColumnFlags,
-        UnknownColumnType, UnknownCommand, UnknownCursorType, UnknownGeometryType,
-        UnknownItemResultType, UnknownMariadbBulkIndicator, UnknownMariadbCapabilities,
-        UnknownSessionStateType, UnknownStatusFlags, UnknownStmtBulkExecuteFlags,
-        UnknownStmtExecuteParamFlags, UnknownStmtExecuteParamsFlags,
+        BinlogDumpFlags, Capabilities, CapabilityFlags, ColumnFlags, ColumnType, Command,
+        CursorType, DEFAULT_MAX_ALLOWED_PACKET, Flags, GeometryType, ItemResult, MAX_PAYLOAD_LEN,
+        MariadbBulkIndicator, MariadbCapabilities, MariadbStatusFlags, SessionStateType,
+        StatusFlags, StmtBulkExecuteFlags, StmtExecuteParamFlags, StmtExecuteParamsFlags,
+        UTF8_GENERAL_CI, UTF8MB4_GENERAL_CI, UnknownBinlogDumpFlags, UnknownCapabilityFlags,
+        UnknownColumnFlags, UnknownColumnType, UnknownCommand, UnknownCursorType,
+        UnknownGeometryType, UnknownItemResultType, UnknownMariadbBulkIndicator,
+        UnknownMariadbCapabilities, UnknownSessionStateType, UnknownStatusFlags,
+        UnknownStmtBulkExecuteFlags, UnknownStmtExecuteParamFlags, UnknownStmtExecuteParamsFlags,
     };
 }
 

@@ -30,9 +30,9 @@ mod numbers {
 
 // The faces below: one item each, since each has a list of its own.
 mod values_face {
-    use mysql_convert::mysql_values::AsSqlError;
+    use mysql_convert::mysql_values::Mode;
 
     mod wire_face {
-        use mysql_convert::mysql_values::mysql_wire::BareBytes;
+        use mysql_convert::mysql_values::mysql_wire::Seq;
     }
 }

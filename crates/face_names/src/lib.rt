@@ -3,6 +3,7 @@
 #![tactic(auto)]
 
 mod buf_face;
+mod connection_face;
 mod convert_face;
 mod login_face;
 mod packets_face;

@@ -2,19 +2,21 @@
 //! Written by `tools/faces` from the sources. A name that the face doesn't pass on is refused here.
 
 use mysql_login::{
-    AuthMoreData, AuthMoreDataHeader, AuthPlugin, AuthPluginData, AuthSwitchRequest,
-    AuthSwitchRequestHeader, BinlogDumpFlags, BinlogRequest, CapabilityFlags, ComBinlogDump,
-    ComBinlogDumpGtid, ComBinlogDumpGtidHeader, ComBinlogDumpHeader, ComChangeUser,
-    ComChangeUserHeader, ComChangeUserMoreData, ComRegisterSlave, ComRegisterSlaveHeader,
-    ComTableDump, ComTableDumpHeader, ConnectAttributes, Either, Flags, GnoInterval,
-    HandshakePacket, HandshakeResponse, InvalidAuthMoreDataHeader, InvalidAuthSwitchRequestHeader,
-    InvalidComBinlogDumpGtidHeader, InvalidComBinlogDumpHeader, InvalidComChangeUserHeader,
-    InvalidComRegisterSlaveHeader, InvalidComTableDumpHeader, InvalidPublicKeyRequest,
-    InvalidPublicKeyResponse, InvalidSemiSyncAckPacketPacketHeader, InvalidTag,
-    MariadbCapabilities, MyDeserialize, MySerialize, OldAuthSwitchRequest, ParseBuf, ParseExt,
-    PublicKeyRequest, PublicKeyRequestHeader, PublicKeyResponse, PublicKeyResponseHeader, Readable,
+    AuthMoreData, AuthMoreDataHeader, AuthNextFactor, AuthNextFactorHeader, AuthPlugin,
+    AuthPluginData, AuthSwitchRequest, AuthSwitchRequestHeader, BinlogDumpFlags, BinlogRequest,
+    Capabilities, CapabilityFlags, ComBinlogDump, ComBinlogDumpGtid, ComBinlogDumpGtidHeader,
+    ComBinlogDumpHeader, ComChangeUser, ComChangeUserHeader, ComChangeUserMoreData,
+    ComRegisterSlave, ComRegisterSlaveHeader, ComTableDump, ComTableDumpHeader, ConnectAttributes,
+    Either, Flags, GnoInterval, HandshakePacket, HandshakeResponse, InvalidAuthMoreDataHeader,
+    InvalidAuthNextFactorHeader, InvalidAuthSwitchRequestHeader, InvalidComBinlogDumpGtidHeader,
+    InvalidComBinlogDumpHeader, InvalidComChangeUserHeader, InvalidComRegisterSlaveHeader,
+    InvalidComTableDumpHeader, InvalidPublicKeyRequest, InvalidPublicKeyResponse,
+    InvalidSemiSyncAckPacketPacketHeader, InvalidTag, MariadbCapabilities, MyDeserialize,
+    MySerialize, OldAuthSwitchRequest, ParseBuf, ParseExt, PublicKeyRequest,
+    PublicKeyRequestHeader, PublicKeyResponse, PublicKeyResponseHeader, Readable,
     SemiSyncAckPacket, SemiSyncAckPacketPacketHeader, Sid, SidBlock, SidError, SslRequest,
-    StatusFlags, Tag, UUID_LEN, UnknownBinlogDumpFlags, WireError, parse_parsec_salt,
+    StatusFlags, Tag, UUID_LEN, UnknownBinlogDumpFlags, WireError, in_force, offered_by,
+    parse_parsec_salt,
 };
 
 mod laws {
@@ -38,5 +40,5 @@ mod laws {
 
 // The faces below: one item each, since each has a list of its own.
 mod wire_face {
-    use mysql_login::mysql_wire::BareBytes;
+    use mysql_login::mysql_wire::Seq;
 }

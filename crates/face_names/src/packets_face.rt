@@ -7,18 +7,19 @@ use mysql_packets::{
     ComStmtBulkExecuteRequest, ComStmtBulkExecuteRequestBuilder, ComStmtClose, ComStmtCloseHeader,
     ComStmtExecuteHeader, ComStmtExecuteRequest, ComStmtExecuteRequestBuilder, ComStmtReset,
     ComStmtResetHeader, ComStmtSendLongData, ComStmtSendLongDataHeader, CommonOkPacket, ErrPacket,
-    ErrPacketHeader, FixedLengthFieldsLen, Gtids, InvalidCatalog, InvalidComStmtBulkExecuteHeader,
-    InvalidComStmtCloseHeader, InvalidComStmtExecuteHeader, InvalidComStmtResetHeader,
-    InvalidComStmtSendLongDataHeader, InvalidErrPacketHeader, InvalidFixedLengthFieldsLen,
-    InvalidIterationCount, InvalidLocalInfileHeader, InvalidOkPacketHeader, InvalidSqlStateMarker,
-    InvalidStmtPacketStatus, IterationCount, LocalInfileHeader, LocalInfilePacket,
-    NetworkStreamTerminator, NullBitmap, NullBits, OkPacket, OkPacketBody, OkPacketDeserializer,
-    OkPacketKind, OldEofPacket, ProgressReport, ResultSetTerminator, Row, RowDeserializer, RowExt,
-    RowRefExt, RowRefusal, Schema, ServerError, SessionStateChange, SessionStateInfo, SqlState,
-    SqlStateMarker, StatementAlone, StmtBulkExecuteParamType, StmtBulkExecuteParamValue,
+    ErrPacketHeader, ExtendedColumn, FixedLengthFieldsLen, Gtids, InvalidCatalog,
+    InvalidComStmtBulkExecuteHeader, InvalidComStmtCloseHeader, InvalidComStmtExecuteHeader,
+    InvalidComStmtResetHeader, InvalidComStmtSendLongDataHeader, InvalidErrPacketHeader,
+    InvalidFixedLengthFieldsLen, InvalidIterationCount, InvalidLocalInfileHeader,
+    InvalidOkPacketHeader, InvalidSqlStateMarker, InvalidStmtPacketStatus, IterationCount,
+    ListedColumn, LocalInfileHeader, LocalInfilePacket, NetworkStreamTerminator, NullBitmap,
+    NullBits, OkPacket, OkPacketBody, OkPacketDeserializer, OkPacketKind, OldEofPacket,
+    ProgressReport, ResultSetTerminator, Row, RowDeserializer, RowExt, RowRefExt, RowRefusal,
+    Schema, ServerError, SessionStateChange, SessionStateInfo, SqlState, SqlStateMarker,
+    StatementAlone, StmtBulkExecuteParamType, StmtBulkExecuteParamValue,
     StmtBulkExecuteParamValues, StmtPacket, StmtPacketStatus, SystemVariable,
-    TransactionCharacteristics, TransactionState, Unsupported, has_named_status, new_row,
-    new_row_raw, put_states, read_bulk_row, write_binary_row, write_text_row,
+    TransactionCharacteristics, TransactionState, Unsupported, has_mysql_status, has_named_status,
+    new_row, new_row_raw, put_states, read_bulk_row, write_binary_row, write_text_row,
 };
 
 mod err_packet {
@@ -57,13 +58,13 @@ mod statement {
 
 // The faces below: one item each, since each has a list of its own.
 mod convert_face {
-    use mysql_packets::mysql_convert::FromValue;
+    use mysql_packets::mysql_convert::ParseIr;
 
     mod values_face {
-        use mysql_packets::mysql_convert::mysql_values::AsSqlError;
+        use mysql_packets::mysql_convert::mysql_values::Mode;
 
         mod wire_face {
-            use mysql_packets::mysql_convert::mysql_values::mysql_wire::BareBytes;
+            use mysql_packets::mysql_convert::mysql_values::mysql_wire::Seq;
         }
     }
 }

@@ -2,15 +2,15 @@
 //! Written by `tools/faces` from the sources. A name that the face doesn't pass on is refused here.
 
 use mysql_session::{
-    Audit, BindError, ByteString, CapabilityFlags, Column, ColumnIndex, Content, End, Flags,
-    FromValue, FromValueError, FromValueRef, Intermediate, IntoParams, LentRow, LocalInfilePacket,
-    MissingNamedParameterError, Mode, OkPacket, PacketCodecError, PacketReader, Params,
-    ParamsConfusionError, ParamsError, ParseIr, ProgressReport, Query, Receiver, ReceiverError,
-    RecodeError, Recoder, Refusal, Reply, ReplyEnd, ReplyFault, ReplyKind, ReplyReader,
-    ReplyRefusal, ReplyResult, ReplyWriter, Road, Row, RowError, RowExt, RowFormat, RowLender,
-    RowReader, RowRef, RowRefExt, SendToError, ServerError, SetError, Spelling, SqlState,
-    StatusFlags, StmtPacket, StoredRows, StreamFault, ToValue, ToValueError, Value, ValueRef,
-    from_value, from_value_opt, is_safe_to_quote, packet_to_chunks, read_reply, receive,
+    Audit, BindError, ByteString, CapabilityFlags, ChunkHeader, Column, ColumnIndex, Content, End,
+    Flags, FromValue, FromValueError, FromValueRef, Intermediate, IntoParams, LentRow,
+    LocalInfilePacket, MissingNamedParameterError, Mode, OkPacket, PacketCodecError, PacketReader,
+    Params, ParamsConfusionError, ParamsError, ParseIr, ProgressReport, Query, Receiver,
+    ReceiverError, RecodeError, Recoder, Refusal, Reply, ReplyEnd, ReplyFault, ReplyKind,
+    ReplyReader, ReplyRefusal, ReplyResult, ReplyWriter, Road, Row, RowError, RowExt, RowFormat,
+    RowLender, RowReader, RowRef, RowRefExt, SendToError, ServerError, SetError, Spelling,
+    SqlState, StatusFlags, StmtPacket, StoredRows, StreamFault, ToValue, ToValueError, Value,
+    ValueRef, from_value, from_value_opt, is_safe_to_quote, packet_to_chunks, read_reply, receive,
     receive_in, recode, recode_in, send, send_contents, send_contents_in, send_values, write_reply,
 };
 
@@ -43,8 +43,8 @@ mod laws {
         use mysql_session::laws::replies::{
             a_standing_goes_on, answers_have_what_stands, bytes_have_one_answer,
             each_reader_decides, each_reply_has_one_answer, each_standing_decides,
-            lent_rows_are_handed_out, taken_results_are_the_reply, whole_bytes_are_framed_results,
-            whole_replies_are_results,
+            events_are_the_answer, lent_rows_are_handed_out, taken_results_are_the_reply,
+            whole_bytes_are_framed_results, whole_replies_are_results,
         };
     }
 
@@ -106,16 +106,16 @@ mod laws {
 
 // The faces below: one item each, since each has a list of its own.
 mod packets_face {
-    use mysql_session::mysql_packets::BitmapBytes;
+    use mysql_session::mysql_packets::Row;
 
     mod convert_face {
-        use mysql_session::mysql_packets::mysql_convert::FromValue;
+        use mysql_session::mysql_packets::mysql_convert::ParseIr;
 
         mod values_face {
-            use mysql_session::mysql_packets::mysql_convert::mysql_values::AsSqlError;
+            use mysql_session::mysql_packets::mysql_convert::mysql_values::Mode;
 
             mod wire_face {
-                use mysql_session::mysql_packets::mysql_convert::mysql_values::mysql_wire::BareBytes;
+                use mysql_session::mysql_packets::mysql_convert::mysql_values::mysql_wire::Seq;
             }
         }
     }

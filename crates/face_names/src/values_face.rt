@@ -34,5 +34,5 @@ mod params {
 
 // The faces below: one item each, since each has a list of its own.
 mod wire_face {
-    use mysql_values::mysql_wire::BareBytes;
+    use mysql_values::mysql_wire::Seq;
 }

@@ -2,36 +2,37 @@
 //! Written by `tools/faces` from the sources. A name that the face doesn't pass on is refused here.
 
 use mysql_wire::{
-    BareBytes, BareU8Bytes, BareU16Bytes, Binary, BufMutExt, BytesRepr, ChunkDecoder, ChunkInfo,
-    Const, ConstBytes, ConstBytesValue, ConstU8, ConstU32, ConstValue, DEFAULT_MAX_ALLOWED_PACKET,
-    Either, EofBytes, FixedLengthText, IntRepr, InvalidLengthEncodedInteger, LeI16, LeI24, LeI32,
-    LeI56, LeI64, LeU16, LeU24, LeU32, LeU32LowerHalf, LeU32UpperHalf, LeU48, LeU56, LeU64, LenEnc,
-    MAX_PAYLOAD_LEN, MyDeserialize, MySerialize, NullBytes, PacketCodec, PacketCodecError,
-    PacketReader, Packets, ParseBuf, ParseExt, PartialHeader, RawBytes, RawConst, RawFlags, RawInt,
-    RawSeq, ReadMysqlExt, Readable, ReadsBack, Seq, SeqRepr, Skip, Text, U8Bytes, U32Bytes,
-    UTF8_GENERAL_CI, UTF8MB4_GENERAL_CI, Unknown, VarLen, WireError, WriteMysqlExt, feed_all,
-    frame_in_place, lenenc_int_len, lenenc_str_len, packet_header, packet_to_chunks,
-    read_varlen_uint, varlen_uint_size, write_varlen_uint,
+    BareBytes, BareU8Bytes, BareU16Bytes, Binary, BufMutExt, BytesRepr, ChunkDecoder, ChunkHeader,
+    ChunkInfo, Const, ConstBytes, ConstBytesValue, ConstU8, ConstU32, ConstValue,
+    DEFAULT_MAX_ALLOWED_PACKET, Either, EofBytes, FixedLengthText, IntRepr,
+    InvalidLengthEncodedInteger, LeI16, LeI24, LeI32, LeI56, LeI64, LeU16, LeU24, LeU32,
+    LeU32LowerHalf, LeU32UpperHalf, LeU48, LeU56, LeU64, LenEnc, MAX_PAYLOAD_LEN, MyDeserialize,
+    MySerialize, NullBytes, PacketCodec, PacketCodecError, PacketReader, Packets, ParseBuf,
+    ParseExt, PartialHeader, RawBytes, RawConst, RawFlags, RawInt, RawSeq, ReadMysqlExt, Readable,
+    ReadsBack, Seq, SeqRepr, Skip, Text, U8Bytes, U32Bytes, UTF8_GENERAL_CI, UTF8MB4_GENERAL_CI,
+    Unknown, VarLen, WireError, WriteMysqlExt, feed_all, frame_in_place, lenenc_int_len,
+    lenenc_str_len, packet_header, packet_to_chunks, read_varlen_uint, varlen_uint_size,
+    write_varlen_uint,
 };
 
 mod codec {
     use mysql_wire::codec::{
-        ChunkDecoder, ChunkInfo, PacketCodec, PacketCodecError, PacketReader, Packets,
+        ChunkDecoder, ChunkHeader, ChunkInfo, PacketCodec, PacketCodecError, PacketReader, Packets,
         PartialHeader, feed_all, frame_in_place, packet_header, packet_to_chunks,
     };
 }
 
 mod constants {
     use mysql_wire::constants::{
-        BinlogDumpFlags, CapabilityFlags, ColumnFlags, ColumnType, Command, CursorType,
-        DEFAULT_MAX_ALLOWED_PACKET, Flags, GeometryType, ItemResult, MAX_PAYLOAD_LEN,
-        MariadbBulkIndicator, MariadbCapabilities, SessionStateType, StatusFlags,
-        StmtBulkExecuteFlags, StmtExecuteParamFlags, StmtExecuteParamsFlags, UTF8_GENERAL_CI,
-        UTF8MB4_GENERAL_CI, UnknownBinlogDumpFlags, UnknownCapabilityFlags, UnknownColumnFlags,
-        UnknownColumnType, UnknownCommand, UnknownCursorType, UnknownGeometryType,
-        UnknownItemResultType, UnknownMariadbBulkIndicator, UnknownMariadbCapabilities,
-        UnknownSessionStateType, UnknownStatusFlags, UnknownStmtBulkExecuteFlags,
-        UnknownStmtExecuteParamFlags, UnknownStmtExecuteParamsFlags,
+        BinlogDumpFlags, Capabilities, CapabilityFlags, ColumnFlags, ColumnType, Command,
+        CursorType, DEFAULT_MAX_ALLOWED_PACKET, Flags, GeometryType, ItemResult, MAX_PAYLOAD_LEN,
+        MariadbBulkIndicator, MariadbCapabilities, MariadbStatusFlags, SessionStateType,
+        StatusFlags, StmtBulkExecuteFlags, StmtExecuteParamFlags, StmtExecuteParamsFlags,
+        UTF8_GENERAL_CI, UTF8MB4_GENERAL_CI, UnknownBinlogDumpFlags, UnknownCapabilityFlags,
+        UnknownColumnFlags, UnknownColumnType, UnknownCommand, UnknownCursorType,
+        UnknownGeometryType, UnknownItemResultType, UnknownMariadbBulkIndicator,
+        UnknownMariadbCapabilities, UnknownSessionStateType, UnknownStatusFlags,
+        UnknownStmtBulkExecuteFlags, UnknownStmtExecuteParamFlags, UnknownStmtExecuteParamsFlags,
     };
 }
 

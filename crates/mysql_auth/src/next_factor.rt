@@ -21,8 +21,8 @@ use mysql_fields::{
 use std::alloc::{AllocError, Global};
 use std::borrow::CowSlice;
 
-/// A server's request to go on with one more plugin, where the one before was content and both sides
-/// have `MULTI_FACTOR_AUTHENTICATION`.
+/// A server's request to go on with one more plugin. It comes where the one before was content and
+/// both sides have `MULTI_FACTOR_AUTHENTICATION`.
 /// (MySQL: Client/Server Protocol, "Protocol::AuthNextFactor".)
 ///
 /// Promise: its bytes are a function of its fields, any bytes are read exactly as its layout says,

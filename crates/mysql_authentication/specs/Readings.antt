@@ -2,7 +2,7 @@
 -- (MySQL: Client/Server Protocol, "Connection Phase", "Protocol::HandshakeV10",
 -- "Protocol::HandshakeResponse41", "Protocol::SSLRequest", "Protocol::AuthSwitchRequest",
 -- "Protocol::AuthMoreData", "Protocol::AuthNextFactor"; MariaDB: Client/Server Protocol, "Connecting".)
-use Rattle.std.specs.Prelude.{◌≡◌, ◌≢◌, ◌==◌, ◌&&◌, ℕ, Bool, false, not, if◌then◌else◌, List, [], ◌∷◌, slice_index_or}
+use Rattle.std.specs.Prelude.{◌≡◌, ◌≢◌, ◌==◌, ◌&&◌, ℕ, Bool, false, if◌then◌else◌, List, [], ◌∷◌, slice_index_or}
 use Rattle.std.specs.Prelude.{Result, Ok, Err}
 use Rattle.std.specs.Int.RustNames.{bit_and}
 use Rattle.mysql_auth.specs.Packets.{next_factor_at, switch_at}

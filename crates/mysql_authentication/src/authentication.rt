@@ -99,8 +99,8 @@ fn next_factor(alloc: Global, payload: &[u8]) -> Result<AuthenticationEvent<'_>,
     }
 }
 
-/// Reads a server's payload of an authentication, by the capabilities in force: of a login, or of a
-/// change of user.
+/// Reads a server's payload of an authentication, by the capabilities in force. The authentication
+/// is that of a login or of a change of user.
 ///
 /// The first byte tells: 00 an OK packet, ff an error, fe a request for another plugin (alone for the
 /// one of old passwords), 01 data of the plugin, 02 a request for one more plugin, where

@@ -36,8 +36,8 @@ fn early_capabilities(payload: &[u8]) -> CapabilityFlags
     }
 }
 
-/// The error of a server that no capabilities are known of: one in place of its greeting, or its last
-/// words. It has an SQL state where `#` stands behind its code.
+/// The error of a server that no capabilities are known of. It stands in place of a greeting, or is
+/// the server's last words. It has an SQL state where `#` stands behind its code.
 ///
 /// Promise: any bytes are read exactly so (`early_error_at`).
 ///

@@ -16,7 +16,9 @@ mod text;
 pub use bytes::{append, bytes_clear, bytes_data, bytes_new};
 pub use code::{Code, number_of_fault, number_of_refusal, number_of_reply_fault};
 pub use handle::Handle;
-pub use object::{Object, ParameterSets, ReplyInParts, WrittenReply};
+pub use object::{
+    FollowedStatement, Object, ParameterSets, ReplyInParts, Unanswered, WrittenReply,
+};
 pub use shown::ShownEnd;
 pub use start::start_of;
 pub use text::code_text;

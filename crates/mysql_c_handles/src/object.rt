@@ -1,9 +1,11 @@
 //! What a handle stands for.
 
 use mysql_columns::Column;
+use mysql_executions::{Refused, StatementParameters};
 use mysql_receive::{Audit, Receiver};
 use mysql_recoding::Recoder;
 use mysql_replies::{Reply, ReplyReader, ReplyResult};
+use mysql_reply_events::EventReader;
 use mysql_reply_writer::ReplyWriter;
 use mysql_values::{Params, Value};
 use mysql_wire::PacketReader;
@@ -29,6 +31,22 @@ pub struct WrittenReply {
     pub columns: Vec<Column>,
 }
 
+/// An execution that may be answered by an error. It has what was in force before it, whether it
+/// was a bulk execution, and how many types it carried.
+#[derive(Drop)]
+pub struct Unanswered {
+    pub before: StatementParameters,
+    pub refused: Refused,
+    pub carried: usize,
+}
+
+/// What is in force of a statement's parameters, and its last execution.
+#[derive(Drop)]
+pub struct FollowedStatement {
+    pub parameters: StatementParameters,
+    pub last: Option<Unanswered>,
+}
+
 /// What a handle stands for.
 #[derive(Drop)]
 pub enum Object {
@@ -52,4 +70,8 @@ pub enum Object {
     Packets(PacketReader),
     /// A writer of a reply.
     Writer(WrittenReply),
+    /// What is in force of a statement's parameters.
+    Statement(FollowedStatement),
+    /// A reader of a reply payload by payload.
+    Events(EventReader),
 }

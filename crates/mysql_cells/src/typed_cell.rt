@@ -111,7 +111,7 @@ fn cell_of_some<'a>(form: CellForm, unsigned: bool, value: &'a Value) -> Option<
 /// None where the value has no cell by that type: a number out of its range, a value of another
 /// kind. NULL takes no bytes by any type.
 ///
-/// Promise: a cell that is written so is read by `read_cell` as the value (`typed_cells_read_back`).
+/// Promise: a cell that is written so is read by `read_cell` as the value (`TypedCellsReadBack`).
 ///
 /// Follows "Binary Protocol Value" of the client/server protocol documentation.
 #[inline]

@@ -88,7 +88,7 @@ type-back t rest =
     (column_type-names_back t)
     (fixed_number_at-back 1 (column_type_number t) rest (type_number-bound t))
 
-names-back : (p : ColumnDefinition) (rest : List ℕ) → IsColumn p →
+pub names-back : (p : ColumnDefinition) (rest : List ℕ) → IsColumn p →
     column_names_at (column_names (names_in p) ++ rest) ≡ Ok (names_in p, rest)
 unfolding column_names column_names_at
 names-back p rest h =
@@ -106,7 +106,7 @@ names-back p rest h =
       lenenc_text_at-back p.org_name rest h.org_name,
     ) refl
 
-fields-back : (p : ColumnDefinition) → IsColumn p → column_fields_at (column_fields (fields_in p)) ≡
+pub fields-back : (p : ColumnDefinition) → IsColumn p → column_fields_at (column_fields (fields_in p)) ≡
     Ok (fields_in p, replicate 2 0)
 unfolding column_fields column_fields_at
 fields-back p h =
@@ -126,7 +126,7 @@ fields-back p h =
     ) refl
 
 -- there are thirteen bytes
-fields-length : (f : ColumnFields) → length (column_fields f) ≡ 13
+pub fields-length : (f : ColumnFields) → length (column_fields f) ≡ 13
 unfolding column_fields
 fields-length f = refl
 

@@ -311,7 +311,7 @@ impl Column {
     }
 
     // Its names.
-    fn names(&self) -> Names<'_>
+    pub(crate) fn names(&self) -> Names<'_>
         ensures { names_view result ≡ names_in (column_view self.now) }
     {
         Names {
@@ -324,7 +324,7 @@ impl Column {
     }
 
     // Its fields of a fixed length.
-    fn fields(&self) -> FixedFields
+    pub(crate) fn fields(&self) -> FixedFields
         ensures { fields_view result ≡ fields_in (column_view self.now) }
     {
         FixedFields {
@@ -339,7 +339,7 @@ impl Column {
 
 // The names of a column.
 #[derive(Clone, Copy)]
-struct Names<'a> {
+pub(crate) struct Names<'a> {
     schema: &'a [u8],
     table: &'a [u8],
     org_table: &'a [u8],
@@ -362,7 +362,7 @@ impl<'a> MySerialize for Names<'a> {
 }
 
 #[tactic(auto, unfolding(crate::specs::Columns::column_names_at))]
-fn names_of<'a>(buf: &mut ParseBuf<'a>) -> Result<Names<'a>, WireError>
+pub(crate) fn names_of<'a>(buf: &mut ParseBuf<'a>) -> Result<Names<'a>, WireError>
     ensures { TellsPart names_view buf.new.0.now result (column_names_at buf.old.0.now) }
 {
     let schema = read_lenenc_text(buf)?;
@@ -381,7 +381,7 @@ fn names_of<'a>(buf: &mut ParseBuf<'a>) -> Result<Names<'a>, WireError>
 
 // The fields of a column that have a fixed length.
 #[derive(Clone, Copy)]
-struct FixedFields {
+pub(crate) struct FixedFields {
     character_set: u16,
     column_length: u32,
     column_type: ColumnType,
@@ -415,7 +415,7 @@ impl MySerialize for FixedFields {
 }
 
 #[tactic(auto, unfolding(crate::specs::Columns::column_fields_at))]
-fn fixed_fields_of(alloc: Global, block: &mut ParseBuf) -> Result<FixedFields, WireError>
+pub(crate) fn fixed_fields_of(alloc: Global, block: &mut ParseBuf) -> Result<FixedFields, WireError>
     ensures { TellsPart fields_view block.new.0.now result (column_fields_at block.old.0.now) }
 {
     let _length: FixedLengthFieldsLen = block.parse(alloc, ())?;
@@ -442,7 +442,11 @@ fn fixed_fields_of(alloc: Global, block: &mut ParseBuf) -> Result<FixedFields, W
 }
 
 // A column of copies of these names, and of these fields.
-fn copied(alloc: Global, names: &Names, fields: FixedFields) -> Result<Column, AllocError>
+pub(crate) fn copied(
+    alloc: Global,
+    names: &Names,
+    fields: FixedFields,
+) -> Result<Column, AllocError>
     ensures { IfOk result (λ column. column_view column ≡ column_with (names_view names.now) (fields_view fields)) }
 {
     Ok(Column {

@@ -2,10 +2,12 @@
 #![tactic(auto)]
 
 pub mod column;
+pub mod extended;
 pub mod headers;
 pub mod laws;
 
 pub use column::Column;
+pub use extended::{ExtendedColumn, ListedColumn};
 pub use headers::{
     Catalog, ColumnDefinitionCatalog, FixedLengthFieldsLen, InvalidCatalog,
     InvalidFixedLengthFieldsLen,

@@ -1,5 +1,6 @@
 -- Why a command isn't put: its payload would read as another one. (MySQL: Client/Server Protocol, "Command Phase".)
-use Rattle.std.specs.Prelude.{◌≡◌, ◌≢◌, ◌==◌, ℕ, Bool, true, false, if◌then◌else◌, List, ◌++◌, length, Option, None, Some}
+use Rattle.std.specs.Prelude.{◌≡◌, ◌≢◌, ◌==◌, ℕ, Bool, true, false, if◌then◌else◌, List, ◌++◌, length, Option, None}
+use Rattle.std.specs.Prelude.{Some}
 use Rattle.std.specs.Prelude.{Result, Ok, Err}
 use Rattle.mysql_const.specs.BinlogDumpFlags.{binlog_dump_flags}
 use Rattle.mysql_const.specs.declared.capabilities.Capabilities.{Capabilities}
@@ -13,7 +14,8 @@ use Rattle.mysql_executions.specs.InForce.{InForce}
 use Rattle.mysql_executions.specs.Types.{has_query_attributes}
 use Rattle.mysql_executions.specs.declared.types.Attribute.{Attribute}
 use Rattle.mysql_field_constants.specs.Flags.{are_named}
-use Rattle.mysql_commands.specs.Commands.{BinlogDump, BinlogDumpGtid, BulkExecute, Command, Execute, FieldList, Other, Query}
+use Rattle.mysql_commands.specs.Commands.{BinlogDump, BinlogDumpGtid, BulkExecute, Command, Execute, FieldList, Other}
+use Rattle.mysql_commands.specs.Commands.{Query}
 use Rattle.mysql_commands.specs.Commands.{RegisterSlave, TableDump, command_at}
 use Rattle.mysql_command_writer.specs.Written.{command_bytes}
 use Rattle.mysql_command_writer.specs.declared.refusal.CommandRefusal.{CommandRefusal}

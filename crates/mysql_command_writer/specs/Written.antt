@@ -52,7 +52,8 @@ command_bytes capabilities parameters (RegisterSlave replica) = register_slave r
 command_bytes capabilities parameters (Prepare sql) = 0x16 ∷ sql
 command_bytes capabilities parameters (Execute execution) =
     0x17 ∷ by_parameters (λ s. execution_bytes capabilities s execution) parameters
-command_bytes capabilities parameters (LongData id place bytes) = 0x18 ∷ little_bytes 4 id ++ (little_bytes 2 place ++ bytes)
+command_bytes capabilities parameters (LongData id place bytes) =
+    0x18 ∷ little_bytes 4 id ++ (little_bytes 2 place ++ bytes)
 command_bytes capabilities parameters (Close id) = 0x19 ∷ little_bytes 4 id
 command_bytes capabilities parameters (ResetStatement id) = 0x1a ∷ little_bytes 4 id
 command_bytes capabilities parameters (SetOption option) = 0x1b ∷ little_bytes 2 option

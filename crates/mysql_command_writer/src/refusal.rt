@@ -22,7 +22,7 @@ pub enum CommandRefusal {
     /// Flags that have no name.
     #[error("flags that have no name")]
     NamelessFlags,
-    /// What isn't in force: attributes, or fields of a change of user.
+    /// What isn't in force: attributes of a query.
     #[error("what the capabilities in force don't have")]
     NotAgreed,
     /// An execution of a statement that isn't known.
@@ -31,9 +31,10 @@ pub enum CommandRefusal {
     /// Bytes that say nothing known, but are laid out as a command.
     #[error("bytes of another command that are laid out as one that is known")]
     ReadsAsCommand,
-    /// A payload that would read otherwise. Of a change of user: fields that the capabilities in force
-    /// don't have, a zero in a name, a plugin that isn't the one that its name says. Of an execution or
-    /// of attributes: values without a cell by their types, types, names or flags that it can't have.
+    /// A payload that would read otherwise. Of a change of user it has fields that the capabilities
+    /// in force don't have, a zero in a name, or a plugin that isn't the one that its name says. Of
+    /// an execution or of attributes it has values without a cell by their types, or types, names or
+    /// flags that it can't have.
     #[error("the payload would read otherwise")]
     ReadsOtherwise,
     /// A growth of a buffer was refused.

@@ -76,7 +76,8 @@ fn same_attributes(one: &ConnectAttributes, other: &ConnectAttributes) -> bool
 /// Attributes that are the same, or none of both.
 fn same_all(one: Option<&ConnectAttributes>, other: Option<&ConnectAttributes>) -> bool
     ensures { IsTrue result ↔
-        (option_map (λ all. attributes_view all.now) one.entry ≡ option_map (λ all. attributes_view all.now) other.entry) }
+        (option_map (λ all. attributes_view all.now) one.entry ≡
+        option_map (λ all. attributes_view all.now) other.entry) }
 {
     match (one, other) {
         (Some(one), Some(other)) => same_attributes(one, other),

@@ -9,7 +9,8 @@ ghost use Rattle.mysql_field_constants.specs.Flags.{are_named};
 ghost use Rattle.mysql_gtid.specs.Blocks.{block_bytes};
 ghost use Rattle.mysql_login.specs.ChangedUserViews.{change_user_view};
 ghost use Rattle.mysql_login.specs.ChangedUsers.{change_in_force_at};
-ghost use Rattle.mysql_replication.specs.Views.{binlog_dump_gtid_view, binlog_dump_view, register_slave_view, table_dump_view};
+ghost use Rattle.mysql_replication.specs.Views.{binlog_dump_gtid_view, binlog_dump_view, register_slave_view};
+ghost use Rattle.mysql_replication.specs.Views.{table_dump_view};
 ghost use Rattle.std.specs.Cow.{cow_slice_items};
 ghost use Rattle.mysql_commands.specs.Commands as said;
 ghost use Rattle.mysql_command_writer.specs.Plain.{IsPlain};
@@ -123,7 +124,8 @@ fn test_change_user(
     parameters: Option<&StatementParameters>,
     login: &ComChangeUser,
 ) -> Result<(), CommandRefusal>
-    ensures { Tests capabilities (option_copied parameters.entry) (said.ChangeUser (change_user_view login.now)) result }
+    ensures { Tests capabilities (option_copied parameters.entry)
+        (said.ChangeUser (change_user_view login.now)) result }
 {
     let mut payload = Vec::new(alloc);
     login.put_in_force(capabilities.protocol, &mut payload)?;
@@ -146,7 +148,8 @@ fn test_binlog_dump(
     parameters: Option<&StatementParameters>,
     request: &ComBinlogDump,
 ) -> Result<(), CommandRefusal>
-    ensures { Tests capabilities (option_copied parameters.entry) (said.BinlogDump (binlog_dump_view request.now)) result }
+    ensures { Tests capabilities (option_copied parameters.entry)
+        (said.BinlogDump (binlog_dump_view request.now)) result }
 {
     let _pos = request.pos();
     let _server_id = request.server_id();
@@ -163,7 +166,8 @@ fn test_table_dump(
     parameters: Option<&StatementParameters>,
     request: &ComTableDump,
 ) -> Result<(), CommandRefusal>
-    ensures { Tests capabilities (option_copied parameters.entry) (said.TableDump (table_dump_view request.now)) result }
+    ensures { Tests capabilities (option_copied parameters.entry)
+        (said.TableDump (table_dump_view request.now)) result }
 {
     if request.is_whole() {
         Ok(())
@@ -178,7 +182,8 @@ fn test_register_slave(
     parameters: Option<&StatementParameters>,
     replica: &ComRegisterSlave,
 ) -> Result<(), CommandRefusal>
-    ensures { Tests capabilities (option_copied parameters.entry) (said.RegisterSlave (register_slave_view replica.now)) result }
+    ensures { Tests capabilities (option_copied parameters.entry)
+        (said.RegisterSlave (register_slave_view replica.now)) result }
 {
     let _server_id = replica.server_id();
     let _port = replica.port();

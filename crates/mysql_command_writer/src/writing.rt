@@ -118,11 +118,23 @@ fn put_plain(
     Ok(())
 }
 
-/// Appends a command's payload, by the capabilities in force, and of an execution by what is in force
-/// of its statement's parameters. It reads as the command, by the same.
+/// Appends a command's payload, by the capabilities in force; by the same it reads as the command.
+/// An execution is written by what is in force of its statement's parameters too.
+///
+/// Promise: exactly the command's bytes are appended, and they are read as the command, an unsigned
+/// number below 2^63 as `Int`; or nothing is, and the cause is told: of values exactly where their
+/// types, cells or flags can't be written, else exactly where the bytes would be read otherwise
+/// (`Puts`, `command_bytes`, `cause_against`).
 ///
 /// # Errors
-/// - The cause why it would read otherwise.
+/// - `NotAgreed` for attributes of a query where they aren't in force.
+/// - `ZeroByte` inside the table's name of a list of its columns.
+/// - `NamelessFlags` in a dump of the binary log.
+/// - `TooLong` for a name in a request of a replica that is longer than its length can say.
+/// - `UnknownStatement` for an execution of which no parameters are handed in.
+/// - `ReadsAsCommand` for other bytes that are laid out as a command.
+/// - `ReadsOtherwise` for values, types or flags of an execution, a bulk one or of attributes that
+///   can't be written, and for a change of user that would be read as another one.
 /// - `Memory`.
 ///
 /// Nothing is appended then.

@@ -3,7 +3,8 @@
 -- MySQL: Client/Server Protocol, "Command Phase" ("Text Protocol", "Utility Commands", "Prepared Statements",
 -- "Replication Protocol"); MariaDB: Client/Server Protocol, "2 - Text Protocol", "3 - Binary Protocol (Prepared
 -- Statements)", "Replication Protocol".
-use Rattle.std.specs.Prelude.{ℕ, nat_eq, ◌==◌, if◌then◌else◌, List, [], ◌∷◌, length, Option, None, Some, Result, Ok, Err}
+use Rattle.std.specs.Prelude.{ℕ, nat_eq, ◌==◌, if◌then◌else◌, List, [], ◌∷◌, length, Option, None, Some, Result, Ok}
+use Rattle.std.specs.Prelude.{Err}
 use Rattle.std.specs.Option.{option_map}
 use Rattle.mysql_const.specs.Tables.{entry_of}
 use Rattle.mysql_const.specs.declared.capabilities.Capabilities.{Capabilities}

@@ -2,7 +2,8 @@
 use Rattle.std.specs.Cow.{cow_slice_items}
 use Rattle.mysql_commands.specs.Commands.{Command, Quit, InitDb, Query, FieldList, CreateDb, DropDb, Refresh, Shutdown}
 use Rattle.mysql_commands.specs.Commands.{Statistics, ProcessInfo, ProcessKill, Debug, Ping, Prepare, LongData, Close}
-use Rattle.mysql_commands.specs.Commands.{BinlogDump, BinlogDumpGtid, BulkExecute, ChangeUser, Execute, RegisterSlave, TableDump}
+use Rattle.mysql_commands.specs.Commands.{BinlogDump, BinlogDumpGtid, BulkExecute, ChangeUser, Execute, RegisterSlave}
+use Rattle.mysql_commands.specs.Commands.{TableDump}
 use Rattle.mysql_commands.specs.Commands.{ResetStatement, SetOption, Fetch, ResetConnection, Clone, Other}
 use Rattle.mysql_commands.specs.declared.command.Command.{Command as Held}
 use Rattle.mysql_commands.specs.declared.command.Command.TheVariants as held

@@ -6,7 +6,8 @@ ghost use Rattle.mysql_executions.specs.Bulks.{bulk_execution_at};
 ghost use Rattle.mysql_executions.specs.Executions.{execution_at};
 ghost use Rattle.mysql_executions.specs.Types.{has_query_attributes};
 ghost use Rattle.mysql_login.specs.ChangedUsers.{change_in_force_at};
-ghost use Rattle.mysql_replication.specs.Packets.{binlog_dump_at, binlog_dump_gtid_at, register_slave_at, table_dump_at};
+ghost use Rattle.mysql_replication.specs.Packets.{binlog_dump_at, binlog_dump_gtid_at, register_slave_at};
+ghost use Rattle.mysql_replication.specs.Packets.{table_dump_at};
 ghost use Rattle.mysql_fields.specs.Forms.{fixed_number_at};
 ghost use Rattle.mysql_commands.specs.Commands.{alone, all_of, command_at, fetch_at, field_list_at, fields};
 ghost use Rattle.mysql_commands.specs.Commands.{by_statement, laid_out, level_at, long_data_at, query_at, said};
@@ -366,10 +367,13 @@ fn said<'a>(
 }
 
 impl<'a> Command<'a> {
-    /// Reads a payload by the capabilities in force, and an execution by what is in force of its
-    /// statement's parameters, where the statement is known ([`Command::statement_id`] tells which it
-    /// is). No payload is refused: one that isn't laid out as its number says, or whose number has no
-    /// row, is [`Command::Other`]; so is an execution of a statement that isn't known.
+    /// Reads a payload by the capabilities in force, an execution also by its statement's
+    /// parameters. Those are handed in where the statement is known ([`Command::statement_id`]
+    /// tells which it is). No payload is refused: one that isn't laid out as its number says, or
+    /// whose number has no row, is [`Command::Other`]; so is an execution of a statement that isn't
+    /// known.
+    ///
+    /// Promise: any bytes are read exactly as the table of commands says (`command_at`).
     ///
     /// # Errors
     /// - `AllocError` for want of memory.

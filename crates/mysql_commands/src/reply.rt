@@ -34,8 +34,8 @@ pub enum Reply {
     Rows,
     /// An exchange of packets by which a user logs in.
     Authentication,
-    /// An error, or the first payload of what goes on in a form of its own: a binary log, a table's
-    /// bytes, a clone.
+    /// An error, or the first payload of what goes on in a form of its own. That is a binary log, a
+    /// table's bytes, or a clone.
     First,
 }
 
@@ -47,8 +47,11 @@ fn id_of(bytes: &[u8]) -> Option<u32>
 }
 
 impl<'a> Command<'a> {
-    /// How the reply to a payload reads: by its first byte, also where the payload isn't laid out as
-    /// that says. It is plain where the byte is no command's, or missing.
+    /// How the reply to a payload reads, by the payload's first byte. That holds also where the
+    /// payload isn't laid out as the byte says. It is plain where the byte is no command's, or
+    /// missing.
+    ///
+    /// Promise: exactly the kind that the table of replies has for that byte (`reply_to`).
     ///
     /// MySQL: Client/Server Protocol, "Command Phase".
     pub fn reply(payload: &[u8]) -> Reply
@@ -68,8 +71,10 @@ impl<'a> Command<'a> {
         }
     }
 
-    /// The id of the statement that a payload is about: an execution, also a bulk one, long data, a
+    /// The id of the statement that a payload is about. An execution, also a bulk one, long data, a
     /// fetch, a reset and a close have one, also where they aren't laid out so behind it.
+    ///
+    /// Promise: exactly the four bytes behind such a command's number (`statement_of`).
     ///
     /// MySQL: Client/Server Protocol, "Prepared Statements".
     pub fn statement_id(payload: &[u8]) -> Option<u32>

@@ -213,8 +213,8 @@ impl TryFrom<u32> for MariadbCapabilities {
     }
 }
 
-/// The capabilities that are in force on a connection, since both of its sides have them: those of
-/// the protocol, and those that are MariaDB's own.
+/// The capabilities in force on a connection: those that both of its sides have. They are those of
+/// the protocol and those that are MariaDB's own.
 ///
 /// MySQL: Client/Server Protocol, "Capabilities Flags"; MariaDB: Client/Server Protocol,
 /// "Connecting", 'Capabilities'.

@@ -2,7 +2,9 @@
 
 ghost use Rattle.std.specs.Prelude.{◌≤◌, length};
 
+use mysql_auth::AuthPlugin;
 use mysql_cells::Value;
+use mysql_connect_attributes::ConnectAttributes;
 use std::io;
 use std::io::Write;
 
@@ -74,8 +76,8 @@ pub(crate) fn write_value<W: Write>(output: &mut W, value: &Value) -> io::Result
         }
         Value::Int(number) => write!(output, "(i {number})"),
         Value::UInt(number) => write!(output, "(i {number})"),
-        Value::Float(number) => write!(output, "(f32 {:08x})", number.to_bits()),
-        Value::Double(number) => write!(output, "(f64 {:016x})", number.to_bits()),
+        Value::Float(number) => write!(output, "(f32 {:08x})", *number),
+        Value::Double(number) => write!(output, "(f64 {:016x})", *number),
         Value::Date(year, month, day, hour, minute, second, micros) => write!(
             output,
             "(d ({year} {month} {day} {hour} {minute} {second} {micros}))"
@@ -90,16 +92,50 @@ pub(crate) fn write_value<W: Write>(output: &mut W, value: &Value) -> io::Result
     }
 }
 
+/// Writes what stands before an element of a list: a space, but before the first one.
+pub(crate) fn write_space<W: Write>(output: &mut W, place: usize) -> io::Result<()> {
+    if place > 0 {
+        output.write_all(b" ")?;
+    }
+    Ok(())
+}
+
 /// Writes values as a list.
 pub(crate) fn write_values<W: Write>(output: &mut W, values: &[Value]) -> io::Result<()> {
     output.write_all(b"(")?;
-    let mut first = true;
-    for value in values {
-        if !first {
-            output.write_all(b" ")?;
-        }
-        first = false;
+    for (place, value) in values.iter().enumerate() {
+        write_space(output, place)?;
         write_value(output, value)?;
     }
     output.write_all(b")")
+}
+
+/// Writes the attributes of a connection as a list of pairs, or `-` where there are none.
+pub(crate) fn write_pairs<W: Write>(
+    output: &mut W,
+    attributes: Option<&ConnectAttributes>,
+) -> io::Result<()> {
+    let Some(attributes) = attributes else {
+        return output.write_all(b" attributes=-");
+    };
+    output.write_all(b" attributes=(")?;
+    for place in 0..attributes.len() {
+        write_space(output, place)?;
+        if let Some((key, value)) = attributes.pair(place) {
+            output.write_all(b"(")?;
+            write_hexadecimal(output, key)?;
+            output.write_all(b" ")?;
+            write_hexadecimal(output, value)?;
+            output.write_all(b")")?;
+        }
+    }
+    output.write_all(b")")
+}
+
+/// The bytes of a plugin's name, where there is one.
+pub(crate) fn name_of<'x>(plugin: Option<&'x AuthPlugin<'_>>) -> Option<&'x [u8]> {
+    match plugin {
+        Some(plugin) => Some(plugin.as_bytes()),
+        None => None,
+    }
 }

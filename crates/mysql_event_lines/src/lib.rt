@@ -6,7 +6,11 @@
 //! there as `-`. A list stands in parentheses.
 #![tactic(auto)]
 
+mod commands;
 mod fields;
+mod logins;
 mod replies;
 
+pub use crate::commands::write_command;
+pub use crate::logins::{write_authentication_event, write_greeting_event, write_response_event};
 pub use crate::replies::write_reply_event;

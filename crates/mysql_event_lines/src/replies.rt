@@ -1,7 +1,9 @@
 //! What one payload of a reply says, as a line.
 
-use crate::fields::{write_bytes, write_bytes_if, write_flag, write_number, write_value};
-use mysql_columns::Column;
+use crate::fields::{
+    write_bytes, write_bytes_if, write_flag, write_number, write_space, write_value,
+};
+use mysql_columns::{Column, ExtendedColumn};
 use mysql_ok_packets::OkPacket;
 use mysql_reply_events::ReplyEvent;
 use mysql_rows::Row;
@@ -57,13 +59,23 @@ fn write_count<W: Write>(output: &mut W, count: u16, follow: bool) -> io::Result
     write_flag(output, "follow", follow)
 }
 
-fn write_column<W: Write>(output: &mut W, column: &Column) -> io::Result<()> {
-    output.write_all(b"Column")?;
+/// Writes the names of a column.
+fn write_names<W: Write>(output: &mut W, column: &Column) -> io::Result<()> {
     write_bytes(output, "schema", column.schema_ref())?;
     write_bytes(output, "table", column.table_ref())?;
     write_bytes(output, "org_table", column.org_table_ref())?;
     write_bytes(output, "name", column.name_ref())?;
-    write_bytes(output, "org_name", column.org_name_ref())?;
+    write_bytes(output, "org_name", column.org_name_ref())
+}
+
+/// Writes a column: its names, its metadata where it has some, and its numbers.
+fn write_column<W: Write>(output: &mut W, extended: &ExtendedColumn) -> io::Result<()> {
+    let column = extended.column();
+    output.write_all(b"Column")?;
+    write_names(output, column)?;
+    if let Some(metadata) = extended.metadata_ref() {
+        write_bytes(output, "extended", metadata)?;
+    }
     write_number(output, "charset", u64::from(column.character_set()))?;
     write_number(output, "length", u64::from(column.column_length()))?;
     write_number(output, "type", u64::from(u8::from(column.column_type())))?;
@@ -75,9 +87,7 @@ fn write_column<W: Write>(output: &mut W, column: &Column) -> io::Result<()> {
 fn write_row<W: Write>(output: &mut W, row: &Row) -> io::Result<()> {
     output.write_all(b"Row cells=(")?;
     for place in 0..row.len() {
-        if place > 0 {
-            output.write_all(b" ")?;
-        }
+        write_space(output, place)?;
         match row.as_ref(place) {
             Some(value) => write_value(output, value)?,
             None => output.write_all(b"-")?,
@@ -113,12 +123,9 @@ pub fn write_reply_event<W: Write>(output: &mut W, event: &ReplyEvent) -> io::Re
             columns_follow,
         } => write_count(output, *count, *columns_follow),
         ReplyEvent::Column(column) => write_column(output, column),
-        ReplyEvent::Field { column, default } => {
-            write_column(output, column)?;
-            match default {
-                Some(bytes) => write_bytes_if(output, "default", Some(bytes.as_slice())),
-                None => write_bytes_if(output, "default", None),
-            }
+        ReplyEvent::Field(listed) => {
+            write_column(output, listed.column())?;
+            write_bytes_if(output, "default", listed.default_ref())
         }
         ReplyEvent::ColumnsEnd(ok) => write_ok(output, "ColumnsEnd", ok),
         ReplyEvent::Row(row) => write_row(output, row),

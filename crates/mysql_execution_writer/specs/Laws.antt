@@ -16,7 +16,8 @@ use Rattle.mysql_executions.specs.declared.types.BoundType.{BoundType}
 use Rattle.mysql_execution_writer.specs.Bulks.{bulk_as_read, bulk_bytes, can_put_bulk}
 use Rattle.mysql_execution_writer.specs.Cells.{are_attributes}
 use Rattle.mysql_execution_writer.specs.Written.{all_values, attributes_as_read, can_be_put, execution_as_read}
-use Rattle.mysql_execution_writer.specs.Written.{execution_bytes, query_attributes_bytes, types_of_attributes, values_of}
+use Rattle.mysql_execution_writer.specs.Written.{execution_bytes, query_attributes_bytes, types_of_attributes}
+use Rattle.mysql_execution_writer.specs.Written.{values_of}
 
 -- names are no longer than a length can say
 abbrev pub HaveLengths : List BoundType → Type 0

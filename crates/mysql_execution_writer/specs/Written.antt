@@ -1,7 +1,8 @@
 -- Executions and attributes as they are written by what is in force, and which can be. MySQL:
 -- Client/Server Protocol, "COM_STMT_EXECUTE", "COM_QUERY", "Null-Bitmap". A body is what stands
 -- behind the command's first byte.
-use Rattle.std.specs.Prelude.{ℕ, ◌+◌, ◌==◌, ◌&&◌, ◌||◌, Bool, true, not, if◌then◌else◌, List, [], ◌++◌, length, map, nat_lt}
+use Rattle.std.specs.Prelude.{ℕ, ◌+◌, ◌==◌, ◌&&◌, ◌||◌, Bool, true, not, if◌then◌else◌, List, [], ◌++◌, length, map}
+use Rattle.std.specs.Prelude.{nat_lt}
 use Rattle.std.specs.Prelude.{Option, Some, None, get_or, is_some, unwrap_or}
 use Rattle.std.specs.List.{list_all}
 use Rattle.byteorder.specs.Endian.{little_bytes}
@@ -61,7 +62,8 @@ execution_bytes capabilities s e =
 abbrev pub can_have_flags : Capabilities → Execution → Bool
 can_have_flags capabilities e = nat_lt e.cursor.0 8 && (has_query_attributes capabilities || not e.count_available)
 
--- types are as many as parameters, where there are values; without types those in force are, and there are no attributes
+-- types are as many as parameters, where there are values; without types those in force are, and
+-- there are no attributes
 abbrev pub can_have_types : InForce → Execution → Option (List BoundType) → Bool
 can_have_types s e (Some own) = (length own == s.count) && nat_lt 0 (length (all_values e))
 can_have_types s e None = (length s.types == s.count) && (length e.attributes == 0)

@@ -33,7 +33,7 @@ fn put_all(attributes: &[Attribute], out: &mut Vec<u8>) -> Result<(), AllocError
 /// Appends the attributes that stand before a query's text where query attributes are in force.
 ///
 /// Promise: exactly where each has a cell by its type (`are_attributes`), and the bytes are read as
-/// the attributes, whatever text follows (`attributes_read_back`).
+/// the attributes, whatever text follows (`AttributesReadBack`).
 ///
 /// # Errors
 /// - `Unreadable` where a value has no cell by its type.

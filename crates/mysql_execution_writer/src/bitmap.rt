@@ -1,6 +1,7 @@
 //! The bitmap of parameters and attributes.
 
-ghost use Rattle.std.specs.Prelude.{◌≡◌, ◌++◌, ◌∷◌, ◌+◌, ◌*◌, ◌-◌, ◌/◌, ◌<◌, ◌≤◌, ◌^◌, OnOk, drop, if◌then◌else◌, length};
+ghost use Rattle.std.specs.Prelude.{◌≡◌, ◌++◌, ◌∷◌, ◌+◌, ◌*◌, ◌-◌, ◌/◌, ◌<◌, ◌≤◌, ◌^◌, OnOk, drop, if◌then◌else◌};
+ghost use Rattle.std.specs.Prelude.{length};
 ghost use Rattle.mysql_cells.specs.Values.{is_null as is_no_value};
 ghost use Rattle.mysql_stmt.specs.Executions.{null_bitmap, null_bits};
 ghost use Rattle.mysql_execution_writer.specs.Written.{binding_bytes, null_at, values_of};

@@ -94,7 +94,8 @@ fn put_row(
     row: &[BulkValue],
     out: &mut Vec<u8>,
 ) -> Result<(), AllocError>
-    ensures { OnOk result (out.new.items ≡ out.old.items ++ row_bytes (types_by (types_of own.now) s.now.types) row.now) }
+    ensures { OnOk result (out.new.items ≡ out.old.items ++
+        row_bytes (types_by (types_of own.now) s.now.types) row.now) }
 {
     for (place, value) in row.iter().enumerate() {
         match type_at(own, s, place) {
@@ -200,7 +201,7 @@ fn put_body(s: &StatementParameters, e: &BulkExecution, out: &mut Vec<u8>) -> Re
 /// Appends the body of a bulk execution, behind the command's first byte, by what is in force.
 ///
 /// Promise: exactly where it can be (`can_put_bulk`), and the bytes are read as the bulk execution
-/// (`bulks_read_back`).
+/// (`BulksReadBack`).
 ///
 /// # Errors
 /// - `Unreadable` where no body is read as this bulk execution: MariaDB's bulk executions aren't in

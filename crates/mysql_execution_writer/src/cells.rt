@@ -20,7 +20,8 @@ use std::alloc::AllocError;
 /// The flag of a type whose whole numbers have no sign.
 const UNSIGNED: u8 = 0x80;
 
-/// Appends a type, its sign, and its name where types have names. After a refusal what is there isn't said, here and below.
+/// Appends a type, its sign, and its name where types have names. After a refusal what is there
+/// isn't said, here and below.
 fn put_type(named: bool, kind: &BoundType, out: &mut Vec<u8>) -> Result<(), AllocError>
     ensures { OnOk result (out.new.items ≡ out.old.items ++ type_bytes named kind.now) }
 {
@@ -89,7 +90,8 @@ pub fn put_value(kind: ParameterType, value: &Value, out: &mut Vec<u8>) -> Resul
 
 /// The type of a parameter among types; None where there is none.
 fn own_type_at(types: &[BoundType], place: usize) -> Option<ParameterType>
-    ensures some { IfSome result (λ kind. drop place (unnamed types.now) ≡ kind ∷ drop (place + 1) (unnamed types.now)) }
+    ensures some { IfSome result (λ kind. drop place (unnamed types.now) ≡ kind ∷
+        drop (place + 1) (unnamed types.now)) }
     ensures none { IfNone result (drop place (unnamed types.now) ≡ []) }
 {
     if place < types.len() {

@@ -1,6 +1,7 @@
 //! Executions as they are written.
 
-ghost use Rattle.std.specs.Prelude.{◌≡◌, ◌++◌, ◌∷◌, ◌+◌, ◌<◌, ◌==◌, ◌||◌, ◌&&◌, [], IfOk, OnOk, false, length, true, unwrap_or};
+ghost use Rattle.std.specs.Prelude.{◌≡◌, ◌++◌, ◌∷◌, ◌+◌, ◌<◌, ◌==◌, ◌||◌, ◌&&◌, [], IfOk, OnOk, false, length, true};
+ghost use Rattle.std.specs.Prelude.{unwrap_or};
 ghost use Rattle.std.specs.Prelude.{if◌then◌else◌};
 ghost use Rattle.mysql_buf.specs.Writing.{lenenc_int};
 ghost use Rattle.mysql_executions.specs.Executions.{gives_count as has_count};
@@ -147,7 +148,7 @@ fn put_body(
 /// Appends the body of an execution, behind the command's first byte, by what is in force.
 ///
 /// Promise: exactly where it can be (`can_be_put`), and the bytes are read as the execution
-/// (`executions_read_back`).
+/// (`ExecutionsReadBack`).
 ///
 /// # Errors
 /// - `Unreadable` where no body is read as this execution: the statement is broken; a cursor of

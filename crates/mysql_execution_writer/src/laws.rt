@@ -50,7 +50,7 @@ pub fn read_attributes_are_written()
     read_cells_are_written();
 }
 
-/// A bulk execution that was read can be written by what was in force, and is read again as it is.
+/// A bulk execution that was read can be written by what was in force. It is read again as it is.
 pub fn read_bulks_are_written()
     ensures { ReadBulksAreWritten }
 {

@@ -11,7 +11,8 @@ use Rattle.mysql_executions.specs.InForce.{InForce}
 -- behind it is decided by the execution alone.
 abbrev pub ReadTypesAreCarried : Type 0
 ReadTypesAreCarried =
-    (capabilities : Capabilities) (s : InForce) (body : List ℕ) (e : Execution) → execution_at capabilities s body ≡ Some e
+    (capabilities : Capabilities) (s : InForce) (body : List ℕ) (e : Execution) →
+    execution_at capabilities s body ≡ Some e
     → execution_types capabilities s.count body ≡ unwrap_or e.types []
 
 -- So are those of a bulk execution.

@@ -1,7 +1,8 @@
 -- The types that stand in executions. MySQL: Client/Server Protocol, "COM_STMT_EXECUTE"
 -- (parameter_type, parameter_name), "COM_QUERY"; MariaDB: "COM_STMT_BULK_EXECUTE". x.0 is what was
 -- read and x.1 the bytes left.
-use Rattle.std.specs.Prelude.{ℕ, zero, suc, Bool, true, false, ◌==◌, if◌then◌else◌, List, [], ◌∷◌, map, Option, Some, None}
+use Rattle.std.specs.Prelude.{ℕ, zero, suc, Bool, true, false, ◌==◌, if◌then◌else◌, List, [], ◌∷◌, map, Option, Some}
+use Rattle.std.specs.Prelude.{None}
 use Rattle.std.specs.Prelude.{unwrap_or}
 use Rattle.std.specs.Option.{option_map}
 use Rattle.mysql_buf.specs.Reading.{lenenc_str_at}

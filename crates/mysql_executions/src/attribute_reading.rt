@@ -33,8 +33,8 @@ fn read_first(alloc: Global, bytes: &[u8]) -> Result<(Vec<Attribute>, &[u8]), No
     read_attributes(alloc, binding.nulls, 0, types, rest)
 }
 
-/// Reads the attributes that stand before a query's text where query attributes are in force, and
-/// answers them and the text.
+/// Reads the attributes before a query's text, and answers them and the text. They stand there
+/// where query attributes are in force.
 ///
 /// None where they aren't laid out so: a number of sets other than 1, attributes without types, a
 /// type without cells, too few bytes.

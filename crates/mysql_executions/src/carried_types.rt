@@ -28,10 +28,12 @@ fn read_front(
     }
 }
 
-/// The types that an execution's body carries for a statement's parameters, of which there are so
-/// many: up to the first that can't be read, whatever stands behind it.
+/// The types that an execution's body carries for a statement's parameters. The parameters are as
+/// many as `count`; the types go up to the first that can't be read, whatever stands behind it.
 ///
 /// None where it carries no types, or what stands before them isn't laid out as in an execution.
+///
+/// Promise: exactly the types that stand there (`execution_types`).
 ///
 /// # Errors
 /// For want of memory.
@@ -58,10 +60,12 @@ pub fn read_execution_types(
     }
 }
 
-/// The types that a bulk execution's body carries for a statement's parameters, of which there are so
-/// many: up to the first that can't be read, whatever stands behind it.
+/// The types that a bulk execution's body carries for a statement's parameters. The parameters are
+/// as many as `count`; the types go up to the first that can't be read, whatever stands behind it.
 ///
 /// None where it carries no types, or is cut off before them.
+///
+/// Promise: exactly the types that stand there (`bulk_types`).
 ///
 /// # Errors
 /// For want of memory.

@@ -500,8 +500,8 @@ fn both(server: CapabilityFlags, client: CapabilityFlags) -> CapabilityFlags
 }
 
 impl<'a> HandshakeResponse<'a> {
-    /// Reads an answer to a server of these capabilities: those that both sides have are in force and
-    /// say which fields stand there. A client may set others, and leave their fields out.
+    /// Reads an answer to a server of these capabilities. Those that both sides have are in force
+    /// and say which fields stand there. A client may set others, and leave their fields out.
     /// (MySQL: Client/Server Protocol, "Protocol::HandshakeResponse41" and "Capabilities Flags".)
     ///
     /// Promise: any bytes are read exactly as the layout by the capabilities in force says, with the
@@ -529,9 +529,9 @@ impl<'a> HandshakeResponse<'a> {
         Ok(response)
     }
 
-    /// Appends the answer as one to a server of these capabilities: the answer to the scramble in the
-    /// form of those that both sides have, and the database, the plugin and the attributes where they
-    /// are held. The capabilities in force should name exactly those.
+    /// Appends the answer as one to a server of these capabilities. The answer to the scramble has
+    /// the form of those that both sides have; the database, the plugin and the attributes follow
+    /// where they are held. The capabilities in force should name exactly those.
     /// (MySQL: Client/Server Protocol, "Protocol::HandshakeResponse41" and "Capabilities Flags".)
     ///
     /// Promise: exactly the bytes of that layout are appended, or nothing (`response_to`).

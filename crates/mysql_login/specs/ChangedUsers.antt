@@ -111,7 +111,8 @@ change_in_force_at capabilities bytes = do
 
 -- what may stand last, each part where it is held
 unfoldable pub last_fields : MoreFields → List ℕ
-last_fields p = concat (little_bytes 2 p.character_set ∷ if_held plugin_text p.plugin ∷ if_held attributes p.attributes ∷ [])
+last_fields p = concat (little_bytes 2 p.character_set ∷ if_held plugin_text p.plugin ∷
+    if_held attributes p.attributes ∷ [])
 
 -- the command's number and the fields in that order
 unfoldable pub change_in_force : ℕ → ChangeUserFields → List ℕ

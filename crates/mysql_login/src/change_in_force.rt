@@ -147,10 +147,10 @@ impl<'x, 'a> MySerialize for LastIfHeld<'x, 'a> {
 }
 
 impl<'a> ComChangeUser<'a> {
-    /// Reads a command by the capabilities that both sides have, as servers do: the answer to the
+    /// Reads a command by the capabilities that both sides have, as servers do. The answer to the
     /// scramble ends with a zero without `CLIENT_SECURE_CONNECTION`; the fields may end behind the
-    /// database, the collation or the plugin, though the capabilities name more, and a plugin's name
-    /// may end with the bytes.
+    /// database, the collation or the plugin, though the capabilities name more, and a plugin's
+    /// name may end with the bytes.
     /// (MySQL: Client/Server Protocol, "COM_CHANGE_USER"; MariaDB: Client/Server Protocol,
     /// "COM_CHANGE_USER".)
     ///
@@ -186,8 +186,8 @@ impl<'a> ComChangeUser<'a> {
         })
     }
 
-    /// Appends the command by the capabilities that both sides have: the answer to the scramble in
-    /// their form, and the plugin and the attributes where they are held.
+    /// Appends the command by the capabilities that both sides have. The answer to the scramble has
+    /// their form; the plugin and the attributes follow where they are held.
     /// (MySQL: Client/Server Protocol, "COM_CHANGE_USER"; MariaDB: Client/Server Protocol,
     /// "COM_CHANGE_USER".)
     ///

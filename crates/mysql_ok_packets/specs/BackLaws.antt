@@ -112,7 +112,8 @@ status-back : (status : ℕ) (rest : List ℕ) → is_named_status status ≡ tr
     → named_at status_named (fixed_number_at 2) (little_bytes 2 status ++ rest) ≡ Ok (record { 0 = status }, rest)
 status-back status rest named fits =
     named_at-back status_named (λ flags. flags.0) (fixed_number_at 2) (little_bytes 2) (record { 0 = status }) rest
-    (flags_named-back all_status_flags (λ bits. record { 0 = bits }) status named) (fixed_number_at-back 2 status rest fits)
+    (flags_named-back all_status_flags (λ bits. record { 0 = bits }) status named)
+    (fixed_number_at-back 2 status rest fits)
 
 -- what is read of a packet with these rows and this id
 abbrev pub with_numbers : ℕ → ℕ → ℕ → OkPacket → OkPacket

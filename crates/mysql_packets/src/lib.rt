@@ -12,14 +12,15 @@ pub use mysql_bulk_builder::{
     BulkExecuteRequestBuilderError, BulkRequests, ComStmtBulkExecuteRequestBuilder,
 };
 pub use mysql_columns::{
-    Catalog, Column, ColumnDefinitionCatalog, FixedLengthFieldsLen, InvalidCatalog,
-    InvalidFixedLengthFieldsLen,
+    Catalog, Column, ColumnDefinitionCatalog, ExtendedColumn, FixedLengthFieldsLen, InvalidCatalog,
+    InvalidFixedLengthFieldsLen, ListedColumn,
 };
 pub use mysql_convert;
 pub use mysql_field_lists::{BitmapBytes, NullBitmap, NullBits};
 pub use mysql_ok_packets::{
     CommonOkPacket, InvalidOkPacketHeader, NetworkStreamTerminator, OkPacket, OkPacketBody,
-    OkPacketDeserializer, OkPacketKind, OldEofPacket, ResultSetTerminator, has_named_status,
+    OkPacketDeserializer, OkPacketKind, OldEofPacket, ResultSetTerminator, has_mysql_status,
+    has_named_status,
 };
 pub use mysql_row_conversions::{RowExt, RowRefExt};
 pub use mysql_rows::{

@@ -1,13 +1,13 @@
 //! Columns.
 
 use crate::support::{Asserting, assert_text};
-use mysql_const::{ColumnFlags, ColumnType};
+use mysql_const::{ColumnFlags, ColumnType, MariadbCapabilities};
 use mysql_fields::WireError;
-use mysql_packets::Column;
+use mysql_packets::{Column, ExtendedColumn, ListedColumn};
 use std::alloc::{AllocError, Global};
 use tests_support::{
     Assert, assert_bytes, assert_copied, assert_cut_off, assert_equal, assert_made,
-    assert_reads_back, assert_refused, once_more, whole,
+    assert_reads_back, assert_refused, assert_written, once_more, whole,
 };
 
 pub const COLUMN: &[u8] =
@@ -181,5 +181,113 @@ const NO_COLUMNS: [(&[u8], WireError); 3] = [
 fn no_columns(rt: HostRuntime) {
     for (bytes, cause) in &NO_COLUMNS {
         assert_refused::<Column, ()>(&Asserting(&rt), rt.alloc(), (), *bytes, *cause);
+    }
+}
+
+const EXTENDED: MariadbCapabilities = MariadbCapabilities::MARIADB_CLIENT_EXTENDED_METADATA;
+
+/// Packets of the column `c` with extended metadata, and the type's name and the format that these tell.
+const METADATA: [(&[u8], Option<&[u8]>, Option<&[u8]>); 5] = [
+    (
+        b"\x03def\0\0\0\x01c\0\0\x0c\x21\0\0\0\0\0\xfe\0\0\0\0\0",
+        None,
+        None,
+    ),
+    (
+        b"\x03def\0\0\0\x01c\0\x07\0\x05point\x0c\x3f\0\0\0\0\0\xff\0\0\0\0\0",
+        Some(b"point"),
+        None,
+    ),
+    (
+        b"\x03def\0\0\0\x01c\0\x06\x01\x04json\x0c\x2d\0\0\0\0\0\xfc\0\0\0\0\0",
+        None,
+        Some(b"json"),
+    ),
+    (
+        b"\x03def\0\0\0\x01c\0\x0c\x01\x04json\0\x04uuid\x0c\x2d\0\0\0\0\0\xfc\0\0\0\0\0",
+        Some(b"uuid"),
+        Some(b"json"),
+    ),
+    // a value that is cut off ends them
+    (
+        b"\x03def\0\0\0\x01c\0\x09\0\x04uuid\x01\x04j\x0c\x2d\0\0\0\0\0\xfc\0\0\0\0\0",
+        Some(b"uuid"),
+        None,
+    ),
+];
+
+#[test]
+fn columns_with_metadata(rt: HostRuntime) {
+    let assert = Asserting(&rt);
+    let alloc = rt.alloc();
+    for (bytes, type_name, format) in &METADATA {
+        let read = whole::<ExtendedColumn, MariadbCapabilities>(&assert, alloc, EXTENDED, *bytes);
+        assert.holds(read.type_name() == *type_name);
+        assert.holds(read.format() == *format);
+        assert_bytes(&assert, read.column().name_ref(), b"c");
+        assert_reads_back::<ExtendedColumn, MariadbCapabilities>(&assert, alloc, EXTENDED, *bytes);
+        assert_cut_off::<ExtendedColumn, MariadbCapabilities>(
+            &assert,
+            alloc,
+            EXTENDED,
+            *bytes,
+            0,
+            bytes.len(),
+        );
+        assert_copied(&assert, &read, read.clone(alloc), read.clone(alloc));
+    }
+    let none = MariadbCapabilities(0);
+    let plain = whole::<ExtendedColumn, MariadbCapabilities>(&assert, alloc, none, COLUMN);
+    assert.holds(plain.metadata_ref().is_none());
+    assert_names(&assert, &plain.into_column());
+}
+
+/// The third of those packets, made by its parts.
+fn with_format(alloc: Global) -> Result<ExtendedColumn, AllocError> {
+    let mut metadata = Vec::new(alloc);
+    ExtendedColumn::put_format(b"json", &mut metadata)?;
+    let column = Column::new(alloc, ColumnType::MYSQL_TYPE_BLOB).with_name(b"c")?;
+    Ok(ExtendedColumn::new(column.with_character_set(45)).with_metadata(metadata))
+}
+
+#[test]
+fn made_with_metadata(rt: HostRuntime) {
+    let alloc = rt.alloc();
+    assert_made(
+        &Asserting(&rt),
+        alloc,
+        with_format(alloc),
+        with_format(alloc),
+        METADATA[2].0,
+    );
+}
+
+/// Defaults behind a column: what is written of them again, and their text.
+const DEFAULTS: [(&[u8], &[u8], Option<&[u8]>); 3] = [
+    (b"\xfb", b"\xfb", None),
+    (b"", b"\xfb", None),
+    (b"\x02no", b"\x02no", Some(b"no")),
+];
+
+/// A column with its default: the packet, and what is written of it.
+fn listed(alloc: Global, default: &[u8]) -> Result<Vec<u8>, AllocError> {
+    let mut bytes = Vec::from_slice(alloc, COLUMN)?;
+    bytes.extend_from_slice(default)?;
+    Ok(bytes)
+}
+
+#[test]
+fn columns_that_are_listed(rt: HostRuntime) {
+    let assert = Asserting(&rt);
+    let alloc = rt.alloc();
+    let none = MariadbCapabilities(0);
+    for (read, put, text) in &DEFAULTS {
+        let bytes = once_more(&assert, listed(alloc, *read), listed(alloc, *read));
+        let wanted = once_more(&assert, listed(alloc, *put), listed(alloc, *put));
+        let column = whole::<ListedColumn, MariadbCapabilities>(&assert, alloc, none, &bytes);
+        assert.holds(column.default_ref() == *text);
+        assert_names(&assert, column.column().column());
+        assert_copied(&assert, &column, column.clone(alloc), column.clone(alloc));
+        assert_written(&assert, alloc, &column, &wanted);
     }
 }

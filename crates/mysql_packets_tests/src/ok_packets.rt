@@ -4,11 +4,11 @@ use crate::memory::{assert_behind, front};
 use crate::session_states::{Told, assert_decoded};
 use crate::support::Asserting;
 use mysql_buf::ParseBuf;
-use mysql_const::{CapabilityFlags, StatusFlags};
+use mysql_const::{CapabilityFlags, MariadbStatusFlags, StatusFlags};
 use mysql_fields::WireError;
 use mysql_ok_packets::{
     CommonOkPacket, NetworkStreamTerminator, OkPacket, OkPacketDeserializer, OkPacketKind,
-    OldEofPacket, ResultSetTerminator, has_named_status,
+    OldEofPacket, ResultSetTerminator, has_mysql_status, has_named_status,
 };
 use std::alloc::Global;
 use std::borrow::CowSlice;
@@ -21,6 +21,9 @@ const NONE: CapabilityFlags = CapabilityFlags::CLIENT_PROTOCOL_41;
 const TRACKED: CapabilityFlags = CapabilityFlags(0x80_0200);
 
 const AUTOCOMMIT: StatusFlags = StatusFlags(2);
+
+/// MariaDB's status where double quotes are of names.
+const ANSI_QUOTES: StatusFlags = StatusFlags(0x8002);
 
 /// What a packet says: rows, id, status, warnings, info and session state.
 type Says = (
@@ -90,7 +93,12 @@ const STATE: &[u8] = b"\x00\x0f\x0aautocommit\x03OFF";
 const CHANGED: &[u8] = b"\x00\x00\x00\x02\x40\x00\x00\x00\x11\x00\x0f\x0aautocommit\x03OFF";
 
 /// The client's capabilities, a packet, and what it says.
-const COMMON: [(CapabilityFlags, &[u8], Says); 5] = [
+const COMMON: [(CapabilityFlags, &[u8], Says); 6] = [
+    (
+        NONE,
+        b"\x00\x01\x00\x02\x80\x00\x00",
+        (1, None, ANSI_QUOTES, 0, None, None),
+    ),
     (NONE, DONE, (1, None, AUTOCOMMIT, 0, None, None)),
     (NONE, WITH_INFO, (1, None, AUTOCOMMIT, 0, Some(b"ok"), None)),
     (
@@ -311,7 +319,15 @@ fn what_a_made_packet_says(rt: HostRuntime) {
     assert_says(&assert, &made(&MADE[1].0), &MADE[0].0);
     assert.holds(has_named_status(AUTOCOMMIT));
     assert.holds(!has_named_status(StatusFlags(4)));
-    assert.holds(!has_named_status(StatusFlags(0x8000)));
+    assert.holds(has_named_status(ANSI_QUOTES));
+    assert.holds(has_mysql_status(AUTOCOMMIT));
+    assert.holds(!has_mysql_status(ANSI_QUOTES));
+    let of_mariadb = made(&(0, None, ANSI_QUOTES, 0, None, None));
+    assert_equal(
+        &assert,
+        of_mariadb.mariadb_status_flags(),
+        MariadbStatusFlags::SERVER_STATUS_ANSI_QUOTES,
+    );
 }
 
 /// Each prefix is cut off, but those without session states that end behind the warnings or the info.
@@ -354,8 +370,8 @@ fn assert_states(assert: &impl Assert, alloc: Global, packet: &OkPacket, told: &
     }
 }
 
-/// Packets, and what their states are decoded to. The last is as a server writes it that leaves the
-/// inner length out: the packet and the state are read, and the state isn't decoded.
+/// Packets, and what their states are decoded to. The last is as MariaDB writes it, which leaves the
+/// inner length out.
 const WITH_STATES: [(&[u8], &[Told]); 6] = [
     (DONE, &[]),
     (CHANGED, &[Told::Variables(&[(b"autocommit", b"OFF")])]),
@@ -373,7 +389,7 @@ const WITH_STATES: [(&[u8], &[Told]); 6] = [
     ),
     (
         b"\x00\x00\x00\x02\x40\x00\x00\x00\x03\x02\x011",
-        &[Told::Refused(WireError::UnexpectedEof)],
+        &[Told::Tracked(true)],
     ),
 ];
 

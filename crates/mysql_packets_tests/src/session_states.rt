@@ -73,7 +73,7 @@ pub fn assert_decoded(assert: &impl Assert, alloc: Global, state: &SessionStateI
 /// A state, its type, and what it is decoded to.
 type State = (&'static [u8], SessionStateType, Told);
 
-const STATES: [State; 12] = [
+const STATES: [State; 11] = [
     (
         b"\x00\x0f\x0aautocommit\x03OFF",
         SessionStateType::SESSION_TRACK_SYSTEM_VARIABLES,
@@ -125,12 +125,6 @@ const STATES: [State; 12] = [
         SessionStateType::SESSION_TRACK_TRANSACTION_STATE,
         Told::Transaction(b"abc"),
     ),
-    // A server that writes no inner length: the state is read, and isn't decoded.
-    (
-        b"\x02\x011",
-        SessionStateType::SESSION_TRACK_STATE_CHANGE,
-        Told::Refused(WireError::UnexpectedEof),
-    ),
     // An inner length past the bytes.
     (
         b"\x01\x05\x05test",
@@ -139,8 +133,19 @@ const STATES: [State; 12] = [
     ),
 ];
 
-/// Bytes behind a text are passed over: what tells the change is shorter than these.
-const LEFT_OVER: [State; 5] = [
+/// Bytes behind a text are passed over, so that what tells the change is shorter than these; and
+/// MariaDB's digit without a length, which is written with one.
+const LEFT_OVER: [State; 7] = [
+    (
+        b"\x02\x011",
+        SessionStateType::SESSION_TRACK_STATE_CHANGE,
+        Told::Tracked(true),
+    ),
+    (
+        b"\x02\x010",
+        SessionStateType::SESSION_TRACK_STATE_CHANGE,
+        Told::Tracked(false),
+    ),
     (
         b"\x01\x06\x04test!",
         SessionStateType::SESSION_TRACK_SCHEMA,

@@ -12,7 +12,8 @@ ghost use Rattle.mysql_fields.specs.Wire.{GivesPart, TellsPart};
 ghost use Rattle.mysql_replication.specs.PacketLaws.{binlog_dump_gtid_at-back};
 ghost use Rattle.mysql_replication.specs.Packets.{BinlogDumpGtid, IsBinlogDumpGtid, binlog_dump_gtid};
 ghost use Rattle.mysql_replication.specs.Packets.{binlog_dump_gtid_at, binlog_dump_gtid_fields_at};
-ghost use Rattle.mysql_replication.specs.Packets.{binlog_dump_gtid_front_at, binlog_dump_gtid_start_at, through_gtid, whole_binlog_dump_gtid};
+ghost use Rattle.mysql_replication.specs.Packets.{binlog_dump_gtid_front_at, binlog_dump_gtid_start_at, through_gtid};
+ghost use Rattle.mysql_replication.specs.Packets.{whole_binlog_dump_gtid};
 ghost use Rattle.mysql_replication.specs.Views.{IsLossyText, binlog_dump_gtid_view, start_view};
 
 use crate::headers::ComBinlogDumpGtidHeader;

@@ -10,7 +10,8 @@ ghost use Rattle.mysql_fields.specs.Laws.{unsized};
 ghost use Rattle.mysql_fields.specs.Wire.{TellsPart};
 ghost use Rattle.mysql_replication.specs.PacketLaws.{register_slave_at-back};
 ghost use Rattle.mysql_replication.specs.Packets.{IsRegisterSlave, RegisterSlave, register_slave, register_slave_at};
-ghost use Rattle.mysql_replication.specs.Packets.{register_slave_fields_at, replica_names_at, replica_numbers_at, whole_register_slave};
+ghost use Rattle.mysql_replication.specs.Packets.{register_slave_fields_at, replica_names_at, replica_numbers_at};
+ghost use Rattle.mysql_replication.specs.Packets.{whole_register_slave};
 ghost use Rattle.mysql_replication.specs.Views.{IsLossyText, names_view, numbers_view, register_slave_view};
 
 use crate::headers::ComRegisterSlaveHeader;
@@ -196,8 +197,8 @@ impl<'a> ComRegisterSlave<'a> {
         self.master_id
     }
 
-    /// Whether its names and its password are written whole, so that it is read as it was written:
-    /// each has at most 255 bytes.
+    /// Whether its names and its password are written whole: each has at most 255 bytes. It is then
+    /// read as it was written.
     pub fn is_whole(&self) -> bool
         ensures { result ≡ whole_register_slave (register_slave_view self.now) }
     {

@@ -78,8 +78,8 @@ impl<'a> ComTableDump<'a> {
         lossy_text(alloc, self.table_raw())
     }
 
-    /// Whether its names are written whole, so that it is read as it was written: each has at most
-    /// 255 bytes.
+    /// Whether its names are written whole: each has at most 255 bytes. It is then read as it was
+    /// written.
     pub fn is_whole(&self) -> bool
         ensures { result ≡ whole_table_dump (table_dump_view self.now) }
     {

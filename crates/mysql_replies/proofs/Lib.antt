@@ -1,4 +1,3 @@
-pub mod BinaryRows
 pub mod Taken
 pub mod Determined
 pub mod Payloads
@@ -26,3 +25,6 @@ pub mod WhatCame
 pub mod NoRows
 pub mod RowSteps
 pub mod BorrowedOut
+pub mod EventSteps
+pub mod PacketsRead
+pub mod EventsTogether

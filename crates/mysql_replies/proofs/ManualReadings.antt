@@ -11,7 +11,7 @@ use Rattle.mysql_columns.specs.Columns.{ColumnDefinition, column_at}
 use Rattle.mysql_replies.specs.declared.fault.ReplyFault.{ReplyFault}
 use Rattle.mysql_replies.specs.declared.fault.ReplyFault.TheVariants.{BadColumn, BadOk, BadError, BadRow, BadTerminator, BadPrepare}
 use Rattle.mysql_replies.specs.declared.context.Context.{Context}
-use Rattle.mysql_replies.specs.Grammar.{Payload, begins_with, or_fault, whole_or_fault, map_ok, unless_report, has_report_form, deprecate_eof, is_prepare, terminator_limit, column, eof, row, Line, RowLine, TerminatorLine, ErrorLine, line, Opening, OkOpening, ErrorOpening, FileOpening, CountOpening, StatementOpening, count_within, opening}
+use Rattle.mysql_replies.specs.Grammar.{Payload, begins_with, or_fault, whole_or_fault, map_ok, unless_report, has_report_form, deprecate_eof, is_prepare, terminator_limit, of_mysql, column, eof, row, Line, RowLine, TerminatorLine, ErrorLine, line, Opening, OkOpening, ErrorOpening, FileOpening, CountOpening, StatementOpening, count_within, opening}
 use Rattle.mysql_replies.specs.Manual.{Reads, IsOk, IsError, IsCount, IsEof, IsTerminator, Row, IsRow, row_at, ends_rows}
 
 -- P of what was read, where something was.
@@ -63,11 +63,11 @@ column_read payload a h = first_read BadColumn (column_at payload) a h
 pub eof_given : (payload : Payload) → Given (λ ok. IsEof payload) (eof payload)
 eof_given payload =
     Given-if (λ ok. IsEof payload) (nat_lt (length payload) 9) _ _
-    (λ below. Given-first (λ ok. IsEof payload) BadTerminator (old_eof_at payload) (λ ok h. record { below = ltb-true _ _ below; says = ok; fields = h }))
+    (λ below. Given-first (λ ok. IsEof payload) BadTerminator (of_mysql (old_eof_at payload)) (λ ok h. record { below = ltb-true _ _ below; says = ok; fields = h }))
     (λ above. tt)
 
 pub eof_read : (payload : Payload) (is : IsEof payload) → eof payload ≡ Ok is.says
-eof_read payload is = rw (lt-ltb (length payload) 9 is.below) (first_read BadTerminator (old_eof_at payload) is.says is.fields)
+eof_read payload is = rw (lt-ltb (length payload) 9 is.below) (first_read BadTerminator (of_mysql (old_eof_at payload)) is.says is.fields)
 
 -- What a payload in a row's place is.
 abbrev pub IsLine : Context → List ColumnDefinition → Payload → Line → Type 0
@@ -88,7 +88,7 @@ line_given c columns payload =
     Given-if P (begins_with 255 payload) _ _
     (λ header. Given-map_first P ErrorLine BadError (error_at c.capabilities.0 payload) (λ e h. record { header = header; fields = h }))
     (λ no_error. Given-if P (ends_rows c payload) _ _
-    (λ ends. Given-map_first P TerminatorLine BadTerminator (if deprecate_eof c.capabilities.0 then result_set_terminator_at c.capabilities.0 payload else old_eof_at payload) (λ ok h. record { ends = ends; fields = h }))
+    (λ ends. Given-map_first P TerminatorLine BadTerminator (of_mysql (if deprecate_eof c.capabilities.0 then result_set_terminator_at c.capabilities.0 payload else old_eof_at payload)) (λ ok h. record { ends = ends; fields = h }))
     (λ no_end. Given-map P RowLine (row c columns payload) (row_given c columns payload no_error no_end)))
 
 begins_apart : (a b : ℕ) (payload : Payload) → begins_with a payload ≡ true → (a == b) ≡ false → begins_with b payload ≡ false
@@ -138,7 +138,7 @@ opening_given c payload =
     (λ header. Given-map_first P StatementOpening BadPrepare (prepare_ok_at payload) (λ s h. (prepare, header, h)))
     (λ other. tt))
     (λ command. Given-if P (begins_with 0 payload) _ _
-    (λ header. Given-map_first P OkOpening BadOk (ok_packet_at c.capabilities.0 payload) (λ ok h. (command, record { header = header; fields = h })))
+    (λ header. Given-map_first P OkOpening BadOk (of_mysql (ok_packet_at c.capabilities.0 payload)) (λ ok h. (command, record { header = header; fields = h })))
     (λ no_ok. Given-if P (begins_with 251 payload) _ _
     (λ header. (command, begins_as 251 payload header))
     (λ no_file. Given-if P (length payload == 0) _ _
@@ -167,7 +167,7 @@ count_read n payload is = rw (is.number, lt-ltb 0 n is.some, lt-ltb n 65536 is.b
 
 pub opening_read : (c : Context) (payload : Payload) (o : Opening) → IsOpening c payload o → opening c payload ≡ Ok o
 opening_read c payload (OkOpening ok) is =
-    rw (begins_apart 0 255 payload is.1.header refl, is.0, is.1.header) (ap (map_ok OkOpening) (first_read BadOk (ok_packet_at c.capabilities.0 payload) ok is.1.fields))
+    rw (begins_apart 0 255 payload is.1.header refl, is.0, is.1.header) (ap (map_ok OkOpening) (first_read BadOk (of_mysql (ok_packet_at c.capabilities.0 payload)) ok is.1.fields))
 opening_read c payload (ErrorOpening error) is =
     rw is.header (ap (map_ok ErrorOpening) (first_read BadError (error_at c.capabilities.0 payload) error is.fields))
 opening_read c payload (FileOpening name) is = rw (is.1, is.0) refl

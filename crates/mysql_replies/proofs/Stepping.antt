@@ -56,11 +56,6 @@ step_fails c a payload awaited Memory settled read e each h = record { listed = 
 step_fails c a payload awaited fault settled read e each h =
     (e, λ z. subst (λ p. Results c p (listed_of a) (Wrong fault (payload ∷ z))) (sym (each fault h z)) (faulty (listed_of a) fault (payload ∷ z)))
 
--- A refusal that is the reading's is one that may be.
-pub refuses_by : {A : Type 0} (fault : ReplyFault) (read : Result A ReplyFault) → read ≡ Err fault → Refuses fault read
-refuses_by Memory read h = tt
-refuses_by fault read h = h
-
 -- What is made of payloads where more columns of a group are awaited.
 group_is : (c : Context) (g : Group) (n : ℕ) (these : List ColumnDefinition) (payloads : List Payload) → rest_of c (group_awaited g n these) payloads ≡ (column_group c n these payloads >>= λ x. after_group c g x.0 x.1)
 unfolding result_set prepared prepared_columns
@@ -134,7 +129,7 @@ pub eof_leads : (c : Context) (g : Group) (these : List ColumnDefinition) (paylo
 eof_leads c g [] payload ok form settled h z = absurd settled
 eof_leads c g (first ∷ others) payload ok form settled h z = group_from c g 0 (first ∷ others) (payload ∷ z) (Complete (first ∷ others) z) (eof_found c first others payload ok form settled h z)
 
-eof_fails : (c : Context) (g : Group) (these : List ColumnDefinition) (payload : Payload) (fault : ReplyFault) → has_report_form c payload ≡ false → IsGroupSettled c 0 these → eof payload ≡ Err fault → (z : List Payload) → rest_of c (group_awaited g 0 these) (payload ∷ z) ≡ Faulty [] fault (payload ∷ z)
+pub eof_fails : (c : Context) (g : Group) (these : List ColumnDefinition) (payload : Payload) (fault : ReplyFault) → has_report_form c payload ≡ false → IsGroupSettled c 0 these → eof payload ≡ Err fault → (z : List Payload) → rest_of c (group_awaited g 0 these) (payload ∷ z) ≡ Faulty [] fault (payload ∷ z)
 eof_fails c g [] payload fault form settled h z = absurd settled
 eof_fails c g (first ∷ others) payload fault form settled h z = group_from c g 0 (first ∷ others) (payload ∷ z) (Faulty [] fault (payload ∷ z)) (eof_unexpected c first others payload fault form settled h z)
 
@@ -151,7 +146,7 @@ column_leads c g zero these those payload found form some h pushed z = absurd (o
 column_leads c g (suc n) these those payload found form some h pushed z =
     let e : suc n - 1 ≡ n = omega arith in rw (e, pushed) (group_same c g (suc n) n these (these ++ found ∷ []) (payload ∷ z) z (column_found c n these payload found form h z))
 
-column_fails : (c : Context) (g : Group) (n : ℕ) (these : List ColumnDefinition) (payload : Payload) (fault : ReplyFault) → has_report_form c payload ≡ false → 0 < n → column payload ≡ Err fault → (z : List Payload) → rest_of c (group_awaited g n these) (payload ∷ z) ≡ Faulty [] fault (payload ∷ z)
+pub column_fails : (c : Context) (g : Group) (n : ℕ) (these : List ColumnDefinition) (payload : Payload) (fault : ReplyFault) → has_report_form c payload ≡ false → 0 < n → column payload ≡ Err fault → (z : List Payload) → rest_of c (group_awaited g n these) (payload ∷ z) ≡ Faulty [] fault (payload ∷ z)
 column_fails c g zero these payload fault form some h z = absurd (omega arith)
 column_fails c g (suc n) these payload fault form some h z = group_from c g (suc n) these (payload ∷ z) (Faulty [] fault (payload ∷ z)) (column_unexpected c n these payload fault form h z)
 
@@ -161,9 +156,9 @@ group_fails c g n these payload awaited fault settled read is each h =
     step_fails c (group_awaited g n these) payload awaited fault (settled_group c g n these settled) read is
     (λ f e z. each f e z ∙ ap (λ results. Faulty results f (payload ∷ z)) (sym (listed_group g n these))) h
 
-pub eof_step_fails : (c : Context) (g : Group) (these : List ColumnDefinition) (payload : Payload) (awaited : code.Awaited) (fault : ReplyFault) → has_report_form c payload ≡ false → IsGroupSettled c 0 these → awaited_view awaited ≡ group_awaited g 0 these → eof payload ≡ Err fault → IsStep c (group_awaited g 0 these) payload (Failed awaited fault)
+pub eof_step_fails : (c : Context) (g : Group) (these : List ColumnDefinition) (payload : Payload) (awaited : code.Awaited) (fault : ReplyFault) → has_report_form c payload ≡ false → IsGroupSettled c 0 these → awaited_view awaited ≡ group_awaited g 0 these → Refuses fault (eof payload) → IsStep c (group_awaited g 0 these) payload (Failed awaited fault)
 eof_step_fails c g these payload awaited fault form settled is h =
-    group_fails c g 0 these payload awaited fault settled (eof payload) is (λ f e. eof_fails c g these payload f form settled e) (refuses_by fault (eof payload) h)
+    group_fails c g 0 these payload awaited fault settled (eof payload) is (λ f e. eof_fails c g these payload f form settled e) h
 
 pub column_step_fails : (c : Context) (g : Group) (n : ℕ) (these : List ColumnDefinition) (payload : Payload) (awaited : code.Awaited) (fault : ReplyFault) → has_report_form c payload ≡ false → 0 < n → awaited_view awaited ≡ group_awaited g n these → Refuses fault (column payload) → IsStep c (group_awaited g n these) payload (Failed awaited fault)
 column_step_fails c g n these payload awaited fault form some is h =

@@ -12,9 +12,9 @@ use Rattle.mysql_replies.specs.declared.fault.ReplyFault.TheVariants.{BadError, 
 use Rattle.mysql_replies.specs.declared.awaited.Awaited as code
 use Rattle.mysql_replies.specs.declared.awaited.Awaited.TheVariants as awaiting
 use Rattle.mysql_replies.specs.Grammar.{Payload, Outcome, Faulty, Wrong, Results, last, faulty, has_report_form, is_report, next_payload, columns, columns_end, column_group, rows, one_result}
-use Rattle.mysql_replies.specs.Reply.{FaultAt, report_of, Nothing, rest_of, OpenReply, GoingOn, Answered, PayloadsDecide}
+use Rattle.mysql_replies.specs.Reply.{FaultAt, report_of, Awaited, First, Columns, Rows, Parameters, PreparedColumns, Nothing, rest_of, OpenReply, GoingOn, Answered, PayloadsDecide}
 use Rattle.mysql_wire.specs.Wire.{Reading}
-use Rattle.mysql_server_packets.specs.Views.{prepare_ok_view, progress_report_view}
+use Rattle.mysql_server_packets.specs.Views.{progress_report_view}
 use Rattle.mysql_replies.specs.declared.fault.ReplyFault.TheVariants.{Memory}
 use Rattle.mysql_replies.specs.declared.awaited.Stepped.TheVariants.{Failed}
 use Rattle.mysql_replies.specs.declared.state.ReplyState.{ReplyState}
@@ -24,7 +24,7 @@ use Rattle.mysql_replies.specs.Reply.{read_report}
 use Rattle.mysql_replies.specs.Steps.{IsStep}
 use Rattle.mysql_replies.specs.States.{open_reply, faulted, reply_so_far, HasRoom, IsSpared, IsReading, UnlessMemory, OnMemory, IsShortOf}
 use Rattle.mysql_replies.specs.States as states
-use Rattle.mysql_replies.specs.Views.{Refuses, outcome_views, awaited_view, column_views}
+use Rattle.mysql_replies.specs.Views.{Refuses, outcome_views, awaited_view}
 use Rattle.mysql_replies.specs.Steps.{Moves, Fails, Over, Leads, Group, OfResultSet, OfParameters, OfPrepared, group_awaited, IsGroupSettled, IsSettled, IsAwaiting, listed_of}
 use Rattle.mysql_replies.proofs.GoingOn.{StateGoesOn, after_move, go_over}
 use Rattle.mysql_replies.proofs.Stepping.{failed_settled, group_from, group_same, step_awaits}
@@ -58,19 +58,18 @@ passed_columns c (suc n) these payload h settled z = rw h refl
 passed_group : (c : Context) (g : Group) (n : ℕ) (these : List ColumnDefinition) (payload : Payload) → is_report c payload ≡ true → IsGroupSettled c n these → (z : List Payload) → rest_of c (group_awaited g n these) (payload ∷ z) ≡ rest_of c (group_awaited g n these) z
 passed_group c g n these payload h settled z = group_same c g n n these these (payload ∷ z) z (passed_columns c n these payload h settled z)
 
-passed : (c : Context) (a : code.Awaited) (payload : Payload) → is_report c payload ≡ true → IsSettled c (awaited_view a) → IsAwaiting (awaited_view a) → (z : List Payload) → rest_of c (awaited_view a) (payload ∷ z) ≡ rest_of c (awaited_view a) z
+passed : (c : Context) (a : Awaited) (payload : Payload) → is_report c payload ≡ true → IsSettled c a → IsAwaiting a → (z : List Payload) → rest_of c a (payload ∷ z) ≡ rest_of c a z
 unfolding one_result rows next_payload
-passed c awaiting.First payload h settled some z = rw h refl
-passed c (awaiting.Columns left these) payload h settled some z = passed_group c OfResultSet left (column_views these.items) payload h settled z
-passed c (awaiting.Rows these) payload h settled some z = rw h refl
-passed c (awaiting.Parameters stmt left these) payload h settled some z = passed_group c (OfParameters (prepare_ok_view stmt)) left (column_views these.items) payload h settled z
-passed c (awaiting.PreparedColumns stmt params left these) payload h settled some z =
-    passed_group c (OfPrepared (prepare_ok_view stmt) (column_views params.items)) left (column_views these.items) payload h settled z
-passed c awaiting.Nothing payload h settled some z = absurd some
+passed c First payload h settled some z = rw h refl
+passed c (Columns n these) payload h settled some z = passed_group c OfResultSet n these payload h settled z
+passed c (Rows columns these) payload h settled some z = rw h refl
+passed c (Parameters statement n these) payload h settled some z = passed_group c (OfParameters statement) n these payload h settled z
+passed c (PreparedColumns statement parameters n these) payload h settled some z = passed_group c (OfPrepared statement parameters) n these payload h settled z
+passed c Nothing payload h settled some z = absurd some
 
 -- A progress report changes nothing awaited.
-pub report_passes : (c : Context) (a : code.Awaited) (payload : Payload) → is_report c payload ≡ true → IsSettled c (awaited_view a) → IsAwaiting (awaited_view a) → Leads c (λ z. rest_of c (awaited_view a) (payload ∷ z)) payload (Moves [] (awaited_view a))
-report_passes c a payload h settled some = step_awaits c payload (λ z. rest_of c (awaited_view a) (payload ∷ z)) (awaited_view a) (passed c a payload h settled some)
+pub report_passes : (c : Context) (a : Awaited) (payload : Payload) → is_report c payload ≡ true → IsSettled c a → IsAwaiting a → Leads c (λ z. rest_of c a (payload ∷ z)) payload (Moves [] a)
+report_passes c a payload h settled some = step_awaits c payload (λ z. rest_of c a (payload ∷ z)) a (passed c a payload h settled some)
 
 refused_columns : (c : Context) (n : ℕ) (these : List ColumnDefinition) (payload : Payload) → has_report_form c payload ≡ true → is_ok (progress_report_at payload) ≡ false → IsGroupSettled c n these → (z : List Payload) → column_group c n these (payload ∷ z) ≡ Faulty [] BadError (payload ∷ z)
 unfolding column_group columns columns_end next_payload
@@ -81,20 +80,19 @@ refused_columns c (suc n) these payload h bad settled z = rw (h, bad) refl
 refused_group : (c : Context) (g : Group) (n : ℕ) (these : List ColumnDefinition) (payload : Payload) → has_report_form c payload ≡ true → is_ok (progress_report_at payload) ≡ false → IsGroupSettled c n these → (z : List Payload) → rest_of c (group_awaited g n these) (payload ∷ z) ≡ Faulty [] BadError (payload ∷ z)
 refused_group c g n these payload h bad settled z = group_from c g n these (payload ∷ z) (Faulty [] BadError (payload ∷ z)) (refused_columns c n these payload h bad settled z)
 
-refused : (c : Context) (a : code.Awaited) (payload : Payload) → has_report_form c payload ≡ true → is_ok (progress_report_at payload) ≡ false → IsSettled c (awaited_view a) → IsAwaiting (awaited_view a) → (z : List Payload) → rest_of c (awaited_view a) (payload ∷ z) ≡ Faulty (listed_of (awaited_view a)) BadError (payload ∷ z)
+refused : (c : Context) (a : Awaited) (payload : Payload) → has_report_form c payload ≡ true → is_ok (progress_report_at payload) ≡ false → IsSettled c a → IsAwaiting a → (z : List Payload) → rest_of c a (payload ∷ z) ≡ Faulty (listed_of a) BadError (payload ∷ z)
 unfolding one_result rows next_payload
-refused c awaiting.First payload h bad settled some z = rw (h, bad) refl
-refused c (awaiting.Columns left these) payload h bad settled some z = refused_group c OfResultSet left (column_views these.items) payload h bad settled z
-refused c (awaiting.Rows these) payload h bad settled some z = rw (h, bad) refl
-refused c (awaiting.Parameters stmt left these) payload h bad settled some z = refused_group c (OfParameters (prepare_ok_view stmt)) left (column_views these.items) payload h bad settled z
-refused c (awaiting.PreparedColumns stmt params left these) payload h bad settled some z =
-    refused_group c (OfPrepared (prepare_ok_view stmt) (column_views params.items)) left (column_views these.items) payload h bad settled z
-refused c awaiting.Nothing payload h bad settled some z = absurd some
+refused c First payload h bad settled some z = rw (h, bad) refl
+refused c (Columns n these) payload h bad settled some z = refused_group c OfResultSet n these payload h bad settled z
+refused c (Rows columns these) payload h bad settled some z = rw (h, bad) refl
+refused c (Parameters statement n these) payload h bad settled some z = refused_group c (OfParameters statement) n these payload h bad settled z
+refused c (PreparedColumns statement parameters n these) payload h bad settled some z = refused_group c (OfPrepared statement parameters) n these payload h bad settled z
+refused c Nothing payload h bad settled some z = absurd some
 
 -- A payload in the form of a report that is none has no place.
-pub report_refused : (c : Context) (a : code.Awaited) (payload : Payload) → has_report_form c payload ≡ true → is_ok (progress_report_at payload) ≡ false → IsSettled c (awaited_view a) → IsAwaiting (awaited_view a) → Leads c (λ z. rest_of c (awaited_view a) (payload ∷ z)) payload (Fails (listed_of (awaited_view a)) BadError)
+pub report_refused : (c : Context) (a : Awaited) (payload : Payload) → has_report_form c payload ≡ true → is_ok (progress_report_at payload) ≡ false → IsSettled c a → IsAwaiting a → Leads c (λ z. rest_of c a (payload ∷ z)) payload (Fails (listed_of a) BadError)
 report_refused c a payload h bad settled some z =
-    subst (λ p. Results c p (listed_of (awaited_view a)) (Wrong BadError (payload ∷ z))) (sym (refused c a payload h bad settled some z)) (faulty (listed_of (awaited_view a)) BadError (payload ∷ z))
+    subst (λ p. Results c p (listed_of a) (Wrong BadError (payload ∷ z))) (sym (refused c a payload h bad settled some z)) (faulty (listed_of a) BadError (payload ∷ z))
 
 -- The code's state goes on where the payload leads there.
 pub state_on : (before after : ReplyState) (payload : Payload) (listed : List Outcome) → before.fault ≡ None → after.fault ≡ None → Leads before.context (λ z. rest_of before.context (awaited_view before.awaited) (payload ∷ z)) payload (Moves listed (awaited_view after.awaited)) → after.context ≡ before.context → outcome_views after.results.items ≡ outcome_views before.results.items ++ listed → map progress_report_view after.progress.items ≡ map progress_report_view before.progress.items ++ report_of before.context payload → after.count ≡ before.count + 1 → states.StateGoesOn before payload after
@@ -123,7 +121,7 @@ or_fault_err fault name (Err e) h = (refl, cc)
 wrong_report : (before after : ReplyState) (payload : Payload) (fault : ReplyFault) → before.fault ≡ None → after ≡ record before { fault = Some fault } → has_report_form before.context payload ≡ true → IsSettled before.context (awaited_view before.awaited) → IsAwaiting (awaited_view before.awaited) → or_fault BadError (progress_report_at payload) ≡ Err fault → states.StateGoesOn before payload after
 wrong_report before after payload fault going is form settled some h =
     let bad = or_fault_err fault BadError (progress_report_at payload) h in
-    let leads = report_refused before.context before.awaited payload form bad.0 settled some in
+    let leads = report_refused before.context (awaited_view before.awaited) payload form bad.0 settled some in
     state_wrong before after before.awaited payload fault going is refl (rw bad.1 leads)
 
 -- A payload in the form of a report that is refused.
@@ -148,7 +146,7 @@ report_went before after payload report going is pushed form settled some h =
     let found = or_fault_ok report BadError (progress_report_at payload) h in
     let one : report_of before.context payload ≡ report ∷ [] = rw form found.1 in
     let passes : is_report before.context payload ≡ true = rw form found.0 in
-    let leads = report_passes before.context before.awaited payload passes settled some in
+    let leads = report_passes before.context (awaited_view before.awaited) payload passes settled some in
     let awaited : awaited_view before.awaited ≡ awaited_view after.awaited = sym (ap (λ (s : ReplyState). awaited_view s.awaited) is) in
     state_on before after payload [] going (ap (λ (s : ReplyState). s.fault) is ∙ going)
     (subst (λ a. Leads before.context (λ z. rest_of before.context (awaited_view before.awaited) (payload ∷ z)) payload (Moves [] a)) awaited leads)

@@ -1,6 +1,7 @@
 -- The grammar of a reply, over the list of its payloads.
 -- MySQL: Client/Server Protocol, "COM_QUERY Response", "Text Resultset", "Binary Protocol Resultset" and
--- "COM_STMT_PREPARE Response"; MariaDB: 'Progress report' of "ERR_Packet".
+-- "COM_STMT_PREPARE Response", and "Status Flags"; MariaDB: 'Progress report' of "ERR_Packet", and
+-- "OK_Packet", 'Server status flag'.
 use Rattle.std.specs.Prelude.{ℕ, zero, suc, List, [], ◌∷◌, ◌++◌, length, take, drop, Bool, true, false, Option, Some}
 use Rattle.std.specs.Prelude.{None, Result, Ok, Err, nat_lt, ◌==◌, ◌&&◌, if◌then◌else◌, is_ok, bytes_eq}
 use Rattle.mysql_wire.specs.Forms.{lenenc_number_at}
@@ -8,6 +9,8 @@ use Rattle.mysql_wire.specs.Wire.{Reading}
 use Rattle.mysql_wire.specs.Flags.{contains}
 use Rattle.mysql_ok_packets.specs.OkPackets.{OkPacket, ok_packet_at, old_eof_at, result_set_terminator_at}
 use Rattle.mysql_ok_packets.specs.OkPackets.{more_results_exist}
+use Rattle.mysql_ok_packets.specs.Written.{is_mysql_status}
+use Rattle.mysql_fields.specs.declared.error.WireError.TheVariants.{UnknownValue}
 pub use Rattle.mysql_server_packets.specs.Packets.{progress_obsolete}
 pub use Rattle.mysql_row_refs.specs.Lines.{begins_with}
 use Rattle.mysql_row_refs.specs.Lines.{terminator_limit as limit_of}
@@ -83,6 +86,12 @@ abbrev pub as_part : {A : Type 0} → Result A ReplyFault → Payload → List P
 as_part (Ok a) payload rest = Complete a rest
 as_part (Err fault) payload rest = Faulty [] fault (payload ∷ rest)
 
+-- An OK or EOF packet of MySQL, which names each bit of the status. The packets' own readings keep
+-- MariaDB's bit of ANSI_QUOTES too; a reply with it is refused.
+abbrev pub of_mysql : Reading OkPacket → Reading OkPacket
+of_mysql (Ok x) = if is_mysql_status x.0.status_flags then Ok x else Err UnknownValue
+of_mysql (Err e) = Err e
+
 -- The next payload, read so; progress reports before it are passed over.
 unfoldable pub next_payload : {A : Type 0} → Context → (Payload → Result A ReplyFault) → List Payload → Parsed A
 next_payload c read [] = CutOff []
@@ -100,7 +109,9 @@ columns c (suc n) earlier payloads = next_payload c column payloads >>= λ x. co
 
 -- The EOF packet: fe, below nine bytes.
 abbrev pub eof : Payload → Result OkPacket ReplyFault
-eof payload = if nat_lt (length payload) 9 then or_fault BadTerminator (old_eof_at payload) else Err BadTerminator
+eof payload =
+    if nat_lt (length payload) 9 then or_fault BadTerminator (of_mysql (old_eof_at payload))
+    else Err BadTerminator
 
 -- The EOF that is due after columns: none after no columns, and none with DEPRECATE_EOF.
 unfoldable pub columns_end : Context → List ColumnDefinition → List Payload → Parsed (List ColumnDefinition)
@@ -135,8 +146,8 @@ row c columns payload =
 -- A terminator: the OK packet with fe with DEPRECATE_EOF, else the EOF packet.
 abbrev pub terminator : Context → Payload → Result OkPacket ReplyFault
 terminator c payload =
-    or_fault BadTerminator
-    (if deprecate_eof c.capabilities.0 then result_set_terminator_at c.capabilities.0 payload else old_eof_at payload)
+    or_fault BadTerminator (of_mysql
+    (if deprecate_eof c.capabilities.0 then result_set_terminator_at c.capabilities.0 payload else old_eof_at payload))
 
 -- A payload that begins with fe is a terminator below this length: 16777215 with DEPRECATE_EOF, else 9.
 abbrev pub terminator_limit : Context → ℕ
@@ -227,7 +238,8 @@ opening c payload =
     else if is_prepare c.kind then
     (if begins_with 0 payload then map_ok StatementOpening
     (or_fault BadPrepare (prepare_ok_at payload)) else Err BadHeader)
-    else if begins_with 0 payload then map_ok OkOpening (or_fault BadOk (ok_packet_at c.capabilities.0 payload))
+    else if begins_with 0 payload then
+    map_ok OkOpening (or_fault BadOk (of_mysql (ok_packet_at c.capabilities.0 payload)))
     else if begins_with 251 payload then Ok (FileOpening (drop 1 payload))
     else if length payload == 0 then Err BadHeader
     else map_ok CountOpening (count_within (lenenc_number_at payload))

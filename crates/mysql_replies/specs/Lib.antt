@@ -13,3 +13,4 @@ pub mod RowSteps
 pub mod Manual
 pub mod Beginnings
 pub mod BeginningLaws
+pub mod Together

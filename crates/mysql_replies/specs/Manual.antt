@@ -21,7 +21,7 @@ use Rattle.mysql_rows.specs.Rows.{as_row, binary_resultset_row_at, text_row_at}
 use Rattle.mysql_replies.specs.declared.context.Context.{Context}
 use Rattle.mysql_replies.specs.Grammar.{Payload, Outcome, OkResult, RowsResult, PreparedResult, ErrorResult, FileResult}
 use Rattle.mysql_replies.specs.Grammar.{begins_with, deprecate_eof, has_report_form, is_binary, is_prepare}
-use Rattle.mysql_replies.specs.Grammar.{terminator_limit}
+use Rattle.mysql_replies.specs.Grammar.{of_mysql, terminator_limit}
 use Rattle.mysql_replies.specs.Reply.{Answer, IsReply, Whole}
 use Rattle.mysql_replies.specs.Bytes.{IsReplyOf}
 
@@ -29,10 +29,10 @@ use Rattle.mysql_replies.specs.Bytes.{IsReplyOf}
 abbrev pub Reads : {A : Type 0} → Reading A → A → Type 0
 Reads reading value = (left : List ℕ) × (reading ≡ Ok (value, left))
 
--- An OK packet: it begins with 00.
+-- An OK packet of MySQL: it begins with 00.
 pub record IsOk (c : Context) (payload : Payload) (ok : OkPacket) : Type 0 where
   pub header : begins_with 0 payload ≡ true
-  pub fields : Reads (ok_packet_at c.capabilities.0 payload) ok
+  pub fields : Reads (of_mysql (ok_packet_at c.capabilities.0 payload)) ok
 
 -- An error packet: it begins with ff.
 pub record IsError (c : Context) (payload : Payload) (error : ServerError) : Type 0 where
@@ -49,11 +49,11 @@ pub record IsCount (payload : Payload) (n : ℕ) : Type 0 where
 abbrev pub AreColumns : List Payload → List ColumnDefinition → Type 0
 AreColumns payloads columns = AllZip (λ payload column. Reads (column_at payload) column) payloads columns
 
--- The EOF packet: it begins with fe and has fewer than nine bytes.
+-- The EOF packet of MySQL: it begins with fe and has fewer than nine bytes.
 pub record IsEof (payload : Payload) : Type 0 where
   pub below : length payload < 9
   pub says : OkPacket
-  pub fields : Reads (old_eof_at payload) says
+  pub fields : Reads (of_mysql (old_eof_at payload)) says
 
 -- The EOF that is due after columns: none after no columns, none with DEPRECATE_EOF, else one packet.
 pub data IsEofDue (c : Context) : List ColumnDefinition → List Payload → Type 0 where
@@ -71,11 +71,11 @@ pub data IsColumnGroup (c : Context) : ℕ → List Payload → List ColumnDefin
 abbrev pub ends_rows : Context → Payload → Bool
 ends_rows c payload = begins_with 254 payload && nat_lt (length payload) (terminator_limit c)
 
--- A terminator: with DEPRECATE_EOF an OK packet that begins with fe, else the EOF packet.
+-- A terminator of MySQL: with DEPRECATE_EOF an OK packet that begins with fe, else the EOF packet.
 pub record IsTerminator (c : Context) (payload : Payload) (ok : OkPacket) : Type 0 where
   pub ends : ends_rows c payload ≡ true
-  pub fields : Reads (if deprecate_eof c.capabilities.0 then result_set_terminator_at
-      c.capabilities.0 payload else old_eof_at payload) ok
+  pub fields : Reads (of_mysql (if deprecate_eof c.capabilities.0 then result_set_terminator_at
+      c.capabilities.0 payload else old_eof_at payload)) ok
 
 -- A row's reading, by the kind of the command.
 abbrev pub row_at : Context → List ColumnDefinition → Payload → Reading Row

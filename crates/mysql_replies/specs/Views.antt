@@ -2,8 +2,6 @@
 -- `outcome_views`, `row_views` and `report_views` alone. MySQL: Client/Server Protocol, "COM_QUERY
 -- Response", its packets as the code holds them.
 use Rattle.std.specs.Prelude.{◌≡◌, List, map, Result, Ok, Err}
-use Rattle.mysql_wire.specs.WireError.{WireError}
-use Rattle.mysql_wire.specs.WireError.TheVariants as wire
 use Rattle.mysql_rows.specs.declared.row.Row.{Row}
 use Rattle.mysql_rows.specs.Rows as rows
 use Rattle.mysql_rows.specs.Views.{row_view, shared_columns}
@@ -47,17 +45,6 @@ Gives view (Err e) read = Refuses e read
 abbrev pub Tells : {X Y : Type 0} → (X → Y) → Result X ReplyFault → Result Y ReplyFault → Type 0
 Tells view (Ok x) read = read ≡ Ok (view x)
 Tells view (Err e) read = read ≡ Err e
-
--- What a packet's reader answered, where a refusal has this name.
-abbrev pub named : {X : Type 0} → Result X WireError → ReplyFault → Result X ReplyFault
-named (Ok x) fault = Ok x
-named (Err wire.Memory) fault = Err Memory
-named (Err e) fault = Err fault
-
--- What a packet's reader that asks for no memory answered, where a refusal has this name.
-abbrev pub refused : {X : Type 0} → Result X WireError → ReplyFault → Result X ReplyFault
-refused (Ok x) fault = Ok x
-refused (Err e) fault = Err fault
 
 abbrev pub opening_view : Opening → grammar.Opening
 opening_view (openings.Ok ok) = grammar.OkOpening (ok_packet_view ok)

@@ -18,13 +18,13 @@ pub enum ReplyFault {
     BadCount,
     /// A column packet can't be read.
     BadColumn,
-    /// An OK packet can't be read.
+    /// An OK packet can't be read, or a bit of its status has no name at MySQL.
     BadOk,
     /// An error packet or a progress report can't be read.
     BadError,
     /// A row can't be read, or bytes follow it.
     BadRow,
-    /// What ends columns or rows can't be read.
+    /// What ends columns or rows can't be read, or a bit of its status has no name at MySQL.
     BadTerminator,
     /// A statement packet can't be read.
     BadPrepare,

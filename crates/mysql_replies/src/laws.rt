@@ -7,9 +7,11 @@ ghost use Rattle.mysql_replies.specs.Bytes.{AnyBytesHaveAnswer, CuttingsAgree};
 ghost use Rattle.mysql_replies.specs.Holding.{EachReaderDecides, ReadersAgree, FreshReaderDecides};
 ghost use Rattle.mysql_replies.specs.Borrowing.{BorrowedRowsAreHandedOut};
 ghost use Rattle.mysql_replies.specs.Taking.{TakenResultsAreTheReply};
+ghost use Rattle.mysql_replies.specs.Together.{AllHaveEvents, EventsAreTheAnswer, FaultsAreTheAnswers};
 ghost use Rattle.mysql_replies.specs.Manual.{EachSuchListIsWhole, OnlySuchListsAreWhole, EachFramingIsWhole};
 ghost use Rattle.mysql_replies.specs.Manual.{OnlyFramingsAreWhole};
 
+use mysql_columns::laws::extended_columns_read_back;
 use mysql_wire::laws::{one_split, reader_laws};
 
 /// Each list of payloads, with whatever rest, has one answer.
@@ -90,3 +92,18 @@ pub fn whole_bytes_are_framed_results()
 pub fn answers_have_what_stands()
     ensures { EachAnswerHasWhatStands }
 {}
+
+/// The events of payloads, put together, are the answer that the payloads have.
+///
+/// That is: its results and reports, and how it ends, whatever follows the payloads; where a payload
+/// behind them has no place, with the fault of the same name at that payload. So it is where no
+/// optional metadata and none of MariaDB's own capabilities is agreed on, no cursor is opened, and no
+/// status has MariaDB's bit; a request for a file ends the answer. Any payloads have events up to
+/// one that has no place.
+pub fn events_are_the_answer()
+    ensures some { AllHaveEvents }
+    ensures whole { EventsAreTheAnswer }
+    ensures fault { FaultsAreTheAnswers }
+{
+    extended_columns_read_back();
+}

@@ -16,9 +16,9 @@ mod lines;
 mod next_payload;
 mod open_rows;
 mod opening;
+mod packets;
 mod reader;
 pub mod results;
-mod row_packets;
 mod state;
 mod steps;
 

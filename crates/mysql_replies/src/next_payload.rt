@@ -16,13 +16,11 @@ use crate::awaited::{Awaited, Listed, Stepped};
 use crate::context::Context;
 use crate::fault::ReplyFault;
 use crate::lines::is_row;
-use crate::opening::refused_of;
+use crate::packets::report_packet;
 use crate::state::{ReplyState, push_in_room};
 use crate::steps::{row_step, step};
 use bitflags::Flags;
 use mysql_const::CapabilityFlags;
-use mysql_server_packets::ProgressReport;
-use mysql_wire::{ParseBuf, ParseExt, WireError};
 use std::alloc::Global;
 use std::mem;
 
@@ -45,28 +43,6 @@ pub fn is_report_like(context: Context, payload: &[u8]) -> bool
         && payload[2] == 255
 }
 
-// A progress report behind the three bytes of its form, which borrows from the payload.
-#[tactic(auto, unfolding(mysql_server_packets::specs::Packets::progress_report_at))]
-fn report_of<'a>(alloc: Global, buf: &mut ParseBuf<'a>) -> Result<ProgressReport<'a>, WireError>
-    ensures { TellsPart progress_report_view buf.new.0.now result (progress_report_at buf.old.0.now) }
-{
-    buf.parse::<ParseBuf>(alloc, 3)?;
-    let report: ProgressReport = buf.parse(alloc, ())?;
-    Ok(report)
-}
-
-/// Reads a progress report.
-fn progress_packet(alloc: Global, payload: &[u8]) -> Result<ProgressReport<'static>, ReplyFault>
-    ensures { Gives progress_report_view result (or_fault BadError (progress_report_at payload.now)) }
-{
-    let read = report_of(alloc, &mut ParseBuf(payload));
-    let report = refused_of(read, ReplyFault::BadError)?;
-    match report.into_owned(alloc) {
-        Ok(report) => Ok(report),
-        Err(_) => Err(ReplyFault::Memory),
-    }
-}
-
 impl ReplyState {
     /// Reads a payload in the form of a progress report.
     pub fn take_report(&mut self, alloc: Global, payload: &[u8]) -> Result<(), ReplyFault>
@@ -81,7 +57,7 @@ impl ReplyState {
         ensures goes_on { UnlessMemory result (StateGoesOn self.old payload.now self.new) }
         ensures short { OnMemory result (IsShortOf self.old self.new) }
     {
-        let report = match progress_packet(alloc, payload) {
+        let report = match report_packet(alloc, payload) {
             Ok(report) => report,
             Err(fault) => return Err(self.fail(fault)),
         };

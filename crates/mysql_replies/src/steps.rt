@@ -33,11 +33,11 @@ ghost use Rattle.mysql_replies.specs.Steps.{after_group};
 use crate::awaited::{Awaited, ColumnGroup, Listed, Stepped};
 use crate::context::Context;
 use crate::fault::ReplyFault;
-use crate::lines::{RowsEnd, column_packet, deprecates_eof, eof_packet, read_rows_end};
+use crate::lines::{RowsEnd, deprecates_eof, read_rows_end};
 use crate::open_rows::OpenRows;
 use crate::opening::{Opening, opening_of};
+use crate::packets::{column_packet, eof_packet, row_packet};
 use crate::results::ReplyResult;
-use crate::row_packets::row_packet;
 use mysql_columns::Column;
 use mysql_const::StatusFlags;
 use mysql_ok_packets::ok_packet::has_more_results;
@@ -228,7 +228,7 @@ fn column_step(
     requires some { 0 < left }
     ensures { IsStep context (group_awaited (group_view group) left (column_views columns.items)) payload.now result }
 {
-    let column = match column_packet(alloc, payload) {
+    let column = match column_packet(alloc, context, payload) {
         Ok(column) => column,
         Err(fault) => return Stepped::Failed(awaited_of_group(group, left, columns), fault),
     };
@@ -292,7 +292,7 @@ pub fn row_step(
     ensures { IsStep context (reply.Rows open_rows.old.columns open_rows.old.rows) payload.now
         (row_stepped open_rows.new result) }
 {
-    match row_packet(alloc, context.kind, open_rows.columns(), payload) {
+    match row_packet(alloc, context, open_rows.columns(), payload) {
         Ok(row) => {
             if open_rows.push(row).is_err() {
                 return Err(ReplyFault::Memory);

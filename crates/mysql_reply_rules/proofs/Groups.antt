@@ -3,12 +3,14 @@ use Rattle.std.proofs.Common.{◌≡◌, Bool, true, false, if◌then◌else◌,
 use Rattle.mysql_columns.specs.Columns.{ColumnDefinition, column, column_at}
 use Rattle.mysql_columns.specs.ColumnLaws.{column_at-back}
 use Rattle.mysql_ok_packets.specs.BackLaws.{eof-back}
+use Rattle.mysql_ok_packets.specs.OkPackets.{old_eof_at}
 use Rattle.mysql_ok_packets.specs.Written.{IsWritable, as_eof, eof_bytes}
 use Rattle.mysql_replies.specs.declared.context.Context.{Context}
 use Rattle.mysql_replies.specs.Grammar.{deprecate_eof}
 use Rattle.mysql_replies.specs.Manual.{AreColumns, IsColumnGroup, IsEof, IsEofDue, deprecated, eof, group, no_columns}
 use Rattle.mysql_reply_rules.specs.Fits.{ColumnsFit}
 use Rattle.mysql_reply_rules.specs.Written.{eof_due, group_payloads, nothing_said}
+use Rattle.mysql_reply_rules.proofs.Status.{read_of_mysql}
 
 are_columns : (columns : List ColumnDefinition) → ColumnsFit columns → AreColumns (map column columns) columns
 are_columns [] h = tt
@@ -28,7 +30,11 @@ nothing_writable = record {
 
 is_eof : IsEof (eof_bytes nothing_said)
 unfolding eof_bytes
-is_eof = record { below = lit< tt; says = as_eof nothing_said; fields = ([], eof-back nothing_said nothing_writable) }
+is_eof = record {
+  below = lit< tt;
+  says = as_eof nothing_said;
+  fields = ([], read_of_mysql (old_eof_at (eof_bytes nothing_said)) (as_eof nothing_said) [] (eof-back nothing_said nothing_writable) refl);
+}
 
 eof_is_due : (c : Context) (columns : List ColumnDefinition) → IsEofDue c columns (eof_due c.capabilities.0 columns)
 eof_is_due c [] = no_columns

@@ -16,7 +16,9 @@ use Rattle.mysql_reply_rules.specs.declared.refusal.ReplyRefusal.TheVariants.{Pa
 use Rattle.mysql_reply_rules.specs.Own.{IsSizeAlone, ReadRepliesCanBeWritten}
 use Rattle.mysql_reply_rules.specs.Refusals.{OpenRows, Writing, after_step, after_steps, cells_cause_at, end_cause, first_cause, form_cause, nothing_written, or_cause, refusal_of, step_cause, step_checks, step_room, steps_cause, too_large, whole_cause}
 use Rattle.mysql_reply_rules.specs.Written.{ColumnsStep, EndStep, ErrorStep, FileStep, OkStep, PreparedStep, ReportStep, RowStep, Step, is_some_result, reply_steps, results_steps, step_payloads}
-use Rattle.mysql_reply_rules.proofs.OwnPackets.{OwnLaws, group_count, terminator_by}
+use Rattle.mysql_ok_packets.specs.OkPackets.{ok_packet_at, old_eof_at, result_set_terminator_at}
+use Rattle.mysql_reply_rules.proofs.OwnPackets.{OwnLaws, group_count}
+use Rattle.mysql_reply_rules.proofs.Status.{was_of_mysql}
 use Rattle.mysql_reply_rules.proofs.OwnCounts.{CanBeWritten, error_is_none, row_can, statement_counts}
 use Rattle.mysql_reply_rules.proofs.Own.{AreFew, few_first, few_others, others_few, results_some}
 
@@ -150,9 +152,8 @@ ended_passes : OwnLaws → (c : Context) (limit n r : ℕ) (columns : List Colum
     0 < length columns → length columns < 65536 → AreFew payloads → AreOthers c payloads → EndedRows c columns payloads listed more → is_some_result rest ≡ more → ResultPasses c limit n r listed rest
 ended_passes laws c limit n r columns payloads listed rest more command some small few all (terminated before {rows = rows} {last = last} {ok = ok} are is) e =
     let set = set_passes c limit n r columns rows (EndStep (is_some_result rest) ok ∷ []) (results_steps rest) command some small (rows_can laws c columns before rows (few_first before (last ∷ []) few) are) in
-    let own = terminator_by laws c.capabilities.0 (deprecate_eof c.capabilities.0) last is.fields.0 ok (few_others before (last ∷ []) few).0 is.fields.1 in
     let w : Writing = going c limit set.payloads_behind r set.rows_behind in
-    let named = own.0.named in
+    let named = (was_of_mysql (if deprecate_eof c.capabilities.0 then result_set_terminator_at c.capabilities.0 last else old_eof_at last) ok is.fields.0 is.fields.1).1 in
     record {
       payloads_behind = set.payloads_behind + length (step_payloads c (EndStep (is_some_result rest) ok));
       results_behind = r + 1;
@@ -178,8 +179,7 @@ ended_passes laws c limit n r columns payloads listed rest more command some sma
 result_passes : OwnLaws → (c : Context) (limit n r : ℕ) (payloads : List Payload) (listed rest : List Outcome) (more : Bool) → AreFew payloads → AreOthers c payloads →
     IsResult c payloads listed more → is_some_result rest ≡ more → ResultPasses c limit n r listed rest
 result_passes laws c limit n r payloads listed rest more few all (manual.ok {payload = payload} {ok = ok} command is) e =
-    let own = laws.ok c.capabilities.0 payload is.fields.0 ok few.0.bytes few.0.few is.fields.1 in
-    let named = own.0.named in
+    let named = (was_of_mysql (ok_packet_at c.capabilities.0 payload) ok is.fields.0 is.fields.1).1 in
     record {
       payloads_behind = n + length (step_payloads c (OkStep (is_some_result rest) ok));
       results_behind = r + 1;

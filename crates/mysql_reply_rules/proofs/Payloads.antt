@@ -7,32 +7,45 @@ use Rattle.mysql_fields.specs.Forms.{lenenc_number_at}
 use Rattle.mysql_fields.specs.Laws.{bytes_at-back, fixed_number_at-back, lenenc_number_at-back}
 use Rattle.mysql_field_constants.specs.ConstantLaws.{constant_at-back}
 use Rattle.mysql_ok_packets.specs.BackLaws.{eof-back, ok_packet-back, terminator-back}
-use Rattle.mysql_ok_packets.specs.OkPackets.{OkPacket, old_eof_at, result_set_terminator_at}
-use Rattle.mysql_ok_packets.specs.Written.{IsWritable, as_eof, as_ok, as_terminator, eof_bytes, is_named_status, ok_packet_bytes}
+use Rattle.mysql_ok_packets.specs.OkPackets.{OkPacket, ok_packet_at, old_eof_at, result_set_terminator_at}
+use Rattle.mysql_ok_packets.specs.Written.{IsWritable, as_eof, as_ok, as_terminator, eof_bytes, is_mysql_status, ok_packet_bytes}
 use Rattle.mysql_server_packets.specs.PacketLaws.{prepare_ok_at-back, progress_body_at-back, server_error_at-back}
 use Rattle.mysql_server_packets.specs.Packets.{Error, HasState, IsPrepareOk, IsProgressReport, PrepareOk, Progress, ProgressReport, ServerError, err_packet, error_at, error_code_at, prepare_ok, prepare_ok_at, progress_body, progress_report_at, protocol_41, server_error}
 use Rattle.mysql_replies.specs.declared.context.Context.{Context}
-use Rattle.mysql_replies.specs.Grammar.{begins_with, deprecate_eof}
+use Rattle.mysql_replies.specs.Grammar.{begins_with, deprecate_eof, of_mysql}
 use Rattle.mysql_replies.specs.Manual.{IsCount, IsError, IsOk, IsTerminator, Reads}
 use Rattle.mysql_reply_rules.specs.Fits.{ErrorFits, OkFits, ReportFits, StateFits}
-use Rattle.mysql_reply_rules.specs.Written.{error_written, report_written, saying, state_written, terminator_payload, terminator_read}
-use Rattle.mysql_reply_rules.proofs.Status.{stays_named, stays_small}
+use Rattle.mysql_reply_rules.specs.Written.{error_written, report_written, saying, state_written, terminator_payload, terminator_read, with_more}
+use Rattle.mysql_reply_rules.proofs.Status.{mysql_is_named, read_of_mysql, stays_mysql, stays_small}
+
+-- a packet that can be written, of whose status MySQL names each bit
+pub record OfMysql (p : OkPacket) : Type 0 where
+  pub writable : IsWritable p
+  pub status : is_mysql_status p.status_flags ≡ true
 
 -- a packet whose status says whether another result follows can be written
-pub writable : (more : Bool) (p : OkPacket) → OkFits p → is_named_status p.status_flags ≡ true → IsWritable (saying more p)
-writable more p fits named = record {
-  affected_rows = fits.affected_rows;
-  last_insert_id = fits.last_insert_id;
-  status_flags = stays_small more p.status_flags fits.status_flags;
-  named = stays_named more p.status_flags named;
-  warnings = fits.warnings;
-  info = fits.info;
-  session_state_info = fits.session_state_info;
-}
+pub writable : (more : Bool) (p : OkPacket) → OkFits p → is_mysql_status p.status_flags ≡ true → OfMysql (saying more p)
+writable more p fits named =
+    let stays = stays_mysql more p.status_flags named in
+    record {
+      writable = record {
+        affected_rows = fits.affected_rows;
+        last_insert_id = fits.last_insert_id;
+        status_flags = stays_small more p.status_flags fits.status_flags;
+        named = mysql_is_named (with_more more p.status_flags) stays;
+        warnings = fits.warnings;
+        info = fits.info;
+        session_state_info = fits.session_state_info;
+      };
+      status = stays;
+    }
 
-pub is_ok : (c : Context) (p : OkPacket) → IsWritable p → IsOk c (ok_packet_bytes 0 c.capabilities.0 p) (as_ok c.capabilities.0 p)
+pub is_ok : (c : Context) (p : OkPacket) → OfMysql p → IsOk c (ok_packet_bytes 0 c.capabilities.0 p) (as_ok c.capabilities.0 p)
 unfolding ok_packet_bytes
-is_ok c p h = record { header = refl; fields = ([], ok_packet-back c.capabilities.0 p h) }
+is_ok c p h = record {
+  header = refl;
+  fields = ([], read_of_mysql (ok_packet_at c.capabilities.0 (ok_packet_bytes 0 c.capabilities.0 p)) (as_ok c.capabilities.0 p) [] (ok_packet-back c.capabilities.0 p h.writable) h.status);
+}
 
 -- what ends rows, by whether EOF packets are deprecated
 terminator_ends : (d : Bool) (capabilities : ℕ) (p : OkPacket) (limit : ℕ)
@@ -43,12 +56,13 @@ unfolding ok_packet_bytes eof_bytes
 terminator_ends true capabilities p limit room = lt-ltb (length (ok_packet_bytes 254 capabilities p)) 16777215 (omega (arith, room))
 terminator_ends false capabilities p limit room = refl
 
-terminator_fields : (d : Bool) (capabilities : ℕ) (p : OkPacket) → IsWritable p
-    → Reads (if d then result_set_terminator_at capabilities (if d then ok_packet_bytes 254 capabilities p else eof_bytes p) else old_eof_at (if d then ok_packet_bytes 254 capabilities p else eof_bytes p)) (if d then as_terminator capabilities p else as_eof p)
-terminator_fields true capabilities p h = ([], terminator-back capabilities p h)
-terminator_fields false capabilities p h = ([], eof-back p h)
+terminator_fields : (d : Bool) (capabilities : ℕ) (p : OkPacket) → OfMysql p
+    → Reads (of_mysql (if d then result_set_terminator_at capabilities (if d then ok_packet_bytes 254 capabilities p else eof_bytes p) else old_eof_at (if d then ok_packet_bytes 254 capabilities p else eof_bytes p))) (if d then as_terminator capabilities p else as_eof p)
+terminator_fields true capabilities p h =
+    ([], read_of_mysql (result_set_terminator_at capabilities (ok_packet_bytes 254 capabilities p)) (as_terminator capabilities p) [] (terminator-back capabilities p h.writable) h.status)
+terminator_fields false capabilities p h = ([], read_of_mysql (old_eof_at (eof_bytes p)) (as_eof p) [] (eof-back p h.writable) h.status)
 
-pub is_terminator : (c : Context) (p : OkPacket) (limit : ℕ) → IsWritable p
+pub is_terminator : (c : Context) (p : OkPacket) (limit : ℕ) → OfMysql p
     → length (terminator_payload c.capabilities.0 p) ≤ (if deprecate_eof c.capabilities.0 then min limit 16777214 else limit)
     → IsTerminator c (terminator_payload c.capabilities.0 p) (terminator_read c p)
 is_terminator c p limit h room = record {

@@ -5,7 +5,7 @@ use Rattle.std.proofs.lemmas.Grind.{flat_map-append}
 use Rattle.mysql_buf.specs.Writing.{lenenc_int}
 use Rattle.mysql_columns.specs.Columns.{ColumnDefinition}
 use Rattle.mysql_ok_packets.specs.OkPackets.{OkPacket, more_results_exist}
-use Rattle.mysql_ok_packets.specs.Written.{is_named_status}
+use Rattle.mysql_ok_packets.specs.Written.{is_mysql_status}
 use Rattle.mysql_server_packets.specs.Packets.{IsPrepareOk, PrepareOk, ServerError, local_infile}
 use Rattle.mysql_rows.specs.Rows.{Row}
 use Rattle.mysql_replies.specs.declared.context.Context.{Context}
@@ -38,7 +38,7 @@ ok_result w more p steps fit a =
     let y = neither _ _ x.1 in
     let z = neither _ _ y.1 in
     let kind = unless (is_prepare w.context.kind) (refusals.WrongKind w.results) y.0 in
-    let named = is_true (is_named_status p.status_flags) (unless (not (is_named_status p.status_flags)) (refusals.Status w.results) z.0) in
+    let named = is_true (is_mysql_status p.status_flags) (unless (not (is_mysql_status p.status_flags)) (refusals.Status w.results) z.0) in
     subst (λ (says : Bool). IsResult w.context (step_payloads w.context (OkStep more p)) (as_read w.context more (OkResult p) ∷ []) says) (says_more more p.status_flags)
     (ok kind (is_ok w.context (saying more p) (writable more p fit named)))
 
@@ -120,7 +120,7 @@ terminated_rows w columns these more p rest d fit =
     let a = allowed v (EndStep more p) rest d.allowed in
     let x = neither _ _ a.checks in
     let y = neither _ _ x.1 in
-    let named = is_true (is_named_status p.status_flags) (unless (not (is_named_status p.status_flags)) (refusals.Status w.results) y.0) in
+    let named = is_true (is_mysql_status p.status_flags) (unless (not (is_mysql_status p.status_flags)) (refusals.Status w.results) y.0) in
     let size = first_fits _ d.count (terminator_payload w.context.capabilities.0 (saying more p)) [] a.sizes in
     subst (λ (says : Bool). EndedRows w.context columns (steps_payloads w.context (map (RowStep columns) these) ++ step_payloads w.context (EndStep more p))
     (RowsResult columns (map (row_read w.context columns) these) (Some (terminator_read w.context (saying more p))) ∷ []) says)

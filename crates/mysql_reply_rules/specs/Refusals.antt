@@ -14,7 +14,7 @@ use Rattle.mysql_reply_rules.specs.declared.refusal.ReplyRefusal.TheVariants.{Af
 use Rattle.mysql_reply_rules.specs.declared.refusal.ReplyRefusal.TheVariants.{NoResults, NotBegun, NotEnded}
 use Rattle.mysql_reply_rules.specs.declared.refusal.ReplyRefusal.TheVariants.{PacketTooLarge, ReadsAsReport, Status}
 use Rattle.mysql_reply_rules.specs.declared.refusal.ReplyRefusal.TheVariants.{TooManyColumns, WrongKind}
-use Rattle.mysql_ok_packets.specs.Written.{is_named_status}
+use Rattle.mysql_ok_packets.specs.Written.{is_mysql_status}
 use Rattle.mysql_rows.specs.Written.{binary_cause, text_cause}
 use Rattle.mysql_reply_rules.specs.Written.{ColumnsStep, EndStep, ErrorStep, FileStep, OkStep, PreparedStep, ReportStep}
 use Rattle.mysql_reply_rules.specs.Written.{RowStep, Step, reply_steps, step_payloads}
@@ -79,8 +79,9 @@ rows_cause w = or_cause (over_cause w) (cause_if (not (is_some w.rows)) (NotBegu
 abbrev pub kind_cause : Writing → Bool → Option ReplyRefusal
 kind_cause w wrong = cause_if wrong (WrongKind w.results)
 
+-- MySQL names each bit of a status.
 abbrev pub status_cause : Writing → OkPacket → Option ReplyRefusal
-status_cause w ok = cause_if (not (is_named_status ok.status_flags)) (Status w.results)
+status_cause w ok = cause_if (not (is_mysql_status ok.status_flags)) (Status w.results)
 
 abbrev pub count_cause : Writing → List ColumnDefinition → Option ReplyRefusal
 count_cause w columns = cause_if (nat_lt 65535 (length columns)) (TooManyColumns w.results)

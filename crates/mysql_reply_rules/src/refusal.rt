@@ -40,7 +40,8 @@ pub enum ReplyRefusal {
     /// Rows have at most 65535 columns, a prepared statement as many parameters and as many columns.
     #[error("result {0}: it has more than 65535 columns")]
     TooManyColumns(usize),
-    /// A bit of the status has no name, and can't be read.
+    /// A bit of the status has no name at MySQL, and can't be read; MariaDB's bit of ANSI_QUOTES is
+    /// one.
     #[error("result {0}: a bit of its status has no name")]
     Status(usize),
     /// An error of the code 65535 is read as a progress report, where these were agreed on.

@@ -22,7 +22,7 @@ use crate::made::{
 use crate::packets::Packets;
 use mysql_columns::Column;
 use mysql_const::CapabilityFlags;
-use mysql_ok_packets::{OkPacket, has_named_status};
+use mysql_ok_packets::{OkPacket, has_mysql_status};
 use mysql_replies::{Context, ReplyKind};
 use mysql_reply_rules::ReplyRefusal;
 use mysql_rows::Row;
@@ -164,11 +164,11 @@ impl ReplyWriter {
         Ok(())
     }
 
-    // Refused where a bit of the status has no name.
+    // Refused where a bit of the status has no name at MySQL.
     fn check_status(&self, ok: &OkPacket<'_>) -> Result<(), ReplyRefusal>
         ensures { cause_in result ≡ status_cause self.now.so_far (ok_packet_view ok.now) }
     {
-        if !has_named_status(ok.status_flags()) {
+        if !has_mysql_status(ok.status_flags()) {
             return Err(ReplyRefusal::Status(self.results));
         }
         Ok(())

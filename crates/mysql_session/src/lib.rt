@@ -35,7 +35,7 @@ pub use mysql_values::{
     BindError, ByteString, Content, MissingNamedParameterError, Mode, Params, ParamsConfusionError,
     ParamsError, SetError, Spelling, Value, is_safe_to_quote,
 };
-pub use mysql_wire::{PacketCodecError, PacketReader, packet_to_chunks};
+pub use mysql_wire::{ChunkHeader, PacketCodecError, PacketReader, packet_to_chunks};
 pub use objects::send_values;
 pub use query::Query;
 pub use sender::send;

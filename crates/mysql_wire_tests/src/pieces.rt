@@ -3,7 +3,7 @@
 ghost use Rattle.std.specs.Prelude.{◌<◌};
 
 use crate::support::{Asserting, SELECT_1, is_memory, is_too_large};
-use mysql_wire::{PacketCodecError, PacketReader};
+use mysql_wire::{ChunkHeader, PacketCodecError, PacketReader};
 use std::alloc::Global;
 use std::test::*;
 use tests_support::{Assert, assert_bytes, assert_equal, once_more};
@@ -149,4 +149,36 @@ fn bytes_within_a_packet_are_taken_at_once(rt: HostRuntime) {
     // all but the header's last byte and the payload's last byte; where memory was refused `advance` takes one more
     let assert = Asserting(&rt);
     assert.holds(matches!(first, Ok(11)) || matches!(second, Ok(11)));
+}
+
+// Reads `SELECT 1`, whose number isn't the one due, in three pieces: its number is told in the
+// second, and is then the one due.
+fn renumbered(assert: &impl Assert, alloc: Global) -> Result<bool, PacketCodecError> {
+    let told = Some(ChunkHeader { number: 0, len: 9 });
+    let mut reader = PacketReader::new(alloc, 5, 1000);
+    assert_equal(assert, reader.header_due(&SELECT_1[..3]), None);
+    assert_equal(assert, reader.header_due(&SELECT_1), told);
+    let mut piece: &[u8] = &SELECT_1[..2];
+    let _is_whole = reader.advance(&mut piece)?;
+    assert_equal(assert, reader.header_due(&[]), None);
+    assert_equal(assert, reader.header_due(&SELECT_1[2..]), told);
+    piece = &SELECT_1[2..7];
+    let _is_whole = reader.advance(&mut piece)?;
+    assert_equal(assert, reader.header_due(&[]), told);
+    assert.holds(reader.set_seq_id(0));
+    piece = &SELECT_1[7..];
+    reader.advance(&mut piece)
+}
+
+#[test]
+fn a_number_is_told_before_its_chunk_stands_whole(rt: HostRuntime) {
+    let assert = Asserting(&rt);
+    let first = renumbered(&assert, rt.alloc());
+    let second = renumbered(&assert, rt.alloc());
+    assert.holds(matches!(first, Ok(true)) || matches!(second, Ok(true)));
+    // between packets a number is handed in for the next one
+    let mut reader = PacketReader::new(rt.alloc(), 5, 1000);
+    assert.holds(reader.set_seq_id(0));
+    let mut rest: &[u8] = &SELECT_1;
+    assert.holds(reader.read_in_place(&mut rest) == Some(&SELECT_1[4..]));
 }

@@ -446,8 +446,8 @@ impl PacketReader {
         self.number = 0;
     }
 
-    /// The next packet begins at this number, or the one that is begun does: it is told before a
-    /// chunk of it stands whole. The answer is whether it was in time; else nothing changes.
+    /// The packet that comes next, or is begun, begins at this number. It is told before a chunk of
+    /// the packet stands whole. The answer is whether it was in time; else nothing changes.
     ///
     /// A reader of a login or of the last words of a server looks at the number that comes
     /// ([`PacketReader::header_due`]), and then says whether it is the one due. (MySQL:
@@ -465,9 +465,9 @@ impl PacketReader {
         true
     }
 
-    /// The header of the chunk that comes next or is begun, once its four bytes stand in what came
-    /// and a piece behind it, whether or not the chunk stands whole. The piece is looked at alone,
-    /// and may be empty.
+    /// The header of the chunk that comes next or is begun; None while its four bytes aren't there.
+    /// They stand in what came and a piece behind it, whether or not the chunk stands whole. The
+    /// piece is looked at alone, and may be empty.
     ///
     /// So the number and the length of what comes are known before [`PacketReader::advance`]
     /// reads it, which refuses another number than the one due.

@@ -1,0 +1,54 @@
+//! What a user of `mysql_connection` can name: each item that the face passes on, by each of its paths.
+//! Written by `tools/faces` from the sources. A name that the face doesn't pass on is refused here.
+
+use mysql_connection::{
+    Attribute, AuthenticationEvent, BoundType, BulkExecution, BulkValue, Capabilities,
+    CapabilityFlags, Command, CommandRefusal, Context, EventReader, Execution, ExtendedColumn,
+    GreetingEvent, ListedColumn, LoginFault, LoginRefusal, LoginResponse, MariadbCapabilities,
+    ParameterType, PutRefusal, Refused, Reply, ReplyEvent, ReplyFault, ReplyKind, ResponseEvent,
+    StatementParameters, Turn, capabilities_in_force, put_authentication, put_command, put_event,
+    put_greeting, put_response, read_authentication, read_bulk_types, read_execution_types,
+    read_greeting, read_response, write_authentication_event, write_command, write_greeting_event,
+    write_reply_event, write_response_event,
+};
+
+mod laws {
+    mod logins {
+        use mysql_connection::laws::logins::{
+            authentications_are_put, authentications_read_again, authentications_read_back,
+            greetings_are_put, greetings_read_again, greetings_read_back,
+            refused_authentications_read_otherwise, refused_greetings_read_otherwise,
+            refused_responses_read_otherwise, responses_are_put, responses_read_again,
+            responses_read_back,
+        };
+    }
+}
+
+// The faces below: one item each, since each has a list of its own.
+mod login_face {
+    use mysql_connection::mysql_login::Sid;
+
+    mod wire_face {
+        use mysql_connection::mysql_login::mysql_wire::Seq;
+    }
+}
+
+mod session_face {
+    use mysql_connection::mysql_session::End;
+
+    mod packets_face {
+        use mysql_connection::mysql_session::mysql_packets::Row;
+
+        mod convert_face {
+            use mysql_connection::mysql_session::mysql_packets::mysql_convert::ParseIr;
+
+            mod values_face {
+                use mysql_connection::mysql_session::mysql_packets::mysql_convert::mysql_values::Mode;
+
+                mod wire_face {
+                    use mysql_connection::mysql_session::mysql_packets::mysql_convert::mysql_values::mysql_wire::Seq;
+                }
+            }
+        }
+    }
+}

@@ -1,0 +1,16 @@
+pub mod Zeros
+pub mod FirstCause
+pub mod Packets
+pub mod AuthenticationsBack
+pub mod Read
+pub mod AuthenticationsPut
+pub mod HandshakesBack
+pub mod GreetingsBack
+pub mod GreetingsPut
+pub mod PluginsBack
+pub mod ResponsesBack
+pub mod AttributesBack
+pub mod ResponsesPut
+pub mod AttributesHeld
+pub mod Held
+pub mod ReadAgain

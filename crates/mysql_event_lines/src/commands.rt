@@ -1,0 +1,204 @@
+//! What a client asks for, as a line.
+
+use crate::fields::{
+    name_of, write_bytes, write_bytes_if, write_hexadecimal, write_number, write_pairs,
+    write_space, write_value, write_values,
+};
+use mysql_commands::Command;
+use mysql_executions::{Attribute, BulkExecution, BulkValue, Execution};
+use mysql_login::ComChangeUser;
+use mysql_replication::{ComBinlogDump, ComBinlogDumpGtid, ComRegisterSlave, ComTableDump};
+use std::io;
+use std::io::Write;
+
+/// Writes attributes as a list of names and values.
+fn write_attributes<W: Write>(output: &mut W, attributes: &[Attribute]) -> io::Result<()> {
+    output.write_all(b" attributes=(")?;
+    for (place, attribute) in attributes.iter().enumerate() {
+        write_space(output, place)?;
+        output.write_all(b"(")?;
+        write_hexadecimal(output, attribute.bound_type.name.as_slice())?;
+        output.write_all(b" ")?;
+        write_value(output, &attribute.value)?;
+        output.write_all(b")")?;
+    }
+    output.write_all(b")")
+}
+
+fn write_query<W: Write>(output: &mut W, attributes: &[Attribute], sql: &[u8]) -> io::Result<()> {
+    output.write_all(b"Query")?;
+    write_attributes(output, attributes)?;
+    write_bytes(output, "text", sql)
+}
+
+fn write_change_user<W: Write>(output: &mut W, change: &ComChangeUser) -> io::Result<()> {
+    output.write_all(b"ChangeUser")?;
+    write_bytes(output, "user", change.user())?;
+    write_bytes(output, "answer", change.auth_plugin_data())?;
+    write_bytes(output, "database", change.database())?;
+    let Some(more) = change.more_data() else {
+        return output.write_all(b" charset=- plugin=- attributes=-");
+    };
+    write_number(output, "charset", u64::from(more.character_set()))?;
+    write_bytes_if(output, "plugin", name_of(more.auth_plugin()))?;
+    write_pairs(output, more.attributes())
+}
+
+fn write_binlog_dump<W: Write>(output: &mut W, dump: &ComBinlogDump) -> io::Result<()> {
+    output.write_all(b"BinlogDump")?;
+    write_number(output, "position", u64::from(dump.pos()))?;
+    write_number(output, "flags", u64::from(dump.flags().0))?;
+    write_number(output, "server", u64::from(dump.server_id()))?;
+    write_bytes(output, "file", dump.filename_raw())
+}
+
+fn write_binlog_dump_gtid<W: Write>(output: &mut W, dump: &ComBinlogDumpGtid) -> io::Result<()> {
+    output.write_all(b"BinlogDumpGtid")?;
+    write_number(output, "flags", u64::from(dump.flags().0))?;
+    write_number(output, "server", u64::from(dump.server_id()))?;
+    write_bytes(output, "file", dump.filename_raw())?;
+    write_number(output, "position", dump.pos())?;
+    write!(output, " sets={}", dump.sids().len())
+}
+
+fn write_registration<W: Write>(output: &mut W, replica: &ComRegisterSlave) -> io::Result<()> {
+    output.write_all(b"RegisterSlave")?;
+    write_number(output, "server", u64::from(replica.server_id()))?;
+    write_bytes(output, "host", replica.hostname_raw())?;
+    write_bytes(output, "user", replica.user_raw())?;
+    write_bytes(output, "password", replica.password_raw())?;
+    write_number(output, "port", u64::from(replica.port()))?;
+    write_number(output, "rank", u64::from(replica.replication_rank()))?;
+    write_number(output, "master", u64::from(replica.master_id()))
+}
+
+fn write_table_dump<W: Write>(output: &mut W, dump: &ComTableDump) -> io::Result<()> {
+    output.write_all(b"TableDump")?;
+    write_bytes(output, "database", dump.database_raw())?;
+    write_bytes(output, "table", dump.table_raw())
+}
+
+fn write_execution<W: Write>(output: &mut W, execution: &Execution) -> io::Result<()> {
+    output.write_all(b"Execute")?;
+    write_number(output, "id", u64::from(execution.statement))?;
+    let counts = if execution.count_available { 8 } else { 0 };
+    write_number(output, "flags", u64::from(execution.cursor.0 | counts))?;
+    output.write_all(b" parameters=")?;
+    write_values(output, execution.parameters.as_slice())?;
+    write_attributes(output, execution.attributes.as_slice())
+}
+
+/// Writes a row of a bulk execution as a list.
+fn write_bulk_row<W: Write>(output: &mut W, row: &[BulkValue]) -> io::Result<()> {
+    output.write_all(b"(")?;
+    for (place, value) in row.iter().enumerate() {
+        write_space(output, place)?;
+        match value {
+            BulkValue::Value(value) => write_value(output, value)?,
+            BulkValue::Default => output.write_all(b"default")?,
+            BulkValue::Ignore => output.write_all(b"ignore")?,
+        }
+    }
+    output.write_all(b")")
+}
+
+fn write_bulk_execution<W: Write>(output: &mut W, bulk: &BulkExecution) -> io::Result<()> {
+    output.write_all(b"BulkExecute")?;
+    write_number(output, "id", u64::from(bulk.statement))?;
+    let units = if bulk.unit_results { 0x40 } else { 0 };
+    let types = if bulk.types.is_some() { 0x80 } else { 0 };
+    write_number(output, "flags", units | types)?;
+    output.write_all(b" sets=(")?;
+    for (place, row) in bulk.rows.iter().enumerate() {
+        write_space(output, place)?;
+        write_bulk_row(output, row.as_slice())?;
+    }
+    output.write_all(b")")
+}
+
+/// Writes a payload that is laid out as no command that is known: its first byte, and those behind it.
+fn write_other<W: Write>(output: &mut W, payload: &[u8]) -> io::Result<()> {
+    match payload {
+        [] => output.write_all(b"Other byte=- data=x"),
+        [byte, data @ ..] => {
+            output.write_all(b"Other")?;
+            write_number(output, "byte", u64::from(*byte))?;
+            write_bytes(output, "data", data)
+        }
+    }
+}
+
+/// Writes a name, and a field of bytes.
+fn write_text<W: Write>(output: &mut W, name: &str, field: &str, text: &[u8]) -> io::Result<()> {
+    write!(output, "{name}")?;
+    write_bytes(output, field, text)
+}
+
+/// Writes a name, and a field that is a number.
+fn write_one<W: Write>(output: &mut W, name: &str, field: &str, number: u64) -> io::Result<()> {
+    write!(output, "{name}")?;
+    write_number(output, field, number)
+}
+
+/// Writes a command about a prepared statement, or one of replication.
+fn write_further<W: Write>(output: &mut W, command: &Command) -> io::Result<()> {
+    match command {
+        Command::Prepare(sql) => write_text(output, "Prepare", "text", sql.as_slice()),
+        Command::Execute(execution) => write_execution(output, execution),
+        Command::LongData {
+            stmt_id,
+            place,
+            bytes,
+        } => {
+            write_one(output, "LongData", "id", u64::from(*stmt_id))?;
+            write_number(output, "place", u64::from(*place))?;
+            write_bytes(output, "data", bytes.as_slice())
+        }
+        Command::Close(id) => write_one(output, "Close", "id", u64::from(*id)),
+        Command::ResetStatement(id) => write_one(output, "ResetStatement", "id", u64::from(*id)),
+        Command::Fetch { stmt_id, rows } => {
+            write_one(output, "Fetch", "id", u64::from(*stmt_id))?;
+            write_number(output, "rows", u64::from(*rows))
+        }
+        Command::BulkExecute(bulk) => write_bulk_execution(output, bulk),
+        Command::BinlogDump(dump) => write_binlog_dump(output, dump),
+        Command::BinlogDumpGtid(dump) => write_binlog_dump_gtid(output, dump),
+        Command::TableDump(dump) => write_table_dump(output, dump),
+        Command::RegisterSlave(replica) => write_registration(output, replica),
+        Command::Other(payload) => write_other(output, payload.as_slice()),
+        _ => Ok(()),
+    }
+}
+
+/// Writes what a client asks for, as a line without its end.
+///
+/// # Errors
+/// - Those of the output.
+pub fn write_command<W: Write>(output: &mut W, command: &Command) -> io::Result<()> {
+    match command {
+        Command::Quit => output.write_all(b"Quit"),
+        Command::InitDb(schema) => write_text(output, "InitDb", "schema", schema.as_slice()),
+        Command::Query { attributes, sql } => {
+            write_query(output, attributes.as_slice(), sql.as_slice())
+        }
+        Command::FieldList { table, wildcard } => {
+            write_text(output, "FieldList", "table", table.as_slice())?;
+            write_bytes(output, "wildcard", wildcard.as_slice())
+        }
+        Command::CreateDb(schema) => write_text(output, "CreateDb", "schema", schema.as_slice()),
+        Command::DropDb(schema) => write_text(output, "DropDb", "schema", schema.as_slice()),
+        Command::Refresh(what) => write_one(output, "Refresh", "what", u64::from(*what)),
+        Command::Shutdown(Some(level)) => write_one(output, "Shutdown", "level", u64::from(*level)),
+        Command::Shutdown(None) => output.write_all(b"Shutdown level=-"),
+        Command::Statistics => output.write_all(b"Statistics"),
+        Command::ProcessInfo => output.write_all(b"ProcessInfo"),
+        Command::ProcessKill(id) => write_one(output, "ProcessKill", "id", u64::from(*id)),
+        Command::Debug => output.write_all(b"Debug"),
+        Command::Ping => output.write_all(b"Ping"),
+        Command::ChangeUser(change) => write_change_user(output, change),
+        Command::SetOption(option) => write_one(output, "SetOption", "option", u64::from(*option)),
+        Command::ResetConnection => output.write_all(b"ResetConnection"),
+        Command::Clone(arguments) => write_text(output, "Clone", "data", arguments.as_slice()),
+        _ => write_further(output, command),
+    }
+}

@@ -1,0 +1,2 @@
+mod Comparing
+mod Putting

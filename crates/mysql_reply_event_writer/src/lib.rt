@@ -1,0 +1,13 @@
+//! Writes replies of a server payload by payload: events, each of which is read again as it was.
+//!
+//!     let mut state = EventReader::new(alloc, ReplyKind::Text, capabilities, None);
+//!     put_event(&mut state, &ReplyEvent::Ok(ok), &mut out)?;
+#![tactic(auto)]
+
+mod payloads;
+mod put;
+pub mod refusal;
+mod same;
+
+pub use put::put_event;
+pub use refusal::PutRefusal;

@@ -1,0 +1,3 @@
+mod BinaryRows
+mod RowsInPlace
+mod Peeking

@@ -1,0 +1,7 @@
+pub mod Events
+pub mod Readings
+pub mod Table
+pub mod Views
+pub mod Standing
+pub mod States
+pub mod Reader

@@ -1,0 +1,609 @@
+//! What each payload leads to, by what is awaited.
+//!
+//!     00 ..         OK: affected rows, last insert id, status, warnings, info
+//!     ff ..         ERR: code, state, message
+//!     fb ..         LOCAL INFILE: the file's name
+//!     count ..      a result set: a packet for each column, the EOF,
+//!                   rows, and what ends them: an OK packet with fe, an EOF or an ERR
+//!
+//! MySQL: Client/Server Protocol, "COM_QUERY Response", "Text Resultset" and "COM_STMT_PREPARE
+//! Response".
+
+ghost use Rattle.std.specs.Prelude.{◌≡◌, ◌<◌, IsOkUnless, OnErr, OnOk};
+ghost use Rattle.mysql_columns.specs.Views.{column_view};
+ghost use Rattle.mysql_ok_packets.specs.Views.{ok_packet_view};
+ghost use Rattle.mysql_rows.specs.Views.{column_views};
+ghost use Rattle.mysql_reply_events.specs.declared.fault.ReplyFault.TheVariants.{Memory};
+ghost use Rattle.mysql_reply_events.specs.Table as table;
+ghost use Rattle.mysql_reply_events.specs.Views.{Gives, Tells, awaited_view, event_view, group_view};
+ghost use Rattle.mysql_reply_events.specs.States.{Steps, so_far};
+
+use crate::awaited::{Awaited, ColumnGroup};
+use crate::context::{Context, ReplyKind};
+use crate::counts::{count_packet, prepared_packet};
+use crate::event::ReplyEvent;
+use crate::fault::ReplyFault;
+use crate::forms::{begins_ok, begins_terminator, deprecates_eof, has_optional_metadata};
+use crate::packets::{
+    bytes_of, column_packet, eof_packet, error_packet, field_packet, file_packet, ok_packet,
+    terminator_packet,
+};
+use crate::rows::row_packet;
+use crate::standing::StandingColumns;
+use crate::state::ReplyState;
+use bitflags::Flags;
+use mysql_columns::Column;
+use mysql_const::StatusFlags;
+use mysql_ok_packets::OkPacket;
+use mysql_ok_packets::ok_packet::has_more_results;
+use mysql_row_refs::starts_with;
+use std::alloc::Global;
+use std::mem;
+use std::rc::RcSlice;
+
+/// Behind a result of this kind another one may follow.
+fn has_results(kind: ReplyKind) -> bool
+    ensures { result ≡ table.has_results kind }
+{
+    match kind {
+        ReplyKind::Text | ReplyKind::Binary => true,
+        _ => false,
+    }
+}
+
+/// What is awaited behind a result.
+fn after_result(context: Context, ok: &OkPacket) -> Awaited
+    ensures { awaited_view result ≡ table.after_result context (ok_packet_view ok.now) }
+{
+    if has_results(context.kind) && has_more_results(ok.status_flags()) {
+        Awaited::First
+    } else {
+        Awaited::Nothing
+    }
+}
+
+/// The command is an execution.
+fn is_execution(kind: ReplyKind) -> bool
+    ensures { result ≡ table.is_execution kind }
+{
+    match kind {
+        ReplyKind::Binary => true,
+        _ => false,
+    }
+}
+
+/// A cursor was opened.
+#[tactic(auto, unfolding(bitflags::proofs::OnLiterals::bitflags_on_literals))]
+fn cursor_exists(ok: &OkPacket) -> bool
+    ensures { result ≡ table.cursor_exists (ok_packet_view ok.now) }
+{
+    ok.status_flags()
+        .contains(StatusFlags::SERVER_STATUS_CURSOR_EXISTS)
+}
+
+/// What is awaited of the columns of a prepared statement.
+fn statement_columns(alloc: Global, context: Context, columns: u16, follow: bool) -> Awaited
+    ensures { awaited_view result ≡ table.statement_columns context columns follow }
+{
+    if columns == 0 {
+        Awaited::Nothing
+    } else if follow {
+        Awaited::Columns {
+            group: ColumnGroup::Statement,
+            left: columns - 1,
+            columns: Vec::new(alloc),
+        }
+    } else if deprecates_eof(context) {
+        Awaited::Nothing
+    } else {
+        Awaited::ColumnsEnd {
+            group: ColumnGroup::Statement,
+            known: false,
+        }
+    }
+}
+
+/// What is awaited behind a group and its EOF.
+fn after_group(alloc: Global, context: Context, group: ColumnGroup, known: bool) -> Awaited
+    ensures { awaited_view result ≡ table.after_group context (group_view group) known }
+{
+    match group {
+        ColumnGroup::ResultSet => Awaited::Rows { known },
+        ColumnGroup::Parameters { columns, follow } => {
+            statement_columns(alloc, context, columns, follow)
+        }
+        ColumnGroup::Statement => Awaited::Nothing,
+    }
+}
+
+/// What is awaited behind the last column of a group.
+fn after_columns(alloc: Global, context: Context, group: ColumnGroup, known: bool) -> Awaited
+    ensures { awaited_view result ≡ table.after_columns context (group_view group) known }
+{
+    if deprecates_eof(context) {
+        after_group(alloc, context, group, known)
+    } else {
+        Awaited::ColumnsEnd { group, known }
+    }
+}
+
+/// What is awaited behind the EOF of columns.
+fn after_columns_end(
+    alloc: Global,
+    context: Context,
+    group: ColumnGroup,
+    known: bool,
+    ok: &OkPacket,
+) -> Awaited
+    ensures { awaited_view result ≡
+        table.after_columns_end context (group_view group) known (ok_packet_view ok.now) }
+{
+    match group {
+        ColumnGroup::ResultSet => {
+            if is_execution(context.kind) && cursor_exists(ok) {
+                after_result(context, ok)
+            } else {
+                Awaited::Rows { known }
+            }
+        }
+        _ => after_group(alloc, context, group, known),
+    }
+}
+
+/// Reads an error, which ends the reply.
+fn error_step(
+    alloc: Global,
+    context: Context,
+    state: &mut ReplyState,
+    payload: &[u8],
+) -> Result<ReplyEvent, ReplyFault>
+    ensures step { Steps (table.error_step context (so_far state.old) payload.now) result state.new }
+    ensures kept { OnErr result (state.new.standing ≡ state.old.standing) }
+    ensures format { state.new.standing.format ≡ state.old.standing.format }
+{
+    let error = error_packet(alloc, context, payload)?;
+    state.awaited = Awaited::Nothing;
+    Ok(ReplyEvent::Error(error))
+}
+
+/// Reads what ends rows and columns of a table, and stands in an OK packet's place.
+fn end_step(
+    alloc: Global,
+    context: Context,
+    state: &mut ReplyState,
+    payload: &[u8],
+) -> Result<ReplyEvent, ReplyFault>
+    ensures step { Steps (table.in_end context (so_far state.old) payload.now) result state.new }
+    ensures kept { OnErr result (state.new.standing ≡ state.old.standing) }
+    ensures format { state.new.standing.format ≡ state.old.standing.format }
+{
+    let ok = terminator_packet(alloc, context, payload)?;
+    state.awaited = after_result(context, &ok);
+    Ok(ReplyEvent::RowsEnd(ok))
+}
+
+/// Reads an OK packet, which is a result.
+fn ok_step(
+    alloc: Global,
+    context: Context,
+    state: &mut ReplyState,
+    payload: &[u8],
+) -> Result<ReplyEvent, ReplyFault>
+    ensures step { Steps (table.ok_step context (so_far state.old) payload.now) result state.new }
+    ensures kept { OnErr result (state.new.standing ≡ state.old.standing) }
+    ensures format { state.new.standing.format ≡ state.old.standing.format }
+{
+    let ok = ok_packet(alloc, context, payload)?;
+    state.awaited = after_result(context, &ok);
+    Ok(ReplyEvent::Ok(ok))
+}
+
+/// Reads a count of columns.
+fn count_step(
+    alloc: Global,
+    context: Context,
+    state: &mut ReplyState,
+    payload: &[u8],
+) -> Result<ReplyEvent, ReplyFault>
+    ensures step { Steps (table.count_step context (so_far state.old) payload.now) result state.new }
+    ensures kept { OnErr result (state.new.standing ≡ state.old.standing) }
+    ensures format { state.new.standing.format ≡ state.old.standing.format }
+{
+    let (count, columns_follow) = count_packet(context, payload)?;
+    state.awaited = after_count(alloc, context, &state.standing, count, columns_follow)?;
+    Ok(ReplyEvent::ColumnCount {
+        count,
+        columns_follow,
+    })
+}
+
+/// What is awaited behind a count of columns.
+fn after_count(
+    alloc: Global,
+    context: Context,
+    standing: &StandingColumns,
+    count: u16,
+    columns_follow: bool,
+) -> Result<Awaited, ReplyFault>
+    requires { 0 < count }
+    ensures { Tells awaited_view result (table.after_count context standing.now.columns (count, columns_follow)) }
+{
+    if columns_follow {
+        return Ok(Awaited::Columns {
+            group: ColumnGroup::ResultSet,
+            left: count - 1,
+            columns: Vec::new(alloc),
+        });
+    }
+    let known = is_execution(context.kind) && standing.are_so_many(count);
+    if known || has_optional_metadata(context) {
+        Ok(after_columns(alloc, context, ColumnGroup::ResultSet, known))
+    } else {
+        Err(ReplyFault::BadCount)
+    }
+}
+
+/// Reads the first payload of a result that is no error.
+fn result_step(
+    alloc: Global,
+    context: Context,
+    state: &mut ReplyState,
+    payload: &[u8],
+) -> Result<ReplyEvent, ReplyFault>
+    ensures step { Steps (table.first_of_result context (so_far state.old) payload.now) result state.new }
+    ensures kept { OnErr result (state.new.standing ≡ state.old.standing) }
+    ensures format { state.new.standing.format ≡ state.old.standing.format }
+{
+    if begins_ok(context, payload) {
+        ok_step(alloc, context, state, payload)
+    } else if starts_with(payload, 251) {
+        let file = file_packet(alloc, payload)?;
+        state.awaited = Awaited::FileData;
+        Ok(ReplyEvent::FileRequest(file))
+    } else if payload.is_empty() {
+        Err(ReplyFault::BadHeader)
+    } else {
+        count_step(alloc, context, state, payload)
+    }
+}
+
+/// What is awaited behind a statement packet.
+fn after_statement(
+    alloc: Global,
+    context: Context,
+    parameters: u16,
+    columns: u16,
+    follow: bool,
+) -> Awaited
+    ensures { awaited_view result ≡ table.after_statement context parameters columns follow }
+{
+    let group = ColumnGroup::Parameters { columns, follow };
+    if parameters == 0 {
+        statement_columns(alloc, context, columns, follow)
+    } else if follow {
+        Awaited::Columns {
+            group,
+            left: parameters - 1,
+            columns: Vec::new(alloc),
+        }
+    } else {
+        after_columns(alloc, context, group, false)
+    }
+}
+
+/// Reads the first payload of the answer to a prepare that is no error.
+fn statement_step(
+    alloc: Global,
+    context: Context,
+    state: &mut ReplyState,
+    payload: &[u8],
+) -> Result<ReplyEvent, ReplyFault>
+    ensures step { Steps (table.first_of_statement context (so_far state.old) payload.now) result state.new }
+    ensures kept { OnErr result (state.new.standing ≡ state.old.standing) }
+    ensures format { state.new.standing.format ≡ state.old.standing.format }
+{
+    if !starts_with(payload, 0) {
+        return Err(ReplyFault::BadHeader);
+    }
+    let (statement, columns_follow) = prepared_packet(alloc, context, payload)?;
+    let parameters = statement.num_params();
+    let columns = statement.num_columns();
+    state.awaited = after_statement(alloc, context, parameters, columns, columns_follow);
+    Ok(ReplyEvent::Prepared {
+        statement,
+        columns_follow,
+    })
+}
+
+/// Reads the answer to a command without a result that is no error.
+fn plain_step(
+    alloc: Global,
+    context: Context,
+    state: &mut ReplyState,
+    payload: &[u8],
+) -> Result<ReplyEvent, ReplyFault>
+    ensures step { Steps (table.plain context (so_far state.old) payload.now) result state.new }
+    ensures kept { OnErr result (state.new.standing ≡ state.old.standing) }
+    ensures format { state.new.standing.format ≡ state.old.standing.format }
+{
+    if starts_with(payload, 0) {
+        ok_step(alloc, context, state, payload)
+    } else if begins_terminator(context, payload) {
+        end_step(alloc, context, state, payload)
+    } else {
+        Err(ReplyFault::BadHeader)
+    }
+}
+
+/// Reads a text, or the first payload of what goes on in a form of its own.
+fn line_step(
+    alloc: Global,
+    state: &mut ReplyState,
+    payload: &[u8],
+) -> Result<ReplyEvent, ReplyFault>
+    ensures step { Steps (table.line (so_far state.old) payload.now) result state.new }
+    ensures kept { OnErr result (state.new.standing ≡ state.old.standing) }
+    ensures format { state.new.standing.format ≡ state.old.standing.format }
+{
+    let bytes = bytes_of(alloc, payload)?;
+    state.awaited = Awaited::Nothing;
+    Ok(ReplyEvent::Line(bytes))
+}
+
+/// Reads a row.
+fn row_event(
+    alloc: Global,
+    context: Context,
+    known: bool,
+    standing: &StandingColumns,
+    payload: &[u8],
+) -> Result<ReplyEvent, ReplyFault>
+    ensures { Gives event_view result (table.row_event context known standing.now.columns payload.now) }
+{
+    match standing.columns() {
+        Some(columns) if known => {
+            let row = row_packet(alloc, context, columns, payload)?;
+            Ok(ReplyEvent::Row(row))
+        }
+        _ => {
+            if has_optional_metadata(context) {
+                let bytes = bytes_of(alloc, payload)?;
+                Ok(ReplyEvent::RawRow(bytes))
+            } else {
+                Err(ReplyFault::BadRow)
+            }
+        }
+    }
+}
+
+/// Reads a row or a terminator.
+fn rows_step(
+    alloc: Global,
+    context: Context,
+    state: &mut ReplyState,
+    known: bool,
+    payload: &[u8],
+) -> Result<ReplyEvent, ReplyFault>
+    ensures step { Steps (table.in_rows context (so_far state.old) known payload.now) result state.new }
+    ensures kept { OnErr result (state.new.standing ≡ state.old.standing) }
+    ensures format { state.new.standing.format ≡ state.old.standing.format }
+{
+    if begins_terminator(context, payload) {
+        end_step(alloc, context, state, payload)
+    } else {
+        let event = row_event(alloc, context, known, &state.standing, payload)?;
+        state.awaited = Awaited::Rows { known };
+        Ok(event)
+    }
+}
+
+/// Reads a column of a table or what ends them.
+fn fields_step(
+    alloc: Global,
+    context: Context,
+    state: &mut ReplyState,
+    payload: &[u8],
+) -> Result<ReplyEvent, ReplyFault>
+    ensures step { Steps (table.in_fields context (so_far state.old) payload.now) result state.new }
+    ensures kept { OnErr result (state.new.standing ≡ state.old.standing) }
+    ensures format { state.new.standing.format ≡ state.old.standing.format }
+{
+    if begins_terminator(context, payload) {
+        end_step(alloc, context, state, payload)
+    } else {
+        let field = field_packet(alloc, context, payload)?;
+        state.awaited = Awaited::Fields;
+        Ok(ReplyEvent::Field(field))
+    }
+}
+
+/// Reads the EOF behind columns.
+fn columns_end_step(
+    alloc: Global,
+    context: Context,
+    state: &mut ReplyState,
+    group: ColumnGroup,
+    known: bool,
+    payload: &[u8],
+) -> Result<ReplyEvent, ReplyFault>
+    ensures step { Steps (table.in_columns_end context (so_far state.old) (group_view group) known payload.now) result
+        state.new }
+    ensures kept { OnErr result (state.new.standing ≡ state.old.standing) }
+    ensures format { state.new.standing.format ≡ state.old.standing.format }
+{
+    let ok = eof_packet(alloc, context, payload)?;
+    state.awaited = after_columns_end(alloc, context, group, known, &ok);
+    Ok(ReplyEvent::ColumnsEnd(ok))
+}
+
+/// Keeps a copy of a column of a group with those before it. Parameters aren't kept.
+fn keep_column(
+    alloc: Global,
+    group: ColumnGroup,
+    columns: &mut Vec<Column>,
+    column: &Column,
+) -> Result<(), ReplyFault>
+    ensures kept { OnOk result (column_views columns.new.items ≡
+        table.with_column (group_view group) (column_views columns.old.items) (column_view column.now)) }
+    ensures memory { IsOkUnless result Memory }
+{
+    match group {
+        ColumnGroup::Parameters {
+            columns: _,
+            follow: _,
+        } => Ok(()),
+        _ => {
+            let Ok(copy) = column.clone(alloc) else {
+                return Err(ReplyFault::Memory);
+            };
+            match columns.push(copy) {
+                Ok(()) => Ok(()),
+                Err(_) => Err(ReplyFault::Memory),
+            }
+        }
+    }
+}
+
+/// The columns of a group stand, once it is whole, but for parameters.
+fn stand(
+    group: ColumnGroup,
+    standing: &mut StandingColumns,
+    columns: Vec<Column>,
+) -> Result<(), ReplyFault>
+    ensures stand { OnOk result (standing.new.columns ≡
+        table.standing (group_view group) (column_views columns.items) standing.old.columns) }
+    ensures format { standing.new.format ≡ standing.old.format }
+    ensures memory { IsOkUnless result Memory }
+    ensures kept { OnErr result (standing.new ≡ standing.old) }
+{
+    match group {
+        ColumnGroup::Parameters {
+            columns: _,
+            follow: _,
+        } => Ok(()),
+        _ => match RcSlice::from_vec(columns) {
+            Ok(shared) => {
+                standing.replace(shared);
+                Ok(())
+            }
+            Err(_) => Err(ReplyFault::Memory),
+        },
+    }
+}
+
+/// A column of a group came, and so many more are left.
+fn column_came(
+    alloc: Global,
+    context: Context,
+    state: &mut ReplyState,
+    group: ColumnGroup,
+    left: u16,
+    columns: Vec<Column>,
+) -> Result<(), ReplyFault>
+    ensures came { OnOk result (so_far state.new ≡
+        table.column_came context (so_far state.old) (group_view group) left (column_views columns.items)) }
+    ensures memory { IsOkUnless result Memory }
+    ensures kept { OnErr result (state.new.standing ≡ state.old.standing) }
+    ensures format { state.new.standing.format ≡ state.old.standing.format }
+{
+    if left > 0 {
+        state.awaited = Awaited::Columns {
+            group,
+            left: left - 1,
+            columns,
+        };
+        return Ok(());
+    }
+    stand(group, &mut state.standing, columns)?;
+    state.awaited = after_columns(alloc, context, group, true);
+    Ok(())
+}
+
+/// Reads a column of a group, which has so many more behind it and these before it.
+fn column_step(
+    alloc: Global,
+    context: Context,
+    state: &mut ReplyState,
+    group: ColumnGroup,
+    left: u16,
+    mut columns: Vec<Column>,
+    payload: &[u8],
+) -> Result<ReplyEvent, ReplyFault>
+    ensures step { Steps (table.in_columns context (so_far state.old) (group_view group) left
+        (column_views columns.items) payload.now) result state.new }
+    ensures kept { OnErr result (state.new.standing ≡ state.old.standing) }
+    ensures format { state.new.standing.format ≡ state.old.standing.format }
+{
+    let column = column_packet(alloc, context, payload)?;
+    keep_column(alloc, group, &mut columns, column.column())?;
+    column_came(alloc, context, state, group, left, columns)?;
+    Ok(ReplyEvent::Column(column))
+}
+
+/// Reads the first payload of a reply or of a further result that is no error, by the kind of the
+/// command.
+fn first_step(
+    alloc: Global,
+    context: Context,
+    state: &mut ReplyState,
+    payload: &[u8],
+) -> Result<ReplyEvent, ReplyFault>
+    ensures step { Steps (table.first context (so_far state.old) context.kind payload.now) result state.new }
+    ensures kept { OnErr result (state.new.standing ≡ state.old.standing) }
+    ensures format { state.new.standing.format ≡ state.old.standing.format }
+{
+    match context.kind {
+        ReplyKind::Text | ReplyKind::Binary => result_step(alloc, context, state, payload),
+        ReplyKind::Prepare => statement_step(alloc, context, state, payload),
+        ReplyKind::Plain => plain_step(alloc, context, state, payload),
+        ReplyKind::Line => line_step(alloc, state, payload),
+        ReplyKind::FieldList => fields_step(alloc, context, state, payload),
+        ReplyKind::Fetch => rows_step(alloc, context, state, true, payload),
+    }
+}
+
+/// Reads a payload that is no progress report, by what is awaited. After an `Err` nothing is.
+pub fn place_step(
+    alloc: Global,
+    context: Context,
+    state: &mut ReplyState,
+    payload: &[u8],
+) -> Result<ReplyEvent, ReplyFault>
+    ensures step { Steps (table.in_place context (so_far state.old) (so_far state.old).awaited payload.now) result
+        state.new }
+    ensures kept { OnErr result (state.new.standing ≡ state.old.standing) }
+    ensures format { state.new.standing.format ≡ state.old.standing.format }
+{
+    match mem::replace(&mut state.awaited, Awaited::Nothing) {
+        Awaited::First => {
+            if starts_with(payload, 255) {
+                error_step(alloc, context, state, payload)
+            } else {
+                first_step(alloc, context, state, payload)
+            }
+        }
+        Awaited::Columns {
+            group,
+            left,
+            columns,
+        } => column_step(alloc, context, state, group, left, columns, payload),
+        Awaited::ColumnsEnd { group, known } => {
+            columns_end_step(alloc, context, state, group, known, payload)
+        }
+        Awaited::Rows { known } => {
+            if starts_with(payload, 255) {
+                error_step(alloc, context, state, payload)
+            } else {
+                rows_step(alloc, context, state, known, payload)
+            }
+        }
+        Awaited::Fields => {
+            if starts_with(payload, 255) {
+                error_step(alloc, context, state, payload)
+            } else {
+                fields_step(alloc, context, state, payload)
+            }
+        }
+        Awaited::FileData | Awaited::Nothing => Err(ReplyFault::NotDue),
+    }
+}
