@@ -13,6 +13,15 @@ use mysql_connection::{
 };
 
 mod laws {
+    use mysql_connection::laws::read_commands_are_put;
+
+    mod executions {
+        use mysql_connection::laws::executions::{
+            attributes_read_back, bulks_read_back, executions_read_back,
+            read_attributes_are_written, read_bulks_are_written, read_executions_are_written,
+        };
+    }
+
     mod logins {
         use mysql_connection::laws::logins::{
             authentications_are_put, authentications_read_again, authentications_read_back,

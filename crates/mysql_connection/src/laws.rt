@@ -1,3 +1,5 @@
 //! Laws of what is read and put, over the definitions alone: those of the crates below.
 
 pub use mysql_authentication::laws as logins;
+pub use mysql_command_writer::laws::read_commands_are_put;
+pub use mysql_execution_writer::laws as executions;
