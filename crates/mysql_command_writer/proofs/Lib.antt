@@ -4,4 +4,7 @@ pub mod Lists
 pub mod Logins
 pub mod WithValues
 pub mod ReadAgain
+pub mod ReadCommands
+pub mod ReadPackets
+pub mod ReadRows
 pub mod Replication

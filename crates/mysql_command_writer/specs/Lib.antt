@@ -1,4 +1,5 @@
 pub mod Causes
+pub mod Laws
 pub mod Plain
 pub mod Refusals
 pub mod Written

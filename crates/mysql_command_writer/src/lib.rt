@@ -1,6 +1,7 @@
 //! A client's commands are put as payloads, where they read as they were.
 #![tactic(auto)]
 
+pub mod laws;
 pub mod refusal;
 mod same;
 mod sids;
