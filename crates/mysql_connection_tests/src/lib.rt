@@ -1,0 +1,6 @@
+//! Tests of `mysql_connection` from outside: each call that asks for memory, with ample memory and
+//! with requests refused. What payloads say is tested by rows of data (`bindings/testing`).
+#![tactic(auto)]
+
+#[cfg(test)]
+mod memory;
