@@ -8,8 +8,8 @@ ghost use Rattle.mysql_receive.specs.Views.{sets_of};
 ghost use Rattle.mysql_c_handles.specs.Codes.{code_number, fault_code};
 ghost use Rattle.mysql_c_handles.specs.declared.code.Code.TheVariants as code;
 ghost use Rattle.mysql_c_commands.specs.Modes.{InMode};
-ghost use Rattle.mysql_c_commands.specs.Receivers.{EndsAs, IsFed, IsAudited, IsFedBy, IsNew, IsReceiver, LetsGo};
-ghost use Rattle.mysql_c_commands.specs.Receivers.{MakesReceiver, OfReceiver, ShowsEndOf, content_at, missing_code};
+ghost use Rattle.mysql_c_commands.specs.Receivers.{EndsAs, IsFed, IsFedBy, IsNew, IsReceiver, LetsGo};
+ghost use Rattle.mysql_c_commands.specs.Receivers.{MakesReceiver, OfReceiver, content_at, missing_code};
 ghost use Rattle.mysql_c_commands.specs.Receivers.{reading_code, sets_held};
 ghost use Rattle.mysql_c_commands.specs.Shown.{Shows};
 
@@ -78,37 +78,35 @@ fn sets_in(object: &Object) -> Result<&[Vec<Content>], Code>
     }
 }
 
-/// A receiver as the audit of what it was fed.
-fn audited(object: Object) -> Object
-    ensures { IsAudited object result }
+/// Puts an object in place of another one.
+fn put_in_place(object: &mut Object, new: Object)
+    ensures { object.new ≡ new }
 {
-    match object {
-        Object::Receiver(receiver) => Object::Audit(receiver.finish()),
-        other => other,
-    }
-}
-
-/// Shows how the stream of an audit ends.
-fn show_end_of(object: &Object, end: &mut ShownEnd) -> Code
-    ensures { ShowsEndOf object.now (code_number result) end.new }
-{
-    match object {
-        Object::Audit(audit) => {
-            *end = shown_end(audit.end);
-            Code::Done
-        }
-        Object::Empty => Code::EmptyHandle,
-        _ => Code::OtherKind,
-    }
+    *object = new;
 }
 
 /// Ends a receiver.
 fn end_object(object: &mut Object, end: &mut ShownEnd) -> Code
     ensures { EndsAs object.old (code_number result) object.new end.new }
 {
-    let held = replace(object, Object::Empty);
-    *object = audited(held);
-    show_end_of(object, end)
+    match replace(object, Object::Empty) {
+        Object::Receiver(receiver) => {
+            let audit = receiver.finish();
+            *end = shown_end(audit.end);
+            put_in_place(object, Object::Audit(audit));
+            Code::Done
+        }
+        Object::Audit(audit) => {
+            *end = shown_end(audit.end);
+            put_in_place(object, Object::Audit(audit));
+            Code::Done
+        }
+        Object::Empty => Code::EmptyHandle,
+        other => {
+            put_in_place(object, other);
+            Code::OtherKind
+        }
+    }
 }
 
 /// Counts the sets that were read and not let go.
