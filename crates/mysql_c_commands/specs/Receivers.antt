@@ -72,16 +72,6 @@ LetsGo number new old =
 abbrev pub IsAuditOf : Received → Audit → Type 0
 IsAuditOf r a = ReceiverDecides r.statement r.limit (receiver_state r) [] (audit_of a)
 
--- A receiver becomes the audit of what it was fed, and any other object stays.
-abbrev pub IsAudited : Object → Object → Type 0
-IsAudited (object.Receiver r) new = IsAudit new (IsAuditOf r)
-IsAudited held new = new ≡ held
-
--- the end of an audit is shown
-abbrev pub ShowsEndOf : Object → ℕ → ShownEnd → Type 0
-ShowsEndOf (object.Audit a) number shown = (number ≡ 0) × (shown ≡ end_shown a.end)
-ShowsEndOf held number shown = number ≡ code_number (misuse held)
-
 -- A receiver becomes the audit of what it was fed, and an audit stays; its end is shown.
 abbrev pub EndsAs : Object → ℕ → Object → ShownEnd → Type 0
 EndsAs (object.Receiver r) number new shown = (number ≡ 0) ×
