@@ -1,4 +1,0 @@
-pub mod Events
-pub mod Standing
-pub mod Steps
-pub mod Streams
