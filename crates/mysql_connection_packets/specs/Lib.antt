@@ -1,0 +1,2 @@
+pub mod FirstPacket
+pub mod Laws
