@@ -1,2 +1,4 @@
 pub mod Staying
 pub mod Taking
+pub mod Extents
+pub mod Joins

@@ -2,4 +2,9 @@
 //! is due.
 #![tactic(auto)]
 
+mod chunk;
+mod extent;
 pub mod laws;
+pub mod packet;
+
+pub use packet::{FirstPacket, first_packet, framed};
