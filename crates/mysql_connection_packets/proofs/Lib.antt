@@ -1,4 +1,6 @@
 pub mod Staying
 pub mod Taking
+pub mod Framings
+pub mod Room
 pub mod Extents
 pub mod Joins
