@@ -1,5 +1,6 @@
 pub mod Staying
 pub mod Taking
+pub mod Follow
 pub mod Framings
 pub mod Room
 pub mod Extents
