@@ -1,8 +1,8 @@
 -- The first packet of a stream, by the longest payload and the number that is due.
 -- (MySQL: Client/Server Protocol, "Protocol Basics: MySQL Packets", "Sending More Than 16Mb" and
 -- "Sequence ID".)
-use Rattle.std.specs.Prelude.{ℕ, zero, suc, ◌+◌, ◌*◌, ◌/◌, ◌%◌, Bool, List, [], ◌∷◌, ◌++◌, ◌==◌}
-use Rattle.std.specs.Prelude.{if◌then◌else◌, length, take, drop, nat_le, nat_lt, not}
+use Rattle.std.specs.Prelude.{ℕ, zero, suc, ◌+◌, ◌*◌, ◌/◌, ◌%◌, Bool, true, false, List, [], ◌∷◌, ◌++◌}
+use Rattle.std.specs.Prelude.{◌==◌, if◌then◌else◌, length, take, drop, nat_le, nat_lt, not}
 use Rattle.mysql_wire.specs.Framing.{max_payload_len}
 
 -- What stands first: less than a whole packet; a header that takes it past the limit; a chunk with
@@ -64,3 +64,10 @@ framed limit = limit + 4 * most_chunks limit
 -- The first packet, whose first chunk has the number that is due.
 abbrev pub first_packet : (limit number : ℕ) → List ℕ → Found
 first_packet limit number bytes = packet_by (most_chunks limit) limit 0 number bytes
+
+-- Whether less than a whole packet stands first.
+abbrev pub is_short : Found → Bool
+is_short Short = true
+is_short TooLarge = false
+is_short (OutOfSync number) = false
+is_short (Whole payload next rest) = false

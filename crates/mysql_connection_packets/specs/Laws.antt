@@ -41,3 +41,14 @@ FramingsAreFound = (limit number : ℕ) (payload rest : List ℕ) → number < 2
 abbrev pub RoomIsEnough : Type 0
 RoomIsEnough = (limit number : ℕ) (bytes : List ℕ) →
     first_packet limit number bytes ≡ Short → length bytes < framed limit
+
+-- what follows a packet is the end of the bytes
+abbrev pub FollowsBy : List ℕ → Found → Type 0
+FollowsBy bytes Short = Unit {0}
+FollowsBy bytes TooLarge = Unit {0}
+FollowsBy bytes (OutOfSync number) = Unit {0}
+FollowsBy bytes (Whole payload next rest) = (front : List ℕ) × (front ++ rest ≡ bytes)
+
+-- the bytes end with what follows their first packet
+abbrev pub RestsFollow : Type 0
+RestsFollow = (limit number : ℕ) (bytes : List ℕ) → FollowsBy bytes (first_packet limit number bytes)

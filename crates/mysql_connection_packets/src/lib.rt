@@ -7,4 +7,4 @@ mod extent;
 pub mod laws;
 pub mod packet;
 
-pub use packet::{FirstPacket, first_packet, framed};
+pub use packet::{FirstPacket, first_packet, framed, is_short};

@@ -8,7 +8,7 @@
 
 ghost use Rattle.std.specs.Prelude.{◌≡◌, ℕ, ◌+◌, ◌<◌, ◌≤◌, IfOk, MatchOption, OnErr, length};
 ghost use Rattle.mysql_connection_packets.specs.Chunks.{header_behind, payload_of};
-ghost use Rattle.mysql_connection_packets.specs.FirstPacket.{first_packet, framed};
+ghost use Rattle.mysql_connection_packets.specs.FirstPacket.{first_packet, framed, is_short};
 ghost use Rattle.mysql_connection_packets.specs.Views.{HasManyChunks, StandsWithin, found_in};
 
 use crate::extent::{Extent, extent_at};
@@ -45,6 +45,15 @@ pub fn framed(limit: usize) -> Option<usize>
     ensures { MatchOption result (usize.MAX < framed limit) (λ bytes. bytes ≡ framed limit) }
 {
     limit.checked_add(4 * (limit / MAX_PAYLOAD_LEN + 1))
+}
+
+/// Whether less than a whole packet stands first. Nothing is copied.
+///
+/// (MySQL: Client/Server Protocol, "Protocol Basics: MySQL Packets".)
+pub fn is_short(limit: usize, number: u8, bytes: &[u8]) -> bool
+    ensures { result ≡ is_short (first_packet limit number bytes.now) }
+{
+    matches!(extent_at(limit, number, bytes), Extent::Short)
 }
 
 // The payload of so many full chunks and a last one, in one allocation.
