@@ -1,0 +1,4 @@
+pub mod Events
+pub mod Standing
+pub mod Steps
+pub mod Streams
