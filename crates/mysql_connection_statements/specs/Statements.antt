@@ -12,7 +12,7 @@ use Rattle.mysql_executions.specs.InForce.{InForce, is_waiting}
 use Rattle.mysql_executions.specs.Types.{unnamed}
 use Rattle.mysql_executions.specs.declared.refused.Refused.{Refused}
 use Rattle.mysql_executions.specs.declared.types.BoundType.{BoundType}
-pub use Rattle.mysql_connection_statements.specs.declared.pending.Pending.{Pending}
+use Rattle.mysql_connection_statements.specs.declared.pending.Pending.{Pending}
 
 -- A statement: its text, what is in force of its parameters, and the columns that it last had.
 -- Three sums say how many bytes of payloads are kept for it, each payload with 4 more: of its
