@@ -1,0 +1,4 @@
+pub mod FirstPacket
+pub mod Laws
+pub mod Chunks
+pub mod Views

@@ -1,0 +1,35 @@
+-- A statement that is changed in its place.
+use Rattle.std.proofs.Common.{◌≡◌, ℕ, ◌+◌, ◌-◌, Bool, true, false, if◌then◌else◌, List, [], ◌∷◌, Option, Some, nat_eq, refl, ap, ◌∙◌}
+use Rattle.std.specs.Map.{lookup, set_value}
+use Rattle.indexmap.specs.IndexMap.{insert_entry}
+use Rattle.mysql_connection_statements.specs.Statements.{Statement, Statements, change_at, changed, statement_at, statement_size, stored_size}
+
+in_first : (test : Bool) (e : ℕ × Statement) (es : List (ℕ × Statement)) (id : ℕ) (statement : Statement)
+    → (test ≡ false → set_value (nat_eq id) es statement ≡ insert_entry nat_eq es id statement)
+    → (if test then (e.0, statement) ∷ es else e ∷ set_value (nat_eq id) es statement)
+    ≡ (if test then (e.0, statement) ∷ es else e ∷ insert_entry nat_eq es id statement)
+in_first true e es id statement rest = refl
+in_first false e es id statement rest = ap (λ (all : List (ℕ × Statement)). e ∷ all) (rest refl)
+
+-- where a statement stands under an id, the next one takes its place
+pub in_place : (es : List (ℕ × Statement)) (id : ℕ) (old statement : Statement) → Some old ≡ lookup (nat_eq id) es
+    → set_value (nat_eq id) es statement ≡ insert_entry nat_eq es id statement
+in_place [] id old statement known = cc
+in_place (e ∷ es) id old statement known =
+    in_first (nat_eq id e.0) e es id statement
+    (λ other. in_place es id old statement (known ∙ ap (λ (test : Bool). if test then Some e.1 else lookup (nat_eq id) es) other))
+
+-- what stands then, by the map and the sum
+pub changed_in_place : (s : Statements) (id : ℕ) (change : Statement → Statement) (old statement : Statement) (es : List (ℕ × Statement)) (sum : ℕ)
+    → Some old ≡ statement_at s id → statement ≡ change old
+    → es ≡ set_value (nat_eq id) s.by_id statement
+    → sum ≡ s.stored - statement_size old + statement_size statement
+    → (let made : Statements = record { by_id = es; last = s.last; stored = sum } in made) ≡ change_at id change s
+changed_in_place s id change old statement es sum known is_changed entries is_sum =
+    let by_id : es ≡ insert_entry nat_eq s.by_id id (change old) =
+    entries ∙ in_place s.by_id id old statement known ∙ ap (λ (x : Statement). insert_entry nat_eq s.by_id id x) is_changed in
+    let stored : sum ≡ s.stored - stored_size (statement_at s id) + statement_size (change old) =
+    is_sum ∙ ap (λ (x : Statement). s.stored - statement_size old + statement_size x) is_changed
+    ∙ ap (λ (x : Option Statement). s.stored - stored_size x + statement_size (change old)) known in
+    (λ i. record { by_id = by_id i; last = s.last; stored = stored i })
+    ∙ ap (λ (x : Option Statement). changed change id x s) known
