@@ -1,6 +1,6 @@
 //! What the program prints of itself.
 
-/// The words that the program knows, in twelve lines.
+/// The words that the program knows, in thirteen lines.
 pub(crate) const HELP: &str =
     "Parameter sets of one query as a stream of MySQL's commands, and back.
     mysql_session_program                              SELECT :a with a = 1, sent and audited
@@ -8,6 +8,7 @@ pub(crate) const HELP: &str =
     mysql_session_program audit ID LIMIT QUERY         a stream in, a line for each set out
     mysql_session_program follow ID LIMIT QUERY        the same lines, as the stream comes
     mysql_session_program recode ID LIMIT QUERY        a stream in, executions of its sets out
+    mysql_session_program connection LIMIT             a connection's transcript in, its events out
     mysql_session_program help                         these lines
 ROAD is text, execute or bulk, ID the statement's id, LIMIT the most bytes of a packet, from 4.
 QUERY has question marks, or names as :a; sets are [[1, \"x\"], ..], or [{\"a\": 1}, ..] for :a.

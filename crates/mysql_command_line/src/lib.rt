@@ -2,6 +2,7 @@
 #![tactic(auto)]
 
 mod commands;
+mod connection;
 mod following;
 mod help;
 mod json_sets;
@@ -10,6 +11,7 @@ mod process;
 mod program;
 mod reading;
 mod stop;
+mod transcript;
 mod words;
 
 pub use process::run_process;

@@ -1,6 +1,7 @@
 //! The program, as one function over its words, its input and its output.
 
 use crate::commands::{answer_audit, audit, audit_of, encode, recode};
+use crate::connection::connection;
 use crate::following::follow;
 use crate::help::HELP;
 use crate::lines::{print_digits, print_line, print_stream};
@@ -92,6 +93,7 @@ fn run_words<R: Read, W: Write>(
         Task::Audit(statement) => audit(alloc, statement, input, output),
         Task::Follow(statement) => follow(alloc, statement, input, output),
         Task::Recode(statement) => recode(alloc, statement, input, output),
+        Task::Connection(limit) => connection(alloc, limit, input, output),
         Task::Help => help(output),
     }
 }
@@ -121,7 +123,9 @@ fn answer_stop<W: Write>(output: &mut W, stop: &Stop) -> Status {
 /// - `follow ID LIMIT QUERY` prints the same lines, those of sets as soon as they stand, and reads
 /// no further than to a fault.
 /// - `recode ID LIMIT QUERY` reads a stream of commands and prints the executions that carry the same sets.
-/// - `help` prints these words in twelve lines, and reads nothing.
+/// - `connection LIMIT` reads a transcript of a connection and prints a line for each payload, as
+/// soon as it stands, and reads no further than to a fault or an end.
+/// - `help` prints these words in thirteen lines, and reads nothing.
 ///
 /// Behind a command `--mode NAMES` may stand, with `no-backslash-escapes` and `ansi-quotes` between
 /// commas: the modes of the server that reads the commands. Behind it, of `encode` alone, `--hex`
@@ -130,9 +134,10 @@ fn answer_stop<W: Write>(output: &mut W, stop: &Stop) -> Status {
 /// Other words print `usage`, and a limit that is no whole number from 4 to `usize::MAX` prints
 /// `bad limit`, before anything is read. Input that can't be read, or not by 1000000 reads, prints
 /// `bad input`, then a text that is no list of sets `bad json`. A refusal comes after these: it
-/// prints `refused:` and its name. `follow` refuses the query before it reads, has no greatest
-/// number of reads, and prints `bad input` behind the sets that came. After a write that fails
-/// nothing more is written.
+/// prints `refused:` and its name. `follow` refuses the query before it reads. It and `connection`
+/// have no greatest number of reads, and print `bad input` behind the lines of what came;
+/// `connection` so prints `bad transcript` where a record is none, or is cut off. After a write that
+/// fails nothing more is written.
 pub fn run<R: Read, W: Write>(
     alloc: Global,
     words: &[String],

@@ -4,7 +4,9 @@ ghost use Rattle.std.specs.Prelude.{◌≡◌};
 ghost use Rattle.mysql_command_line.specs.declared.stop.Stop.TheVariants as stop;
 
 use mysql_session::{ReceiverError, RecodeError, Refusal};
+use mysql_transcripts::BadTranscript;
 use std::alloc::{AllocError, AllocFailed};
+use std::io;
 
 /// Why a run stops before its end.
 #[derive(Drop)]
@@ -17,12 +19,16 @@ pub(crate) enum Stop {
     BadInput,
     /// The input is no list of parameter sets in JSON.
     BadJson,
+    /// The input is no list of records.
+    BadTranscript,
     /// The sets are not sent.
     Sending(Refusal),
     /// The stream is not received.
     Receiving(ReceiverError),
     /// The stream is not recoded.
     Recoding(RecodeError),
+    /// A side of a connection is ahead of the other one by more than is held.
+    Held,
     /// A growth of memory was refused.
     Memory,
     /// The output could not be written.
@@ -42,6 +48,22 @@ impl<T: Drop> From<AllocFailed<T>> for Stop {
 
     fn from(_e: AllocFailed<T>) -> Stop {
         Stop::Memory
+    }
+}
+
+impl From<BadTranscript> for Stop {
+    fn from(_e: BadTranscript) -> Stop {
+        Stop::BadTranscript
+    }
+}
+
+impl From<io::Error> for Stop {
+    // What is printed is written to the output, but for a text that a date is printed by.
+    fn from(error: io::Error) -> Stop {
+        match error.kind() {
+            io::ErrorKind::OutOfMemory => Stop::Memory,
+            _ => Stop::Writing,
+        }
     }
 }
 
@@ -88,9 +110,11 @@ impl Stop {
             Stop::BadLimit => Answer::Line("bad limit"),
             Stop::BadInput => Answer::Line("bad input"),
             Stop::BadJson => Answer::Line("bad json"),
+            Stop::BadTranscript => Answer::Line("bad transcript"),
             Stop::Sending(refusal) => Answer::Refused(refusal_name(refusal)),
             Stop::Receiving(error) => Answer::Refused(receiver_error_name(*error)),
             Stop::Recoding(error) => Answer::Refused(recode_error_name(*error)),
+            Stop::Held => Answer::Refused("Held"),
             Stop::Memory => Answer::Refused("Memory"),
             Stop::Writing => Answer::Nothing,
         }

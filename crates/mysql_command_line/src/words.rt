@@ -31,6 +31,8 @@ pub(crate) enum Task<'a> {
     Follow(Statement<'a>),
     /// A stream of commands as executions.
     Recode(Statement<'a>),
+    /// What the payloads of a connection say, of payloads no longer than this.
+    Connection(usize),
     /// What the program knows.
     Help,
 }
@@ -153,6 +155,14 @@ fn statement_in(words: &[String]) -> Result<Statement<'_>, Stop> {
     }
 }
 
+/// What the word behind `connection` asks for.
+fn connection_of(limit: &str) -> Result<Task<'_>, Stop> {
+    match whole_number(limit) {
+        Some(limit) if limit >= 4 => Ok(Task::Connection(limit)),
+        _ => Err(Stop::BadLimit),
+    }
+}
+
 /// What the words ask for; `Usage` where they are none that the program knows, then `BadLimit`.
 pub(crate) fn task_of(words: &[String]) -> Result<Task<'_>, Stop> {
     match words {
@@ -167,6 +177,7 @@ pub(crate) fn task_of(words: &[String]) -> Result<Task<'_>, Stop> {
         [command, words @ ..] if command.as_str() == "recode" => {
             Ok(Task::Recode(statement_in(words)?))
         }
+        [command, limit] if command.as_str() == "connection" => connection_of(limit),
         [command] if command.as_str() == "help" => Ok(Task::Help),
         _ => Err(Stop::Usage),
     }

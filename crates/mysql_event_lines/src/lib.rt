@@ -12,5 +12,7 @@ mod logins;
 mod replies;
 
 pub use crate::commands::write_command;
-pub use crate::logins::{write_authentication_event, write_greeting_event, write_response_event};
-pub use crate::replies::write_reply_event;
+pub use crate::logins::{
+    write_answer, write_authentication_event, write_greeting_event, write_response_event,
+};
+pub use crate::replies::{write_farewell, write_file_data, write_reply_event};

@@ -85,6 +85,14 @@ fn write_data<W: Write>(output: &mut W, name: &str, data: &[u8]) -> io::Result<(
     write_bytes(output, "data", data)
 }
 
+/// Writes what a client answers to a payload of an authentication, as a line without its end.
+///
+/// # Errors
+/// - Those of the output.
+pub fn write_answer<W: Write>(output: &mut W, data: &[u8]) -> io::Result<()> {
+    write_data(output, "AuthAnswer", data)
+}
+
 /// Writes what a server's payload of an authentication says, as a line without its end.
 ///
 /// # Errors

@@ -148,3 +148,20 @@ pub fn write_reply_event<W: Write>(output: &mut W, event: &ReplyEvent) -> io::Re
         }
     }
 }
+
+/// Writes a payload of the file that a client was asked for, as a line without its end.
+///
+/// # Errors
+/// - Those of the output.
+pub fn write_file_data<W: Write>(output: &mut W, data: &[u8]) -> io::Result<()> {
+    output.write_all(b"FileData")?;
+    write_bytes(output, "data", data)
+}
+
+/// Writes a server's last words, an error that answers nothing, as a line without its end.
+///
+/// # Errors
+/// - Those of the output.
+pub fn write_farewell<W: Write>(output: &mut W, error: &ServerError) -> io::Result<()> {
+    write_error(output, "Farewell", error)
+}

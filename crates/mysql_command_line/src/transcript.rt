@@ -1,0 +1,139 @@
+//! A transcript of a connection, read piece by piece, whose events are printed.
+
+ghost use Rattle.std.specs.Prelude.{◌<◌, ◌≤◌, ◌×◌, IfOk, length};
+
+use crate::stop::Stop;
+use mysql_connection_machine::{Connection, End, FeedRefusal};
+use mysql_connection_rules::{Fault, Limits, Reason, Side};
+use mysql_connection_state::Phase;
+use mysql_transcripts::{Position, print_event};
+use std::alloc::Global;
+use std::io::Write;
+
+/// A transcript as far as it came, and the connection that it is of.
+#[derive(Drop)]
+pub(crate) struct Transcript {
+    alloc: Global,
+    connection: Connection,
+    position: Position,
+}
+
+impl Transcript {
+    /// One of which no byte came.
+    pub(crate) fn new(alloc: Global, limits: Limits) -> Transcript {
+        Transcript {
+            alloc,
+            connection: Connection::new(alloc, limits),
+            position: Position::before_record(),
+        }
+    }
+
+    /// Whether nothing that follows changes what is printed. Behind a quit what the client says is a
+    /// fault.
+    fn is_over(&self) -> bool {
+        match self.connection.phase() {
+            Phase::Over(Reason::Quit) => !self.connection.rest(Side::Client).is_empty(),
+            Phase::Over(_) => true,
+            _ => self.connection.fault().is_some(),
+        }
+    }
+
+    /// Prints the events that can be taken.
+    fn print_events<W: Write>(&mut self, output: &mut W) -> Result<(), Stop> {
+        for _ in 0..u64::MAX {
+            match self.connection.next_event() {
+                Ok(Some(event)) => print_event(self.alloc, output, &event)?,
+                _ => return Ok(()),
+            }
+        }
+        Ok(())
+    }
+
+    /// How many of these bytes of a side are taken next: all that there is room for. Behind the end
+    /// of a connection the rest is passed over.
+    fn count_taken(&self, side: Side, bytes: &[u8]) -> Result<usize, Stop> {
+        match bytes.len().min(self.connection.room(side)) {
+            0 => match self.connection.phase() {
+                Phase::Over(_) => Ok(0),
+                _ => Err(Stop::Held),
+            },
+            count => Ok(count),
+        }
+    }
+
+    /// Takes bytes of a side as far as there is room for them, prints what they say, and answers how
+    /// many it took.
+    fn take_bytes<W: Write>(
+        &mut self,
+        output: &mut W,
+        side: Side,
+        bytes: &[u8],
+    ) -> Result<usize, Stop> {
+        let count = self.count_taken(side, bytes)?;
+        if count == 0 {
+            return Ok(bytes.len());
+        }
+        match self.connection.feed(side, &bytes[..count]) {
+            Ok(()) => {}
+            Err(FeedRefusal::Memory) => return Err(Stop::Memory),
+            Err(_) => return Err(Stop::Held),
+        }
+        self.print_events(output)?;
+        Ok(count)
+    }
+
+    /// Takes what stands first of a piece, a byte of a record's header or bytes of a side, and
+    /// answers what follows it.
+    fn take_front<'p, W: Write>(
+        &mut self,
+        output: &mut W,
+        piece: &'p [u8],
+    ) -> Result<&'p [u8], Stop> {
+        match self.position {
+            Position::Header(header, count) => {
+                let [byte, rest @ ..] = piece else {
+                    return Ok(piece);
+                };
+                self.position = Position::after_header_byte(header, count, *byte)?;
+                Ok(rest)
+            }
+            Position::Record(side, left) => {
+                let most = piece.len().min(left as usize);
+                let count = self.take_bytes(output, side, &piece[..most])?;
+                self.position = Position::in_record(side, left - count as u32);
+                Ok(&piece[count..])
+            }
+        }
+    }
+
+    /// Takes a piece of the transcript, prints what it says, and answers whether what follows may
+    /// change anything.
+    pub(crate) fn take_piece<W: Write>(
+        &mut self,
+        output: &mut W,
+        piece: &[u8],
+    ) -> Result<bool, Stop> {
+        let mut rest = piece;
+        while !rest.is_empty() {
+            rest = self.take_front(output, rest)?;
+            if self.is_over() {
+                return Ok(false);
+            }
+        }
+        Ok(true)
+    }
+
+    /// Reads the end of the transcript, prints what that says, and answers how the connection stands.
+    pub(crate) fn end<W: Write>(&mut self, output: &mut W) -> Result<End, Stop> {
+        if !self.is_over() && !self.position.is_between_records() {
+            return Err(Stop::BadTranscript);
+        }
+        self.connection.close(Side::Client);
+        self.connection.close(Side::Server);
+        self.print_events(output)?;
+        match self.connection.finish() {
+            End::Fault(failure) if failure.fault == Fault::Memory => Err(Stop::Memory),
+            end => Ok(end),
+        }
+    }
+}

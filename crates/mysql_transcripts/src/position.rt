@@ -1,0 +1,70 @@
+//! Where a transcript stands between two bytes.
+
+use mysql_connection_rules::Side;
+
+/// How many bytes stand before a record's bytes: the letter of its side, and its length.
+const HEADER_LEN: usize = 5;
+
+/// Where a transcript stands between two bytes of it.
+#[derive(Clone, Copy, Debug, PartialEq, Eq)]
+pub enum Position {
+    /// So many bytes of a record's header came, which begins with them.
+    Header([u8; HEADER_LEN], usize),
+    /// So many bytes of a record of this side are still to come.
+    Record(Side, u32),
+}
+
+/// A record has neither the client's letter nor the server's.
+#[derive(Clone, Copy, Debug, PartialEq, Eq)]
+pub struct BadTranscript;
+
+/// The side that a letter stands for.
+fn side_of(letter: u8) -> Result<Side, BadTranscript> {
+    match letter {
+        b'c' => Ok(Side::Client),
+        b's' => Ok(Side::Server),
+        _ => Err(BadTranscript),
+    }
+}
+
+impl Position {
+    /// Before a record.
+    pub fn before_record() -> Position {
+        Position::Header([0; HEADER_LEN], 0)
+    }
+
+    /// Where so many bytes of a record are still to come; behind it the next one is due.
+    pub fn in_record(side: Side, left: u32) -> Position {
+        match left {
+            0 => Position::before_record(),
+            left => Position::Record(side, left),
+        }
+    }
+
+    /// Behind one more byte of a header of which so many came.
+    ///
+    /// # Errors
+    /// - `BadTranscript`: its first byte is no side's letter.
+    pub fn after_header_byte(
+        header: [u8; HEADER_LEN],
+        count: usize,
+        byte: u8,
+    ) -> Result<Position, BadTranscript> {
+        let mut header = header;
+        let Some(place) = header.get_mut(count) else {
+            return Err(BadTranscript);
+        };
+        *place = byte;
+        let [letter, a, b, c, d] = header;
+        let side = side_of(letter)?;
+        if count < HEADER_LEN - 1 {
+            return Ok(Position::Header(header, count + 1));
+        }
+        Ok(Position::in_record(side, u32::from_le_bytes([a, b, c, d])))
+    }
+
+    /// Whether the transcript may end here: no record is cut off.
+    pub fn is_between_records(self) -> bool {
+        matches!(self, Position::Header(_, 0))
+    }
+}
