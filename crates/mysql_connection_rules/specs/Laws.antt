@@ -1,6 +1,7 @@
 -- The laws. Each is the contract of a function in src/laws.rt.
 -- MySQL: Client/Server Protocol, "Connection Lifecycle", "MySQL Packets" and "Sequence ID".
-use Rattle.std.specs.Prelude.{◌≡◌, ◌≤◌, ◌<◌, ℕ, ◌+◌, false, List, [], ◌∷◌, ◌++◌, ◌⊎◌, length, Some}
+use Rattle.std.specs.Prelude.{◌≡◌, ◌≤◌, ◌<◌, ℕ, ◌+◌, true, false, List, [], ◌∷◌, ◌++◌, ◌⊎◌, length, Some}
+use Rattle.mysql_connection_rules.specs.declared.fault.Fault.TheVariants as faults
 use Rattle.mysql_connection_rules.specs.declared.limits.Limits.{Limits}
 use Rattle.mysql_connection_rules.specs.declared.side.Side.{Side}
 use Rattle.mysql_connection_rules.specs.declared.side.Side.TheVariants.{Client, Server}
@@ -58,6 +59,18 @@ abbrev pub ServersEndChangesNothing : Type 0
 ServersEndChangesNothing = (limits : Limits) (streams : Streams) (events all : List Event)
     (last end : World) → IsRun limits streams events last →
     IsRun limits (grow Server End streams) all end → (events ≡ all) × (come Server End last ≡ end)
+
+-- Behind the server's last words nothing more is said.
+abbrev pub LastWordsAreLast : Type 0
+LastWordsAreLast = (old new : World) (error : ServerError) → next old ≡ Says (Farewell error) new →
+    next new ≡ Waits
+
+-- The server says what nothing asked for only once the client's stream has ended where the client's payload
+-- is due.
+abbrev pub UnaskedIsBehindTheEnd : Type 0
+UnaskedIsBehindTheEnd = (w : World) (failure : Failure) → next w ≡ Fails failure →
+    failure.fault ≡ faults.Unasked →
+    (turn w.standing.phase ≡ Some Client) × (w.unread.client.closed ≡ true)
 
 -- WHAT AN EVENT TAKES AND LEAVES
 

@@ -3,6 +3,7 @@
 
 ghost use Rattle.mysql_connection_rules.specs.Laws.{EndAddsLastWords, EventsAreInTurn, EventsStayWithinLimits};
 ghost use Rattle.mysql_connection_rules.specs.Laws.{EventsTakeBytes, FaultsAreOfTheirBytes, FreshIsWithinLimits};
+ghost use Rattle.mysql_connection_rules.specs.Laws.{LastWordsAreLast, UnaskedIsBehindTheEnd};
 ghost use Rattle.mysql_connection_rules.specs.Laws.{FrontsReadOn, HeldStays, PiecesAreTheRun};
 ghost use Rattle.mysql_connection_rules.specs.Laws.{PiecesStayWithinLimits, PositionsStay, RunExists, RunIsOne};
 ghost use Rattle.mysql_connection_rules.specs.Laws.{ServersEndChangesNothing, TurnCanCome};
@@ -65,6 +66,14 @@ pub fn servers_end_changes_nothing()
     packets_take_bytes();
     rests_follow();
 }
+
+/// Behind the server's last words nothing more is said.
+///
+/// And the server says what nothing asked for only once the client's stream has ended.
+pub fn last_words_are_last()
+    ensures last { LastWordsAreLast }
+    ensures unasked { UnaskedIsBehindTheEnd }
+{}
 
 /// An event takes four unread bytes at least, those of a header.
 pub fn events_take_bytes()
