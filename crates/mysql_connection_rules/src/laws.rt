@@ -1,11 +1,14 @@
 //! Laws of the rules of a connection. Each function has an empty body, or names the laws that it
 //! rests on: its contract is the law.
 
-ghost use Rattle.mysql_connection_rules.specs.Laws.{EndAddsLastWords, EventsAreInTurn, EventsStayWithinLimits};
-ghost use Rattle.mysql_connection_rules.specs.Laws.{EventsTakeBytes, FaultsAreOfTheirBytes, FreshIsWithinLimits};
+ghost use Rattle.mysql_connection_rules.specs.Laws.{EndAddsLastWords, EventsAreInTurn};
+ghost use Rattle.mysql_connection_rules.specs.Laws.{EventsStayWithinLimits};
+ghost use Rattle.mysql_connection_rules.specs.Laws.{EventsTakeBytes, FaultsAreOfTheirBytes};
+ghost use Rattle.mysql_connection_rules.specs.Laws.{FreshIsWithinLimits};
 ghost use Rattle.mysql_connection_rules.specs.Laws.{LastWordsAreLast, UnaskedIsBehindTheEnd};
 ghost use Rattle.mysql_connection_rules.specs.Laws.{FrontsReadOn, HeldStays, PiecesAreTheRun};
-ghost use Rattle.mysql_connection_rules.specs.Laws.{PiecesStayWithinLimits, PositionsStay, RunExists, RunIsOne};
+ghost use Rattle.mysql_connection_rules.specs.Laws.{PiecesStayWithinLimits, PositionsStay};
+ghost use Rattle.mysql_connection_rules.specs.Laws.{RunExists, RunIsOne};
 ghost use Rattle.mysql_connection_rules.specs.Laws.{ServersEndChangesNothing, TurnCanCome};
 
 use mysql_connection_packets::laws::{
@@ -26,8 +29,8 @@ pub fn run_is_one()
     ensures { RunIsOne }
 {}
 
-/// Whatever pieces of two streams came in whatever order, and whenever events were taken, those that
-/// were taken and those that are left to take are, in order, the events of the one run.
+/// Whatever pieces of two streams came in whatever order, and whenever events were taken, those
+/// that were taken and those that are left to take are, in order, the events of the one run.
 ///
 /// They end where it ends, by the same fault if by one.
 pub fn pieces_are_the_run()
