@@ -22,13 +22,13 @@ use Rattle.mysql_reply_events.specs.Table as table
 use Rattle.mysql_replies.specs.declared.context.Context.{Context}
 use Rattle.mysql_replies.specs.declared.context.ReplyKind.{ReplyKind}
 use Rattle.mysql_replies.specs.declared.context.ReplyKind.TheVariants as kinds
-use Rattle.mysql_replies.specs.declared.fault.ReplyFault.{ReplyFault}
 use Rattle.mysql_replies.specs.declared.fault.ReplyFault.TheVariants as faults
-use Rattle.mysql_replies.specs.Grammar.{Payload, Outcome, OkResult, RowsResult, PreparedResult, ErrorResult, FileResult, Parsed, Complete, Faulty, ResultGroup, Results, Wrong, faulty, deprecate_eof, has_report_form, is_report, progress_obsolete, begins_with, terminator_limit, terminator, is_binary, is_prepare, or_fault, whole_or_fault, map_ok, of_mysql, eof, column, RowLine, TerminatorLine, ErrorLine, line, rows, OkOpening, ErrorOpening, FileOpening, CountOpening, StatementOpening, opening, count_within, one_result}
+use Rattle.mysql_replies.specs.Grammar.{Payload, Outcome, OkResult, RowsResult, PreparedResult, ErrorResult, FileResult, Parsed, Complete, Faulty, ResultGroup, Results, Wrong, faulty, deprecate_eof, has_report_form, is_report, progress_obsolete, begins_with, terminator_limit, terminator, is_binary, is_prepare, or_fault, whole_or_fault, map_ok, of_mysql, eof, RowLine, TerminatorLine, ErrorLine, line, rows, OkOpening, ErrorOpening, FileOpening, CountOpening, StatementOpening, opening, count_within, one_result}
 use Rattle.mysql_replies.specs.Reply.{Awaited, First, Rows, Nothing, rest_of, report_of, read_report}
 use Rattle.mysql_replies.specs.Steps.{Moves, Fails, Leads, Group, OfResultSet, OfParameters, OfPrepared, group_awaited, after_group, IsGroupSettled, IsSettled, IsAwaiting, listed_of}
 use Rattle.mysql_replies.specs.Together.{Part, NoPart, SetPart, StatementPart, completed, opened, reported, context_of, kind_of, fault_of, is_common}
-use Rattle.mysql_replies.proofs.Stepping.{step_awaits, step_stands, group_stands, settled_due, eof_leads, eof_fails, column_leads, column_fails, listed_group, settled_group, rows_are, first_found, first_faulty}
+use Rattle.mysql_replies.proofs.Stepping.{step_awaits, step_stands, group_stands, settled_due, eof_leads, eof_fails, column_leads, column_fails, listed_group, settled_group, rows_are, first_found}
+use Rattle.mysql_replies.proofs.EventsPut.{group_of, plain, some_there, line_fails, first_fails, not_whole}
 use Rattle.mysql_replies.proofs.Taking.{report_passes, report_refused}
 
 -- Where both readers are.
@@ -55,11 +55,6 @@ awaited_at (InRows columns rows) = Rows columns rows
 awaited_at AtEnd = Nothing
 awaited_at (AtStatementEnd statement parameters columns) = Nothing
 awaited_at AtFile = Nothing
-
-abbrev pub group_of : Group → events.Group
-group_of OfResultSet = events.ResultSet
-group_of (OfParameters statement) = events.Parameters statement.num_columns true
-group_of (OfPrepared statement parameters) = events.Statement
 
 -- The reader of events keeps no parameters.
 abbrev pub kept : Group → List ColumnDefinition → List ColumnDefinition
@@ -219,10 +214,6 @@ kept_more OfResultSet earlier found = refl
 kept_more (OfParameters statement) earlier found = refl
 kept_more (OfPrepared statement parameters) earlier found = refl
 
--- A column without MariaDB's metadata.
-abbrev plain : ColumnDefinition → ExtendedDefinition
-plain column = record { column = column; metadata = None }
-
 part_more : (g : Group) (earlier : List ColumnDefinition) (found : ColumnDefinition) → group_part g (earlier ++ found ∷ []) ≡ opened (group_part g earlier) (ColumnEvent (plain found))
 part_more OfResultSet earlier found = refl
 part_more (OfParameters statement) earlier found = refl
@@ -231,9 +222,6 @@ part_more (OfPrepared statement parameters) earlier found = ap (StatementPart st
 more_left : (c : Context) (g : Group) (n : ℕ) (earlier : List ColumnDefinition) (found : ColumnDefinition) → Counts c g (suc n + length earlier) → Counts c g (n + length (earlier ++ found ∷ []))
 more_left c g n earlier found counts =
     let e : suc n + length earlier ≡ n + length (earlier ++ found ∷ []) = omega (arith, length-append earlier (found ∷ [])) in subst (Counts c g) e counts
-
-some_there : (earlier : List ColumnDefinition) (found : ColumnDefinition) → length (earlier ++ found ∷ []) ≡ 0 → ⊥
-some_there earlier found none = omega (arith, length-append earlier (found ∷ []))
 
 -- A column of a group.
 column_alike : (c : Context) (g : Group) (n : ℕ) (earlier : List ColumnDefinition) (before : Option (List ColumnDefinition)) (payload : Payload) → has_report_form c payload ≡ false → Counts c g (suc n + length earlier) → (read : Reading ColumnDefinition) → column_at payload ≡ read → TakesAlike c (InGroup g n earlier) payload (readings.or_fault event_faults.BadColumn (◌>>=◌ {B = ExtendedDefinition × List ℕ} read (λ column. Ok (plain column.0, column.1))) >>= λ found. Ok (ColumnEvent found, table.column_came (context_of c) (state_at (InGroup g n earlier) before) (group_of g) n (table.with_column (group_of g) (kept g earlier) found.column)))
@@ -302,9 +290,6 @@ ok_lands c before payload q results ok kind same =
     (result_lands c before payload q results (more_results_exist ok.status_flags) same)
 
 -- A row, or what ends rows.
-line_fails : (c : Context) (columns : List ColumnDefinition) (these : List Row) (payload : Payload) (fault : ReplyFault) → has_report_form c payload ≡ false → line c columns payload ≡ Err fault → Leads c (λ z. rows c columns these (payload ∷ z)) payload (Fails (RowsResult columns these None ∷ []) fault)
-line_fails c columns these payload fault form is = λ z. subst (λ p. Results c p (RowsResult columns these None ∷ []) (Wrong fault (payload ∷ z))) (sym (rows_are c columns these payload (Err fault) form is z)) (faulty (RowsResult columns these None ∷ []) fault (payload ∷ z))
-
 row_alike : (c : Context) (columns : List ColumnDefinition) (these : List Row) (before : Option (List ColumnDefinition)) (payload : Payload) → has_report_form c payload ≡ false → is_prepare c.kind ≡ false → (found : Row) (b : Bool) → line c columns payload ≡ map_ok RowLine (if b then Ok found else Err faults.BadRow) → TakesAlike c (InRows columns these) payload (((if b then Ok found else Err event_faults.BadRow) >>= λ row. Ok (RowEvent row)) >>= λ event. table.goes_on (state_at (InRows columns these) before) event (events.Rows true))
 row_alike c columns these before payload form kind found true is = λ common. record {
   lands = record {
@@ -334,9 +319,6 @@ rows_alike c columns these before payload form kind false false e t (Ok x) is = 
 rows_alike c columns these before payload form kind false false e t (Err x) is = line_fails c columns these payload faults.BadRow form is
 
 -- The first payload of a result.
-first_fails : (c : Context) (payload : Payload) (fault : ReplyFault) → has_report_form c payload ≡ false → opening c payload ≡ Err fault → Leads c (λ z. one_result c (payload ∷ z)) payload (Fails [] fault)
-first_fails c payload fault form is = λ z. subst (λ p. Results c p [] (Wrong fault (payload ∷ z))) (sym (first_faulty c payload fault form is z)) (faulty [] fault (payload ∷ z))
-
 error_alike : (c : Context) (before : Option (List ColumnDefinition)) (payload : Payload) → has_report_form c payload ≡ false → (e : Reading ServerError) → opening c payload ≡ map_ok ErrorOpening (or_fault faults.BadError e) → TakesAlike c AtFirst payload (readings.or_fault event_faults.BadError e >>= λ error. table.goes_on (state_at AtFirst before) (ErrorEvent error) events.Nothing)
 error_alike c before payload form (Ok x) is = λ common. record {
   lands = result_lands c before payload (λ z. one_result c (payload ∷ z)) (ErrorResult x.0 ∷ []) false (first_found c payload (ErrorOpening x.0) form is);
@@ -363,11 +345,6 @@ count_within_alike : (c : Context) (before : Option (List ColumnDefinition)) (pa
 count_within_alike c before payload form kind n true true some is = λ common. record { lands = count_found c before payload form kind n some is; reports = no_report c payload form }
 count_within_alike c before payload form kind n false few some is = first_fails c payload faults.BadCount form is
 count_within_alike c before payload form kind n true false some is = first_fails c payload faults.BadCount form is
-
-not_whole : {A : Type 0} (a b : Bool) (x y : A) → (if a && b && false then x else y) ≡ y
-not_whole true true x y = refl
-not_whole true false x y = refl
-not_whole false b x y = refl
 
 count_alike : (c : Context) (before : Option (List ColumnDefinition)) (payload : Payload) → has_report_form c payload ≡ false → is_prepare c.kind ≡ false → (n : ℕ) (whole : Bool) → opening c payload ≡ map_ok CountOpening (if nat_lt 0 n && nat_lt n 65536 && whole then Ok n else Err faults.BadCount) → TakesAlike c AtFirst payload (((if whole then Ok (n, true) else Err event_faults.BadCount) >>= readings.within) >>= λ count. (table.after_count (context_of c) before count >>= λ next. table.goes_on (state_at AtFirst before) (CountEvent count.0 count.1) next))
 count_alike c before payload form kind n true is = count_within_alike c before payload form kind n (nat_lt 0 n) (nat_lt n 65536) refl is

@@ -25,6 +25,8 @@ pub mod WhatCame
 pub mod NoRows
 pub mod RowSteps
 pub mod BorrowedOut
+pub mod AlwaysColumns
+pub mod EventsPut
+pub mod EventStep
 pub mod EventSteps
-pub mod PacketsRead
 pub mod EventsTogether

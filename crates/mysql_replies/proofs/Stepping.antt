@@ -10,15 +10,13 @@ use Rattle.mysql_replies.specs.declared.context.Context.{Context}
 use Rattle.mysql_replies.specs.declared.fault.ReplyFault.{ReplyFault}
 use Rattle.mysql_replies.specs.declared.fault.ReplyFault.TheVariants.{Memory}
 use Rattle.mysql_replies.specs.declared.awaited.Awaited as code
-use Rattle.mysql_replies.specs.declared.awaited.Listed.TheVariants as listed
-use Rattle.mysql_replies.specs.declared.awaited.Stepped.{Stepped}
-use Rattle.mysql_replies.specs.declared.awaited.Stepped.TheVariants.{Moved, Failed}
-use Rattle.mysql_replies.specs.Grammar.{Payload, Outcome, Parsed, Complete, Faulty, ◌>>=◌, ResultGroup, Ending, Wrong, Results, last, more, faulty, Line, RowLine, TerminatorLine, ErrorLine, Opening, begins_with, terminator_limit, terminator, or_fault, map_ok, row, has_report_form, as_part, next_payload, column, eof, columns, columns_end, column_group, line, rows_end, after_rows, rows, result_set, prepared, prepared_columns, opening, after_opening, one_result}
+use Rattle.mysql_replies.specs.declared.awaited.Stepped.TheVariants.{Failed}
+use Rattle.mysql_replies.specs.Grammar.{Payload, Outcome, Parsed, Complete, Faulty, ◌>>=◌, ResultGroup, Ending, Wrong, Results, last, more, faulty, Line, RowLine, TerminatorLine, ErrorLine, Opening, begins_with, terminator_limit, terminator, or_fault, map_ok, row, has_report_form, as_part, next_payload, column, eof, columns, columns_end, column_group, line, after_rows, rows, result_set, prepared, prepared_columns, opening, after_opening, one_result}
 use Rattle.mysql_server_packets.specs.Packets.{error_at}
 use Rattle.mysql_replies.specs.declared.fault.ReplyFault.TheVariants.{BadError}
 use Rattle.mysql_replies.specs.Reply.{Awaited, First, Rows, Nothing, rest_of}
 use Rattle.mysql_replies.specs.Views.{Refuses, awaited_view}
-use Rattle.mysql_replies.specs.Steps.{IsNoRow, Moves, Leads, Group, OfResultSet, OfParameters, OfPrepared, group_awaited, after_group, IsGroupSettled, IsSettled, listed_of, listed_views, reads_as_row, IsMove, IsStep}
+use Rattle.mysql_replies.specs.Steps.{IsNoRow, Moves, Leads, Group, OfResultSet, OfParameters, OfPrepared, group_awaited, after_group, IsGroupSettled, IsSettled, listed_of, reads_as_row, IsStep}
 
 -- A payload not in the form of a progress report is read.
 pub next_is : {A : Type 0} (c : Context) (read : Payload → Result A ReplyFault) (payload : Payload) (z : List Payload) → has_report_form c payload ≡ false → next_payload c read (payload ∷ z) ≡ as_part (read payload) payload z
@@ -88,24 +86,6 @@ pub settled_due : (c : Context) (n : ℕ) (these : List ColumnDefinition) → n 
 settled_due c n [] none due some = absurd (some refl)
 settled_due c n (first ∷ others) none due some = rw none due
 
--- More columns of a group are awaited.
-pub moves_group : (c : Context) (g : Group) (n : ℕ) (these : List ColumnDefinition) (awaited : code.Awaited) → awaited_view awaited ≡ group_awaited g n these → IsGroupSettled c n these → IsMove c (λ z. rest_of c (group_awaited g n these) z) (Moved listed.None awaited)
-moves_group c g n these awaited is settled = (
-  λ z others ending h. subst (λ a. Results c (rest_of c a z) others ending) is h,
-  subst (IsSettled c) (sym is) (settled_group c g n these settled),
-)
-
--- What a step makes of the same.
-pub move_same : (c : Context) (q r : List Payload → Parsed ResultGroup) (stepped : Stepped) → ((z : List Payload) → q z ≡ r z) → IsMove c r stepped → IsMove c q stepped
-move_same c q r (Moved these awaited) same (goes, settled) = (λ z others ending h. subst (λ p. Results c p (listed_views these ++ others) ending) (sym (same z)) (goes z others ending h), settled)
-move_same c q r (Failed awaited fault) same move = move
-
--- A payload leads to what a move says.
-pub step_moves : (c : Context) (a : Awaited) (payload : Payload) (q : List Payload → Parsed ResultGroup) (stepped : Stepped) → listed_of a ≡ [] → ((z : List Payload) → rest_of c a (payload ∷ z) ≡ q z) → IsMove c q stepped → IsStep c a payload stepped
-step_moves c a payload q (Moved these awaited) none same move = move_same c (λ z. rest_of c a (payload ∷ z)) q (Moved these awaited) same move
-step_moves c a payload q (Failed awaited fault) none same (memory, listed, settled) =
-    subst (λ f. IsStep c a payload (Failed awaited f)) (sym memory) (record { listed = listed ∙ sym none; settled = settled })
-
 -- Where no columns are left and no EOF is due, the group stands.
 stands_at_once : (c : Context) (these : List ColumnDefinition) → (deprecate_eof c.capabilities.0 ≡ true) ⊎ (length these ≡ 0) → (z : List Payload) → column_group c 0 these z ≡ Complete these z
 unfolding column_group columns columns_end
@@ -150,20 +130,6 @@ pub column_fails : (c : Context) (g : Group) (n : ℕ) (these : List ColumnDefin
 column_fails c g zero these payload fault form some h z = absurd (omega arith)
 column_fails c g (suc n) these payload fault form some h z = group_from c g (suc n) these (payload ∷ z) (Faulty [] fault (payload ∷ z)) (column_unexpected c n these payload fault form h z)
 
--- A payload has no place in a group.
-group_fails : {A : Type 0} (c : Context) (g : Group) (n : ℕ) (these : List ColumnDefinition) (payload : Payload) (awaited : code.Awaited) (fault : ReplyFault) → IsGroupSettled c n these → (read : Result A ReplyFault) → awaited_view awaited ≡ group_awaited g n these → ((f : ReplyFault) → read ≡ Err f → (z : List Payload) → rest_of c (group_awaited g n these) (payload ∷ z) ≡ Faulty [] f (payload ∷ z)) → Refuses fault read → IsStep c (group_awaited g n these) payload (Failed awaited fault)
-group_fails c g n these payload awaited fault settled read is each h =
-    step_fails c (group_awaited g n these) payload awaited fault (settled_group c g n these settled) read is
-    (λ f e z. each f e z ∙ ap (λ results. Faulty results f (payload ∷ z)) (sym (listed_group g n these))) h
-
-pub eof_step_fails : (c : Context) (g : Group) (these : List ColumnDefinition) (payload : Payload) (awaited : code.Awaited) (fault : ReplyFault) → has_report_form c payload ≡ false → IsGroupSettled c 0 these → awaited_view awaited ≡ group_awaited g 0 these → Refuses fault (eof payload) → IsStep c (group_awaited g 0 these) payload (Failed awaited fault)
-eof_step_fails c g these payload awaited fault form settled is h =
-    group_fails c g 0 these payload awaited fault settled (eof payload) is (λ f e. eof_fails c g these payload f form settled e) h
-
-pub column_step_fails : (c : Context) (g : Group) (n : ℕ) (these : List ColumnDefinition) (payload : Payload) (awaited : code.Awaited) (fault : ReplyFault) → has_report_form c payload ≡ false → 0 < n → awaited_view awaited ≡ group_awaited g n these → Refuses fault (column payload) → IsStep c (group_awaited g n these) payload (Failed awaited fault)
-column_step_fails c g n these payload awaited fault form some is h =
-    group_fails c g n these payload awaited fault (settled_some c n these some) (column payload) is (λ f e. column_fails c g n these payload f form some e) h
-
 -- A line is read.
 pub rows_are : (c : Context) (columns : List ColumnDefinition) (these : List Row) (payload : Payload) (r : Result Line ReplyFault) → has_report_form c payload ≡ false → line c columns payload ≡ r → (z : List Payload) → rows c columns these (payload ∷ z) ≡ after_rows columns these (λ found. rows c columns (these ++ found ∷ []) z) r payload z
 unfolding rows
@@ -190,7 +156,7 @@ ended x y z false false true none h = refl
 ended x y z false false false none h = let k : false ≡ true = h in cc
 
 -- What is no report and isn't read as a row ends the rows or is nothing.
-pub ends_line : (c : Context) (columns : List ColumnDefinition) (these : List Row) (payload : Payload) → has_report_form c payload ≡ false → IsNoRow c (Rows columns these) payload → line c columns payload ≡ rows_end c payload
+pub ends_line : (c : Context) (columns : List ColumnDefinition) (these : List Row) (payload : Payload) → has_report_form c payload ≡ false → IsNoRow c (Rows columns these) payload → line c columns payload ≡ (if begins_with 255 payload then map_ok ErrorLine (or_fault BadError (error_at c.capabilities.0 payload)) else map_ok TerminatorLine (terminator c payload))
 ends_line c columns these payload form h =
     ended (map_ok ErrorLine (or_fault BadError (error_at c.capabilities.0 payload))) (map_ok TerminatorLine (terminator c payload)) (map_ok RowLine (row c columns payload))
     (has_report_form c payload) (begins_with 255 payload) (begins_with 254 payload && nat_lt (length payload) (terminator_limit c)) form h

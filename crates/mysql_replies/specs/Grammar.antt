@@ -153,12 +153,6 @@ terminator c payload =
 abbrev pub terminator_limit : Context → ℕ
 terminator_limit c = limit_of (deprecate_eof c.capabilities.0)
 
--- What ends rows: an error, or else a terminator.
-abbrev pub rows_end : Context → Payload → Result Line ReplyFault
-rows_end c payload =
-    if begins_with 255 payload then map_ok ErrorLine (or_fault BadError (error_at c.capabilities.0 payload))
-    else map_ok TerminatorLine (terminator c payload)
-
 -- A payload in a row's place: an error, a terminator or a row.
 abbrev pub line : Context → List ColumnDefinition → Payload → Result Line ReplyFault
 line c columns payload =

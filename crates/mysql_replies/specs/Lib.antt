@@ -14,3 +14,4 @@ pub mod Manual
 pub mod Beginnings
 pub mod BeginningLaws
 pub mod Together
+pub mod Put

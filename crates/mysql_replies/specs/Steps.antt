@@ -121,15 +121,6 @@ pub record LosesNone (c : Context) (before after : Awaited) : Type 0 where
   pub listed : listed_of after ≡ listed_of before
   pub settled : IsSettled c after
 
--- A step moves on: these results are whole, and that is awaited of what is read later. Where memory
--- ran out nothing is listed of what is awaited.
-abbrev pub IsMove : Context → (List Payload → Parsed ResultGroup) → Stepped → Type 0
-IsMove context reading (Moved listed awaited) =
-    GoesOnTo context reading (listed_views listed) (awaited_view awaited) ×
-    IsSettled context (awaited_view awaited)
-IsMove context reading (Failed awaited fault) = (fault ≡ Memory) × (listed_of (awaited_view awaited) ≡ []) ×
-    IsSettled context (awaited_view awaited)
-
 -- A step leads where it says: of what was awaited, payload · later reads as what is listed, and then
 -- what is awaited of later. A payload without a place changes nothing, and want of memory nothing
 -- that is listed.

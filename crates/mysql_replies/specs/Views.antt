@@ -14,12 +14,8 @@ use Rattle.mysql_server_packets.specs.Views.{server_error_view}
 use Rattle.mysql_columns.specs.Views.{column_view}
 use Rattle.mysql_replies.specs.declared.fault.ReplyFault.{ReplyFault}
 use Rattle.mysql_replies.specs.declared.fault.ReplyFault.TheVariants.{Memory}
-use Rattle.mysql_replies.specs.declared.opening.Opening.{Opening}
-use Rattle.mysql_replies.specs.declared.opening.Opening.TheVariants as openings
 use Rattle.mysql_columns.specs.declared.column.Column.{Column}
 use Rattle.std.specs.Prelude.{option_map}
-use Rattle.mysql_replies.specs.declared.lines.RowsEnd.{RowsEnd}
-use Rattle.mysql_replies.specs.declared.lines.RowsEnd.TheVariants as ends_of
 use Rattle.mysql_replies.specs.declared.results.ReplyResult.{ReplyResult}
 use Rattle.mysql_replies.specs.declared.results.ReplyResult.TheVariants as results
 use Rattle.mysql_replies.specs.declared.results.Reply.{Reply}
@@ -40,28 +36,11 @@ abbrev pub Gives : {X Y : Type 0} → (X → Y) → Result X ReplyFault → Resu
 Gives view (Ok x) read = read ≡ Ok (view x)
 Gives view (Err e) read = Refuses e read
 
--- A function that asks for no memory answers, seen by view, what reading gives: its refusal is the
--- reading's.
-abbrev pub Tells : {X Y : Type 0} → (X → Y) → Result X ReplyFault → Result Y ReplyFault → Type 0
-Tells view (Ok x) read = read ≡ Ok (view x)
-Tells view (Err e) read = read ≡ Err e
-
-abbrev pub opening_view : Opening → grammar.Opening
-opening_view (openings.Ok ok) = grammar.OkOpening (ok_packet_view ok)
-opening_view (openings.Error error) = grammar.ErrorOpening (server_error_view error)
-opening_view (openings.File file) = grammar.FileOpening (local_infile_view file)
-opening_view (openings.Count n) = grammar.CountOpening n
-opening_view (openings.Statement statement) = grammar.StatementOpening (prepare_ok_view statement)
-
 abbrev pub column_views : List Column → List ColumnDefinition
 column_views columns = map column_view columns
 
 abbrev pub row_views : List Row → List rows.Row
 row_views found = map row_view found
-
-abbrev pub rows_end_view : RowsEnd → grammar.Line
-rows_end_view (ends_of.Terminator ok) = grammar.TerminatorLine (ok_packet_view ok)
-rows_end_view (ends_of.Error error) = grammar.ErrorLine (server_error_view error)
 
 abbrev pub outcome_view : ReplyResult → grammar.Outcome
 outcome_view (results.Ok ok) = grammar.OkResult (ok_packet_view ok)

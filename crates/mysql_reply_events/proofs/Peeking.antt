@@ -14,7 +14,8 @@ use Rattle.mysql_reply_events.specs.Events.Awaited.{Columns, ColumnsEnd, Fields,
 use Rattle.mysql_reply_events.specs.Events.Event.{ColumnEvent, ProgressEvent}
 use Rattle.mysql_reply_events.specs.Readings.{column, has_report_form, report}
 use Rattle.mysql_reply_events.specs.declared.state.ReplyState.{ReplyState}
-use Rattle.mysql_reply_events.specs.States.{PeeksStep, Steps, bare, bare_reply, so_far}
+use Rattle.mysql_reply_events.specs.Due.{bare}
+use Rattle.mysql_reply_events.specs.States.{PeeksStep, Steps, bare_reply, so_far}
 use Rattle.mysql_reply_events.specs.Table.{Step, column_came, event_at, with_column}
 use Rattle.mysql_reply_events.specs.Views.{event_view}
 

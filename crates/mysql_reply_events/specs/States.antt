@@ -1,12 +1,12 @@
 -- Words of the reader's own body: a reply so far as the code holds it, and what its functions lead to.
 -- MySQL: Client/Server Protocol, "COM_QUERY Response".
-use Rattle.std.specs.Prelude.{◌≡◌, [], Result, Ok, Err}
+use Rattle.std.specs.Prelude.{◌≡◌, Result, Ok, Err}
 use Rattle.mysql_reply_events.specs.declared.event.ReplyEvent.{ReplyEvent}
 use Rattle.mysql_reply_events.specs.declared.fault.ReplyFault.{ReplyFault}
 use Rattle.mysql_reply_events.specs.declared.fault.ReplyFault.TheVariants.{Memory}
 use Rattle.mysql_reply_events.specs.declared.state.ReplyState.{ReplyState}
-use Rattle.mysql_reply_events.specs.Events.{Awaited, ReplySoFar}
-use Rattle.mysql_reply_events.specs.Events.Awaited.{Columns}
+use Rattle.mysql_reply_events.specs.Due.{bare}
+use Rattle.mysql_reply_events.specs.Events.{ReplySoFar}
 use Rattle.mysql_reply_events.specs.Table.{Step}
 use Rattle.mysql_reply_events.specs.Views.{awaited_view, event_view}
 
@@ -19,11 +19,7 @@ Steps step (Ok event) new = step ≡ Ok (event_view event, so_far new)
 Steps step (Err Memory) new = Unit {0}
 Steps step (Err fault) new = step ≡ Err fault
 
--- What is awaited, without the columns of a group that came before.
-abbrev pub bare : Awaited → Awaited
-bare (Columns group n earlier) = Columns group n []
-bare awaited = awaited
-
+-- A reply so far, without the columns of a group that came before.
 abbrev pub bare_reply : ReplySoFar → ReplySoFar
 bare_reply s = record s { awaited = bare s.awaited }
 

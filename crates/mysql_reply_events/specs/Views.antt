@@ -1,6 +1,6 @@
 -- What the code holds, as values; and what its functions answer.
 -- MySQL: Client/Server Protocol, "COM_QUERY Response", its packets as the code holds them.
-use Rattle.std.specs.Prelude.{◌≡◌, Result, Ok, Err}
+use Rattle.std.specs.Prelude.{◌≡◌, [], Result, Ok, Err}
 use Rattle.mysql_columns.specs.Views.{extended_view, listed_view}
 use Rattle.mysql_fields.specs.declared.error.WireError.{WireError}
 use Rattle.mysql_fields.specs.declared.error.WireError.TheVariants as wire
@@ -12,6 +12,8 @@ use Rattle.mysql_reply_events.specs.declared.awaited.Awaited.{Awaited as Awaited
 use Rattle.mysql_reply_events.specs.declared.awaited.Awaited.TheVariants as awaiting
 use Rattle.mysql_reply_events.specs.declared.awaited.ColumnGroup.{ColumnGroup}
 use Rattle.mysql_reply_events.specs.declared.awaited.ColumnGroup.TheVariants as groups
+use Rattle.mysql_reply_events.specs.declared.awaited.Due.{Due}
+use Rattle.mysql_reply_events.specs.declared.awaited.Due.TheVariants as dues
 use Rattle.mysql_reply_events.specs.declared.awaited.Turn.{Turn}
 use Rattle.mysql_reply_events.specs.declared.awaited.Turn.TheVariants as turns
 use Rattle.mysql_reply_events.specs.declared.event.ReplyEvent.{ReplyEvent}
@@ -53,6 +55,16 @@ awaited_view (awaiting.Rows known) = Rows known
 awaited_view awaiting.Fields = Fields
 awaited_view awaiting.FileData = FileData
 awaited_view awaiting.Nothing = Nothing
+
+-- What is awaited, where no columns came before.
+abbrev pub due_view : Due → Awaited
+due_view dues.First = First
+due_view (dues.Column group left) = Columns (group_view group) left []
+due_view (dues.ColumnsEnd group known) = ColumnsEnd (group_view group) known
+due_view (dues.Rows known) = Rows known
+due_view dues.Fields = Fields
+due_view dues.FileData = FileData
+due_view dues.Nothing = Nothing
 
 -- Whose payload is due.
 abbrev pub turn_of : Awaited → Turn

@@ -9,6 +9,7 @@ mod counts;
 pub mod event;
 pub mod fault;
 mod forms;
+mod next;
 pub mod packets;
 mod reader;
 pub mod rows;
@@ -16,8 +17,9 @@ mod standing;
 mod state;
 mod steps;
 
-pub use awaited::Turn;
+pub use awaited::{ColumnGroup, Due, Turn};
 pub use context::{Context, ReplyKind};
 pub use event::ReplyEvent;
 pub use fault::ReplyFault;
+pub use next::next_event;
 pub use reader::EventReader;

@@ -7,7 +7,7 @@ ghost use Rattle.mysql_rows.specs.Views.{shared_columns};
 ghost use Rattle.mysql_reply_events.specs.Reader.{HasFailed, Peeks, ReadsInPlace, ReadsOn, TakesFileData, awaits_rows};
 ghost use Rattle.mysql_reply_events.specs.Reader.{fresh_reader, is_row_due};
 ghost use Rattle.mysql_reply_events.specs.Standing.{RowAt, columns_of, format_of};
-ghost use Rattle.mysql_reply_events.specs.States.{PeeksStep, Steps, bare, bare_reply, so_far};
+ghost use Rattle.mysql_reply_events.specs.States.{PeeksStep, Steps, bare_reply, so_far};
 ghost use Rattle.mysql_reply_events.specs.Table as table;
 ghost use Rattle.mysql_reply_events.specs.Views.{awaited_view, turn_of};
 
@@ -39,7 +39,7 @@ fn is_due(awaited: &Awaited) -> bool
 }
 
 /// What a payload of the server leads to. After an `Err` nothing is awaited.
-fn step(
+pub fn step(
     alloc: Global,
     context: Context,
     state: &mut ReplyState,
@@ -54,32 +54,6 @@ fn step(
         Ok(ReplyEvent::Progress(report))
     } else {
         place_step(alloc, context, state, payload)
-    }
-}
-
-/// What is awaited, without the columns of a group that came before.
-fn bare(alloc: Global, awaited: &Awaited) -> Awaited
-    ensures { awaited_view result ≡ bare (awaited_view awaited.now) }
-{
-    match awaited {
-        Awaited::First => Awaited::First,
-        Awaited::Columns {
-            group,
-            left,
-            columns: _,
-        } => Awaited::Columns {
-            group: *group,
-            left: *left,
-            columns: Vec::new(alloc),
-        },
-        Awaited::ColumnsEnd { group, known } => Awaited::ColumnsEnd {
-            group: *group,
-            known: *known,
-        },
-        Awaited::Rows { known } => Awaited::Rows { known: *known },
-        Awaited::Fields => Awaited::Fields,
-        Awaited::FileData => Awaited::FileData,
-        Awaited::Nothing => Awaited::Nothing,
     }
 }
 
@@ -128,7 +102,7 @@ fn is_row_due(context: Context, state: &ReplyState, payload: &[u8]) -> bool
 }
 
 /// The format of rows, by the kind of the command.
-fn format_of(kind: ReplyKind) -> RowFormat
+pub fn format_of(kind: ReplyKind) -> RowFormat
     ensures { result ≡ format_of kind }
 {
     if has_binary_rows(kind) {
@@ -253,7 +227,7 @@ impl EventReader {
             return Err(ReplyFault::Memory);
         };
         let mut state = ReplyState {
-            awaited: bare(self.alloc, &self.state.awaited),
+            awaited: Awaited::of(self.alloc, self.state.awaited.due()),
             standing,
         };
         peek_step(self.alloc, self.context, &mut state, &self.state, payload)

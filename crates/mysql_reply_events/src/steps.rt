@@ -15,10 +15,11 @@ ghost use Rattle.mysql_ok_packets.specs.Views.{ok_packet_view};
 ghost use Rattle.mysql_rows.specs.Views.{column_views};
 ghost use Rattle.mysql_reply_events.specs.declared.fault.ReplyFault.TheVariants.{Memory};
 ghost use Rattle.mysql_reply_events.specs.Table as table;
-ghost use Rattle.mysql_reply_events.specs.Views.{Gives, Tells, awaited_view, event_view, group_view};
+ghost use Rattle.mysql_reply_events.specs.Due.{column_due};
+ghost use Rattle.mysql_reply_events.specs.Views.{Gives, Tells, awaited_view, due_view, event_view, group_view};
 ghost use Rattle.mysql_reply_events.specs.States.{Steps, so_far};
 
-use crate::awaited::{Awaited, ColumnGroup};
+use crate::awaited::{Awaited, ColumnGroup, Due};
 use crate::context::{Context, ReplyKind};
 use crate::counts::{count_packet, prepared_packet};
 use crate::event::ReplyEvent;
@@ -434,6 +435,20 @@ fn columns_end_step(
     let ok = eof_packet(alloc, context, payload)?;
     state.awaited = after_columns_end(alloc, context, group, known, &ok);
     Ok(ReplyEvent::ColumnsEnd(ok))
+}
+
+/// What is due behind a column of a group, of which so many more are left.
+pub fn behind_column(alloc: Global, context: Context, group: ColumnGroup, left: u16) -> Due
+    ensures { due_view result ≡ column_due context (group_view group) left }
+{
+    if left > 0 {
+        Due::Column {
+            group,
+            left: left - 1,
+        }
+    } else {
+        after_columns(alloc, context, group, true).due()
+    }
 }
 
 /// Keeps a copy of a column of a group with those before it. Parameters aren't kept.
