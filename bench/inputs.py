@@ -10,6 +10,8 @@ CELL_ROWS = 1_000
 BEFORE, BETWEEN, AFTER = b"INSERT INTO people (id, name, note, age) VALUES (", b", ", b")"
 QUERY = BEFORE + BETWEEN.join([b"?"] * 4) + AFTER
 NAMED = BEFORE + BETWEEN.join([b":a", b":b", b":c", b":d"]) + AFTER
+# Of both sides, logged in: long passwords, the protocol of 4.1, transactions, its passwords, plugins.
+CAPABILITIES = 0x8a201
 LONG = b"SELECT " + b", ".join(b"column%d" % i for i in range(800)) + b" FROM people WHERE id = ? AND name = ? AND note = ? AND age = ?"
 ESCAPED = [(b"\\", b"\\\\"), (b"\0", b"\\0"), (b"\n", b"\\n"), (b"\r", b"\\r"), (b"\x1a", b"\\Z"), (b"'", b"\\'"), (b'"', b'\\"')]
 
@@ -107,6 +109,36 @@ def write_reply(name, rows, form):
     write(name, *(packet(1 + i, payload) for i, payload in enumerate(reply(rows, form))))
 
 
+def one_row(i):
+    """A row of as many bytes as every other."""
+    return [1_000_000 + i, b"user%07d" % i, b"note %07d of a row" % i, 18 + i % 80]
+
+
+def one_reply(i, form):
+    payloads = [*reply(0, form)]
+    payloads.insert(-1, form(one_row(i)))
+    return b"".join(packet(1 + k, payload) for k, payload in enumerate(payloads))
+
+
+def greeting():
+    data = bytes(range(65, 85))
+    low, high = CAPABILITIES & 0xffff, CAPABILITIES >> 16
+    head = b"\x0a8.0.36\0" + struct.pack("<I", 7) + data[:8] + b"\0"
+    return head + struct.pack("<HBHHB", low, 45, 2, high, 21) + bytes(10) + data[8:] + b"\0mysql_native_password\0"
+
+
+def response():
+    return struct.pack("<IIB", CAPABILITIES, 1 << 24, 45) + bytes(23) + b"user\0\x14" + bytes(range(20)) + b"mysql_native_password\0"
+
+
+def prepared(count):
+    """The reply to a prepare of a statement of four columns."""
+    end = b"\xfe\0\0\2\0"
+    columns = [column(name, 253) for name in (b"id", b"name", b"note", b"age")]
+    payloads = [b"\0" + struct.pack("<IHHBH", 1, 4, count, 0, 0), *[column(b"?", 253)] * count, end, *columns, end]
+    return b"".join(packet(1 + i, payload) for i, payload in enumerate(payloads))
+
+
 def with_name(name):
     return [[1_000_000 + i * 37, name(i), b"", None] for i in range(SETS // 10)]
 
@@ -157,6 +189,12 @@ write("prepare", packet(0, b"\x16" + QUERY))
 write("texts", *map(text_command, every))
 write("executes", *map(execution, every))
 write("bulks", bulk_request(every))
+# Whole connections: what logs in, and the replies to the commands above, each of as many bytes.
+write("login-client", packet(1, response()))
+write("login-server", packet(0, greeting()), packet(2, b"\0\0\0\2\0\0\0"))
+write("prepared", prepared(4))
+write("replies-text", *(one_reply(i, text_row) for i in range(SETS)))
+write("replies-binary", *(one_reply(i, binary_row) for i in range(SETS)))
 write_reply("reply-text", ROWS, text_row)
 write_reply("reply-binary", ROWS, binary_row)
 write_reply("cells-text", CELL_ROWS, text_row)

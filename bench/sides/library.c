@@ -19,6 +19,8 @@ size_t mysql_bench_lend_rows(Pointer, size_t, size_t, _Bool);
 size_t mysql_bench_store_rows(Pointer, size_t, size_t, _Bool);
 size_t mysql_bench_write_reply(Pointer, size_t, _Bool, size_t);
 size_t mysql_bench_read_reply_taken(Pointer, size_t, Pointer, size_t, size_t, size_t, _Bool);
+size_t mysql_bench_read_connection(Pointer, size_t, Pointer, size_t, size_t);
+size_t mysql_bench_read_apart(Pointer, size_t, Pointer, size_t, Pointer, size_t, size_t, size_t, _Bool);
 size_t mysql_bench_cells(Pointer, size_t, _Bool, _Bool, size_t);
 int64_t mysql_bench_convert(Pointer, size_t, size_t, size_t);
 
@@ -41,6 +43,27 @@ static void send_sets(const char *what, Work work, int rounds) {
     } else {
         MEASURE("library", units, mysql_bench_send_to(query.at, query.len, sets.at, sets.len, work.count, WIDTH, by_name, road, work.times))
     }
+}
+
+// Both streams of a connection, and their commands and replies alone; a reply has so many bytes.
+typedef struct { Bytes client, server, commands, replies; size_t reply; } Streams;
+
+static Streams streams_of(const char *what) {
+    _Bool rows = ENDS("-rows"), executions = ENDS("-executions");
+    Bytes none = {0}, commands = executions ? repeated(load("prepare"), load("executes"), 1) : load("texts");
+    if (rows) commands.len = 4 + (commands.at[0] | commands.at[1] << 8);
+    Bytes replies = load(rows ? "reply-text" : executions ? "replies-binary" : "replies-text");
+    Bytes before = repeated(load("login-server"), executions ? load("prepared") : none, 1);
+    Bytes client = repeated(load("login-client"), commands, 1), server = repeated(before, replies, 1);
+    return (Streams){client, server, commands, replies, rows ? replies.len : replies.len / CONNECTION_COMMANDS};
+}
+
+static void read_connection(const char *what, int rounds) {
+    Bytes query = load("query");
+    Streams all = streams_of(what);
+    double units = ENDS("-rows") ? ROWS : CONNECTION_COMMANDS;
+    MEASURE("library", units, mysql_bench_read_connection(all.client.at, all.client.len, all.server.at, all.server.len, PIECE))
+    MEASURE("apart", units, mysql_bench_read_apart(query.at, query.len, all.commands.at, all.commands.len, all.replies.at, all.replies.len, all.reply, PIECE, ENDS("-executions")))
 }
 
 static void run(const char *what, int rounds) {
@@ -87,6 +110,8 @@ static void run(const char *what, int rounds) {
     } else if (BEGINS("convert")) {
         Bytes values = load(IS("convert-digits") ? "digits" : "numbers");
         MEASURE("library", (double)CONVERTED * CONVERT_TIMES, mysql_bench_convert(values.at, values.len, CONVERTED, CONVERT_TIMES))
+    } else if (BEGINS("connection")) {
+        read_connection(what, rounds);
     } else if (find_work(what, &work)) {
         send_sets(what, work, rounds);
     } else {

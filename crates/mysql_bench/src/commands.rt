@@ -34,7 +34,7 @@ pub extern "C" fn mysql_bench_receive(
 }
 
 /// Feeds bytes in pieces of a size, and takes behind each the sets that stand. Answers how many they are.
-fn taken_sets(receiver: &mut Receiver, bytes: &[u8], size: usize) -> usize
+pub fn taken_sets(receiver: &mut Receiver, bytes: &[u8], size: usize) -> usize
     requires { 0 < size }
 {
     let mut count: usize = 0;

@@ -6,6 +6,7 @@
 
 mod cells;
 mod commands;
+mod connections;
 mod conversions;
 mod frames;
 mod kept;

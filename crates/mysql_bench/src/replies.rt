@@ -79,7 +79,7 @@ fn count_of(results: &[ReplyResult]) -> usize {
 }
 
 /// Feeds bytes in pieces of a size, and takes behind each the results that stand. Answers how many rows they have.
-fn taken_rows(reader: &mut ReplyReader, bytes: &[u8], size: usize) -> usize
+pub fn taken_rows(reader: &mut ReplyReader, bytes: &[u8], size: usize) -> usize
     requires { 0 < size }
 {
     let mut count: usize = 0;
