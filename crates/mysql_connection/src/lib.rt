@@ -1,5 +1,8 @@
-//! The payloads of a connection, each by itself: logging in, commands and replies, read and put by
-//! the capabilities in force.
+//! Whole connections, read: both streams in, events out. And the payloads of a connection, each by
+//! itself: logging in, commands and replies, read and put by the capabilities in force.
+//!
+//!     connection.feed(Side::Client, piece)?;
+//!     let event = connection.next_event()?;   // of a Connection: None until a payload is whole
 //!
 //!     let command = Command::read(alloc, capabilities, parameters, payload)?;
 //!     write_command(&mut output, &command)?;  // Execute id=3 flags=0 parameters=((i 1)) ..
@@ -19,6 +22,11 @@ pub use mysql_commands::{
     Attribute, BoundType, BulkExecution, BulkValue, Capabilities, CapabilityFlags, Command,
     Execution, MariadbCapabilities, ParameterType, Reply, StatementParameters,
 };
+pub use mysql_connection_lines::{write_end, write_event};
+pub use mysql_connection_machine::{Connection, ConnectionFault, End, FeedRefusal};
+pub use mysql_connection_rules::{Fault, Limits, Reason, Side};
+pub use mysql_connection_state::{Event, Phase};
+pub use mysql_connection_statements::{Statement, Statements};
 pub use mysql_event_lines::{
     write_authentication_event, write_command, write_greeting_event, write_reply_event,
     write_response_event,
