@@ -54,12 +54,12 @@ Grows limit s bytes more =
     ⊎ ((is_early s bytes ≡ false) × (first_packet limit s.number bytes ≡ Short))
     ⊎ ((is_early s bytes ≡ false) × (first_packet limit s.number bytes ≡ TooLarge) × ((number : ℕ) → first_packet limit number more ≡ TooLarge))
 
-abbrev header_found : (limit number a b c d : ℕ) → (bytes : List ℕ) → (long whole : Bool) → Found
+abbrev pub header_found : (limit number a b c d : ℕ) → (bytes : List ℕ) → (long whole : Bool) → Found
 header_found limit number a b c d bytes long whole =
     by_tests long whole (d == number) (announced a b c == max_payload_len) d (take (announced a b c) bytes) (next_number number) (drop (announced a b c) bytes)
     (packet_by (limit / max_payload_len) limit (0 + announced a b c) (next_number number) (drop (announced a b c) bytes))
 
-header_at : (limit number a b c d : ℕ) (bytes : List ℕ) → first_packet limit number (a ∷ b ∷ c ∷ d ∷ bytes)
+pub header_at : (limit number a b c d : ℕ) (bytes : List ℕ) → first_packet limit number (a ∷ b ∷ c ∷ d ∷ bytes)
     ≡ header_found limit number a b c d bytes (nat_lt limit (0 + announced a b c)) (nat_le (announced a b c) (length bytes))
 header_at limit number a b c d bytes = ap (λ (n : ℕ). packet_by n limit 0 number (a ∷ b ∷ c ∷ d ∷ bytes)) (add-one (limit / max_payload_len))
 

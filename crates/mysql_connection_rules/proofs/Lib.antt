@@ -7,3 +7,5 @@ pub mod Sides
 pub mod Turns
 pub mod Running
 pub mod Within
+pub mod Said
+pub mod LastWords

@@ -1,6 +1,8 @@
 -- The laws. Each is the contract of a function in src/laws.rt.
 -- MySQL: Client/Server Protocol, "Connection Lifecycle", "MySQL Packets" and "Sequence ID".
-use Rattle.std.specs.Prelude.{◌≡◌, ◌≤◌, ◌<◌, ℕ, ◌+◌, false, List, [], ◌∷◌, ◌++◌, ◌⊎◌, length, Some}
+use Rattle.std.specs.Prelude.{◌≡◌, ◌≤◌, ◌<◌, ℕ, ◌+◌, true, false, List, [], ◌∷◌, ◌++◌, ◌⊎◌, length}
+use Rattle.std.specs.Prelude.{Some}
+use Rattle.mysql_connection_rules.specs.declared.fault.Fault.TheVariants as faults
 use Rattle.mysql_connection_rules.specs.declared.limits.Limits.{Limits}
 use Rattle.mysql_connection_rules.specs.declared.side.Side.{Side}
 use Rattle.mysql_connection_rules.specs.declared.side.Side.TheVariants.{Client, Server}
@@ -12,7 +14,8 @@ use Rattle.mysql_server_packets.specs.Packets.{ServerError}
 use Rattle.mysql_connection_rules.specs.Standing.{kept}
 use Rattle.mysql_connection_rules.specs.Steps.{turn}
 use Rattle.mysql_connection_rules.specs.Streams.{End, Fails, Failure, Piece, Says, Stream, Streams}
-use Rattle.mysql_connection_rules.specs.Streams.{Waits, World, come, grow, held, next, no_bytes, room}
+use Rattle.mysql_connection_rules.specs.Streams.{Waits, World, come, grow, held, next, no_bytes}
+use Rattle.mysql_connection_rules.specs.Streams.{room}
 use Rattle.mysql_connection_rules.specs.Streams.{room_to_keep, start, stream_of}
 
 -- ONE RUN
@@ -27,20 +30,22 @@ RunIsOne = (limits : Limits) (streams : Streams) (events others : List Event) (l
     IsRun limits streams events last → IsRun limits streams others end →
     (events ≡ others) × (last ≡ end)
 
--- Whatever pieces and ends of two streams came to a machine, in whatever order, and whenever events were
--- taken: those that were taken and those that are still there to take are the events of the one run
--- over the two streams, and end where it ends, a fault too.
+-- Whatever pieces and ends of two streams came to a machine, in whatever order, and whenever events
+-- were taken: those that were taken and those that are still there to take are the events of the
+-- one run over the two streams, and end where it ends, a fault too.
 abbrev pub PiecesAreTheRun : Type 0
 PiecesAreTheRun = (limits : Limits) (streams : Streams) (taken left events : List Event)
-    (now last end : World) → Had limits streams taken now → Runs now left last → IsLast (next last) →
+    (now last end : World) → Had limits streams taken now → Runs now left last →
+    IsLast (next last) →
     IsRun limits streams events end → (taken ++ left ≡ events) × (last ≡ end)
 
 -- FRONTS AND ENDS
 
--- The events of fronts of the streams are a front of the events; a fault of them is the whole streams'
--- fault, behind the same events.
+-- The events of fronts of the streams are a front of the events; a fault of them is the whole
+-- streams' fault, behind the same events.
 abbrev pub FrontsReadOn : Type 0
-FrontsReadOn = (limits : Limits) (front whole : Streams) (events all : List Event) (last end : World) →
+FrontsReadOn = (limits : Limits) (front whole : Streams) (events all : List Event)
+    (last end : World) →
     HasCome front whole → IsRun limits front events last → IsRun limits whole all end →
     IsFront events all ×
     ((failure : Failure) → next last ≡ Fails failure →
@@ -48,7 +53,8 @@ FrontsReadOn = (limits : Limits) (front whole : Streams) (events all : List Even
 
 -- The end of the client's stream adds last words of the server at most.
 abbrev pub EndAddsLastWords : Type 0
-EndAddsLastWords = (limits : Limits) (streams : Streams) (events all : List Event) (last end : World) →
+EndAddsLastWords = (limits : Limits) (streams : Streams) (events all : List Event)
+    (last end : World) →
     streams.client.closed ≡ false → IsRun limits streams events last →
     IsRun limits (grow Client End streams) all end →
     (events ≡ all) ⊎ ((error : ServerError) × (all ≡ events ++ Farewell error ∷ []))
@@ -58,6 +64,18 @@ abbrev pub ServersEndChangesNothing : Type 0
 ServersEndChangesNothing = (limits : Limits) (streams : Streams) (events all : List Event)
     (last end : World) → IsRun limits streams events last →
     IsRun limits (grow Server End streams) all end → (events ≡ all) × (come Server End last ≡ end)
+
+-- Behind the server's last words nothing more is said.
+abbrev pub LastWordsAreLast : Type 0
+LastWordsAreLast = (old new : World) (error : ServerError) → next old ≡ Says (Farewell error) new →
+    next new ≡ Waits
+
+-- The server says what nothing asked for only once the client's stream has ended where the client's
+-- payload is due.
+abbrev pub UnaskedIsBehindTheEnd : Type 0
+UnaskedIsBehindTheEnd = (w : World) (failure : Failure) → next w ≡ Fails failure →
+    failure.fault ≡ faults.Unasked →
+    (turn w.standing.phase ≡ Some Client) × (w.unread.client.closed ≡ true)
 
 -- WHAT AN EVENT TAKES AND LEAVES
 

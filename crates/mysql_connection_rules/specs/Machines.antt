@@ -4,7 +4,8 @@ use Rattle.std.specs.Prelude.{◌≡◌, false, List, [], ◌∷◌, ◌++◌, O
 use Rattle.mysql_connection_rules.specs.declared.limits.Limits.{Limits}
 use Rattle.mysql_connection_rules.specs.declared.side.Side.{Side}
 use Rattle.mysql_connection_rules.specs.Events.{Event}
-use Rattle.mysql_connection_rules.specs.Streams.{Coming, Says, Streams, Waits, World, come, grow, next}
+use Rattle.mysql_connection_rules.specs.Streams.{Coming, Says, Streams, Waits, World, come, grow}
+use Rattle.mysql_connection_rules.specs.Streams.{next}
 use Rattle.mysql_connection_rules.specs.Streams.{no_bytes, start, stream_of}
 
 -- The side's stream has not ended.
@@ -16,11 +17,12 @@ abbrev pub Takes : World → Option Event → World → Type 0
 Takes old None new = (next old ≡ Waits) × (new ≡ old)
 Takes old (Some event) new = next old ≡ Says event new
 
--- A machine that was new has had these bytes and ends of both streams, in any pieces and any order, has
--- handed out these events in between, and holds this.
+-- A machine that was new has had these bytes and ends of both streams, in any pieces and any order,
+-- has handed out these events in between, and holds this.
 pub data Had (limits : Limits) : Streams → List Event → World → Type 0 where
   fresh : Had limits no_bytes [] (start limits no_bytes)
-  comes : {streams : Streams} {events : List Event} {old new : World} (side : Side) (coming : Coming) →
+  comes : {streams : Streams} {events : List Event} {old new : World} (side : Side)
+      (coming : Coming) →
       Had limits streams events old → IsOpen old side → new ≡ come side coming old →
       Had limits (grow side coming streams) events new
   takes : {streams : Streams} {events : List Event} {old new : World} {event : Event} →

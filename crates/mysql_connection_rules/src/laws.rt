@@ -1,10 +1,14 @@
 //! Laws of the rules of a connection. Each function has an empty body, or names the laws that it
 //! rests on: its contract is the law.
 
-ghost use Rattle.mysql_connection_rules.specs.Laws.{EndAddsLastWords, EventsAreInTurn, EventsStayWithinLimits};
-ghost use Rattle.mysql_connection_rules.specs.Laws.{EventsTakeBytes, FaultsAreOfTheirBytes, FreshIsWithinLimits};
+ghost use Rattle.mysql_connection_rules.specs.Laws.{EndAddsLastWords, EventsAreInTurn};
+ghost use Rattle.mysql_connection_rules.specs.Laws.{EventsStayWithinLimits};
+ghost use Rattle.mysql_connection_rules.specs.Laws.{EventsTakeBytes, FaultsAreOfTheirBytes};
+ghost use Rattle.mysql_connection_rules.specs.Laws.{FreshIsWithinLimits};
+ghost use Rattle.mysql_connection_rules.specs.Laws.{LastWordsAreLast, UnaskedIsBehindTheEnd};
 ghost use Rattle.mysql_connection_rules.specs.Laws.{FrontsReadOn, HeldStays, PiecesAreTheRun};
-ghost use Rattle.mysql_connection_rules.specs.Laws.{PiecesStayWithinLimits, PositionsStay, RunExists, RunIsOne};
+ghost use Rattle.mysql_connection_rules.specs.Laws.{PiecesStayWithinLimits, PositionsStay};
+ghost use Rattle.mysql_connection_rules.specs.Laws.{RunExists, RunIsOne};
 ghost use Rattle.mysql_connection_rules.specs.Laws.{ServersEndChangesNothing, TurnCanCome};
 
 use mysql_connection_packets::laws::{
@@ -25,8 +29,8 @@ pub fn run_is_one()
     ensures { RunIsOne }
 {}
 
-/// Whatever pieces of two streams came in whatever order, and whenever events were taken, those that
-/// were taken and those that are left to take are, in order, the events of the one run.
+/// Whatever pieces of two streams came in whatever order, and whenever events were taken, those
+/// that were taken and those that are left to take are, in order, the events of the one run.
 ///
 /// They end where it ends, by the same fault if by one.
 pub fn pieces_are_the_run()
@@ -65,6 +69,14 @@ pub fn servers_end_changes_nothing()
     packets_take_bytes();
     rests_follow();
 }
+
+/// Behind the server's last words nothing more is said.
+///
+/// And the server says what nothing asked for only once the client's stream has ended.
+pub fn last_words_are_last()
+    ensures last { LastWordsAreLast }
+    ensures unasked { UnaskedIsBehindTheEnd }
+{}
 
 /// An event takes four unread bytes at least, those of a header.
 pub fn events_take_bytes()
