@@ -51,7 +51,7 @@ const TRANSCRIPTS: &[Row] = &[
     ),
     (
         CONNECTION,
-        b"s\x0e\0\0\0\x0a\0\0\0\xff\x10\x04Too manyx",
+        b"s\x0f\0\0\0\x0b\0\0\0\xff\x10\x04Too manyx",
         b"rejected 1040 x546f6f206d616e79\nend: over Rejected\n",
         Done,
     ),
