@@ -3,3 +3,4 @@
 pub use mysql_authentication::laws as logins;
 pub use mysql_command_writer::laws::read_commands_are_put;
 pub use mysql_execution_writer::laws as executions;
+pub use mysql_reply_event_writer::laws::read_events_are_put;
