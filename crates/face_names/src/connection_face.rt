@@ -13,7 +13,7 @@ use mysql_connection::{
 };
 
 mod laws {
-    use mysql_connection::laws::read_commands_are_put;
+    use mysql_connection::laws::{read_commands_are_put, read_events_are_put};
 
     mod executions {
         use mysql_connection::laws::executions::{

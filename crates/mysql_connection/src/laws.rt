@@ -6,3 +6,4 @@ pub use mysql_connection_packets::laws as first_packets;
 pub use mysql_connection_rules::laws as runs;
 pub use mysql_connection_statements::laws::stored_is_the_sum;
 pub use mysql_execution_writer::laws as executions;
+pub use mysql_reply_event_writer::laws::read_events_are_put;
