@@ -1,7 +1,8 @@
 -- What the code holds, as values.
 -- MySQL: Client/Server Protocol, "Connection Lifecycle", "Connection Phase" and "Command Phase".
 use Rattle.std.specs.Prelude.{◌≡◌, None}
-use Rattle.mysql_authentication.specs.Views.{authentication_view, greeting_view, response_event_view}
+use Rattle.mysql_authentication.specs.Views.{authentication_view, greeting_view}
+use Rattle.mysql_authentication.specs.Views.{response_event_view}
 use Rattle.mysql_commands.specs.Views.{command_view}
 use Rattle.mysql_const.specs.declared.capabilities.Capabilities.{Capabilities}
 use Rattle.mysql_reply_events.specs.Events.{Awaited}

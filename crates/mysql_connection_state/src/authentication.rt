@@ -1,16 +1,17 @@
 //! Payloads by which a user is logged in or changed.
 
-ghost use Rattle.std.specs.Prelude.{◌≡◌, OnOk, Ok, Some, if◌then◌else◌, option_map};
+ghost use Rattle.std.specs.Prelude.{◌≡◌, OnOk, Some, if◌then◌else◌, option_map};
 ghost use Rattle.mysql_auth.specs.Views.{plugin_view};
 ghost use Rattle.mysql_authentication.specs.Readings.{authentication_at};
 ghost use Rattle.mysql_authentication.specs.Views.{authentication_view};
-ghost use Rattle.mysql_connection_rules.specs.Events as events;
 ghost use Rattle.mysql_connection_rules.specs.Standing as phases;
-ghost use Rattle.mysql_connection_rules.specs.Steps.{after_authentication, after_denial, answered as answered_by};
-ghost use Rattle.mysql_connection_rules.specs.Steps.{authentication_step, greets_anew, in_phase, is_compressed};
+ghost use Rattle.mysql_connection_rules.specs.Steps.{after_authentication, after_denial};
+ghost use Rattle.mysql_connection_rules.specs.Steps.{answered as answered_by};
+ghost use Rattle.mysql_connection_rules.specs.Steps.{authentication_step, greets_anew, in_phase};
+ghost use Rattle.mysql_connection_rules.specs.Steps.{is_compressed};
 ghost use Rattle.mysql_connection_rules.specs.Steps.{is_fast, of_login, over, with_plugin};
 ghost use Rattle.mysql_connection_rules.specs.declared.reason.Reason.TheVariants as reasons;
-ghost use Rattle.mysql_connection_state.specs.Reads.{Gives, Reads};
+ghost use Rattle.mysql_connection_state.specs.Reads.{Gives, Reads, answer_step};
 
 use crate::due::Due;
 use crate::event::Event;
@@ -31,7 +32,8 @@ fn authentication(
     capabilities: CapabilityFlags,
     payload: &[u8],
 ) -> Result<AuthenticationEvent<'static>, Fault>
-    ensures { Gives authentication_view result (of_login (authentication_at capabilities.0 payload.now)) }
+    ensures { Gives authentication_view result
+        (of_login (authentication_at capabilities.0 payload.now)) }
 {
     match read_authentication(alloc, capabilities, payload) {
         Ok(said) => match owned_authentication(alloc, said) {
@@ -90,8 +92,8 @@ fn greets_anew(exchange: Exchange, payload: &[u8]) -> bool
 impl State {
     // The user is logged in.
     fn accepted(&mut self)
-        ensures { self.new ≡ (if is_compressed self.old.capabilities then over reasons.Compressed self.old
-            else in_phase phases.Command self.old) }
+        ensures { self.new ≡ (if is_compressed self.old.capabilities
+            then over reasons.Compressed self.old else in_phase phases.Command self.old) }
     {
         if is_compressed(self.capabilities) {
             self.set_due(Due::Over(Reason::Compressed));
@@ -144,7 +146,8 @@ impl State {
         exchange: Exchange,
         said: &AuthenticationEvent,
     ) -> Result<(), AllocError>
-        ensures { OnOk result (self.new ≡ after_authentication exchange self.old (authentication_view said.now)) }
+        ensures { OnOk result (self.new ≡
+            after_authentication exchange self.old (authentication_view said.now)) }
     {
         match said {
             AuthenticationEvent::Accepted(_) => {
@@ -198,8 +201,7 @@ impl State {
 
     /// Reads the client's answer to such a one.
     pub(crate) fn read_answer(&mut self, exchange: Exchange, payload: &[u8]) -> Result<Event, Fault>
-        ensures { Reads (Ok (events.Answer payload.now, in_phase (phases.Authentication exchange) self.old))
-            result self.new }
+        ensures { Reads (answer_step exchange self.old payload.now) result self.new }
     {
         let Ok(bytes) = ByteString::copy(self.alloc, payload) else {
             return Err(Fault::Memory);

@@ -63,8 +63,8 @@ fn executing(
     }
 }
 
-/// What an event changes of the statements; its payload counts so much. It answers what the reply is
-/// about behind it.
+/// What an event changes of the statements; its payload counts so much. It answers what the reply
+/// is about behind it.
 pub fn change(
     about: About,
     more: usize,
@@ -89,8 +89,8 @@ pub fn change(
     }
 }
 
-/// What is kept for what a reply is about, beside its statement. None where it is more than a `usize`
-/// holds.
+/// What is kept for what a reply is about, beside its statement. None where it is more than a
+/// `usize` holds.
 pub fn about_size(statements: &Statements, about: &About) -> Option<usize>
     ensures { IsCount (about_size statements.now (about_view about.now)) result }
 {
@@ -104,7 +104,8 @@ pub fn about_size(statements: &Statements, about: &About) -> Option<usize>
 impl InReply {
     // A column came; of a statement that is being prepared the parameters come first.
     fn column_came(&mut self, size: usize) -> Result<(), AllocError>
-        ensures came { OnOk result (in_reply_view self.new ≡ steps.column_came size (in_reply_view self.old)) }
+        ensures came { OnOk result (in_reply_view self.new ≡
+            steps.column_came size (in_reply_view self.old)) }
         ensures reader { self.new.reader ≡ self.old.reader }
         ensures about { self.new.about ≡ self.old.about }
     {

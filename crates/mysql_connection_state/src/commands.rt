@@ -37,7 +37,8 @@ fn command_of(
     payload: &[u8],
 ) -> Result<Command<'static>, AllocError>
     ensures { IfOk result (λ command. command_view command ≡
-        command_at capabilities (steps.parameters_in_question statements.now payload.now) payload.now) }
+        command_at capabilities (steps.parameters_in_question statements.now payload.now)
+        payload.now) }
 {
     let id = id_in_question(statements, payload);
     let parameters = match statement_of(statements, id) {
@@ -125,7 +126,8 @@ impl State {
         columns: Option<RcSlice<Column>>,
         about: About,
     )
-        ensures { self.new ≡ steps.reply_due kind (option_map shared_columns columns) (about_view about) self.old }
+        ensures { self.new ≡ steps.reply_due kind (option_map shared_columns columns)
+            (about_view about) self.old }
     {
         let reader = EventReader::new(self.alloc, kind, self.capabilities, columns);
         self.set_due(Due::Reply(InReply {
@@ -139,7 +141,8 @@ impl State {
 
     // Another user logs in: no statement stays, whatever the answer.
     fn change_user(&mut self, payload: &[u8], command: &Command) -> Result<(), AllocError>
-        ensures { OnOk result (self.new ≡ steps.after_change payload.now (command_view command.now) self.old) }
+        ensures { OnOk result (self.new ≡
+            steps.after_change payload.now (command_view command.now) self.old) }
     {
         self.plugin = changed_plugin(self.alloc, command)?;
         self.statements.clear();
@@ -149,7 +152,8 @@ impl State {
 
     // A statement is prepared.
     fn prepare(&mut self, payload: &[u8], command: &Command) -> Result<(), AllocError>
-        ensures { OnOk result (self.new ≡ steps.after_prepare payload.now (command_view command.now) self.old) }
+        ensures { OnOk result (self.new ≡
+            steps.after_prepare payload.now (command_view command.now) self.old) }
     {
         let text = text_of(self.alloc, command)?;
         let size = counted(payload)?;
@@ -197,8 +201,8 @@ impl State {
 
     // A statement's long data go.
     fn reset(&mut self, id: Option<u32>) -> Result<(), AllocError>
-        ensures { OnOk result (self.new ≡
-            steps.reply_due kinds.Plain None standing.Nothing (steps.changing is_reset id self.old)) }
+        ensures { OnOk result (self.new ≡ steps.reply_due kinds.Plain None standing.Nothing
+            (steps.changing is_reset id self.old)) }
     {
         if let Some(id) = id {
             self.statements.reset(id)?;
@@ -210,7 +214,8 @@ impl State {
     // Rows of an open cursor, under the columns that the statement last had.
     fn fetch(&mut self, id: Option<u32>) -> Result<(), AllocError>
         ensures { OnOk result (self.new ≡ steps.reply_due kinds.Fetch
-            (option_and_then (λ x. x.columns) (option_and_then (statement_at self.old.statements) id))
+            (option_and_then (λ x. x.columns)
+            (option_and_then (statement_at self.old.statements) id))
             standing.Nothing self.old) }
     {
         let columns = shared_columns_of(statement_of(&self.statements, id))?;
@@ -264,7 +269,8 @@ impl State {
 
     // What a command changes, and what is due behind it; an empty payload is one too.
     fn follow_command(&mut self, payload: &[u8], command: &Command) -> Result<(), AllocError>
-        ensures { OnOk result (self.new ≡ steps.after_command self.old payload.now (command_view command.now)) }
+        ensures { OnOk result (self.new ≡
+            steps.after_command self.old payload.now (command_view command.now)) }
     {
         match payload {
             [] => {

@@ -27,8 +27,8 @@ pub enum About {
 pub struct InReply {
     pub reader: EventReader,
     pub about: About,
-    // What the columns of the result before this one take, those of this one, and how many parameters
-    // are still to come, which aren't kept.
+    // What the columns of the result before this one take, those of this one, and how many
+    // parameters are still to come, which aren't kept.
     pub earlier: usize,
     pub coming: usize,
     pub parameters: u16,

@@ -4,7 +4,8 @@ ghost use Rattle.std.specs.Prelude.{◌≡◌, IfOk, OnOk, Some, option_map, unw
 ghost use Rattle.std.specs.Option.{option_and_then, option_copied};
 ghost use Rattle.mysql_executions.specs.Bulks.{bulk_head};
 ghost use Rattle.mysql_rows.specs.Views.{shared_columns};
-ghost use Rattle.mysql_connection_rules.specs.Steps.{about_execution, after_executing, carried_types, execution_of};
+ghost use Rattle.mysql_connection_rules.specs.Steps.{about_execution, after_executing};
+ghost use Rattle.mysql_connection_rules.specs.Steps.{carried_types, execution_of};
 ghost use Rattle.mysql_connection_rules.specs.Steps.{id_in_question, refused_as};
 ghost use Rattle.mysql_connection_statements.specs.Statements.{statement_at};
 ghost use Rattle.mysql_connection_state.specs.Views.{about_view};
@@ -68,7 +69,8 @@ fn carried_types(
     count: u16,
     body: &[u8],
 ) -> Result<Vec<BoundType>, AllocError>
-    ensures { IfOk result (λ types. types.items ≡ carried_types capabilities number count body.now) }
+    ensures { IfOk result (λ types. types.items ≡
+        carried_types capabilities number count body.now) }
 {
     if number == BULK_EXECUTE {
         read_bulk_types(alloc, count, body)
@@ -124,7 +126,8 @@ impl State {
         refused: Refused,
         types: &[BoundType],
     ) -> Result<(), AllocError>
-        ensures { OnOk result ((statement : Statement) → statement_at self.old.statements id ≡ Some statement →
+        ensures { OnOk result ((statement : Statement) → statement_at self.old.statements id ≡
+            Some statement →
             self.new ≡ after_executing id statement refused types.now self.old) }
     {
         let columns = shared_columns_of(self.statements.get(id))?;

@@ -95,7 +95,8 @@ fn login_plugin(
     alloc: Global,
     login: &LoginResponse,
 ) -> Result<Option<AuthPlugin<'static>>, AllocError>
-    ensures { IfOk result (λ plugin. option_map plugin_view plugin ≡ login_plugin (login_view login.now)) }
+    ensures { IfOk result (λ plugin. option_map plugin_view plugin ≡
+        login_plugin (login_view login.now)) }
 {
     match login.auth_plugin() {
         Some(plugin) => Ok(Some(plugin.clone(alloc)?)),
@@ -119,7 +120,8 @@ impl State {
 
     /// Reads the server's first payload.
     pub(crate) fn read_greeting(&mut self, payload: &[u8]) -> Result<Event, Fault>
-        ensures { Reads (says events.Greeting (after_greeting self.old) (of_login (greeting_at payload.now)))
+        ensures { Reads (says events.Greeting (after_greeting self.old)
+            (of_login (greeting_at payload.now)))
             result self.new }
     {
         let said = greeting(self.alloc, payload)?;

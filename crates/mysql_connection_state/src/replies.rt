@@ -75,7 +75,8 @@ impl InReply {
 
 // What is due behind a reply: where a stream of its own follows, nothing that is read here.
 fn due_behind(about: &About, event: &ReplyEvent) -> Due
-    ensures due { phase_view result ≡ steps.phase_behind (about_view about.now) (reply_view event.now) }
+    ensures due { phase_view result ≡
+        steps.phase_behind (about_view about.now) (reply_view event.now) }
     ensures fits { (capabilities : Capabilities) → Fits capabilities result }
 {
     match (about, event) {
@@ -88,7 +89,8 @@ impl State {
     // The columns that stand are those that the reply's statement has.
     fn keep_columns(&mut self, reply: InReply) -> Result<(), AllocError>
         ensures { OnOk result (self.new ≡ steps.with_statements
-            (steps.with_columns (in_reply_view reply) (about_view reply.about) self.old.statements) self.old) }
+            (steps.with_columns (in_reply_view reply) (about_view reply.about) self.old.statements)
+            self.old) }
     {
         let InReply {
             reader,
@@ -110,7 +112,8 @@ impl State {
     fn end_reply(&mut self, reply: InReply, event: &ReplyEvent) -> Result<(), AllocError>
         ensures { OnOk result (self.new ≡
             steps.behind_reply (about_view reply.about) (reply_view event.now)
-            (steps.with_statements (steps.with_columns (in_reply_view reply) (about_view reply.about)
+            (steps.with_statements (steps.with_columns (in_reply_view reply)
+            (about_view reply.about)
             self.old.statements) self.old)) }
     {
         self.set_due(due_behind(&reply.about, event));
@@ -120,7 +123,8 @@ impl State {
     // What stands behind an event of a reply that came so far.
     fn go_on(&mut self, reply: InReply, event: &ReplyEvent) -> Result<(), AllocError>
         requires { ReadsBy self.old.capabilities reply }
-        ensures { OnOk result (self.new ≡ steps.after_part (in_reply_view reply) (reply_view event.now) self.old) }
+        ensures { OnOk result (self.new ≡
+            steps.after_part (in_reply_view reply) (reply_view event.now) self.old) }
     {
         if reply.is_whole() {
             self.end_reply(reply, event)
@@ -150,7 +154,8 @@ impl State {
     // Reads a payload of the server.
     fn read_reply(&mut self, mut reply: InReply, payload: &[u8]) -> Result<Event, Fault>
         requires { ReadsBy self.old.capabilities reply }
-        ensures { Reads (steps.reply_step (in_reply_view reply) self.old payload.now) result self.new }
+        ensures { Reads (steps.reply_step (in_reply_view reply) self.old payload.now) result
+            self.new }
     {
         match next_event(&mut reply.reader, payload) {
             Ok(event) => {
@@ -164,7 +169,8 @@ impl State {
     // Reads bytes of the client's file.
     fn read_file(&mut self, mut reply: InReply, payload: &[u8]) -> Result<Event, Fault>
         requires { ReadsBy self.old.capabilities reply }
-        ensures { Reads (steps.file_step (in_reply_view reply) self.old payload.now) result self.new }
+        ensures { Reads (steps.file_step (in_reply_view reply) self.old payload.now) result
+            self.new }
     {
         if let Err(fault) = reply.reader.file_data(payload) {
             return Err(reply_fault(fault));

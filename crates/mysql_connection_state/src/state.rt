@@ -122,15 +122,16 @@ impl State {
     /// fault, for any bytes (`step`).
     ///
     /// # Errors
-    /// - `OldProtocol`, `BadGreeting`, `BadLogin`, `BadSwitch`, `BadReply`, each named by what can't be
-    ///   read.
+    /// - `OldProtocol`, `BadGreeting`, `BadLogin`, `BadSwitch`, `BadReply`, each named by what
+    ///   can't be read.
     /// - `Unasked` where nothing is due.
     /// - `Memory`.
     ///
     /// After an error the state may be anything.
     ///
-    /// MySQL: Client/Server Protocol, "Connection Phase" and "Command Phase"; MariaDB: Client/Server
-    /// Protocol, "Connecting", "2 - Text Protocol" and "3 - Binary Protocol (Prepared Statements)".
+    /// MySQL: Client/Server Protocol, "Connection Phase" and "Command Phase"; MariaDB:
+    /// Client/Server Protocol, "Connecting", "2 - Text Protocol" and "3 - Binary Protocol (Prepared
+    /// Statements)".
     #[tactic(auto, unfolding(mysql_connection_rules::specs::Steps::step))]
     pub fn read(&mut self, payload: &[u8]) -> Result<Event, Fault>
         ensures { Reads (step self.old payload.now) result self.new }
@@ -247,8 +248,8 @@ impl State {
         reply.earlier.checked_add(coming)
     }
 
-    /// How many bytes are kept, of statements, columns, types and long data. None where they are more
-    /// than a `usize` holds.
+    /// How many bytes are kept, of statements, columns, types and long data. None where they are
+    /// more than a `usize` holds.
     ///
     /// Promise: exactly the sum (`kept`).
     pub fn kept(&self) -> Option<usize>
