@@ -1,7 +1,8 @@
 -- What the payloads of a connection say, one event each, and whose they are.
 -- MySQL: Client/Server Protocol, "Connection Lifecycle", "Connection Phase" and "Command Phase".
 use Rattle.std.specs.Prelude.{ℕ, List}
-use Rattle.mysql_authentication.specs.Events.{Authentication as AuthenticationSaid, Greeting as GreetingSaid}
+use Rattle.mysql_authentication.specs.Events.{Authentication as AuthenticationSaid}
+use Rattle.mysql_authentication.specs.Events.{Greeting as GreetingSaid}
 use Rattle.mysql_authentication.specs.Events.{Response as ResponseSaid}
 use Rattle.mysql_commands.specs.Commands.{Command}
 use Rattle.mysql_reply_events.specs.Events.{Event as ReplySaid}

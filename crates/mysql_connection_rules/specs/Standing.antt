@@ -27,8 +27,9 @@ pub data About : Type 0 where
   -- Behind one payload that is no error the connection goes on in a form of its own.
   Streaming : Reason → About
 
--- A reply: its kind, how far it came, what it is about, and the columns that are kept for it: those of its result
--- before this one, those of this one, and how many of its parameters are still to come, which aren't kept.
+-- A reply: its kind, how far it came, what it is about, and the columns that are kept for it: those
+-- of its result before this one, those of this one, and how many of its parameters are still to
+-- come, which aren't kept.
 pub record InReply : Type 0 where
   pub kind : ReplyKind
   pub so_far : ReplySoFar
@@ -56,8 +57,9 @@ pub data Phase : Type 0 where
   -- Nothing: what follows isn't read here.
   Over : Reason → Phase
 
--- The phase; the number that is due of the next packet; whether the payload that came last is the client's; the
--- capabilities that the server offers, and those in force; the plugin in force; the prepared statements.
+-- The phase; the number that is due of the next packet; whether the payload that came last is the
+-- client's; the capabilities that the server offers, and those in force; the plugin in force; the
+-- prepared statements.
 pub record Standing : Type 0 where
   pub phase : Phase
   pub number : ℕ
@@ -93,7 +95,7 @@ abbrev pub phase_size : Statements → Phase → ℕ
 phase_size s (Reply r) = r.earlier + (r.coming + about_size s r.about)
 phase_size s phase = 0
 
--- Each payload of which something is kept, by 4 and its length, and 2 for each type in force; where a reply may bring
--- back types and long data, the larger sum.
+-- Each payload of which something is kept, by 4 and its length, and 2 for each type in force; where
+-- a reply may bring back types and long data, the larger sum.
 abbrev pub kept : Standing → ℕ
 kept s = s.statements.stored + phase_size s.statements s.phase

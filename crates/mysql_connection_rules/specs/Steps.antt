@@ -1,16 +1,20 @@
 -- The table of steps: in each phase, whose payload is due, what it says, and what stands behind it.
--- MySQL: Client/Server Protocol, "Connection Phase", "Command Phase" and "Connection Lifecycle"; MariaDB:
--- Client/Server Protocol, "Connecting", "2 - Text Protocol", "3 - Binary Protocol (Prepared Statements)" and
--- "Replication Protocol".
+-- MySQL: Client/Server Protocol, "Connection Phase", "Command Phase" and "Connection Lifecycle";
+-- MariaDB: Client/Server Protocol, "Connecting", "2 - Text Protocol", "3 - Binary Protocol
+-- (Prepared Statements)" and "Replication Protocol".
 use Rattle.std.specs.Prelude.{ℕ, ◌+◌, ◌-◌, Bool, true, false, ◌==◌, ◌&&◌, ◌||◌, if◌then◌else◌}
-use Rattle.std.specs.Prelude.{List, [], ◌∷◌, Option, Some, None, Result, Ok, Err, bytes_eq, unwrap_or}
+use Rattle.std.specs.Prelude.{List, [], ◌∷◌, Option, Some, None, Result, Ok, Err, bytes_eq}
+use Rattle.std.specs.Prelude.{unwrap_or}
 use Rattle.std.specs.Option.{option_and_then, option_map}
 use Rattle.mysql_auth.specs.Packets.{SwitchFields}
 use Rattle.mysql_auth.specs.Plugins.{Plugin, plugin_named, without_zero}
 use Rattle.mysql_auth.specs.Plugins.Plugin.{CachingSha2, OldPassword}
-use Rattle.mysql_authentication.specs.Events.{Authentication as AuthenticationSaid, Greeting as GreetingSaid}
-use Rattle.mysql_authentication.specs.Events.{Login, Response as ResponseSaid, first_fields, login_plugin}
-use Rattle.mysql_authentication.specs.Events.Authentication.{Accepted, AuthMore, AuthSwitch, Denied, NextFactor}
+use Rattle.mysql_authentication.specs.Events.{Authentication as AuthenticationSaid}
+use Rattle.mysql_authentication.specs.Events.{Greeting as GreetingSaid}
+use Rattle.mysql_authentication.specs.Events.{Login, Response as ResponseSaid, first_fields}
+use Rattle.mysql_authentication.specs.Events.{login_plugin}
+use Rattle.mysql_authentication.specs.Events.Authentication.{Accepted, AuthMore, AuthSwitch, Denied}
+use Rattle.mysql_authentication.specs.Events.Authentication.{NextFactor}
 use Rattle.mysql_authentication.specs.Events.Authentication.{OldAuthSwitch, PluginData}
 use Rattle.mysql_authentication.specs.Events.Greeting.{Greeted, Rejected}
 use Rattle.mysql_authentication.specs.Events.Response.{LoggedIn, SecureRequest}
@@ -40,7 +44,8 @@ use Rattle.mysql_reply_events.specs.declared.fault.ReplyFault.TheVariants as rep
 use Rattle.mysql_reply_events.specs.Events.{Awaited, ReplySoFar}
 use Rattle.mysql_reply_events.specs.Events as awaiting
 use Rattle.mysql_reply_events.specs.Events.{Event as ReplySaid}
-use Rattle.mysql_reply_events.specs.Events.Event.{ColumnEvent, CountEvent, ErrorEvent, LineEvent, OkEvent, PreparedEvent}
+use Rattle.mysql_reply_events.specs.Events.Event.{ColumnEvent, CountEvent, ErrorEvent, LineEvent}
+use Rattle.mysql_reply_events.specs.Events.Event.{OkEvent, PreparedEvent}
 use Rattle.mysql_reply_events.specs.Events.Event.{ProgressEvent}
 use Rattle.mysql_reply_events.specs.Table.{event_at, file_data_at, fresh}
 use Rattle.mysql_connection_statements.specs.declared.pending.Pending.{Pending}
@@ -55,11 +60,16 @@ use Rattle.mysql_connection_rules.specs.declared.side.Side.TheVariants.{Client, 
 use Rattle.mysql_connection_rules.specs.Events.{Event}
 use Rattle.mysql_connection_rules.specs.Events as events
 use Rattle.mysql_connection_rules.specs.Standing.{About, InReply, Phase, Standing}
-use Rattle.mysql_connection_statements.specs.Statements.{Statement, Statements, after_close, after_prepared}
-use Rattle.mysql_connection_statements.specs.Statements.{change_at, counted, executed, forgetting_last, having_columns}
-use Rattle.mysql_connection_statements.specs.Statements.{is_reset, no_statements, pending_of, prepared_as, resolved}
-use Rattle.mysql_connection_statements.specs.Statements.{statement_at, taken_back, with_long_data, with_statement}
-use Rattle.mysql_connection_rules.specs.Standing.About.{Executing, Nothing, OfStatement, Preparing, Resetting, Streaming}
+use Rattle.mysql_connection_statements.specs.Statements.{Statement, Statements, after_close}
+use Rattle.mysql_connection_statements.specs.Statements.{after_prepared}
+use Rattle.mysql_connection_statements.specs.Statements.{change_at, counted, executed}
+use Rattle.mysql_connection_statements.specs.Statements.{forgetting_last, having_columns}
+use Rattle.mysql_connection_statements.specs.Statements.{is_reset, no_statements, pending_of}
+use Rattle.mysql_connection_statements.specs.Statements.{prepared_as, resolved}
+use Rattle.mysql_connection_statements.specs.Statements.{statement_at, taken_back, with_long_data}
+use Rattle.mysql_connection_statements.specs.Statements.{with_statement}
+use Rattle.mysql_connection_rules.specs.Standing.About.{Executing, Nothing, OfStatement, Preparing}
+use Rattle.mysql_connection_rules.specs.Standing.About.{Resetting, Streaming}
 use Rattle.mysql_connection_rules.specs.Standing as phases
 
 -- What a payload says, and what stands behind it; or why it has no place there.
@@ -111,10 +121,13 @@ of_login (Err fault) = Err (login_fault fault)
 -- The server refuses the connection, or greets and says what it can do.
 abbrev pub after_greeting : Standing → GreetingSaid → Standing
 after_greeting s (Rejected error) = over reasons.Rejected s
-after_greeting s (Greeted p) =
-    record s { phase = phases.Response; offered = offered p.capabilities p.mariadb_ext_capabilities }
+after_greeting s (Greeted p) = record s {
+  phase = phases.Response;
+  offered = offered p.capabilities p.mariadb_ext_capabilities;
+}
 
--- The client asks for TLS, or logs in: now the capabilities of both are in force, and the plugin that it names.
+-- The client asks for TLS, or logs in: now the capabilities of both are in force, and the plugin
+-- that it names.
 abbrev pub after_login : Standing → Login → Standing
 after_login s login = record s {
   phase = phases.Authentication exchanges.Login;
@@ -130,7 +143,8 @@ after_response s (LoggedIn login) = after_login s login
 -- What follows a login is compressed. (MySQL: "Compression"; the capabilities COMPRESS and
 -- ZSTD_COMPRESSION_ALGORITHM.)
 abbrev pub is_compressed : Capabilities → Bool
-is_compressed capabilities = contains capabilities.protocol.0 0x20 || contains capabilities.protocol.0 0x4000000
+is_compressed capabilities = contains capabilities.protocol.0 0x20 ||
+    contains capabilities.protocol.0 0x4000000
 
 -- Behind a login's error the connection is over; behind one of a change of user it goes on.
 abbrev pub after_denial : Exchange → Standing → Standing
@@ -143,10 +157,11 @@ answered exchanges.Login = exchanges.Login
 answered exchange = exchanges.ChangeUser
 
 abbrev pub with_plugin : Exchange → Option Plugin → Standing → Standing
-with_plugin exchange plugin s = record s { phase = phases.Answer (answered exchange); plugin = plugin }
+with_plugin exchange plugin s =
+    record s { phase = phases.Answer (answered exchange); plugin = plugin }
 
--- The plugin that caches SHA-256 was content with what it had: the server speaks once more. (MySQL: "Caching SHA-2
--- Pluggable Authentication", 'fast authentication'.)
+-- The plugin that caches SHA-256 was content with what it had: the server speaks once more. (MySQL:
+-- "Caching SHA-2 Pluggable Authentication", 'fast authentication'.)
 abbrev pub is_caching : Option Plugin → Bool
 is_caching (Some CachingSha2) = true
 is_caching plugin = false
@@ -195,7 +210,8 @@ abbrev pub statement_in_question : Statements → List ℕ → Option Statement
 statement_in_question s payload = option_and_then (statement_at s) (id_in_question s payload)
 
 abbrev pub parameters_in_question : Statements → List ℕ → Option InForce
-parameters_in_question s payload = option_map (λ statement. statement.parameters) (statement_in_question s payload)
+parameters_in_question s payload =
+    option_map (λ statement. statement.parameters) (statement_in_question s payload)
 
 abbrev pub with_statements : Statements → Standing → Standing
 with_statements statements s = record s { statements = statements }
@@ -219,7 +235,8 @@ carried_types capabilities number count body =
 -- How a refusal takes an execution back.
 abbrev pub refused_as : ℕ → List ℕ → Refused
 refused_as number body =
-    if number == 0xfa then refused.Bulk (unwrap_or (option_map (λ head. head.flags) (bulk_head body)) 0)
+    if number == 0xfa
+    then refused.Bulk (unwrap_or (option_map (λ head. head.flags) (bulk_head body)) 0)
     else refused.Execution
 
 -- Until the reply comes it is kept what was in force before.
@@ -229,10 +246,12 @@ about_execution id (Some pending) = Executing pending
 
 abbrev pub after_executing : ℕ → Statement → Refused → List BoundType → Standing → Standing
 after_executing id statement refused types s =
-    reply_due kinds.Binary statement.columns (about_execution id (pending_of id refused types statement))
+    reply_due kinds.Binary statement.columns
+    (about_execution id (pending_of id refused types statement))
     (with_statements (with_statement id (executed types statement) s.statements) s)
 
--- An execution, by its number and what stands behind it; of a statement that isn't known there is only a reply.
+-- An execution, by its number and what stands behind it; of a statement that isn't known there is
+-- only a reply.
 abbrev pub execution_of : ℕ → List ℕ → Option ℕ → Option Statement → Standing → Standing
 execution_of number body (Some id) (Some statement) s =
     after_executing id statement (refused_as number body)
@@ -275,7 +294,8 @@ text_of command = []
 
 abbrev pub after_prepare : List ℕ → Command → Standing → Standing
 after_prepare payload command s =
-    reply_due kinds.Prepare None (Preparing (text_of command) (counted payload)) (with_statements (forgetting_last s.statements) s)
+    reply_due kinds.Prepare None (Preparing (text_of command) (counted payload))
+    (with_statements (forgetting_last s.statements) s)
 
 -- The form of the reply, where a command changes nothing before it.
 abbrev pub kind_of : ReplyForm → ReplyKind
@@ -298,9 +318,10 @@ about_by number =
 abbrev pub after_other : ℕ → List ℕ → Standing → Standing
 after_other number payload s = reply_due (kind_of (reply_to payload)) None (about_by number) s
 
--- What a command changes, and what is due behind it, by its number; it does so too where it isn't laid out as it
--- should be, by the fields in front that can be read.
-abbrev pub by_number : ℕ → List ℕ → Option ℕ → Option Statement → List ℕ → Command → Standing → Standing
+-- What a command changes, and what is due behind it, by its number; it does so too where it isn't
+-- laid out as it should be, by the fields in front that can be read.
+abbrev pub by_number : ℕ → List ℕ → Option ℕ → Option Statement → List ℕ → Command → Standing →
+    Standing
 by_number number body id statement payload command s =
     if number == 0x01 then over reasons.Quit s
     else if number == 0x11 then after_change payload command s
@@ -309,7 +330,8 @@ by_number number body id statement payload command s =
     else if number == 0x18 then in_phase phases.Command (after_data id payload command s)
     else if number == 0x19 then in_phase phases.Command (closing id s)
     else if number == 0x1a then reply_due kinds.Plain None Nothing (changing is_reset id s)
-    else if number == 0x1c then reply_due kinds.Fetch (option_and_then (λ x. x.columns) statement) Nothing s
+    else if number == 0x1c then reply_due kinds.Fetch (option_and_then (λ x. x.columns) statement)
+    Nothing s
     else after_other number payload s
 
 abbrev pub after_command : Standing → List ℕ → Command → Standing
@@ -328,11 +350,14 @@ command_step s payload =
 abbrev pub context_of : Standing → InReply → Context
 context_of s r = record { kind = r.kind; capabilities = s.capabilities }
 
--- The columns that are kept: at a count those of the result before go on being kept until the new ones stand. Of a
--- statement that is being prepared the parameters come first, which aren't kept.
+-- The columns that are kept: at a count those of the result before go on being kept until the new
+-- ones stand. Of a statement that is being prepared the parameters come first, which aren't kept.
 abbrev pub column_came : ℕ → InReply → InReply
 column_came size r =
-    if r.parameters == 0 then record r { coming = r.coming + size } else record r { parameters = r.parameters - 1 }
+    if r.parameters == 0 then record r { coming = r.coming + size } else record r {
+      parameters =
+          r.parameters - 1;
+    }
 
 abbrev pub sized : ReplySaid → ℕ → InReply → InReply
 sized (CountEvent n true) size r = record r { earlier = r.coming; coming = 0 }
@@ -340,11 +365,13 @@ sized (PreparedEvent p follow) size r = record r { parameters = if follow then p
 sized (ColumnEvent column) size r = column_came size r
 sized event size r = r
 
--- What an event changes of the statements: one was prepared, an execution was refused, the session begins anew.
+-- What an event changes of the statements: one was prepared, an execution was refused, the session
+-- begins anew.
 abbrev pub changed_by : About → ℕ → ReplySaid → Statements → Statements
 changed_by (Preparing text size) more (PreparedEvent p follow) s =
     after_prepared p.statement_id (prepared_as text p.num_params (size + more)) s
-changed_by (Executing p) more (ErrorEvent error) s = change_at p.id (taken_back error.error_code p) s
+changed_by (Executing p) more (ErrorEvent error) s =
+    change_at p.id (taken_back error.error_code p) s
 changed_by Resetting more (OkEvent ok) s = no_statements
 changed_by about more event s = s
 
@@ -379,9 +406,13 @@ after_part r event s =
     else in_phase (phases.Reply r) s
 
 -- Behind an event of a reply that came so far.
+abbrev pub reply_after : InReply → ℕ → ReplySaid → ReplySoFar → InReply
+reply_after r size event so_far =
+    record (sized event size (record r { so_far = so_far })) { about = about_after r.about event }
+
 abbrev pub after_event : InReply → ℕ → ReplySaid → ReplySoFar → Standing → Standing
 after_event r size event so_far s =
-    after_part (record (sized event size (record r { so_far = so_far })) { about = about_after r.about event }) event
+    after_part (reply_after r size event so_far) event
     (with_statements (changed_by r.about size event s.statements) s)
 
 abbrev pub of_reply : {X : Type 0} → Result X ReplyFault → Result X Fault
@@ -397,7 +428,8 @@ reply_step r s payload =
 -- Bytes of the client's file; an empty payload ends it, and the reply goes on.
 abbrev pub file_step : InReply → Standing → List ℕ → Step
 file_step r s payload =
-    says (λ so_far. events.FileData payload) (λ so_far. in_phase (phases.Reply (record r { so_far = so_far })) s)
+    says (λ so_far. events.FileData payload)
+    (λ so_far. in_phase (phases.Reply (record r { so_far = so_far })) s)
     (of_reply (file_data_at r.so_far r.so_far.awaited payload))
 
 -- THE TABLE
@@ -407,7 +439,8 @@ by_turn Client r s payload = file_step r s payload
 by_turn Server r s payload = reply_step r s payload
 
 abbrev pub in_turn : Phase → Standing → List ℕ → Step
-in_turn phases.Greeting s payload = says events.Greeting (after_greeting s) (of_login (greeting_at payload))
+in_turn phases.Greeting s payload =
+    says events.Greeting (after_greeting s) (of_login (greeting_at payload))
 in_turn phases.Response s payload =
     says events.Response (after_response s) (of_login (response_at s.offered.protocol.0 payload))
 in_turn (phases.Authentication exchange) s payload = authentication_step exchange s payload

@@ -1,10 +1,11 @@
 -- Two streams of packets, either of which may have ended, and the next event of them.
 -- MySQL: Client/Server Protocol, "MySQL Packets", "Sequence ID" and "Connection Lifecycle".
-use Rattle.std.specs.Prelude.{ℕ, ◌+◌, ◌-◌, Bool, true, false, ◌&&◌, ◌==◌, nat_le, nat_lt, if◌then◌else◌}
-use Rattle.std.specs.Prelude.{List, [], ◌∷◌, ◌++◌, length, Option, Some, None, Result, Ok, Err, slice_index_or, bytes_eq, not}
-use Rattle.std.specs.Prelude.{take}
+use Rattle.std.specs.Prelude.{ℕ, ◌+◌, ◌-◌, Bool, true, false, not, ◌&&◌, ◌==◌, nat_le, nat_lt}
+use Rattle.std.specs.Prelude.{if◌then◌else◌, bytes_eq, Option, Some, None, Result, Ok, Err}
+use Rattle.std.specs.Prelude.{List, [], ◌∷◌, ◌++◌, length, slice_index_or, take}
 use Rattle.mysql_authentication.specs.Readings.{early_error_at}
-use Rattle.mysql_connection_packets.specs.FirstPacket.{Found, OutOfSync, Short, TooLarge, Whole, first_packet, framed}
+use Rattle.mysql_connection_packets.specs.FirstPacket.{Found, OutOfSync, Short, TooLarge, Whole}
+use Rattle.mysql_connection_packets.specs.FirstPacket.{first_packet, framed}
 use Rattle.mysql_fields.specs.Wire.{Reading}
 use Rattle.mysql_reply_events.specs.declared.fault.ReplyFault.TheVariants.{BadError}
 use Rattle.mysql_server_packets.specs.Packets.{ServerError}
@@ -52,7 +53,8 @@ pub data Coming : Type 0 where
   End : Coming
 
 abbrev pub grown : Coming → Stream → Stream
-grown (Piece piece) stream = record { read = stream.read; bytes = stream.bytes ++ piece; closed = stream.closed }
+grown (Piece piece) stream =
+    record { read = stream.read; bytes = stream.bytes ++ piece; closed = stream.closed }
 grown End stream = record { read = stream.read; bytes = stream.bytes; closed = true }
 
 abbrev pub grow : Side → Coming → Streams → Streams
@@ -64,8 +66,8 @@ abbrev pub limit_of : Side → Limits → ℕ
 limit_of Client limits = limits.client
 limit_of Server limits = limits.server
 
--- Of a stream as much is held unread as the longest payload takes with its headers; what the limit leaves beside both
--- is for what is kept.
+-- Of a stream as much is held unread as the longest payload takes with its headers; what the limit
+-- leaves beside both is for what is kept.
 abbrev pub room : Side → Limits → ℕ
 room side limits = framed (limit_of side limits)
 
@@ -117,7 +119,8 @@ behind rest stream = record {
   closed = stream.closed;
 }
 
--- A command's packets are numbered from 0; whoever speaks next goes on from the number where the other stopped.
+-- A command's packets are numbered from 0; whoever speaks next goes on from the number where the
+-- other stopped.
 abbrev pub number_in : Phase → ℕ → ℕ
 number_in Command number = 0
 number_in phase number = number
@@ -141,7 +144,8 @@ moved w side number rest s = record {
 -- An event leads on where what is kept is within its room.
 abbrev pub leads_on : World → Side → Event → World → Next
 leads_on w side event new =
-    if nat_le (kept new.standing) (room_to_keep w.limits) then Says event new else fails w side faults.Held
+    if nat_le (kept new.standing) (room_to_keep w.limits) then Says event new
+    else fails w side faults.Held
 
 abbrev pub said_by : World → Side → ℕ → List ℕ → Result (Event × Standing) Fault → Next
 said_by w side number rest (Ok said) = leads_on w side said.0 (moved w side number rest said.1)
@@ -155,12 +159,15 @@ begins_error payload = slice_index_or payload 0 0 == 255
 -- An error without a question ends the connection.
 abbrev pub farewell : World → ℕ → List ℕ → Reading ServerError → Next
 farewell w number rest (Ok error) =
-    leads_on w Server (Farewell error.0) (moved w Server number rest (over reasons.Farewell w.standing))
+    leads_on w Server (Farewell error.0)
+    (moved w Server number rest (over reasons.Farewell w.standing))
 farewell w number rest (Err e) = fails w Server (faults.BadReply BadError)
 
+-- Its last words, or this fault.
 abbrev pub words_or : World → Fault → List ℕ → ℕ → List ℕ → Next
 words_or w fault payload number rest =
-    if begins_error payload then farewell w number rest (early_error_at payload) else fails w Server fault
+    if begins_error payload then farewell w number rest (early_error_at payload)
+    else fails w Server fault
 
 -- The server says an error where nothing asked for it, or what has no place.
 abbrev pub words_by : World → Found → Next
@@ -169,22 +176,24 @@ words_by w TooLarge = fails w Server faults.TooLarge
 words_by w (OutOfSync number) = fails w Server (faults.OutOfSync number)
 words_by w (Whole payload number rest) = words_or w faults.Unasked payload number rest
 
--- Behind the end of the client's stream: words with the number that was due of the client. Another number answers what
--- the client's stream lacks.
+-- Behind the end of the client's stream: words with the number that was due of the client. Another
+-- number answers what the client's stream lacks.
 abbrev pub has_number : ℕ → List ℕ → Bool
 has_number number bytes = nat_lt 3 (length bytes) && (slice_index_or bytes 3 0 == number)
 
 abbrev pub words : World → Next
 words w =
     if has_number w.standing.number w.unread.server.bytes
-    then words_by w (first_packet w.limits.server w.standing.number w.unread.server.bytes) else Waits
+    then words_by w (first_packet w.limits.server w.standing.number w.unread.server.bytes)
+    else Waits
 
 -- A packet's first chunk has a byte, and it is ff.
 abbrev pub has_no_bytes : List ℕ → Bool
 has_no_bytes bytes = bytes_eq (take 3 bytes) (0 ∷ 0 ∷ 0 ∷ [])
 
 abbrev pub carries_error : List ℕ → Bool
-carries_error bytes = nat_lt 4 (length bytes) && (not (has_no_bytes bytes) && (slice_index_or bytes 4 0 == 255))
+carries_error bytes = nat_lt 4 (length bytes) &&
+    (not (has_no_bytes bytes) && (slice_index_or bytes 4 0 == 255))
 
 -- In place of an answer: an error whose number is below the one that is due.
 abbrev pub is_early : Standing → List ℕ → Bool
@@ -200,7 +209,8 @@ server_by w (Whole payload number rest) = said_by w Server number rest (step w.s
 
 abbrev pub of_server : World → List ℕ → Next
 of_server w bytes =
-    if is_early w.standing bytes then words_by w (first_packet w.limits.server (slice_index_or bytes 3 0) bytes)
+    if is_early w.standing bytes
+    then words_by w (first_packet w.limits.server (slice_index_or bytes 3 0) bytes)
     else server_by w (first_packet w.limits.server w.standing.number bytes)
 
 abbrev pub client_by : World → Found → Next
@@ -211,7 +221,8 @@ client_by w (Whole payload number rest) = said_by w Client number rest (step w.s
 
 abbrev pub next_by : World → Option Side → Next
 next_by w None = Waits
-next_by w (Some Client) = client_by w (first_packet w.limits.client w.standing.number w.unread.client.bytes)
+next_by w (Some Client) =
+    client_by w (first_packet w.limits.client w.standing.number w.unread.client.bytes)
 next_by w (Some Server) = of_server w w.unread.server.bytes
 
 abbrev pub next : World → Next

@@ -17,7 +17,8 @@ pub enum Fault {
     TooLarge,
     /// Its packet has this number, and another one is due.
     OutOfSync(u8),
-    /// The greeting has another version than 10, or not both sides speak the protocol of version 4.1.
+    /// The greeting has another version than 10, or not both sides speak the protocol of version
+    /// 4.1.
     OldProtocol,
     /// The greeting can't be read, or stands where none is due.
     BadGreeting,

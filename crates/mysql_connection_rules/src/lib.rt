@@ -4,6 +4,7 @@
 
 pub mod exchange;
 pub mod fault;
+pub mod laws;
 pub mod limits;
 pub mod reason;
 pub mod side;

@@ -7,8 +7,8 @@ pub struct Limits {
     pub client: usize,
     /// The longest payload of the server.
     pub server: usize,
-    /// The unread bytes of both, and what is kept of statements, columns and long data. Of each side
-    /// as much waits unread as its longest payload takes with its headers; what this leaves beside
-    /// both is for what is kept.
+    /// The unread bytes of both, and what is kept of statements, columns and long data. Of each
+    /// side as much waits unread as its longest payload takes with its headers; what this leaves
+    /// beside both is for what is kept.
     pub held: usize,
 }

@@ -1,21 +1,22 @@
--- The prepared statements of a connection: what stands of each, and what a command and its reply change.
--- MySQL: Client/Server Protocol, "Prepared Statements"; MariaDB: Client/Server Protocol, "3 - Binary Protocol (Prepared
--- Statements)".
-use Rattle.std.specs.Prelude.{ℕ, ◌+◌, ◌*◌, ◌-◌, ◌==◌, if◌then◌else◌, nat_eq, nat_lt, List, [], length}
-use Rattle.std.specs.Prelude.{Option, Some, None}
+-- The prepared statements of a connection: what stands of each, and what a command and its reply
+-- change. MySQL: Client/Server Protocol, "Prepared Statements"; MariaDB: Client/Server Protocol,
+-- "3 - Binary Protocol (Prepared Statements)".
+use Rattle.std.specs.Prelude.{ℕ, ◌+◌, ◌*◌, ◌-◌, ◌==◌, if◌then◌else◌, nat_eq, nat_lt, List, []}
+use Rattle.std.specs.Prelude.{length, Option, Some, None}
 use Rattle.std.specs.Map.{lookup}
 use Rattle.indexmap.specs.IndexMap.{insert_entry, swap_remove_entry}
 use Rattle.mysql_columns.specs.Columns.{ColumnDefinition}
-use Rattle.mysql_executions.specs.After.{after_execution, after_long_data, after_refusal, after_reset, freshly_prepared}
+use Rattle.mysql_executions.specs.After.{after_execution, after_long_data, after_refusal}
+use Rattle.mysql_executions.specs.After.{after_reset, freshly_prepared}
 use Rattle.mysql_executions.specs.InForce.{InForce, is_waiting}
 use Rattle.mysql_executions.specs.Types.{unnamed}
 use Rattle.mysql_executions.specs.declared.refused.Refused.{Refused}
 use Rattle.mysql_executions.specs.declared.types.BoundType.{BoundType}
-pub use Rattle.mysql_connection_statements.specs.declared.pending.Pending.{Pending}
+use Rattle.mysql_connection_statements.specs.declared.pending.Pending.{Pending}
 
--- A statement: its text, what is in force of its parameters, and the columns that it last had. Three sums say how many
--- bytes of payloads are kept for it, each payload with 4 more: of its prepare and its statement packet, of its columns,
--- of the long data that waits.
+-- A statement: its text, what is in force of its parameters, and the columns that it last had.
+-- Three sums say how many bytes of payloads are kept for it, each payload with 4 more: of its
+-- prepare and its statement packet, of its columns, of the long data that waits.
 pub record Statement : Type 0 where
   pub text : List ℕ
   pub parameters : InForce
@@ -111,8 +112,8 @@ after_close id s = record {
   stored = s.stored - stored_size (statement_at s id);
 }
 
--- An execution came: the types that it carries are in force, and no long data waits; of a broken statement nothing
--- changes.
+-- An execution came: the types that it carries are in force, and no long data waits; of a broken
+-- statement nothing changes.
 abbrev pub executed : List BoundType → Statement → Statement
 executed types statement = record {
   text = statement.text;
@@ -144,7 +145,8 @@ is_reset statement = record {
   sent = 0;
 }
 
--- The columns of a result or of the statement came: these it has now, of so many bytes; of none the ones before count.
+-- The columns of a result or of the statement came: these it has now, of so many bytes; of none the
+-- ones before count.
 abbrev pub having_columns : Option (List ColumnDefinition) → (size : ℕ) → Statement → Statement
 having_columns columns size statement = record {
   text = statement.text;
@@ -157,8 +159,9 @@ having_columns columns size statement = record {
 
 -- WHAT AN ERROR TAKES BACK
 
--- An execution that isn't answered: its statement, how it is refused, how many types it carried, and what was in force
--- before it, with the long data that waited then. Of a broken statement there is none.
+-- An execution that isn't answered: its statement, how it is refused, how many types it carried,
+-- and what was in force before it, with the long data that waited then. Of a broken statement there
+-- is none.
 abbrev pub pending_of : ℕ → Refused → List BoundType → Statement → Option Pending
 pending_of id refused types statement =
     if statement.parameters.broken then None
@@ -170,7 +173,8 @@ pending_of id refused types statement =
       sent = statement.sent;
     })
 
--- It was answered by an error of this code: what was in force before it may be so again, and its long data wait.
+-- It was answered by an error of this code: what was in force before it may be so again, and its
+-- long data wait.
 abbrev pub sent_again : ℕ → InForce → ℕ
 sent_again sent now = if is_waiting now then sent else 0
 

@@ -2,6 +2,7 @@
 //! and its reply change.
 #![tactic(auto)]
 
+pub mod laws;
 pub mod pending;
 mod sizes;
 pub mod statement;

@@ -1,6 +1,6 @@
 //! Sums of what is kept, which may be too large for a usize.
 
-ghost use Rattle.std.specs.Prelude.{◌≡◌, ◌+◌, ◌-◌, ◌<◌, ◌^◌, IfOk};
+ghost use Rattle.std.specs.Prelude.{◌≡◌, ◌+◌, ◌-◌, ◌<◌, ◌≤◌, ◌^◌, IfErr, IfOk};
 ghost use Rattle.mysql_connection_statements.specs.Statements.{bound as bound_size};
 
 use mysql_executions::StatementParameters;
@@ -19,7 +19,8 @@ pub(crate) fn bound(parameters: &StatementParameters, sent: usize) -> u128
 /// # Errors
 /// - `AllocError` where the sum is too large.
 pub(crate) fn with_part(sum: usize, before: u128, after: u128) -> Result<usize, AllocError>
-    ensures { IfOk result (λ made. made ≡ sum - before + after) }
+    ensures ok { IfOk result (λ made. made ≡ sum - before + after) }
+    ensures err { IfErr result (λ _. 2 ^ 64 ≤ sum - before + after) }
 {
     let rest = (sum as u128).saturating_sub(before);
     let Some(made) = rest.checked_add(after) else {

@@ -5,8 +5,9 @@ ghost use Rattle.std.specs.Option.{option_map};
 ghost use Rattle.mysql_rows.specs.Views.{shared_columns};
 ghost use Rattle.mysql_connection_statements.specs.Statements.{executed, having_columns, is_reset};
 ghost use Rattle.mysql_connection_statements.specs.Statements.{more_before as more_before_it};
-ghost use Rattle.mysql_connection_statements.specs.Statements.{pending_of, prepared_as, statement_size};
-ghost use Rattle.mysql_connection_statements.specs.Statements.{taken_back, with_long_data};
+ghost use Rattle.mysql_connection_statements.specs.Statements.{pending_of, prepared_as};
+ghost use Rattle.mysql_connection_statements.specs.Statements.{statement_size, taken_back};
+ghost use Rattle.mysql_connection_statements.specs.Statements.{with_long_data};
 
 use crate::pending::Pending;
 use crate::sizes::bound;
@@ -21,7 +22,8 @@ use std::rc::RcSlice;
 /// A prepared statement of a connection: its text, what is in force of its parameters, and the
 /// columns that it last had.
 ///
-/// It counts the payloads that are kept for it. (MySQL: Client/Server Protocol, "Prepared Statements".)
+/// It counts the payloads that are kept for it. (MySQL: Client/Server Protocol, "Prepared
+/// Statements".)
 #[derive(Drop)]
 pub struct Statement {
     text: ByteString,
@@ -109,7 +111,8 @@ impl Statement {
         refused: Refused,
         types: &[BoundType],
     ) -> Result<Option<Pending>, AllocError>
-        ensures pending { IfOk result (λ pending. pending ≡ pending_of id refused types.now self.old) }
+        ensures pending { IfOk result (λ pending. pending ≡
+            pending_of id refused types.now self.old) }
         ensures ok { OnOk result (self.new ≡ executed types.now self.old) }
     {
         let Some(before) = self.parameters.execute(alloc, types)? else {

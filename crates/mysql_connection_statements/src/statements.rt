@@ -1,14 +1,17 @@
 //! The prepared statements of a connection by their ids.
 
-ghost use Rattle.std.specs.Prelude.{◌≡◌, ◌<◌, ◌^◌, IfOk, OnOk, Some, None, nat_lt, if◌then◌else◌};
+ghost use Rattle.std.specs.Prelude.{◌≡◌, ◌≤◌, ◌^◌, IfOk, OnErr, OnOk, Some, None, nat_lt};
+ghost use Rattle.std.specs.Prelude.{if◌then◌else◌};
 ghost use Rattle.std.specs.Option.{option_and_then, option_copied, option_map};
 ghost use Rattle.mysql_rows.specs.Views.{shared_columns};
-ghost use Rattle.mysql_connection_statements.specs.Statements.{after_close, after_prepared, change_at};
-ghost use Rattle.mysql_connection_statements.specs.Statements.{executed, forgetting_last, having_columns};
+ghost use Rattle.mysql_connection_statements.specs.Statements.{after_close, after_prepared};
+ghost use Rattle.mysql_connection_statements.specs.Statements.{change_at, executed};
+ghost use Rattle.mysql_connection_statements.specs.Statements.{forgetting_last, having_columns};
 ghost use Rattle.mysql_connection_statements.specs.Statements.{is_reset, no_statements, pending_of};
 ghost use Rattle.mysql_connection_statements.specs.Statements.{pending_size, prepared_as, resolved};
-ghost use Rattle.mysql_connection_statements.specs.Statements.{statement_at, stored_size, taken_back};
-ghost use Rattle.mysql_connection_statements.specs.Statements.{unless_it as last_unless, with_long_data};
+ghost use Rattle.mysql_connection_statements.specs.Statements.{statement_at, stored_size};
+ghost use Rattle.mysql_connection_statements.specs.Statements.{unless_it as last_unless};
+ghost use Rattle.mysql_connection_statements.specs.Statements.{taken_back, with_long_data};
 
 use crate::pending::Pending;
 use crate::sizes::{bound, with_part};
@@ -71,7 +74,8 @@ impl Statements {
         self.by_id.get(&id)
     }
 
-    /// The id that this one stands for: 0xffffffff for that of the statement prepared last, if one was.
+    /// The id that this one stands for: 0xffffffff for that of the statement prepared last, if one
+    /// was.
     pub fn resolve(&self, id: u32) -> Option<u32>
         ensures { result ≡ resolved self.now id }
     {
@@ -82,7 +86,8 @@ impl Statements {
         }
     }
 
-    /// How much is kept for all statements: of each payload its length and 4, and 2 for each type in force.
+    /// How much is kept for all statements: of each payload its length and 4, and 2 for each type
+    /// in force.
     pub fn stored(&self) -> usize
         ensures { result ≡ self.now.stored }
     {
@@ -106,8 +111,8 @@ impl Statements {
         self.last = None;
     }
 
-    /// A statement of this text was prepared: it has this id and so many parameters. So much is kept
-    /// of the payloads.
+    /// A statement of this text was prepared: it has this id and so many parameters. So much is
+    /// kept of the payloads.
     ///
     /// # Errors
     /// - `AllocError` for want of memory, and where the sum of what is kept is too large.
@@ -118,7 +123,8 @@ impl Statements {
         count: u16,
         size: usize,
     ) -> Result<(), AllocError>
-        ensures { OnOk result (self.new ≡ after_prepared id (prepared_as text count size) self.old) }
+        ensures { OnOk result (self.new ≡
+            after_prepared id (prepared_as text count size) self.old) }
     {
         let before = self.size_at(id);
         let statement = Statement::new(self.alloc, text, count, size);
@@ -186,7 +192,8 @@ impl Statements {
         bytes: &[u8],
         size: usize,
     ) -> Result<(), AllocError>
-        ensures { OnOk result (self.new ≡ change_at id (with_long_data place bytes.now size) self.old) }
+        ensures { OnOk result (self.new ≡
+            change_at id (with_long_data place bytes.now size) self.old) }
     {
         let alloc = self.alloc;
         let Some(statement) = self.by_id.get_mut(&id) else {
@@ -204,7 +211,8 @@ impl Statements {
     /// # Errors
     /// - `AllocError` where the sum of what is kept is too large.
     pub fn reset(&mut self, id: u32) -> Result<(), AllocError>
-        ensures { OnOk result (self.new ≡ change_at id is_reset self.old) }
+        ensures ok { OnOk result (self.new ≡ change_at id is_reset self.old) }
+        ensures err { OnErr result (2 ^ 64 ≤ (change_at id is_reset self.old).stored) }
     {
         let Some(statement) = self.by_id.get_mut(&id) else {
             return Ok(());
@@ -221,7 +229,10 @@ impl Statements {
     /// # Errors
     /// - `AllocError` where the sum of what is kept is too large.
     pub fn take_back(&mut self, code: u16, pending: Pending) -> Result<(), AllocError>
-        ensures { OnOk result (self.new ≡ change_at pending.id (taken_back code pending) self.old) }
+        ensures ok { OnOk result (self.new ≡
+            change_at pending.id (taken_back code pending) self.old) }
+        ensures err { OnErr result (2 ^ 64 ≤
+            (change_at pending.id (taken_back code pending) self.old).stored) }
     {
         let id = pending.id;
         let Some(statement) = self.by_id.get_mut(&id) else {
@@ -244,8 +255,10 @@ impl Statements {
         columns: Option<RcSlice<Column>>,
         size: usize,
     ) -> Result<(), AllocError>
-        ensures { OnOk result (self.new ≡
+        ensures ok { OnOk result (self.new ≡
             change_at id (having_columns (option_map shared_columns columns) size) self.old) }
+        ensures err { OnErr result (2 ^ 64 ≤ (change_at id
+            (having_columns (option_map shared_columns columns) size) self.old).stored) }
     {
         let Some(statement) = self.by_id.get_mut(&id) else {
             return Ok(());

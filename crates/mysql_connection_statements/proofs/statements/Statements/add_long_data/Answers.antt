@@ -6,4 +6,4 @@ pub returns : goal.returns
 returns c =
     rw (← c.self.view_is) (changed_in_place _ c.args.id (with_long_data c.args.place c.args.bytes.now c.args.size) c.in-Some.statement.now c.add_long_data.new.self _ _
     c.in-Some.ensures.value c.in_ok-add_long_data.ensures (c.get_mut.follows.holds c.add_long_data.new.self).0
-    (rw (← c.size-before.ensures, ← c.size-after.ensures) c.in_ok-self-inside.ensures))
+    (rw (← c.size-before.ensures, ← c.size-after.ensures) c.in_ok-self-inside.ensures.ok))

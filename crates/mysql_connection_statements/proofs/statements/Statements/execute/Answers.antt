@@ -6,4 +6,4 @@ pub returns-clause-ok : goal.returns-clause-ok
 returns-clause-ok c =
     rw (← c.self.view_is) (changed_in_place _ c.args.id (executed c.args.types.now) c.in-Some.statement.now c.execute.new.self _ _
     c.in-Some.ensures.value c.in_ok-pending.ensures.ok (c.get_mut.follows.holds c.execute.new.self).0
-    (rw (← c.size-before.ensures, ← c.size-after.ensures) c.in_ok-self-inside.ensures))
+    (rw (← c.size-before.ensures, ← c.size-after.ensures) c.in_ok-self-inside.ensures.ok))

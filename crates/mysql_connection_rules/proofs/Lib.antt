@@ -1,0 +1,11 @@
+pub mod Heads
+pub mod Packets
+pub mod OneStep
+pub mod Going
+pub mod Ending
+pub mod Sides
+pub mod Turns
+pub mod Running
+pub mod Within
+pub mod Said
+pub mod LastWords
