@@ -142,7 +142,7 @@ module _ (named : IsTable column_type_number column_type_named) (c : Capabilitie
 -- ---- one after another
 
 -- commands about parameters have one of four numbers
-about_by : (P : ℕ → Type 0) (number : ℕ) (a b d e : Bool) → (number == 0x17) ≡ a → (number == 0xfa) ≡ b → (number == 0x18) ≡ d → (number == 0x1a) ≡ e → (a || (b || (d || e))) ≡ true → P 0x17 → P 0xfa → P 0x18 → P 0x1a → P number
+pub about_by : (P : ℕ → Type 0) (number : ℕ) (a b d e : Bool) → (number == 0x17) ≡ a → (number == 0xfa) ≡ b → (number == 0x18) ≡ d → (number == 0x1a) ≡ e → (a || (b || (d || e))) ≡ true → P 0x17 → P 0xfa → P 0x18 → P 0x1a → P number
 about_by P number true b d e is_a is_b is_d is_e so p q r t = let same : 0x17 ≡ number = grind (arith, nat_tests) in subst P same p
 about_by P number false true d e is_a is_b is_d is_e so p q r t = let same : 0xfa ≡ number = grind (arith, nat_tests) in subst P same q
 about_by P number false false true e is_a is_b is_d is_e so p q r t = let same : 0x18 ≡ number = grind (arith, nat_tests) in subst P same r
