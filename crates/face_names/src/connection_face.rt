@@ -15,7 +15,16 @@ use mysql_connection::{
 };
 
 mod laws {
-    use mysql_connection::laws::{read_commands_are_put, read_events_are_put, stored_is_the_sum};
+    use mysql_connection::laws::{
+        connection_executions_are_received, read_commands_are_put, read_events_are_put,
+        stored_is_the_sum,
+    };
+
+    mod contents {
+        use mysql_connection::laws::contents::{
+            prepared_statements_agree, received_commands_are_read, received_executions_are_read,
+        };
+    }
 
     mod executions {
         use mysql_connection::laws::executions::{
