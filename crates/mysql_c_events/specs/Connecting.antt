@@ -1,7 +1,7 @@
 -- What the calls on a connection say of the object that a handle stands for.
 use Rattle.std.specs.Prelude.{◌≡◌, ◌≢◌, ◌⊎◌, ℕ}
-use Rattle.mysql_connection_machine.specs.Machine.{Machine}
-use Rattle.mysql_connection_rules.specs.Streams.{Coming, come}
+use Rattle.mysql_connection_machine.specs.Machines.{Machine, come_to}
+use Rattle.mysql_connection_rules.specs.Streams.{Coming}
 use Rattle.mysql_connection_rules.specs.declared.side.Side.{Side}
 use Rattle.mysql_connection_rules.specs.declared.side.Side.TheVariants.{Client, Server}
 use Rattle.mysql_c_handles.specs.Codes.{Stays}
@@ -26,4 +26,4 @@ OfConnection held number new Says = Stays held number new
 -- this came of the side's stream; or the connection stays, and the number isn't 0
 abbrev pub Takes : ℕ → Side → Coming → Machine → Machine → Type 0
 Takes number side coming old new =
-    ((number ≡ 0) × (new.world ≡ come side coming old.world)) ⊎ ((number ≢ 0) × (new ≡ old))
+    ((number ≡ 0) × (new ≡ come_to side coming old)) ⊎ ((number ≢ 0) × (new ≡ old))

@@ -1,7 +1,8 @@
 //! A connection, both streams of it.
 
-ghost use Rattle.std.specs.Prelude.{◌≡◌, ◌≢◌, ◌×◌, ◌⊎◌};
-ghost use Rattle.mysql_connection_rules.specs.Streams.{Coming, End, Piece, come, no_bytes, start};
+ghost use Rattle.std.specs.Prelude.{◌≡◌, ◌≢◌, ◌⊎◌};
+ghost use Rattle.mysql_connection_machine.specs.Machines.{new_machine};
+ghost use Rattle.mysql_connection_rules.specs.Streams.{End, Piece};
 ghost use Rattle.mysql_c_handles.specs.Codes.{code_number};
 ghost use Rattle.mysql_c_events.specs.Connecting.{IsConnection, OfConnection, Takes, numbered_side};
 ghost use Rattle.mysql_c_events.specs.Printing.{PutsLine};
@@ -27,7 +28,7 @@ fn side_of(number: u32) -> Side
 
 /// Makes the handle stand for a connection of which no byte came.
 pub fn connection_new(alloc: Global, handle: &mut Handle, limits: Limits) -> u32
-    ensures made { result ≡ 0 → IsConnection handle.new.object (λ c. c.world ≡ start limits no_bytes) }
+    ensures made { result ≡ 0 → IsConnection handle.new.object (λ c. c ≡ new_machine limits) }
     ensures kept { result ≢ 0 → handle.new.object ≡ handle.old.object }
 {
     let connection = Connection::new(alloc, limits);
