@@ -1,6 +1,6 @@
 -- Whether a connection waits, by whether less than a packet stands first of a stream.
-use Rattle.std.proofs.Common.{◌≡◌, ℕ, Bool, true, false, not, ◌&&◌, ◌||◌, List, Ok, Err, refl, ap, ◌∙◌}
-use Rattle.std.proofs.Common.{if◌then◌else◌, slice_index_or, nat_le}
+use Rattle.std.proofs.Common.{◌≡◌, ℕ, Bool, true, false, not, ◌&&◌, ◌||◌, List, Ok, Err}
+use Rattle.std.proofs.Common.{refl, ap, ◌∙◌, if◌then◌else◌, slice_index_or, nat_le}
 use Rattle.mysql_connection_packets.specs.FirstPacket.{Found, OutOfSync, Short, TooLarge, Whole}
 use Rattle.mysql_connection_packets.specs.FirstPacket.{first_packet, is_short}
 use Rattle.mysql_connection_rules.specs.declared.fault.Fault.TheVariants as faults
@@ -9,8 +9,10 @@ use Rattle.mysql_connection_rules.specs.declared.side.Side.TheVariants.{Client, 
 use Rattle.mysql_connection_rules.specs.Events.{Event}
 use Rattle.mysql_connection_rules.specs.Standing.{kept}
 use Rattle.mysql_connection_rules.specs.Steps.{Step}
-use Rattle.mysql_connection_rules.specs.Streams.{Next, Says, World, Waits, client_by, fails, has_number, is_early}
-use Rattle.mysql_connection_rules.specs.Streams.{moved, of_server, room_to_keep, said_by, server_by, words, words_by}
+use Rattle.mysql_connection_rules.specs.Streams.{Next, Says, World, Waits, client_by, fails}
+use Rattle.mysql_connection_rules.specs.Streams.{has_number, is_early}
+use Rattle.mysql_connection_rules.specs.Streams.{moved, of_server, room_to_keep, said_by, server_by}
+use Rattle.mysql_connection_rules.specs.Streams.{words, words_by}
 use Rattle.mysql_connection_machine.specs.Endings.{is_waiting, server_number}
 use Rattle.mysql_connection_machine.specs.Takes.{words_step}
 use Rattle.mysql_connection_machine.proofs.Words.{words_said}

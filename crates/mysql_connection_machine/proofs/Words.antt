@@ -8,14 +8,17 @@ use Rattle.mysql_connection_rules.specs.declared.reason.Reason.TheVariants as re
 use Rattle.mysql_connection_rules.specs.declared.side.Side.TheVariants.{Server}
 use Rattle.mysql_connection_rules.specs.Events as events
 use Rattle.mysql_connection_rules.specs.Steps.{over, says}
-use Rattle.mysql_connection_rules.specs.Streams.{World, begins_error, fails, farewell, said_by, words_or}
+use Rattle.mysql_connection_rules.specs.Streams.{World, begins_error, fails, farewell, said_by}
+use Rattle.mysql_connection_rules.specs.Streams.{words_or}
 use Rattle.mysql_connection_state.specs.Reads.{or_bad_error}
 use Rattle.mysql_connection_machine.specs.Takes.{words_step}
 
 -- by whether the payload begins as an error, and by what is read of it
 said : (w : World) (number : ℕ) (rest : List ℕ) (begins : Bool) (read : Reading ServerError) →
     (if begins then farewell w number rest read else fails w Server faults.Unasked) ≡
-    said_by w Server number rest (if begins then says events.Farewell (λ error. over reasons.Farewell w.standing) (or_bad_error read) else Err faults.Unasked)
+    said_by w Server number rest (if begins
+    then says events.Farewell (λ error. over reasons.Farewell w.standing) (or_bad_error read)
+    else Err faults.Unasked)
 said w number rest true (Ok error) = refl
 said w number rest true (Err e) = refl
 said w number rest false read = refl

@@ -1,8 +1,9 @@
 -- What a machine that reads a connection holds, and what its calls do.
 -- MySQL: Client/Server Protocol, "Connection Lifecycle" and "MySQL Packets".
-use Rattle.std.specs.Prelude.{◌≡◌, ◌≢◌, ◌+◌, ◌-◌, ◌≤◌, ◌<◌, ℕ, true, false, List, length, if◌then◌else◌}
+use Rattle.std.specs.Prelude.{◌≡◌, ◌≢◌, ◌+◌, ◌-◌, ◌≤◌, ◌<◌, ℕ, true, false, List, length}
+use Rattle.std.specs.Prelude.{if◌then◌else◌}
 use Rattle.std.specs.Prelude.{Option, Some, None, Result, Ok, Err}
-use Rattle.mysql_connection_rules.specs.Laws.{unread_length}
+use Rattle.mysql_connection_rules.specs.Laws.{WithinLimits, unread_length}
 use Rattle.mysql_connection_rules.specs.declared.fault.Fault.TheVariants as faults
 use Rattle.mysql_connection_rules.specs.declared.limits.Limits.{Limits}
 use Rattle.mysql_connection_rules.specs.declared.side.Side.{Side}
@@ -10,13 +11,15 @@ use Rattle.mysql_connection_rules.specs.declared.side.Side.TheVariants.{Client, 
 use Rattle.mysql_connection_rules.specs.Standing.{Phase}
 use Rattle.mysql_connection_rules.specs.Steps.{turn}
 use Rattle.mysql_connection_rules.specs.Streams.{Coming, End, Fails, Failure, Piece, Says, Waits}
-use Rattle.mysql_connection_rules.specs.Streams.{Stream, World, come, next, no_bytes, room, start}
+use Rattle.mysql_connection_rules.specs.Streams.{Stream, World, come, held, next, no_bytes}
+use Rattle.mysql_connection_rules.specs.Streams.{room, start}
 use Rattle.mysql_connection_rules.specs.Streams.{stream_of}
 use Rattle.mysql_connection_state.specs.Views.{event_view}
 use Rattle.mysql_connection_state.specs.declared.event.Event.{Event}
 use Rattle.mysql_connection_machine.specs.declared.fault.ConnectionFault.{ConnectionFault}
 use Rattle.mysql_connection_machine.specs.declared.fault.FeedRefusal.{FeedRefusal}
-use Rattle.mysql_connection_machine.specs.declared.fault.FeedRefusal.TheVariants.{Closed, Held, Memory}
+use Rattle.mysql_connection_machine.specs.declared.fault.FeedRefusal.TheVariants.{Closed, Held}
+use Rattle.mysql_connection_machine.specs.declared.fault.FeedRefusal.TheVariants.{Memory}
 
 abbrev pub failure_view : ConnectionFault → Failure
 failure_view f = record { side = f.side; byte = f.byte; fault = f.fault }
@@ -104,3 +107,15 @@ AnswersFault (Err fault) failure = failure_view fault ≡ failure
 abbrev pub TakesBytes : World → Result (Option Event) ConnectionFault → World → Type 0
 TakesBytes old (Ok (Some event)) new = unread_length new + 4 ≤ unread_length old
 TakesBytes old result new = Unit {0}
+
+-- LIMITS
+
+-- A machine that has found no fault is within its limits.
+abbrev pub IsWithinLimits : Machine → Type 0
+IsWithinLimits m = m.failure ≡ None → WithinLimits m.world
+
+-- It holds at most what they say, where this is the room of both sides at least.
+abbrev pub HoldsAtMost : Machine → Type 0
+HoldsAtMost m = m.failure ≡ None →
+    room Client m.world.limits + room Server m.world.limits ≤ m.world.limits.held →
+    held m.world ≤ m.world.limits.held

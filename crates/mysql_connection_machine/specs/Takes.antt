@@ -12,7 +12,8 @@ use Rattle.mysql_connection_rules.specs.declared.side.Side.{Side}
 use Rattle.mysql_connection_rules.specs.Events as events
 use Rattle.mysql_connection_rules.specs.Standing.{Standing, kept}
 use Rattle.mysql_connection_rules.specs.Steps.{Step}
-use Rattle.mysql_connection_rules.specs.Streams.{Stream, begins_error, behind, numbered, room_to_keep}
+use Rattle.mysql_connection_rules.specs.Streams.{Stream, begins_error, behind, numbered}
+use Rattle.mysql_connection_rules.specs.Streams.{room_to_keep}
 use Rattle.mysql_connection_state.specs.Reads.{farewell_step}
 use Rattle.mysql_connection_state.specs.Views.{event_view}
 use Rattle.mysql_connection_state.specs.declared.event.Event.{Event}

@@ -14,6 +14,7 @@ mod last_words;
 mod room;
 mod saying;
 mod stream_buffer;
+mod streams_reader;
 mod taking;
 
 pub use connection::Connection;

@@ -89,7 +89,8 @@ pub fn say(
     state: &mut State,
     payload: CowSlice<'_, u8>,
 ) -> Result<Event, Fault>
-    ensures { SaysBy limits side next (step state.old (cow_slice_items payload.entry)) result state.new }
+    ensures { SaysBy limits side next (step state.old (cow_slice_items payload.entry))
+        result state.new }
 {
     say_bytes(limits, side, next, state, payload.as_slice())
 }
@@ -101,8 +102,8 @@ pub fn bid(
     state: &mut State,
     payload: CowSlice<'_, u8>,
 ) -> Result<Event, Fault>
-    ensures { SaysBy limits Server next (words_step state.old (cow_slice_items payload.entry)) result
-        state.new }
+    ensures { SaysBy limits Server next (words_step state.old (cow_slice_items payload.entry))
+        result state.new }
 {
     bid_bytes(limits, next, state, payload.as_slice())
 }
