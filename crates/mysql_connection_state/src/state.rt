@@ -21,9 +21,10 @@ use std::alloc::Global;
 use std::marker::Model;
 use std::mem;
 
-/// What stands of a connection between two payloads: what is due, the number that is due, the
-/// capabilities that the server offers and those in force, the plugin in force, and the prepared
-/// statements.
+/// What stands of a connection between two payloads.
+///
+/// That is what is due, the number that is due, the capabilities that the server offers and those in
+/// force, the plugin in force, and the prepared statements.
 ///
 /// Contracts see it as a `Standing`.
 ///
