@@ -11,10 +11,10 @@ pub fn prepared_statements_agree()
     ensures { PreparedAgree }
 {}
 
-/// What `receive` reads of a command about a prepared statement's parameters, the command says, read
-/// by what is in force of them: an execution has the same contents.
+/// What `receive` reads of a command about a prepared statement's parameters, the command says.
 ///
-/// It is an execution, a bulk execution, long data or a reset, on a connection with MariaDB's bulk
+/// The command is read by what is in force of them, and an execution has the same contents. It is
+/// an execution, a bulk execution, long data or a reset, on a connection with MariaDB's bulk
 /// executions and without query attributes, which `receive` doesn't read. Behind it the same is in
 /// force on both sides.
 ///
@@ -26,8 +26,9 @@ pub fn received_commands_are_read()
     names_are_read_back();
 }
 
-/// What `receive` reads of a stream of such commands, they say: the same contents, in the same
-/// order, and nothing between.
+/// What `receive` reads of a stream of such commands, they say.
+///
+/// They have the same contents, in the same order, and nothing between.
 pub fn received_executions_are_read()
     ensures { ReceivedAreRead }
 {
