@@ -1,20 +1,19 @@
 -- What stands of one statement behind a command.
-use Rattle.std.proofs.Common.{◌≡◌, ◌≢◌, ℕ, Bool, true, false, List, [], ◌∷◌, length, Option, Some, None, nat_eq, refl, sym, ap, subst, ◌∙◌, arith}
-use Rattle.std.specs.Prelude.{◌==◌, ◌&&◌, ◌||◌, if◌then◌else◌, not}
-use Rattle.std.specs.Option.{option_and_then, option_map}
+use Rattle.std.proofs.Common.{◌≡◌, ◌≢◌, ℕ, Bool, true, false, List, ◌∷◌, Option, Some, None, nat_eq, refl, sym, ap, subst, ◌∙◌, arith}
+use Rattle.std.specs.Prelude.{◌==◌, ◌||◌, if◌then◌else◌}
+use Rattle.std.specs.Option.{option_and_then}
 use Rattle.std.specs.Map.{lookup}
 use Rattle.std.proofs.lemmas.Bool.Decides.{nat_tests}
 use Rattle.mysql_commands.specs.Commands as commands
 use Rattle.mysql_commands.specs.Commands.{Command, command_at}
-use Rattle.mysql_const.specs.declared.capabilities.Capabilities.{Capabilities}
 use Rattle.mysql_connection_rules.specs.Standing.{Standing}
-use Rattle.mysql_connection_rules.specs.Steps.{after_command, after_data, by_number, carried_types, changing, closing, execution_of, id_in_question, parameters_in_question, refused_as, statement_in_question}
-use Rattle.mysql_connection_statements.specs.Statements.{Statement, Statements, change_at, changed, counted, executed, is_reset, statement_at, with_long_data, with_statement}
+use Rattle.mysql_connection_rules.specs.Steps.{after_data, by_number, carried_types, changing, closing, execution_of}
+use Rattle.mysql_connection_statements.specs.Statements.{Statement, change_at, counted, executed, is_reset, statement_at, with_long_data, with_statement}
 use Rattle.mysql_executions.specs.After.{after_execution, after_long_data, after_reset}
 use Rattle.mysql_executions.specs.InForce.{InForce}
 use Rattle.mysql_executions.specs.Types.{unnamed}
-use Rattle.mysql_execution_contents.specs.Agreement.{after_payload, is_about_parameters, with_data}
-use Rattle.mysql_connection_contents.specs.Contents.{CommandLeaves, Stands, is_id, is_logged_in}
+use Rattle.mysql_execution_contents.specs.Agreement.{is_about_parameters, with_data}
+use Rattle.mysql_connection_contents.specs.Contents.{Stands, is_id, is_logged_in}
 use Rattle.mysql_connection_contents.proofs.Statements.{OwnIds, changed_elsewhere, changed_own, closed_elsewhere, put_elsewhere, put_own}
 
 -- behind a command or a reply the statement stands with these parameters, by the same capabilities

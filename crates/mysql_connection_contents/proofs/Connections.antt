@@ -1,6 +1,6 @@
 -- What is said of one statement on a connection, payload by payload.
-use Rattle.std.proofs.Common.{◌≡◌, ℕ, ◌+◌, Bool, true, false, cond, List, [], ◌∷◌, Option, Some, None, Ok, nat_eq, refl, sym, ap, subst, ◌∙◌}
-use Rattle.std.specs.Prelude.{◌&&◌, if◌then◌else◌, map}
+use Rattle.std.proofs.Common.{◌≡◌, ℕ, ◌+◌, Bool, true, false, cond, List, [], ◌∷◌, Some, Ok, refl, sym, ap, subst, ◌∙◌}
+use Rattle.std.specs.Prelude.{if◌then◌else◌, map}
 use Rattle.std.specs.List.{AllByRecursion, filter}
 use Rattle.mysql_commands.specs.Commands.{command_at}
 use Rattle.mysql_const.specs.declared.capabilities.Capabilities.{Capabilities}
@@ -11,7 +11,7 @@ use Rattle.mysql_executions.specs.InForce.{InForce}
 use Rattle.mysql_executions.specs.Types.{has_bulk_operations, has_query_attributes}
 use Rattle.mysql_execution_contents.specs.Agreement.{Agree, EachIsRead, after_payload, all_there, is_about_parameters, sets_of}
 use Rattle.mysql_receive.specs.Audit.{Reads}
-use Rattle.mysql_receive.specs.Audit.Reads.{next, nothing}
+use Rattle.mysql_receive.specs.Audit.Reads.{next}
 use Rattle.mysql_receive.specs.InForce.{StatementState}
 use Rattle.mysql_receive.specs.Query.{Statement as ReceivedStatement}
 use Rattle.mysql_receive.specs.Reading.{Set}

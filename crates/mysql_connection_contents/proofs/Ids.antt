@@ -1,8 +1,7 @@
 -- Each statement keeps an id of its own, whatever is said.
-use Rattle.std.proofs.Common.{◌≡◌, ℕ, Bool, true, false, List, [], ◌∷◌, Option, Some, None, Result, Ok, Err, nat_eq, refl, sym, ap, subst, ◌∙◌}
+use Rattle.std.proofs.Common.{◌≡◌, ℕ, Bool, true, false, List, [], ◌∷◌, Option, Some, None, Result, Ok, Err, nat_eq, refl, sym, ap, subst}
 use Rattle.std.specs.Prelude.{◌==◌, ◌||◌, if◌then◌else◌}
 use Rattle.std.specs.List.{IsDistinct}
-use Rattle.std.specs.Map.{keys_of}
 use Rattle.mysql_authentication.specs.Events.{Authentication as AuthenticationSaid, Greeting as GreetingSaid, Response as ResponseSaid}
 use Rattle.mysql_authentication.specs.Events.Authentication.{Accepted, AuthMore, AuthSwitch, Denied, NextFactor, OldAuthSwitch, PluginData}
 use Rattle.mysql_authentication.specs.Events.Greeting.{Greeted, Rejected}
@@ -23,8 +22,8 @@ use Rattle.mysql_connection_rules.specs.Standing.About.{Executing, OfStatement, 
 use Rattle.mysql_connection_rules.specs.Standing as phases
 use Rattle.mysql_connection_rules.specs.Steps.{Step, after_authentication, after_command, after_data, after_denial, after_event, after_greeting, after_response, behind_reply, by_number, by_turn, changed_by, changing, closing}
 use Rattle.mysql_connection_rules.specs.Steps.{context_of, execution_of, greets_anew, id_in_question, in_phase, in_turn, is_compressed, is_fast, is_whole, of_login, of_reply, parameters_in_question, reply_after, says}
-use Rattle.mysql_connection_rules.specs.Steps.{statement_in_question, step, turn_in_reply, with_columns, with_statements, answered}
-use Rattle.mysql_connection_statements.specs.Statements.{Statement, Statements, counted, having_columns, is_reset, prepared_as, taken_back, with_long_data, executed}
+use Rattle.mysql_connection_rules.specs.Steps.{statement_in_question, step, turn_in_reply, with_columns, with_statements}
+use Rattle.mysql_connection_statements.specs.Statements.{Statement, Statements, counted, having_columns, is_reset, taken_back, with_long_data}
 use Rattle.mysql_reply_events.specs.Events.{Event as ReplySaid, ReplySoFar}
 use Rattle.mysql_reply_events.specs.Events.Event.{ErrorEvent, OkEvent, PreparedEvent}
 use Rattle.mysql_reply_events.specs.Table.{event_at, file_data_at}
@@ -55,7 +54,7 @@ Own s = OwnIds s.statements
 
 -- ---- commands
 
-no_ids : IsDistinct nat_eq []
+pub no_ids : IsDistinct nat_eq []
 unfolding IsDistinct
 no_ids = tt
 

@@ -4,3 +4,6 @@ pub mod Replies
 pub mod Ids
 pub mod Steps
 pub mod Connections
+pub mod Prepared
+pub mod Runs
+pub mod Streams

@@ -1,12 +1,11 @@
 -- What stands of one statement behind a part of a reply.
-use Rattle.std.proofs.Common.{◌≡◌, ◌≢◌, ℕ, ◌+◌, Bool, true, false, List, [], ◌∷◌, length, Option, Some, None, nat_eq, refl, sym, ap, subst, ◌∙◌, arith}
-use Rattle.std.specs.Prelude.{◌==◌, if◌then◌else◌, not}
-use Rattle.std.specs.Option.{option_map}
+use Rattle.std.proofs.Common.{◌≡◌, ◌≢◌, ℕ, ◌+◌, Bool, true, false, refl, sym, subst, ◌∙◌}
+use Rattle.std.specs.Prelude.{◌==◌}
 use Rattle.mysql_connection_rules.specs.Standing.{About, InReply, Phase, Standing}
 use Rattle.mysql_connection_rules.specs.Standing.About.{Executing, OfStatement, Preparing, Resetting, Streaming}
 use Rattle.mysql_connection_rules.specs.Standing as phases
-use Rattle.mysql_connection_rules.specs.Steps.{after_event, after_part, behind_reply, changed_by, in_phase, is_whole, phase_behind, reply_after, with_columns, with_statements}
-use Rattle.mysql_connection_statements.specs.Statements.{Statement, Statements, after_prepared, change_at, changed, having_columns, prepared_as, statement_at, taken_back}
+use Rattle.mysql_connection_rules.specs.Steps.{after_event, behind_reply, changed_by, in_phase, is_whole, phase_behind, reply_after, with_columns, with_statements}
+use Rattle.mysql_connection_statements.specs.Statements.{Statement, Statements, change_at, changed, having_columns, prepared_as, taken_back}
 use Rattle.mysql_executions.specs.InForce.{InForce}
 use Rattle.mysql_reply_events.specs.Events.{Event as ReplySaid, ReplySoFar}
 use Rattle.mysql_reply_events.specs.Events.Event.{ErrorEvent, LineEvent, OkEvent, PreparedEvent}
@@ -20,7 +19,7 @@ kept_at s id p other change true is keeps stands =
     subst (λ n. Stands (change_at n change s) id p) (sym (same_id other id is)) (changed_own s id p p change stands (λ st now. keeps st ∙ now))
 kept_at s id p other change false is keeps stands = changed_elsewhere s id p other change (other_id other id is) stands
 
-columns_leave : (s : Statements) (id : ℕ) (p : InForce) (r : InReply) (about : About) → Stands s id p → Stands (with_columns r about s) id p
+pub columns_leave : (s : Statements) (id : ℕ) (p : InForce) (r : InReply) (about : About) → Stands s id p → Stands (with_columns r about s) id p
 columns_leave s id p r (OfStatement other) stands = kept_at s id p other (having_columns r.so_far.columns r.coming) (other == id) refl (λ st. refl) stands
 columns_leave s id p r about stands = stands
 
@@ -44,7 +43,7 @@ event_leaves s id p (Executing pending) more (ErrorEvent error) leaves stands = 
 event_leaves s id p Resetting more (OkEvent ok) leaves stands = absurd leaves
 event_leaves s id p about more said leaves stands = stands
 
-phase_logged_in : (about : About) (said : ReplySaid) → is_logged_in (phase_behind about said) ≡ true
+pub phase_logged_in : (about : About) (said : ReplySaid) → is_logged_in (phase_behind about said) ≡ true
 phase_logged_in (Streaming reason) (LineEvent bytes) = refl
 phase_logged_in about said = refl
 

@@ -1,5 +1,5 @@
 -- What stands of one statement behind any payload.
-use Rattle.std.proofs.Common.{◌≡◌, ◌≢◌, ℕ, Bool, true, false, List, [], ◌∷◌, Option, Some, None, Result, Ok, Err, nat_eq, refl, sym, ap, subst, ◌∙◌}
+use Rattle.std.proofs.Common.{◌≡◌, ℕ, Bool, true, false, List, [], ◌∷◌, Option, Some, None, Ok, refl, sym, ap, subst, ◌∙◌}
 use Rattle.std.specs.Prelude.{◌==◌, ◌&&◌, if◌then◌else◌}
 use Rattle.std.specs.Option.{option_and_then, option_map}
 use Rattle.mysql_authentication.specs.Readings.{authentication_at}
@@ -13,7 +13,7 @@ use Rattle.mysql_connection_rules.specs.Standing.{InReply, Phase, Standing}
 use Rattle.mysql_connection_rules.specs.Standing as phases
 use Rattle.mysql_connection_rules.specs.Steps.{after_authentication, after_command, after_data, after_event, by_turn, changing, context_of, greets_anew, id_in_question, in_phase, in_turn}
 use Rattle.mysql_connection_rules.specs.Steps.{of_login, of_reply, parameters_in_question, says, statement_in_question, step, turn_in_reply}
-use Rattle.mysql_connection_statements.specs.Statements.{Statement, Statements, counted, is_reset, statement_at, with_long_data}
+use Rattle.mysql_connection_statements.specs.Statements.{Statement, counted, is_reset, statement_at, with_long_data}
 use Rattle.mysql_executions.specs.InForce.{InForce}
 use Rattle.mysql_execution_contents.specs.Agreement.{after_payload, is_about_parameters, sets_of}
 use Rattle.mysql_execution_contents.proofs.Commands.{about_by}

@@ -6,6 +6,7 @@ use Rattle.std.specs.Prelude.{◌∷◌, ◌++◌, ◌⊎◌, map, Option, Some,
 use Rattle.std.specs.List.{AllByRecursion, IsDistinct, filter, list_all}
 use Rattle.std.specs.Map.{keys_of}
 use Rattle.mysql_connection_packets.specs.FirstPacket.{Whole, first_packet}
+use Rattle.mysql_connection_rules.specs.declared.limits.Limits.{Limits}
 use Rattle.mysql_connection_rules.specs.declared.side.Side.{Side}
 use Rattle.mysql_connection_rules.specs.Events.{Event}
 use Rattle.mysql_connection_rules.specs.Events as events
@@ -15,7 +16,7 @@ use Rattle.mysql_connection_rules.specs.Standing.About.{Executing, Preparing, Re
 use Rattle.mysql_connection_rules.specs.Standing as phases
 use Rattle.mysql_connection_rules.specs.Steps.{id_in_question, step, turn}
 use Rattle.mysql_connection_rules.specs.Streams.{Says, World, limit_of, moved, next, numbered}
-use Rattle.mysql_connection_rules.specs.Streams.{stream_of}
+use Rattle.mysql_connection_rules.specs.Streams.{Streams, start, stream_of}
 use Rattle.mysql_connection_statements.specs.Statements.{Statement, Statements, statement_at}
 use Rattle.mysql_execution_contents.specs.Agreement.{Agree, all_there, is_about_parameters}
 use Rattle.mysql_execution_contents.specs.Agreement.{sets_of}
@@ -26,7 +27,8 @@ use Rattle.mysql_executions.specs.Types.{has_bulk_operations, has_query_attribut
 use Rattle.mysql_executions.specs.declared.types.ParameterType.{ParameterType}
 use Rattle.mysql_receive.specs.Audit.{Reads}
 use Rattle.mysql_receive.specs.InForce.{StatementState}
-use Rattle.mysql_receive.specs.Query.{Statement as ReceivedStatement}
+use Rattle.mysql_receive.specs.InForce as receive
+use Rattle.mysql_receive.specs.Query.{Statement as ReceivedStatement, place_count}
 use Rattle.mysql_receive.specs.Reading.{Set}
 use Rattle.mysql_reply_events.specs.Events.{Event as ReplySaid}
 use Rattle.mysql_reply_events.specs.Events.Event.{ErrorEvent, OkEvent, PreparedEvent}
@@ -163,15 +165,63 @@ ConnectionExecutionsAreReceived =
     AllByRecursion (Leaves id) xs → Reads statement state first (payloads_about id xs) reads →
     sets_about id xs ≡ all_there reads
 
+-- Each statement has an id of its own at first, and whatever is said.
+abbrev pub IdsAreOwn : Standing → Type 0
+IdsAreOwn s = IsDistinct nat_eq (keys_of s.statements.by_id)
+
+abbrev pub IdsBeginOwn : Type 0
+IdsBeginOwn = IdsAreOwn at_first
+
+abbrev pub IdsStayOwn : Type 0
+IdsStayOwn = (s mid : Standing) (payload : List ℕ) (event : Event) →
+    step s payload ≡ Ok (event, mid) → IdsAreOwn s → IdsAreOwn mid
+
+abbrev pub IsPreparing : About → Type 0
+IsPreparing (Preparing text size) = Unit {0}
+IsPreparing about = ⊥
+
 abbrev pub PreparesAs : (id count : ℕ) → Event → Type 0
 PreparesAs id count (events.Replied (PreparedEvent p follow)) =
     (p.statement_id ≡ id) × (p.num_params ≡ count)
 PreparesAs id count event = ⊥
 
--- Where the server answers a prepare, the statement stands from then on, with no types in force.
+-- The server answers a prepare: the statement has this id, and so many parameters.
+abbrev pub PreparesIn : (id count : ℕ) → Phase → Event → Type 0
+PreparesIn id count (phases.Reply r) event = IsPreparing r.about × PreparesAs id count event
+PreparesIn id count phase event = ⊥
+
+-- Then the statement stands from then on, with no types in force.
 abbrev pub PreparedStatementsStand : Type 0
-PreparedStatementsStand = (id : ℕ) (x : Spoken) (mid : Standing) (r : InReply) (text : List ℕ)
-    (size count : ℕ) →
-    x.standing.phase ≡ phases.Reply r → r.about ≡ Preparing text size →
-    step x.standing x.payload ≡ Ok (x.event, mid) → PreparesAs id count x.event →
+PreparedStatementsStand = (s mid : Standing) (payload : List ℕ) (event : Event) (id count : ℕ) →
+    step s payload ≡ Ok (event, mid) → PreparesIn id count s.phase event →
     Stands mid.statements id (freshly_prepared count)
+
+-- A run's events are those of payloads that were read so, and last words at most behind them.
+abbrev pub Ends : World → List Spoken → List Event → World → Type 0
+Ends mid xs said last = ((said ≡ events_of xs) × (mid ≡ last)) ⊎
+    ((error : ServerError) × (said ≡ events_of xs ++ events.Farewell error ∷ []) ×
+    (next mid ≡ Says (events.Farewell error) last))
+
+abbrev pub RunsAreHeard : Type 0
+RunsAreHeard = (w last : World) (said : List Event) → Runs w said last →
+    (xs : List Spoken) × (mid : World) × Heard w xs mid × Ends mid xs said last
+
+-- What was read of two streams was read by the table.
+abbrev pub HeardIsSpoken : Type 0
+HeardIsSpoken = (w last : World) (xs : List Spoken) → Heard w xs last →
+    Spoke w.standing xs last.standing
+
+-- On a connection, from its first byte on: behind the answer to a prepare, by which a query's
+-- statement has this id, what `receive` reads of the commands about it the events say.
+abbrev pub StreamsAreReceived : Type 0
+StreamsAreReceived =
+    (limits : Limits) (streams : Streams) (before : List Spoken) (answer : Spoken)
+    (xs : List Spoken) (last : World) (id : ℕ) (statement : ReceivedStatement) (first : ℕ)
+    (reads : List (List Set)) →
+    Heard (start limits streams) (before ++ answer ∷ xs) last →
+    PreparesIn id (place_count statement.query) answer.standing.phase answer.event →
+    has_query_attributes answer.standing.capabilities ≡ false →
+    has_bulk_operations answer.standing.capabilities ≡ true →
+    AllByRecursion (Leaves id) xs →
+    Reads statement receive.freshly_prepared first (payloads_about id xs) reads →
+    sets_about id xs ≡ all_there reads
