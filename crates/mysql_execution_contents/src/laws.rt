@@ -13,11 +13,7 @@ pub fn prepared_statements_agree()
 
 /// What `receive` reads of a command about a prepared statement's parameters, the command says.
 ///
-<<<<<<< HEAD
-/// It is read by what is in force of them, and an execution has the same contents. The command is
-=======
 /// The command is read by what is in force of them, and an execution has the same contents. It is
->>>>>>> 47a0fc921d31c7d113ca7f7cb86d3e7b8d423b5b
 /// an execution, a bulk execution, long data or a reset, on a connection with MariaDB's bulk
 /// executions and without query attributes, which `receive` doesn't read. Behind it the same is in
 /// force on both sides.
@@ -32,11 +28,7 @@ pub fn received_commands_are_read()
 
 /// What `receive` reads of a stream of such commands, they say.
 ///
-<<<<<<< HEAD
-/// These are the same contents, in the same order, and nothing between.
-=======
 /// They have the same contents, in the same order, and nothing between.
->>>>>>> 47a0fc921d31c7d113ca7f7cb86d3e7b8d423b5b
 pub fn received_executions_are_read()
     ensures { ReceivedAreRead }
 {
