@@ -31,4 +31,4 @@ streams_are_received each agree limits streams before answer xs last id statemen
     let made = prepared_goes id (place_count statement.query) answer.standing answer.payload answer.event mid read_step prepares in
     let settled : IsSettled (numbered answer.side answer.number mid) = record { logged_in = made.logged_in; own_ids = step_ids answer.standing answer.payload answer.event mid own read_step } in
     connection_executions_are_received each (numbered answer.side answer.number mid) last.standing xs id (freshly_prepared (place_count statement.query)) statement receive.freshly_prepared first reads
-    spoke.1.2 settled made.stands (agree statement) (ap has_query_attributes made.capabilities ∙ none) (ap has_bulk_operations made.capabilities ∙ bulks) leave read
+    spoke.1.2 settled made.stands (agree statement) (ap has_query_attributes made.capabilities ∙ none) (λ b. ap has_bulk_operations made.capabilities ∙ bulks b) leave read

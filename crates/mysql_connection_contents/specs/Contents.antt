@@ -18,12 +18,12 @@ use Rattle.mysql_connection_rules.specs.Steps.{id_in_question, step, turn}
 use Rattle.mysql_connection_rules.specs.Streams.{Says, World, limit_of, moved, next, numbered}
 use Rattle.mysql_connection_rules.specs.Streams.{Streams, start, stream_of}
 use Rattle.mysql_connection_statements.specs.Statements.{Statement, Statements, statement_at}
-use Rattle.mysql_execution_contents.specs.Agreement.{Agree, all_there, is_about_parameters}
-use Rattle.mysql_execution_contents.specs.Agreement.{sets_of}
+use Rattle.mysql_execution_contents.specs.Agreement.{Agree, BulksInForce, all_there}
+use Rattle.mysql_execution_contents.specs.Agreement.{is_about_parameters, sets_of}
 use Rattle.mysql_executions.specs.After.{freshly_prepared, is_disputed, malformed_packet}
 use Rattle.mysql_executions.specs.After.{unsupported_command}
 use Rattle.mysql_executions.specs.InForce.{InForce}
-use Rattle.mysql_executions.specs.Types.{has_bulk_operations, has_query_attributes}
+use Rattle.mysql_executions.specs.Types.{has_query_attributes}
 use Rattle.mysql_executions.specs.declared.types.ParameterType.{ParameterType}
 use Rattle.mysql_receive.specs.Audit.{Reads}
 use Rattle.mysql_receive.specs.InForce.{StatementState}
@@ -161,7 +161,8 @@ ConnectionExecutionsAreReceived =
     (s last : Standing) (xs : List Spoken) (id : ℕ) (p : InForce) (statement : ReceivedStatement)
     (state : StatementState) (first : ℕ) (reads : List (List Set)) →
     Spoke s xs last → IsSettled s → Stands s.statements id p → Agree statement state p →
-    has_query_attributes s.capabilities ≡ false → has_bulk_operations s.capabilities ≡ true →
+    has_query_attributes s.capabilities ≡ false →
+    BulksInForce s.capabilities (payloads_about id xs) →
     AllByRecursion (Leaves id) xs → Reads statement state first (payloads_about id xs) reads →
     sets_about id xs ≡ all_there reads
 
@@ -221,7 +222,7 @@ StreamsAreReceived =
     Heard (start limits streams) (before ++ answer ∷ xs) last →
     PreparesIn id (place_count statement.query) answer.standing.phase answer.event →
     has_query_attributes answer.standing.capabilities ≡ false →
-    has_bulk_operations answer.standing.capabilities ≡ true →
+    BulksInForce answer.standing.capabilities (payloads_about id xs) →
     AllByRecursion (Leaves id) xs →
     Reads statement receive.freshly_prepared first (payloads_about id xs) reads →
     sets_about id xs ≡ all_there reads

@@ -22,7 +22,7 @@ use mysql_execution_contents::laws::{prepared_statements_agree, received_command
 ///   and no other statement gets its id;
 /// - an execution of it that is refused was read by the server, whose error is neither 1835 nor
 ///   1295, and the types that are in force are ones that all servers take;
-/// - executions have no query attributes, and bulk executions are in force.
+/// - query attributes aren't in force, and bulk executions are, where there are any.
 ///
 /// A command that names the statement as the one that was prepared last counts as one about it, and
 /// `receive` reads only those that name it by its id.

@@ -1,7 +1,7 @@
 -- Each command about a prepared statement that `receive` reads says the same contents, and the same is in force behind it.
 use Rattle.std.proofs.Common.{◌≡◌, ℕ, ◌+◌, ◌<◌, ◌≤◌, Bool, true, false, List, [], ◌∷◌, length, Option, Some, None, Ok, refl, sym, ap, subst, ◌∙◌, arith}
 use Rattle.std.specs.Prelude.{map, nat_le, nat_lt, ◌==◌, ◌&&◌, ◌||◌, if◌then◌else◌}
-use Rattle.std.specs.List.{list_all}
+use Rattle.std.specs.List.{list_all, list_any}
 use Rattle.std.specs.Option.{option_map}
 use Rattle.std.proofs.lemmas.Bool.Decides.{nat_tests}
 use Rattle.mysql_buf.specs.Reading.{little_at}
@@ -26,7 +26,7 @@ use Rattle.mysql_receive.specs.Reading.{BulkReadsAs, PayloadReadsAs, Set, execut
 use Rattle.mysql_receive.specs.declared.fault.StreamFault.{StreamFault}
 use Rattle.mysql_receive.specs.declared.fault.StreamFault.TheVariants.{BadPlace, NotPrepared, WrongId}
 use Rattle.mysql_wire.specs.Wire.{◌>>=◌}
-use Rattle.mysql_execution_contents.specs.Agreement.{Agree, EachIsRead, ReceivedAreRead, SameTypes, after_payload, all_there, is_about_parameters, sets_in, sets_of, with_data}
+use Rattle.mysql_execution_contents.specs.Agreement.{Agree, BulksInForce, EachIsRead, ReceivedAreRead, SameTypes, after_payload, all_there, is_about_parameters, is_bulk, sets_in, sets_of, with_data}
 use Rattle.mysql_execution_contents.proofs.Binds.{bind_ok, found_is, must_then, ok_is}
 use Rattle.mysql_execution_contents.proofs.Values.{SameData}
 use Rattle.mysql_execution_contents.proofs.Heads.{id_is}
@@ -52,7 +52,7 @@ module _ (statement : Statement) (state : StatementState) (s : InForce) (agree :
     whole = agree.whole;
   }
 
-module _ (named : IsTable column_type_number column_type_named) (c : Capabilities) (none : has_query_attributes c ≡ false) (bulks : has_bulk_operations c ≡ true) (statement : Statement) (state : StatementState) (s : InForce) (agree : Agree statement state s) (body : List ℕ) where
+module _ (named : IsTable column_type_number column_type_named) (c : Capabilities) (none : has_query_attributes c ≡ false) (statement : Statement) (state : StatementState) (s : InForce) (agree : Agree statement state s) (body : List ℕ) where
   abbrev Step : ℕ → List Set → Type 0
   Step number sets = StepIs c statement state s (number ∷ body) sets
 
@@ -64,8 +64,8 @@ module _ (named : IsTable column_type_number column_type_named) (c : Capabilitie
         agree = executed statement state s agree _ (λ place. None) (unnamed (execution_types c s.count body)) x.types (λ place. refl);
       }
 
-  bulk_step : (sets : List Set) → BulkReadsAs statement state body sets → Step 0xfa sets
-  bulk_step sets reads =
+  bulk_step : has_bulk_operations c ≡ true → (sets : List Set) → BulkReadsAs statement state body sets → Step 0xfa sets
+  bulk_step bulks sets reads =
       let x = bulk_is named c bulks statement state s agree body sets reads in
       record {
         says = ap (λ found. sets_of (or_other (0xfa ∷ body) (option_map BulkExecute found))) x.found ∙ x.says;
@@ -153,32 +153,42 @@ both_true : (a b : Bool) → (a && b) ≡ true → (a ≡ true) × (b ≡ true)
 both_true true b e = (refl, e)
 both_true false b e = absurd cc
 
-module _ (named : IsTable column_type_number column_type_named) (c : Capabilities) (none : has_query_attributes c ≡ false) (bulks : has_bulk_operations c ≡ true) (statement : Statement) where
-  step_is : (state : StatementState) (s : InForce) (agree : Agree statement state s) (payload : List ℕ) (sets : List Set) → is_about_parameters payload ≡ true → PayloadReadsAs statement state payload sets → StepIs c statement state s payload sets
-  step_is state s agree [] sets about reads = absurd reads
-  step_is state s agree (number ∷ body) sets about reads =
-      about_by (λ n. PayloadReadsAs statement state (n ∷ body) sets → StepIs c statement state s (n ∷ body) sets) number (number == 0x17) (number == 0xfa) (number == 0x18) (number == 0x1a) refl refl refl refl about
-      (λ r. subst (StepIs c statement state s (0x17 ∷ body)) (sym r.2) (execution_step named c none bulks statement state s agree body r.0 r.1))
-      (bulk_step named c none bulks statement state s agree body sets)
-      (data_step named c none bulks statement state s agree body sets)
-      (reset_step named c none bulks statement state s agree body sets)
-      reads
+or_left : (a b : Bool) → a ≡ true → (a || b) ≡ true
+or_left true b e = refl
+or_left false b e = absurd cc
 
-  received_are_read : (state : StatementState) (s : InForce) (first : ℕ) (payloads : List (List ℕ)) (reads : List (List Set)) → Agree statement state s → list_all is_about_parameters payloads ≡ true → Reads statement state first payloads reads
-      → sets_in c s payloads ≡ all_there reads
-  received_are_read state s first [] [] agree about nothing = refl
-  received_are_read state s first [] (sets ∷ reads) agree about read = elim read [ ]
-  received_are_read state s first (payload ∷ payloads) [] agree about read = elim read [ ]
-  received_are_read state s first (payload ∷ payloads) (sets ∷ reads) agree about (next here others) =
+or_right : (a b : Bool) → b ≡ true → (a || b) ≡ true
+or_right true b e = refl
+or_right false b e = e
+
+module _ (named : IsTable column_type_number column_type_named) (c : Capabilities) (none : has_query_attributes c ≡ false) (statement : Statement) where
+  step_is : (state : StatementState) (s : InForce) (agree : Agree statement state s) (payload : List ℕ) (sets : List Set) → (is_bulk payload ≡ true → has_bulk_operations c ≡ true) → is_about_parameters payload ≡ true
+      → PayloadReadsAs statement state payload sets → StepIs c statement state s payload sets
+  step_is state s agree [] sets bulks about reads = absurd reads
+  step_is state s agree (number ∷ body) sets bulks about reads =
+      about_by (λ n. (is_bulk (n ∷ body) ≡ true → has_bulk_operations c ≡ true) → PayloadReadsAs statement state (n ∷ body) sets → StepIs c statement state s (n ∷ body) sets) number (number == 0x17) (number == 0xfa) (number == 0x18) (number == 0x1a) refl refl refl refl about
+      (λ b r. subst (StepIs c statement state s (0x17 ∷ body)) (sym r.2) (execution_step named c none statement state s agree body r.0 r.1))
+      (λ b r. bulk_step named c none statement state s agree body (b refl) sets r)
+      (λ b r. data_step named c none statement state s agree body sets r)
+      (λ b r. reset_step named c none statement state s agree body sets r)
+      bulks reads
+
+  received_are_read : (state : StatementState) (s : InForce) (first : ℕ) (payloads : List (List ℕ)) (reads : List (List Set)) → BulksInForce c payloads → Agree statement state s → list_all is_about_parameters payloads ≡ true
+      → Reads statement state first payloads reads → sets_in c s payloads ≡ all_there reads
+  received_are_read state s first [] [] bulks agree about nothing = refl
+  received_are_read state s first [] (sets ∷ reads) bulks agree about read = elim read [ ]
+  received_are_read state s first (payload ∷ payloads) [] bulks agree about read = elim read [ ]
+  received_are_read state s first (payload ∷ payloads) (sets ∷ reads) bulks agree about (next here others) =
       let each = both_true (is_about_parameters payload) (list_all is_about_parameters payloads) about in
-      let step = step_is state s agree payload sets each.0 here.1 in
+      let step = step_is state s agree payload sets (λ b. bulks (or_left (is_bulk payload) (list_any is_bulk payloads) b)) each.0 here.1 in
       ap (λ said. said ∷ sets_in c (after_payload c payload s) payloads) step.says
-      ∙ ap (λ later. map (λ set. map Some set) sets ∷ later) (received_are_read (after statement state payload) (after_payload c payload s) (first + 1) payloads reads step.agree each.1 others)
+      ∙ ap (λ later. map (λ set. map Some set) sets ∷ later)
+      (received_are_read (after statement state payload) (after_payload c payload s) (first + 1) payloads reads (λ b. bulks (or_right (is_bulk payload) (list_any is_bulk payloads) b)) step.agree each.1 others)
 
 pub received_commands_are_read : IsTable column_type_number column_type_named → EachIsRead
 received_commands_are_read named c statement state s payload sets none bulks agree about reads =
-    let step = step_is named c none bulks statement state s agree payload sets about reads in
+    let step = step_is named c none statement state s agree payload sets (λ b. bulks (or_left (is_bulk payload) false b)) about reads in
     (step.says, step.agree)
 
 pub received_executions_are_read : IsTable column_type_number column_type_named → ReceivedAreRead
-received_executions_are_read named c statement state s first payloads reads none bulks agree about read = received_are_read named c none bulks statement state s first payloads reads agree about read
+received_executions_are_read named c statement state s first payloads reads none bulks agree about read = received_are_read named c none statement state s first payloads reads bulks agree about read

@@ -4,7 +4,7 @@
 use Rattle.std.specs.Prelude.{◌≡◌, ℕ, ◌≤◌, Bool, true, false, if◌then◌else◌, ◌==◌, ◌||◌, List, []}
 use Rattle.std.specs.Prelude.{◌∷◌, length, map}
 use Rattle.std.specs.Prelude.{Option, Some, None}
-use Rattle.std.specs.List.{list_all}
+use Rattle.std.specs.List.{list_all, list_any}
 use Rattle.mysql_cells.specs.declared.value.Value.{Value}
 use Rattle.mysql_commands.specs.Commands.{BulkExecute, Command, Execute, LongData, command_at}
 use Rattle.mysql_const.specs.ColumnTypes.{column_type_number}
@@ -103,6 +103,15 @@ is_about_parameters [] = false
 is_about_parameters (number ∷ body) =
     (number == 0x17) || ((number == 0xfa) || ((number == 0x18) || (number == 0x1a)))
 
+abbrev pub is_bulk : List ℕ → Bool
+is_bulk [] = false
+is_bulk (number ∷ body) = number == 0xfa
+
+-- Where there are bulk executions, they are in force.
+abbrev pub BulksInForce : Capabilities → List (List ℕ) → Type 0
+BulksInForce capabilities payloads =
+    list_any is_bulk payloads ≡ true → has_bulk_operations capabilities ≡ true
+
 -- Behind a prepare the same is in force on both sides.
 abbrev pub PreparedAgree : Type 0
 PreparedAgree = (statement : Statement) →
@@ -113,7 +122,7 @@ PreparedAgree = (statement : Statement) →
 abbrev pub EachIsRead : Type 0
 EachIsRead = (capabilities : Capabilities) (statement : Statement) (state : StatementState)
     (s : InForce) (payload : List ℕ) (sets : List Set) →
-    has_query_attributes capabilities ≡ false → has_bulk_operations capabilities ≡ true →
+    has_query_attributes capabilities ≡ false → BulksInForce capabilities (payload ∷ []) →
     Agree statement state s → is_about_parameters payload ≡ true →
     PayloadReadsAs statement state payload sets →
     (sets_of (command_at capabilities (Some s) payload) ≡ map (λ set. map Some set) sets) ×
@@ -124,6 +133,6 @@ EachIsRead = (capabilities : Capabilities) (statement : Statement) (state : Stat
 abbrev pub ReceivedAreRead : Type 0
 ReceivedAreRead = (capabilities : Capabilities) (statement : Statement) (state : StatementState)
     (s : InForce) (first : ℕ) (payloads : List (List ℕ)) (reads : List (List Set)) →
-    has_query_attributes capabilities ≡ false → has_bulk_operations capabilities ≡ true →
+    has_query_attributes capabilities ≡ false → BulksInForce capabilities payloads →
     Agree statement state s → list_all is_about_parameters payloads ≡ true →
     Reads statement state first payloads reads → sets_in capabilities s payloads ≡ all_there reads
