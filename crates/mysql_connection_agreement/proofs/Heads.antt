@@ -1,11 +1,10 @@
 -- The header of the packets of a payload.
-use Rattle.std.proofs.Common.{◌≡◌, ℕ, zero, suc, ◌+◌, ◌≤◌, ◌<◌, ◌/◌, ◌%◌, Bool, true, false, List, [], ◌∷◌, ◌++◌, length, take, refl, ap, ◌∙◌, add-one, arith}
-use Rattle.std.specs.Prelude.{nat_lt, nat_le, slice_index_or, ◌==◌, ◌&&◌, not}
+use Rattle.std.proofs.Common.{◌≡◌, ℕ, ◌+◌, ◌≤◌, ◌<◌, ◌/◌, ◌%◌, Bool, true, false, List, [], ◌∷◌, ◌++◌, length, take, refl, ap, ◌∙◌, add-one, arith}
+use Rattle.std.specs.Prelude.{nat_lt, slice_index_or, ◌==◌, ◌&&◌, not}
 use Rattle.std.specs.List.{flat_map, range_with_len}
 use Rattle.std.proofs.lemmas.Bool.Decides.{nat_tests}
 use Rattle.std.proofs.lemmas.Grind.{common_steps}
 use Rattle.mysql_wire.specs.Framing.{max_payload_len, chunk, slice, chunks, framing}
-use Rattle.mysql_connection_packets.specs.FirstPacket.{announced}
 use Rattle.mysql_connection_rules.specs.Standing.{Standing}
 use Rattle.mysql_connection_rules.specs.Streams.{begins_error, carries_error, has_no_bytes, has_number, is_early}
 

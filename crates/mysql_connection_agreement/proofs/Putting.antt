@@ -1,9 +1,8 @@
 -- What a put appends is read as what was put.
-use Rattle.std.proofs.Common.{◌≡◌, ℕ, ◌+◌, ◌-◌, ◌≤◌, ◌<◌, Bool, true, false, List, [], ◌∷◌, ◌++◌, Option, Some, None, Result, Ok, Err, length, refl, sym, ap, ◌∙◌, arith}
+use Rattle.std.proofs.Common.{◌≡◌, ℕ, ◌+◌, ◌-◌, ◌≤◌, ◌<◌, Bool, true, false, List, [], ◌∷◌, ◌++◌, Option, Some, None, Ok, Err, length, refl, sym, ap, ◌∙◌, arith}
 use Rattle.std.specs.Prelude.{nat_le, nat_lt, not, ◌&&◌, if◌then◌else◌, slice_index_or}
 use Rattle.std.proofs.lemmas.List.{append-nil}
 use Rattle.std.proofs.lemmas.Bool.Decides.{nat_tests}
-use Rattle.std.proofs.lemmas.Grind.{common_steps}
 use Rattle.mysql_authentication.specs.Readings.{early_error_at}
 use Rattle.mysql_connection_packets.specs.FirstPacket.{Found, Short, TooLarge, OutOfSync, Whole, first_packet, is_short}
 use Rattle.mysql_connection_packets.specs.Laws.{FramingsAreFound}
@@ -20,11 +19,11 @@ use Rattle.mysql_connection_rules.specs.Events as events
 use Rattle.mysql_connection_rules.specs.Events.Event.{Farewell}
 use Rattle.mysql_connection_rules.specs.Standing.{Standing, kept}
 use Rattle.mysql_connection_rules.specs.Steps.{Step, over, step, turn}
-use Rattle.mysql_connection_rules.specs.Streams.{Piece, Stream, World, Next, Waits, Says, come, next, stream_of}
+use Rattle.mysql_connection_rules.specs.Streams.{Piece, World, Next, Waits, Says, come, next, stream_of}
 use Rattle.mysql_connection_rules.specs.Streams.{begins_error, client_by, fails, farewell, has_number, is_early, leads_on, limit_of, moved}
-use Rattle.mysql_connection_rules.specs.Streams.{next_by, numbered, of_server, room_to_keep, said_by, server_by, words, words_by, words_or}
+use Rattle.mysql_connection_rules.specs.Streams.{next_by, numbered, room_to_keep, said_by, server_by, words, words_by}
 use Rattle.mysql_connection_agreement.specs.Machines.{Puts}
-use Rattle.mysql_connection_agreement.specs.Puts.{MayBePut, has_ended, is_free, is_none, is_turn, may_end, past, put_on, same_side, words_at, words_step}
+use Rattle.mysql_connection_agreement.specs.Puts.{MayBePut, has_ended, is_free, is_none, is_turn, may_end, past, words_at, words_step}
 use Rattle.mysql_connection_agreement.specs.Laws.{PutsAreRead}
 use Rattle.mysql_connection_agreement.proofs.Heads.{has_its_number, is_early_framed, not_early, number_framed}
 

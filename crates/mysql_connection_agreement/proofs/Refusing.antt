@@ -5,7 +5,7 @@ use Rattle.mysql_connection_rules.specs.Standing.{Standing, kept}
 use Rattle.mysql_connection_rules.specs.Streams.{limit_of, room_to_keep}
 use Rattle.mysql_connection_agreement.specs.Puts.{step_for}
 use Rattle.mysql_connection_agreement.specs.Laws.{PutsAreNotRefused}
-use Rattle.mysql_connection_agreement.specs.Refusals.{PutRefusal, NotDue, BadEvent, TooLarge, Held}
+use Rattle.mysql_connection_agreement.specs.Refusals.{NotDue, BadEvent, TooLarge, Held}
 
 same_payload : (a b : List ℕ) → Some a ≡ Some b → b ≡ a
 same_payload a b e = cc

@@ -1,7 +1,7 @@
 -- Which events may be put on a connection, in which packets, and what stands then.
 -- MySQL: Client/Server Protocol, "Connection Lifecycle", "MySQL Packets" and "Sequence ID".
 use Rattle.std.specs.Prelude.{◌≡◌, ℕ, ◌+◌, ◌≤◌, Bool, true, false, not, ◌&&◌, nat_lt, if◌then◌else◌}
-use Rattle.std.specs.Prelude.{List, [], ◌∷◌, length, Option, Some, None, Result, Ok, Err}
+use Rattle.std.specs.Prelude.{List, [], ◌∷◌, length, Option, Some, None, Ok, Err}
 use Rattle.mysql_authentication.specs.Readings.{early_error_at}
 use Rattle.mysql_connection_packets.specs.FirstPacket.{first_packet, is_short}
 use Rattle.mysql_fields.specs.Wire.{Reading}
