@@ -20,6 +20,12 @@ mod laws {
         stored_is_the_sum,
     };
 
+    mod agreement {
+        use mysql_connection::laws::agreement::{
+            puts_are_not_refused, puts_are_read, puts_are_the_run, three_agree,
+        };
+    }
+
     mod contents {
         use mysql_connection::laws::contents::{
             prepared_statements_agree, received_commands_are_read, received_executions_are_read,

@@ -2,6 +2,7 @@
 
 pub use mysql_authentication::laws as logins;
 pub use mysql_command_writer::laws::read_commands_are_put;
+pub use mysql_connection_agreement::laws as agreement;
 pub use mysql_connection_contents::laws::connection_executions_are_received;
 pub use mysql_connection_packets::laws as first_packets;
 pub use mysql_connection_rules::laws as runs;
