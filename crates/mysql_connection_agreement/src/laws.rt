@@ -21,8 +21,9 @@ pub fn puts_are_not_refused()
     ensures { PutsAreNotRefused }
 {}
 
-/// Whatever pieces of two streams came, and whatever events were put in between, the events that
-/// were taken, put or are left to take are, in order, those of the one run over the two streams.
+/// Events that were taken, put or are left to take are, in order, those of the one run.
+///
+/// So it is whatever pieces of two streams came, and whatever events were put in between.
 pub fn puts_are_the_run()
     ensures { PutsAreTheRun }
 {
