@@ -1,5 +1,5 @@
 -- What the calls on a connection say of the object that a handle stands for.
-use Rattle.std.specs.Prelude.{◌≡◌, ◌≢◌, ◌⊎◌, ℕ}
+use Rattle.std.specs.Prelude.{◌≡◌, ◌≢◌, ◌⊎◌, ◌==◌, ℕ, if◌then◌else◌}
 use Rattle.mysql_connection_machine.specs.Machines.{Machine, come_to}
 use Rattle.mysql_connection_rules.specs.Streams.{Coming}
 use Rattle.mysql_connection_rules.specs.declared.side.Side.{Side}
@@ -10,8 +10,7 @@ use Rattle.mysql_c_handles.specs.declared.object.Object.TheVariants as object
 
 -- the side of this number
 abbrev pub numbered_side : ℕ → Side
-numbered_side 0 = Client
-numbered_side number = Server
+numbered_side number = if number == 0 then Client else Server
 
 -- the object is a connection, of which this is said
 abbrev pub IsConnection : Object → (Machine → Type 0) → Type 0
