@@ -12,7 +12,8 @@ import random
 
 from mysql_session import _Handle
 
-CLIENT, SERVER = 0, 1
+SIDES = ("client", "server")
+CLIENT, SERVER = range(2)
 OUT_OF_RANGE = 4
 LIMITS = (1 << 26, 1 << 26, 1 << 28)
 # A limit that some payloads of recorded connections pass, and most don't.
@@ -158,19 +159,70 @@ def read_changed(library, name, streams, at):
         same(name + ", changed", found, wanted)
 
 
+def recording_of(name):
+    """The streams of a recorded connection, and its lines."""
+    streams = []
+    for side in SIDES:
+        with open(f"{name}.{side}", "rb") as it:
+            streams.append(it.read())
+    with open(name + ".events", encoding="ascii") as it:
+        return streams, it.read().splitlines()
+
+
+def front_of(stream, count):
+    """The first packets of a stream, so many."""
+    at = 0
+    for _ in range(count):
+        at += 4 + int.from_bytes(stream[at:at + 3], "little")
+    return stream[:at]
+
+
+def read_words(folder, streams, lines, words):
+    """Reads a line of a connection written by hand; returns its limits where it has them."""
+    if words[0] == "as":
+        recorded, events = recording_of(os.path.join(folder, words[1]))
+        lines += events[:int(words[2])]
+        for side, name in enumerate(SIDES):
+            count = sum(line.startswith(name) for line in lines)
+            streams[side] += front_of(recorded[side], count)
+    elif words[0] in SIDES:
+        payload = bytes.fromhex(words[2])
+        header = (len(payload).to_bytes(3, "little") + bytes([int(words[1])]) if words[1] else b"")
+        streams[SIDES.index(words[0])] += header + payload
+    elif words[0] == "is":
+        lines.append(words[1])
+    elif words[0] == "limits":
+        return tuple(map(int, words[1:]))
+    else:
+        raise ValueError(f"there is no word {words[0]}")
+    return None
+
+
+def read_by_hand(library, folder, at):
+    """Reads connections that are written by hand; returns how many there are."""
+    with open(os.path.join(folder, "by_hand.connections"), encoding="ascii") as it:
+        text = "\n".join(line for line in it.read().splitlines() if not line.startswith("#"))
+    count = 0
+    for block in text.split("\n\n"):
+        streams, wanted, limits = [b"", b""], [], LIMITS
+        for line in block.strip().splitlines():
+            words = [word.strip() for word in line.split("|")]
+            limits = read_words(folder, streams, wanted, words) or limits
+        if wanted:
+            for _ in range(10):
+                same(f"by hand: {block}", read_pieces(library, streams, at, limits), wanted)
+            count += 1
+    return count
+
+
 def read_connections(library, folder):
-    """Reads the recorded connections of a folder; returns how many there are."""
+    """Reads the recorded connections of a folder and those by hand; returns how many there are."""
     at, names = random.Random(1), sorted(glob.glob(os.path.join(folder, "*.events")))
+    by_hand = read_by_hand(library, folder, at)
     for events in names:
-        name = events[:-len(".events")]
-        streams = []
-        for side in ("client", "server"):
-            with open(f"{name}.{side}", "rb") as it:
-                streams.append(it.read())
-        with open(events, encoding="ascii") as it:
-            wanted = it.read().splitlines()
-        name = os.path.basename(name)
+        streams, wanted = recording_of(events[:-len(".events")])
+        name = os.path.basename(events)
         read_recording(library, name, streams, wanted, at)
         read_fronts(library, name, streams, wanted, at)
         read_changed(library, name, streams, at)
-    return len(names)
+    return len(names) + by_hand

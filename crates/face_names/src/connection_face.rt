@@ -3,22 +3,45 @@
 
 use mysql_connection::{
     Attribute, AuthenticationEvent, BoundType, BulkExecution, BulkValue, Capabilities,
-    CapabilityFlags, Command, CommandRefusal, Context, EventReader, Execution, ExtendedColumn,
-    GreetingEvent, ListedColumn, LoginFault, LoginRefusal, LoginResponse, MariadbCapabilities,
-    ParameterType, PutRefusal, Refused, Reply, ReplyEvent, ReplyFault, ReplyKind, ResponseEvent,
-    StatementParameters, Turn, capabilities_in_force, put_authentication, put_command, put_event,
-    put_greeting, put_response, read_authentication, read_bulk_types, read_execution_types,
-    read_greeting, read_response, write_authentication_event, write_command, write_greeting_event,
+    CapabilityFlags, Command, CommandRefusal, Connection, ConnectionFault, Context, End, Event,
+    EventReader, Execution, ExtendedColumn, Fault, FeedRefusal, GreetingEvent, Limits,
+    ListedColumn, LoginFault, LoginRefusal, LoginResponse, MariadbCapabilities, ParameterType,
+    Phase, PutRefusal, Reason, Refused, Reply, ReplyEvent, ReplyFault, ReplyKind, ResponseEvent,
+    Side, Statement, StatementParameters, Statements, Turn, capabilities_in_force,
+    put_authentication, put_command, put_event, put_greeting, put_response, read_authentication,
+    read_bulk_types, read_execution_types, read_greeting, read_response,
+    write_authentication_event, write_command, write_end, write_event, write_greeting_event,
     write_reply_event, write_response_event,
 };
 
 mod laws {
-    use mysql_connection::laws::read_commands_are_put;
+    use mysql_connection::laws::{
+        connection_executions_are_received, read_commands_are_put, read_events_are_put,
+        stored_is_the_sum,
+    };
+
+    mod agreement {
+        use mysql_connection::laws::agreement::{
+            puts_are_not_refused, puts_are_read, puts_are_the_run, three_agree,
+        };
+    }
+
+    mod contents {
+        use mysql_connection::laws::contents::{
+            prepared_statements_agree, received_commands_are_read, received_executions_are_read,
+        };
+    }
 
     mod executions {
         use mysql_connection::laws::executions::{
             attributes_read_back, bulks_read_back, executions_read_back,
             read_attributes_are_written, read_bulks_are_written, read_executions_are_written,
+        };
+    }
+
+    mod first_packets {
+        use mysql_connection::laws::first_packets::{
+            framings_are_found, packets_stay, packets_take_bytes, rests_follow, room_is_enough,
         };
     }
 
@@ -29,6 +52,14 @@ mod laws {
             refused_authentications_read_otherwise, refused_greetings_read_otherwise,
             refused_responses_read_otherwise, responses_are_put, responses_read_again,
             responses_read_back,
+        };
+    }
+
+    mod runs {
+        use mysql_connection::laws::runs::{
+            end_adds_last_words, events_are_in_turn, events_take_bytes, faults_are_of_their_bytes,
+            fronts_read_on, held_stays, last_words_are_last, pieces_are_the_run, positions_stay,
+            run_exists, run_is_one, servers_end_changes_nothing, turn_can_come,
         };
     }
 }

@@ -20,7 +20,7 @@ use mysql_login::{
 };
 
 mod laws {
-    use mysql_login::laws::ssl_requests_read_back;
+    use mysql_login::laws::{changed_users_read_again, ssl_requests_read_back};
 
     mod gtid {
         use mysql_login::laws::gtid::{

@@ -9,9 +9,9 @@ use Rattle.bitflags.proofs.OnLiterals.{bitflags_on_literals}
 use Rattle.bitflags.specs.Sets.{known_bits}
 use Rattle.byteorder.specs.Numbers.{little_from-lt}
 use Rattle.mysql_auth.specs.Plugins.{Plugin, plugin_named, without_zero}
-use Rattle.mysql_authentication.proofs.AttributesHeld.{attributes_held, some_same, taken_bytes, text_takes}
+use Rattle.mysql_connect_attributes.proofs.AttributesHeld.{attributes_held, bytes_behind, some_same, taken_bytes, text_takes}
 use Rattle.mysql_authentication.proofs.GreetingsPut.{length_own}
-use Rattle.mysql_authentication.proofs.ResponsesPut.{bytes_behind, null_rest, number_own}
+use Rattle.mysql_authentication.proofs.ResponsesPut.{null_rest, number_own}
 use Rattle.mysql_authentication.specs.Statements.{HoldsAttributes, HoldsError, HoldsHandshake, HoldsLogin, HoldsRequest, HoldsState}
 use Rattle.mysql_buf.specs.Bytes.{AreBytes}
 use Rattle.mysql_buf.specs.FirstBytes.{first-some}

@@ -9,8 +9,6 @@ pub mod GreetingsBack
 pub mod GreetingsPut
 pub mod PluginsBack
 pub mod ResponsesBack
-pub mod AttributesBack
 pub mod ResponsesPut
-pub mod AttributesHeld
 pub mod Held
 pub mod ReadAgain

@@ -9,13 +9,14 @@ use Rattle.mysql_authentication.proofs.GreetingsPut.{greetings_are_put}
 use Rattle.mysql_authentication.proofs.Held.{behind_held, error_held, handshake_held, request_held}
 use Rattle.mysql_authentication.proofs.Read.{read_as}
 use Rattle.mysql_authentication.proofs.ResponsesBack.{responses_read_back}
-use Rattle.mysql_authentication.proofs.ResponsesPut.{bytes_behind, responses_are_put}
+use Rattle.mysql_authentication.proofs.ResponsesPut.{responses_are_put}
 use Rattle.mysql_authentication.specs.Events.{Accepted, AuthMore, AuthSwitch, Authentication, Denied, Greeted, Greeting, LoggedIn, NextFactor, OldAuthSwitch, PluginData, Rejected, Response, SecureRequest}
 use Rattle.mysql_authentication.specs.Readings.{agrees_41, authentication_at, by_request, early_error_at, greeting_at, login_of, multi_factor, or_fault, response_at, response_of, switch_of}
 use Rattle.mysql_authentication.specs.Statements.{AuthenticationsReadAgain, GreetingsReadAgain, HoldsAuthentication, HoldsGreeting, HoldsLogin, HoldsOk, HoldsRequest, HoldsResponse, ResponsesReadAgain}
 use Rattle.mysql_authentication.specs.declared.fault.LoginFault.TheVariants.{BadError, BadGreeting, BadOk, BadSwitch, OldProtocol}
 use Rattle.mysql_auth.specs.Packets.{next_factor_at, switch_at}
 use Rattle.mysql_buf.specs.Bytes.{AreBytes}
+use Rattle.mysql_connect_attributes.proofs.AttributesHeld.{bytes_behind}
 use Rattle.mysql_field_constants.specs.Flags.{contains}
 use Rattle.mysql_fields.specs.Forms.{fixed_number_at}
 use Rattle.mysql_fields.specs.Laws.{bind_ok, eaten_first, ok_same}

@@ -9,7 +9,7 @@ use Rattle.bitflags.proofs.OnLiterals.{bitflags_on_literals}
 use Rattle.byteorder.specs.Endian.{little_number}
 use Rattle.mysql_auth.specs.Plugins.{Plugin}
 use Rattle.mysql_authentication.proofs.FirstCause.{fields_passed, none_of_two, passed, three_passed}
-use Rattle.mysql_authentication.proofs.AttributesBack.{attributes-back}
+use Rattle.mysql_connect_attributes.proofs.AttributesBack.{attributes-back}
 use Rattle.mysql_authentication.proofs.PluginsBack.{plugin-back}
 use Rattle.mysql_authentication.proofs.Zeros.{front_whole}
 use Rattle.mysql_authentication.specs.Events.{CutOff, LoggedIn, SecureRequest, Whole}

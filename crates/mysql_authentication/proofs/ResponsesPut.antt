@@ -2,7 +2,6 @@
 use Rattle.std.proofs.Common.{◌≡◌, ◌+◌, ◌%◌, ◌^◌, ◌==◌, if◌then◌else◌, nat_le, nat_lt, ℕ, Bool, true, false, List, length, drop, replicate, codes, Option, None, Some, is_some, Ok, Err}
 use Rattle.std.proofs.Common.{refl, sym, ap, ◌∙◌, subst, arith, inl, inr}
 use Rattle.std.proofs.lemmas.Bool.{cases_lt, le-leb}
-use Rattle.std.proofs.lemmas.List.{get_or-drop}
 use Rattle.std.proofs.lemmas.Nat.{and_assoc}
 use Rattle.std.specs.Int.RustNames.{bit_and}
 use Rattle.std.specs.List.{after_first, before_first, position_or_len}
@@ -24,6 +23,7 @@ use Rattle.mysql_authentication.specs.declared.refusal.LoginRefusal.TheVariants.
 use Rattle.mysql_buf.specs.Bytes.{AreBytes}
 use Rattle.mysql_buf.specs.FirstBytes.{first-enough, first-short}
 use Rattle.mysql_buf.specs.Reading.{bytes_at as buffer_bytes_at, is_zero, little_at, then_at}
+use Rattle.mysql_connect_attributes.proofs.AttributesHeld.{bytes_behind}
 use Rattle.mysql_connect_attributes.specs.Attributes.{Attribute, attributes_at}
 use Rattle.mysql_connect_attributes.specs.Parts.{if_there, plugin_to_zero_at}
 use Rattle.mysql_const.specs.MariadbCapabilities.{mariadb_capabilities}
@@ -40,9 +40,6 @@ use Rattle.mysql_handshake_response.specs.SslRequestLaws.{ssl_request_at-sized}
 use Rattle.mysql_handshake_response.specs.SslRequests.{SslRequestFields, capability_bits, mariadb_bits, ssl_fields_at, ssl_request_at}
 
 -- BYTES
-
-pub bytes_behind : (n : ℕ) (bytes : List ℕ) → AreBytes bytes → AreBytes (drop n bytes)
-bytes_behind n bytes all i = rw (get_or-drop n bytes i 0) (all (n + i))
 
 -- the number that the first bytes are
 pub number_own : (n : ℕ) (bytes : List ℕ) (x : ℕ × List ℕ) → fixed_number_at n bytes ≡ Ok x → (x.0 ≡ little_number n bytes) × (x.1 ≡ drop n bytes)

@@ -1,7 +1,8 @@
 //! A connection, both streams of it, printed as lines.
 
 ghost use Rattle.std.specs.Prelude.{◌≡◌, ◌≢◌, ◌⊎◌};
-ghost use Rattle.mysql_connection_rules.specs.Streams.{End, Piece, no_bytes, start};
+ghost use Rattle.mysql_connection_machine.specs.Machines.{new_machine};
+ghost use Rattle.mysql_connection_rules.specs.Streams.{End, Piece};
 ghost use Rattle.mysql_c_events.specs.Connecting.{IsConnection, OfConnection, Takes, numbered_side};
 ghost use Rattle.mysql_c_events.specs.Printing.{PutsLine};
 
@@ -21,8 +22,8 @@ pub extern "C" fn mysql_session_connection_new(
     server: usize,
     held: usize,
 ) -> u32
-    ensures made { result ≡ 0 → IsConnection handle.new.object (λ c. c.world ≡
-        start (record { client = client; server = server; held = held }) no_bytes) }
+    ensures made { result ≡ 0 → IsConnection handle.new.object (λ c. c ≡
+        new_machine (record { client = client; server = server; held = held })) }
     ensures kept { result ≢ 0 → handle.new.object ≡ handle.old.object }
 {
     let limits = Limits {

@@ -1,8 +1,10 @@
 //! A connection, both streams of it.
 
-ghost use Rattle.std.specs.Prelude.{◌≡◌, ◌≢◌, ◌×◌, ◌⊎◌};
-ghost use Rattle.mysql_connection_rules.specs.Streams.{Coming, End, Piece, come, no_bytes, start};
+ghost use Rattle.std.specs.Prelude.{◌≡◌, ◌≢◌, ◌⊎◌, OnErr, OnOk};
+ghost use Rattle.mysql_connection_machine.specs.Machines.{new_machine};
+ghost use Rattle.mysql_connection_rules.specs.Streams.{End, Piece};
 ghost use Rattle.mysql_c_handles.specs.Codes.{code_number};
+ghost use Rattle.mysql_c_handles.specs.declared.code.Code.TheVariants as code;
 ghost use Rattle.mysql_c_events.specs.Connecting.{IsConnection, OfConnection, Takes, numbered_side};
 ghost use Rattle.mysql_c_events.specs.Printing.{PutsLine};
 
@@ -27,7 +29,7 @@ fn side_of(number: u32) -> Side
 
 /// Makes the handle stand for a connection of which no byte came.
 pub fn connection_new(alloc: Global, handle: &mut Handle, limits: Limits) -> u32
-    ensures made { result ≡ 0 → IsConnection handle.new.object (λ c. c.world ≡ start limits no_bytes) }
+    ensures made { result ≡ 0 → IsConnection handle.new.object (λ c. c ≡ new_machine limits) }
     ensures kept { result ≢ 0 → handle.new.object ≡ handle.old.object }
 {
     let connection = Connection::new(alloc, limits);
@@ -38,7 +40,10 @@ pub fn connection_new(alloc: Global, handle: &mut Handle, limits: Limits) -> u32
 }
 
 /// The answer where bytes were taken, or why they weren't.
-fn code_of_feed(fed: Result<(), FeedRefusal>) -> Code {
+fn code_of_feed(fed: Result<(), FeedRefusal>) -> Code
+    ensures done { OnOk fed (result ≡ code.Done) }
+    ensures refused { OnErr fed (code_number result ≢ 0) }
+{
     match fed {
         Ok(()) => Code::Done,
         Err(FeedRefusal::Memory) => Code::Memory,

@@ -8,7 +8,7 @@ pub(crate) const HELP: &str =
     mysql_session_program audit ID LIMIT QUERY         a stream in, a line for each set out
     mysql_session_program follow ID LIMIT QUERY        the same lines, as the stream comes
     mysql_session_program recode ID LIMIT QUERY        a stream in, executions of its sets out
-    mysql_session_program connection LIMIT             a connection's transcript in, its events out
+    mysql_session_program connection LIMIT             a connection's transcript in, events out
     mysql_session_program help                         these lines
 ROAD is text, execute or bulk, ID the statement's id, LIMIT the most bytes of a packet, from 4.
 QUERY has question marks, or names as :a; sets are [[1, \"x\"], ..], or [{\"a\": 1}, ..] for :a.

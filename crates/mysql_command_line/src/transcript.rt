@@ -1,12 +1,12 @@
 //! A transcript of a connection, read piece by piece, whose events are printed.
 
-ghost use Rattle.std.specs.Prelude.{◌<◌, ◌≤◌, ◌×◌, IfOk, length};
+ghost use Rattle.std.specs.Prelude.{◌<◌, ◌≤◌, IfOk, length};
 
 use crate::stop::Stop;
 use mysql_connection_machine::{Connection, End, FeedRefusal};
 use mysql_connection_rules::{Fault, Limits, Reason, Side};
 use mysql_connection_state::Phase;
-use mysql_transcripts::{Position, print_event};
+use mysql_transcripts::{Position, Record, print_event};
 use std::alloc::Global;
 use std::io::Write;
 
@@ -31,10 +31,13 @@ impl Transcript {
     /// Whether nothing that follows changes what is printed. Behind a quit what the client says is a
     /// fault.
     fn is_over(&self) -> bool {
+        if self.connection.fault().is_some() {
+            return true;
+        }
         match self.connection.phase() {
             Phase::Over(Reason::Quit) => !self.connection.rest(Side::Client).is_empty(),
             Phase::Over(_) => true,
-            _ => self.connection.fault().is_some(),
+            _ => false,
         }
     }
 
@@ -49,37 +52,53 @@ impl Transcript {
         Ok(())
     }
 
-    /// How many of these bytes of a side are taken next: all that there is room for. Behind the end
-    /// of a connection the rest is passed over.
-    fn count_taken(&self, side: Side, bytes: &[u8]) -> Result<usize, Stop> {
-        match bytes.len().min(self.connection.room(side)) {
-            0 => match self.connection.phase() {
-                Phase::Over(_) => Ok(0),
-                _ => Err(Stop::Held),
-            },
-            count => Ok(count),
+    /// Feeds bytes of a side.
+    fn feed(&mut self, side: Side, bytes: &[u8]) -> Result<(), Stop> {
+        match self.connection.feed(side, bytes) {
+            Ok(()) => Ok(()),
+            Err(FeedRefusal::Memory) => Err(Stop::Memory),
+            Err(_) => Err(Stop::Held),
         }
     }
 
     /// Takes bytes of a side as far as there is room for them, prints what they say, and answers how
-    /// many it took.
+    /// many it took. What has no room where the connection is over is passed over.
     fn take_bytes<W: Write>(
         &mut self,
         output: &mut W,
         side: Side,
         bytes: &[u8],
-    ) -> Result<usize, Stop> {
-        let count = self.count_taken(side, bytes)?;
-        if count == 0 {
-            return Ok(bytes.len());
+    ) -> Result<usize, Stop>
+        requires { 0 < length bytes.now }
+        ensures { IfOk result (λ count. (0 < count) × (count ≤ length bytes.now)) }
+    {
+        let count = bytes.len().min(self.connection.room(side));
+        if count > 0 {
+            self.feed(side, &bytes[..count])?;
+            self.print_events(output)?;
+            return Ok(count);
         }
-        match self.connection.feed(side, &bytes[..count]) {
-            Ok(()) => {}
-            Err(FeedRefusal::Memory) => return Err(Stop::Memory),
-            Err(_) => return Err(Stop::Held),
+        match self.connection.phase() {
+            Phase::Over(_) => Ok(bytes.len()),
+            _ => Err(Stop::Held),
         }
-        self.print_events(output)?;
-        Ok(count)
+    }
+
+    /// Takes the bytes of a record that a piece begins with, and answers what follows them.
+    fn take_record<'p, W: Write>(
+        &mut self,
+        output: &mut W,
+        record: Record,
+        piece: &'p [u8],
+    ) -> Result<&'p [u8], Stop>
+        requires { 0 < length piece.now }
+        ensures { IfOk result (λ rest. length rest.now < length piece.now) }
+    {
+        let Record { side, left } = record;
+        let most = piece.len().min(left as usize);
+        let count = self.take_bytes(output, side, &piece[..most])?;
+        self.position = Position::in_record(side, left - count as u32);
+        Ok(&piece[count..])
     }
 
     /// Takes what stands first of a piece, a byte of a record's header or bytes of a side, and
@@ -88,21 +107,16 @@ impl Transcript {
         &mut self,
         output: &mut W,
         piece: &'p [u8],
-    ) -> Result<&'p [u8], Stop> {
+    ) -> Result<&'p [u8], Stop>
+        requires { 0 < length piece.now }
+        ensures { IfOk result (λ rest. length rest.now < length piece.now) }
+    {
         match self.position {
             Position::Header(header, count) => {
-                let [byte, rest @ ..] = piece else {
-                    return Ok(piece);
-                };
-                self.position = Position::after_header_byte(header, count, *byte)?;
-                Ok(rest)
+                self.position = Position::after_header_byte(header, count, piece[0])?;
+                Ok(&piece[1..])
             }
-            Position::Record(side, left) => {
-                let most = piece.len().min(left as usize);
-                let count = self.take_bytes(output, side, &piece[..most])?;
-                self.position = Position::in_record(side, left - count as u32);
-                Ok(&piece[count..])
-            }
+            Position::Record(record) => self.take_record(output, record, piece),
         }
     }
 

@@ -1,6 +1,6 @@
 -- A request for a table's columns reads as it exactly where the table's name has no zero.
-use Rattle.std.proofs.Common.{◌≡◌, ◌≤◌, ◌<◌, ℕ, ◌^◌, List, [], ◌∷◌, ◌++◌, Ok, Option, Some, None, Bool, true, false, length, take}
-use Rattle.std.proofs.Common.{refl, sym, ap, ◌∙◌, append-nil, append_assoc, arith, not, nat_lt}
+use Rattle.std.proofs.Common.{◌≡◌, ℕ, List, Option, Bool, true, false, length}
+use Rattle.std.proofs.Common.{refl, sym, ap, ◌∙◌, arith, not, nat_lt}
 use Rattle.std.proofs.lemmas.Bool.{ltb-false, ltb-true}
 use Rattle.std.proofs.lemmas.List.{take_all}
 use Rattle.std.proofs.lemmas.List.Folds.{length-prefix_len}
@@ -9,8 +9,7 @@ use Rattle.mysql_buf.specs.Reading.{is_zero}
 use Rattle.mysql_executions.specs.InForce.{InForce}
 use Rattle.mysql_const.specs.declared.capabilities.Capabilities.{Capabilities}
 use Rattle.mysql_fields.specs.TextLaws.{null_text_at-back}
-use Rattle.mysql_fields.specs.Texts.{null_text, null_text_at}
-use Rattle.mysql_commands.specs.Commands.{Command, FieldList, command_at}
+use Rattle.mysql_commands.specs.Commands.{FieldList, command_at}
 use Rattle.mysql_command_writer.specs.Refusals.{ReadsBack}
 use Rattle.mysql_command_writer.specs.Written.{command_bytes}
 

@@ -1,11 +1,10 @@
 -- A request for the binary log by sets of transactions reads as it was put exactly where its flags have names, and its
 -- file's name and its sets fit their lengths.
-use Rattle.std.proofs.Common.{◌≡◌, ◌≤◌, ◌<◌, ◌+◌, ℕ, ◌^◌, ◌-◌, List, [], ◌∷◌, ◌++◌, Ok, Err, Option, Some, None, Bool, true}
-use Rattle.std.proofs.Common.{false, length, take, drop, min, Result, refl, sym, ap, ◌∙◌, append-nil, append_assoc, arith, lit<}
-use Rattle.std.proofs.Common.{◌&&◌, nat_lt, nat_le, ◌==◌, length-drop, inl, inr}
-use Rattle.std.proofs.lemmas.Bool.{cases_lt, lt-ltb, ltb-false, ltb-true}
+use Rattle.std.proofs.Common.{◌≡◌, ◌≤◌, ◌<◌, ℕ, ◌^◌, ◌-◌, List, [], ◌∷◌, ◌++◌, Ok, Err, Option, None, true}
+use Rattle.std.proofs.Common.{false, length, take, drop, min, refl, sym, ap, ◌∙◌, append-nil, arith, lit<}
+use Rattle.std.proofs.Common.{length-drop}
 use Rattle.std.proofs.lemmas.Bool.Decides.{nat_tests}
-use Rattle.std.proofs.lemmas.List.{length-take, take_all}
+use Rattle.std.proofs.lemmas.List.{take_all}
 use Rattle.std.specs.List.{AllByRecursion, concat}
 use Rattle.byteorder.specs.Endian.{little_bytes}
 use Rattle.mysql_buf.specs.FirstBytes.{first-enough}
@@ -23,14 +22,14 @@ use Rattle.mysql_fields.specs.Texts.{u32_text_at}
 use Rattle.mysql_fields.specs.Wire.{Reading, ◌>>=◌}
 use Rattle.mysql_fields.specs.declared.error.WireError.{WireError}
 use Rattle.mysql_fields.specs.declared.error.WireError.TheVariants.{UnknownValue}
-use Rattle.mysql_gtid.specs.Blocks.{IsBlock, IsSid, block_at, block_bytes}
+use Rattle.mysql_gtid.specs.Blocks.{IsSid, block_at, block_bytes}
 use Rattle.mysql_gtid.specs.Sids.{SidParts}
 use Rattle.mysql_replication.specs.PacketLaws.{binlog_dump_gtid_at-back}
 use Rattle.mysql_replication.specs.Packets as replica
 use Rattle.mysql_replication.specs.Packets.{IsBinlogDumpGtid, binlog_dump_gtid, binlog_dump_gtid_at}
 use Rattle.mysql_replication.specs.Packets.{binlog_dump_gtid_fields_at, binlog_dump_gtid_front_at}
 use Rattle.mysql_replication.specs.Packets.{binlog_dump_gtid_start_at, whole_binlog_dump_gtid}
-use Rattle.mysql_commands.specs.Commands.{BinlogDumpGtid, Command, Other, all_of, command_at}
+use Rattle.mysql_commands.specs.Commands.{BinlogDumpGtid, Other, all_of, command_at}
 use Rattle.mysql_command_writer.specs.Refusals.{ReadsBack}
 use Rattle.mysql_command_writer.specs.Written.{command_bytes}
 

@@ -5,6 +5,8 @@ pub mod Logins
 pub mod WithValues
 pub mod ReadAgain
 pub mod ReadCommands
+pub mod ReadGtids
 pub mod ReadPackets
 pub mod ReadRows
+pub mod ReadSets
 pub mod Replication

@@ -1,5 +1,5 @@
 -- Lists that are the same at each place.
-use Rattle.std.proofs.Common.{◌≡◌, ◌<◌, ◌+◌, ℕ, List, [], ◌∷◌, length, Some, None, refl, ap, arith, suc, zero}
+use Rattle.std.proofs.Common.{◌≡◌, ◌<◌, ℕ, List, [], ◌∷◌, length, Some, refl, arith, suc}
 use Rattle.std.specs.Prelude.{slice_get}
 
 some_same : {X : Type 0} (x y : X) → Some x ≡ Some y → x ≡ y

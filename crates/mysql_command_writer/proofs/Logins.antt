@@ -1,13 +1,13 @@
 -- A change of user reads as it exactly where its own reading says so.
-use Rattle.std.proofs.Common.{◌≡◌, ◌==◌, ℕ, List, [], ◌∷◌, length, Option, Some, None, Ok, Err, Bool, true, false, refl, sym, ap}
+use Rattle.std.proofs.Common.{◌≡◌, ◌==◌, ℕ, List, [], ◌∷◌, length, Option, Ok, Err, false, refl, sym, ap}
 use Rattle.std.proofs.lemmas.Bool.Decides.{nat_tests}
-use Rattle.std.proofs.Common.{arith, ◌∙◌, if◌then◌else◌}
+use Rattle.std.proofs.Common.{arith, ◌∙◌}
 use Rattle.std.specs.Option.{option_map}
 use Rattle.mysql_const.specs.declared.capabilities.Capabilities.{Capabilities}
 use Rattle.mysql_executions.specs.InForce.{InForce}
 use Rattle.mysql_fields.specs.Wire.{Reading}
 use Rattle.mysql_login.specs.ChangedUsers.{ChangeUserFields, change_in_force, change_in_force_at}
-use Rattle.mysql_commands.specs.Commands.{ChangeUser, Command, Other, all_of, command_at, fields, or_other}
+use Rattle.mysql_commands.specs.Commands.{ChangeUser, Command, Other, all_of, command_at, or_other}
 use Rattle.mysql_command_writer.specs.Refusals.{ReadsBack}
 use Rattle.mysql_command_writer.specs.Written.{command_bytes}
 

@@ -1,5 +1,5 @@
 -- Fields that were written are read again.
-use Rattle.std.proofs.Common.{◌≡◌, ℕ, ◌<◌, ◌^◌, List, [], ◌∷◌, ◌++◌, Ok, refl, sym, ap, ◌∙◌, append-nil}
+use Rattle.std.proofs.Common.{◌≡◌, ℕ, ◌<◌, ◌^◌, [], Ok, sym, ap, ◌∙◌, append-nil}
 use Rattle.byteorder.specs.Endian.{little_bytes}
 use Rattle.mysql_fields.specs.Forms.{fixed_number_at}
 use Rattle.mysql_fields.specs.Laws.{fixed_number_at-back}

@@ -1,17 +1,14 @@
 -- What was read is put, row by row of the table of commands.
-use Rattle.std.proofs.Common.{◌≡◌, ◌==◌, ◌<◌, ◌≤◌, ◌+◌, ◌^◌, ℕ, nat_eq, Bool, true, false, if◌then◌else◌, List, [], ◌∷◌, ◌++◌}
-use Rattle.std.proofs.Common.{length, take, drop, nat_lt, ◌%◌, Option, Some, None, Ok, Err, refl, sym, ap, ◌∙◌, subst, arith}
+use Rattle.std.proofs.Common.{◌≡◌, ◌==◌, ◌<◌, ◌^◌, ℕ, nat_eq, Bool, true, false, if◌then◌else◌, List, [], ◌∷◌, ◌++◌}
+use Rattle.std.proofs.Common.{length, ◌%◌, Option, Some, None, Ok, Err, refl, sym, ap, ◌∙◌, subst, arith}
 use Rattle.std.proofs.lemmas.Bool.{eqb-true}
-use Rattle.std.proofs.lemmas.List.{get_or-drop}
-use Rattle.std.specs.List.{AllByRecursion, before_first}
+use Rattle.std.specs.List.{AllByRecursion}
 use Rattle.std.specs.Option.{option_map}
-use Rattle.byteorder.specs.Endian.{little_bytes, little_number}
+use Rattle.byteorder.specs.Endian.{little_bytes}
 use Rattle.mysql_buf.specs.Bytes.{AreBytes}
-use Rattle.mysql_buf.specs.FirstBytes.{first-some}
-use Rattle.mysql_buf.specs.Reading.{little_at}
-use Rattle.mysql_buf.specs.TextLaws.{left-of}
 use Rattle.mysql_const.specs.Tables.{entry_of}
 use Rattle.mysql_const.specs.declared.capabilities.Capabilities.{Capabilities}
+use Rattle.mysql_login.proofs.FieldsRead.{left_bytes, name_read, number_read}
 use Rattle.mysql_execution_writer.specs.Laws.{ReadAttributesAreWritten, ReadBulksAreWritten, ReadExecutionsAreWritten}
 use Rattle.mysql_executions.specs.Attributes.{query_attributes_at}
 use Rattle.mysql_executions.specs.Bulks.{BulkExecution, bulk_execution_at}
@@ -21,44 +18,19 @@ use Rattle.mysql_executions.specs.Types.{has_query_attributes}
 use Rattle.mysql_executions.specs.declared.types.Attribute.{Attribute}
 use Rattle.mysql_fields.specs.Forms.{fixed_number_at}
 use Rattle.mysql_fields.specs.Laws.{bind_ok, fixed_number_at-back, ok_same}
-use Rattle.mysql_fields.specs.Wire.{Reading, or_end, ◌>>=◌}
-use Rattle.mysql_commands.specs.Commands.{Command, Layout, all_of, alone, command_at, fields, laid_out, layouts, or_other, said}
-use Rattle.mysql_commands.specs.Commands.{Quit, InitDb, Query, FieldList, CreateDb, DropDb, Refresh, Shutdown}
-use Rattle.mysql_commands.specs.Commands.{Statistics, ProcessInfo, ProcessKill, Debug, Ping, Prepare, LongData, Close}
-use Rattle.mysql_commands.specs.Commands.{ResetStatement, SetOption, Fetch, ResetConnection, Clone, Other}
+use Rattle.mysql_fields.specs.Wire.{Reading, ◌>>=◌}
+use Rattle.mysql_commands.specs.Commands.{Command, Layout, all_of, alone, command_at, fields, layouts, or_other, said}
+use Rattle.mysql_commands.specs.Commands.{Quit, Query, FieldList, Shutdown}
+use Rattle.mysql_commands.specs.Commands.{LongData}
+use Rattle.mysql_commands.specs.Commands.{Fetch, Other}
 use Rattle.mysql_commands.specs.Commands.{BulkExecute, Execute, by_statement, fetch_at, field_list_at, level_at}
 use Rattle.mysql_commands.specs.Commands.{long_data_at, query_at}
-use Rattle.std.proofs.Math.Seq.{take-length}
-use Rattle.std.proofs.lemmas.List.{get_or-take, length-take}
-use Rattle.std.proofs.lemmas.List.Sums.{fails_before_first, position_or_len_is}
-use Rattle.std.specs.List.{after_first, position_or_len}
-use Rattle.mysql_buf.specs.Reading.{is_zero}
 use Rattle.mysql_fields.specs.Texts.{null_text_at}
-use Rattle.mysql_fields.specs.declared.error.WireError.TheVariants.{UnexpectedEof}
 use Rattle.mysql_command_writer.proofs.FieldLists.{cut}
 use Rattle.mysql_command_writer.proofs.ReadAgain.{last_number-back}
-use Rattle.mysql_command_writer.specs.Laws.{IsOwn, IsPut}
-use Rattle.mysql_command_writer.specs.Refusals.{ReadsBack, as_read}
+use Rattle.mysql_command_writer.specs.Laws.{IsOwn}
 
 -- BYTES
-
-pub stands : {X : Type 0} (o : Option X) (x : X) → or_end o ≡ Ok x → o ≡ Some x
-stands None x h = absurd cc
-stands (Some y) x h = cc
-
-pub left_bytes : (n : ℕ) (bytes : List ℕ) → AreBytes bytes → AreBytes (drop n bytes)
-left_bytes n bytes small = λ i. rw (get_or-drop n bytes i 0) (small (n + i))
-
--- a number that was read fits its field, and bytes are left
-pub number_read : (n : ℕ) (bytes : List ℕ) (x : ℕ × List ℕ) → AreBytes bytes → fixed_number_at n bytes ≡ Ok x →
-    (x.0 < 256 ^ n) × AreBytes x.1
-number_read n bytes x small h =
-    let some = stands (little_at n bytes) x h in
-    let part = first-some n (little_number n) bytes x some in
-    let left : drop n bytes ≡ x.1 = sym (ap (λ (p : ℕ × List ℕ). p.1) part.1) in (
-      (left-of n bytes x.0 x.1 small some).0,
-      subst AreBytes left (left_bytes n bytes small),
-    )
 
 pub tail_bytes : (b : ℕ) (bytes : List ℕ) → AreBytes (b ∷ bytes) → AreBytes bytes
 tail_bytes b bytes small = left_bytes 1 (b ∷ bytes) small
@@ -179,28 +151,6 @@ shutdown_own capabilities parameters (b ∷ bytes) c small h =
     let own : IsOwn capabilities parameters (Shutdown (Some b)) = (ap (λ (n : ℕ). Shutdown (Some n)) whole, refl) in
     subst (IsOwn capabilities parameters) read.2 (subst (λ (level : Option ℕ). IsOwn capabilities parameters (Shutdown level)) same own)
 
--- the front before the first zero has none
-front_again : (bytes : List ℕ) → before_first is_zero (before_first is_zero bytes) ≡ before_first is_zero bytes
-front_again bytes =
-    let place = position_or_len is_zero bytes in
-    let short : length (before_first is_zero bytes) ≤ position_or_len is_zero bytes =
-    omega (arith, length-take (position_or_len is_zero bytes) bytes) in
-    let all : position_or_len is_zero (before_first is_zero bytes) ≡ length (before_first is_zero bytes) =
-    position_or_len_is is_zero (before_first is_zero bytes) (length (before_first is_zero bytes)) 0 (omega arith)
-    (λ k h. rw (get_or-take (position_or_len is_zero bytes) bytes k 0 (omega arith))
-    (fails_before_first is_zero bytes k 0 (omega arith)))
-    (λ h. absurd (omega arith)) in
-    ap (λ (n : ℕ). take n (before_first is_zero bytes)) all ∙ take-length (before_first is_zero bytes)
-
--- what is read as a name ends before a zero
-name_read : (bytes : List ℕ) (x : List ℕ × List ℕ) → null_text_at bytes ≡ Ok x → before_first is_zero x.0 ≡ x.0
-name_read bytes x h = go (nat_lt (position_or_len is_zero bytes) (length bytes)) h where
-  go : (b : Bool) → (if b then ok_of (before_first is_zero bytes, after_first is_zero bytes) else Err UnexpectedEof) ≡ ok_of x
-      → before_first is_zero x.0 ≡ x.0
-  go true e = let same : (before_first is_zero bytes, after_first is_zero bytes) ≡ x = cc in
-      subst (λ (y : List ℕ × List ℕ). before_first is_zero y.0 ≡ y.0) same (front_again bytes)
-  go false e = absurd cc
-
 pub field_list_own : (capabilities : Capabilities) (parameters : Option InForce) (bytes : List ℕ) (c : Command) →
     fields (λ c. c) field_list_at bytes ≡ Some c → IsOwn capabilities parameters c
 field_list_own capabilities parameters bytes c h =
@@ -208,7 +158,7 @@ field_list_own capabilities parameters bytes c h =
     let name = bind_ok (null_text_at bytes) (λ table. ok_of (FieldList table.0 table.1, [])) (read.0, []) read.1 in
     let is : FieldList name.0.0 name.0.1 ≡ c = ap (λ (r : Reading Command). value_of r) name.2 ∙ read.2 in
     let reads = cut capabilities parameters name.0.0 name.0.1 ∙
-    ap (λ (table : List ℕ). FieldList table name.0.1) (name_read bytes name.0 name.1) in
+    ap (λ (table : List ℕ). FieldList table name.0.1) (name_read bytes name.0 name.1).0 in
     subst (IsOwn capabilities parameters) is (reads, refl)
 
 -- a query, by the law of attributes

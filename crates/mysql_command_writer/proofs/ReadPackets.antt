@@ -1,27 +1,23 @@
 -- Packets of a replica that were read may be put.
-use Rattle.std.proofs.Common.{◌≡◌, ◌==◌, ◌<◌, ◌≤◌, ◌+◌, ◌^◌, ℕ, Bool, true, false, if◌then◌else◌, List, [], ◌∷◌, ◌++◌}
-use Rattle.std.proofs.Common.{length, take, drop, min, ◌&&◌, nat_le, nat_lt, Option, Some, None, Ok, Err, refl, sym, ap, ◌∙◌, subst, arith}
+use Rattle.std.proofs.Common.{◌≡◌, ◌<◌, ◌≤◌, ◌^◌, ℕ, Bool, true, false, if◌then◌else◌, List, []}
+use Rattle.std.proofs.Common.{length, ◌&&◌, nat_le, Some, None, Ok, Err, refl, sym, ap, ◌∙◌, subst, arith}
 use Rattle.std.proofs.lemmas.Bool.Decides.{nat_tests}
-use Rattle.std.proofs.lemmas.List.{length-take}
 use Rattle.mysql_buf.specs.Bytes.{AreBytes}
-use Rattle.mysql_buf.specs.FirstBytes.{first-some}
-use Rattle.mysql_buf.specs.Reading as buffer
-use Rattle.mysql_buf.specs.Reading.{little_at}
-use Rattle.mysql_buf.specs.TextLaws.{left-of}
 use Rattle.mysql_const.specs.BinlogDumpFlags.{binlog_dump_flags}
 use Rattle.mysql_const.specs.declared.binlog.BinlogDumpFlags.{BinlogDumpFlags}
-use Rattle.mysql_field_constants.specs.Constants.{constant_at, is_constant, named_at, or_unknown}
+use Rattle.mysql_field_constants.specs.Constants.{constant_at, named_at, or_unknown}
 use Rattle.mysql_field_constants.specs.Flags.{are_named, binlog_dump_named}
 use Rattle.mysql_fields.specs.Forms.{fixed_number_at}
 use Rattle.mysql_fields.specs.Laws.{bind_ok, ok_same}
 use Rattle.mysql_fields.specs.Texts.{u8_text_at}
-use Rattle.mysql_fields.specs.Wire.{Reading, from_block, lacks, or_end, ◌>>=◌}
-use Rattle.mysql_fields.specs.declared.error.WireError.TheVariants.{BadConstant, UnexpectedEof, UnknownValue}
+use Rattle.mysql_fields.specs.Wire.{Reading, from_block, lacks, ◌>>=◌}
+use Rattle.mysql_fields.specs.declared.error.WireError.TheVariants.{UnexpectedEof}
+use Rattle.mysql_login.proofs.FieldsRead.{constant_read, number_read, text_read}
 use Rattle.mysql_replication.specs.Packets as replica
 use Rattle.mysql_replication.specs.Packets.{binlog_dump_at, binlog_dump_fields_at, register_slave_at}
 use Rattle.mysql_replication.specs.Packets.{register_slave_fields_at, replica_names_at, replica_numbers_at, table_dump_at}
 use Rattle.mysql_replication.specs.Packets.{whole_register_slave, whole_table_dump}
-use Rattle.mysql_command_writer.proofs.ReadCommands.{left_bytes, number_read, ok_of, stands}
+use Rattle.mysql_command_writer.proofs.ReadCommands.{ok_of}
 use Rattle.mysql_command_writer.proofs.Replication.{HasDumpNumbers, HasReplicaNumbers}
 
 block_by : {X : Type 0} (few : Bool) (reading : Reading X) (x : X × List ℕ) →
@@ -30,40 +26,9 @@ block_by true reading x h = absurd cc
 block_by false reading x h = h
 
 -- what is read behind a block that is there
-in_block : {X : Type 0} (n : ℕ) (read_at : List ℕ → Reading X) (bytes : List ℕ) (x : X × List ℕ) →
+pub in_block : {X : Type 0} (n : ℕ) (read_at : List ℕ → Reading X) (bytes : List ℕ) (x : X × List ℕ) →
     from_block n read_at bytes ≡ Ok x → read_at bytes ≡ Ok x
 in_block {X} n read_at bytes x h = block_by (lacks (Some n) (length bytes)) (read_at bytes) x h
-
-constant_by : (b : Bool) (x y : ℕ × List ℕ) → (if b then ok_of x else Err BadConstant) ≡ ok_of y → x ≡ y
-constant_by true x y h = ok_same x y h
-constant_by false x y h = absurd cc
-
--- bytes left behind a constant
-constant_read : (size n : ℕ) (bytes : List ℕ) (x : ℕ × List ℕ) → AreBytes bytes → constant_at size n bytes ≡ Ok x →
-    AreBytes x.1
-constant_read size n bytes x small h =
-    let number = bind_ok (fixed_number_at size bytes) (is_constant n) x h in
-    let rest = (number_read size bytes number.0 small number.1).1 in
-    subst (λ (y : ℕ × List ℕ). AreBytes y.1) (constant_by (number.0.0 == n) number.0 x number.2) rest
-
-text_by : (bytes : List ℕ) (x : List ℕ × List ℕ) (r : Option (ℕ × List ℕ)) → AreBytes bytes → little_at 1 bytes ≡ r →
-    buffer.then_at r buffer.bytes_at ≡ Some x → (length x.0 ≤ 255) × AreBytes x.1
-text_by bytes x None small e h = absurd cc
-text_by bytes x (Some n) small e h =
-    let read = number_read 1 bytes n small (ap or_end e) in
-    let part = first-some n.0 (take n.0) n.1 x h in
-    let text : x.0 ≡ take n.0 n.1 = ap (λ (p : List ℕ × List ℕ). p.0) part.1 in
-    let left : drop n.0 n.1 ≡ x.1 = sym (ap (λ (p : List ℕ × List ℕ). p.1) part.1) in
-    let low : n.0 < 256 ^ 1 = read.0 in (
-      omega (arith, ap length text, length-take n.0 n.1),
-      subst AreBytes left (left_bytes n.0 n.1 read.1),
-    )
-
--- a text behind its length in one byte
-text_read : (bytes : List ℕ) (x : List ℕ × List ℕ) → AreBytes bytes → u8_text_at bytes ≡ Ok x →
-    (length x.0 ≤ 255) × AreBytes x.1
-text_read bytes x small h =
-    text_by bytes x (little_at 1 bytes) small refl (stands (buffer.then_at (little_at 1 bytes) buffer.bytes_at) x h)
 
 -- A REQUEST FOR A TABLE
 
@@ -103,7 +68,7 @@ flags_by bits true rest x h = (refl, ok_same (made_flags bits, rest) x h)
 flags_by bits false rest x h = absurd cc
 
 -- named flags in two bytes
-flags_read : (bytes : List ℕ) (x : BinlogDumpFlags × List ℕ) → AreBytes bytes →
+pub flags_read : (bytes : List ℕ) (x : BinlogDumpFlags × List ℕ) → AreBytes bytes →
     named_at binlog_dump_named (fixed_number_at 2) bytes ≡ Ok x →
     (x.0.0 < 2 ^ 16) × (are_named binlog_dump_flags x.0.0 ≡ true) × AreBytes x.1
 unfolding made_flags

@@ -1,10 +1,11 @@
 -- Each row of the table of commands: what is read by it may be put, and is read again as it is.
-use Rattle.std.proofs.Common.{◌≡◌, ◌<◌, ◌^◌, ℕ, List, [], ◌∷◌, Option, Some, Ok, refl, sym, ap, ◌∙◌, subst}
+use Rattle.std.proofs.Common.{◌≡◌, ◌<◌, ◌^◌, ℕ, List, [], ◌∷◌, Option, Some, refl, subst}
 use Rattle.std.specs.List.{AllByRecursion}
 use Rattle.mysql_buf.specs.Bytes.{AreBytes}
 use Rattle.mysql_const.specs.declared.capabilities.Capabilities.{Capabilities}
 use Rattle.mysql_execution_writer.specs.Laws.{ReadAttributesAreWritten, ReadBulksAreWritten, ReadExecutionsAreWritten}
 use Rattle.mysql_executions.specs.InForce.{InForce}
+use Rattle.mysql_login.specs.ChangedUserStatements.{ChangedUsersReadAgain}
 use Rattle.mysql_login.specs.ChangedUsers.{change_in_force_at}
 use Rattle.mysql_replication.specs.Packets.{binlog_dump_at, binlog_dump_gtid_at, register_slave_at, table_dump_at}
 use Rattle.mysql_commands.specs.Commands.{Command, fields, layouts}
@@ -12,19 +13,25 @@ use Rattle.mysql_commands.specs.Commands.{Quit, InitDb, CreateDb, DropDb, Refres
 use Rattle.mysql_commands.specs.Commands.{Statistics, ProcessInfo, ProcessKill, Debug, Ping, Prepare, Close}
 use Rattle.mysql_commands.specs.Commands.{ResetStatement, SetOption, ResetConnection, Clone}
 use Rattle.mysql_commands.specs.Commands.{BinlogDump, BinlogDumpGtid, ChangeUser, RegisterSlave, TableDump}
+use Rattle.mysql_command_writer.proofs.GtidDumps.{gtids_read}
+use Rattle.mysql_command_writer.proofs.Logins.{logins_read}
 use Rattle.mysql_command_writer.proofs.ReadAgain.{last_number-back}
 use Rattle.mysql_command_writer.proofs.ReadCommands.{RowIsOwn, all_read, alone_own, bulk_own, execute_own, fetch_own}
 use Rattle.mysql_command_writer.proofs.ReadCommands.{field_list_own, long_data_own, number_own, query_own, read_own}
 use Rattle.mysql_command_writer.proofs.ReadCommands.{shutdown_own, some_own, tail_bytes}
+use Rattle.mysql_command_writer.proofs.ReadGtids.{gtid_read}
 use Rattle.mysql_command_writer.proofs.ReadPackets.{dump_read, replica_read, table_read}
 use Rattle.mysql_command_writer.proofs.Replication.{dumps_read, replicas_read, tables_read}
 use Rattle.mysql_command_writer.specs.Laws.{IsOwn, ReadCommandsArePut}
 
-login_own : (capabilities : Capabilities) (parameters : Option InForce) (payload : List ℕ) (c : Command) →
-    fields ChangeUser (change_in_force_at capabilities.protocol.0) payload ≡ Some c → IsOwn capabilities parameters c
-login_own capabilities parameters payload c h =
+-- a change of user, by the law of its reading
+login_own : ChangedUsersReadAgain → (capabilities : Capabilities) (parameters : Option InForce) (payload : List ℕ) (c : Command) →
+    AreBytes payload → fields ChangeUser (change_in_force_at capabilities.protocol.0) payload ≡ Some c →
+    IsOwn capabilities parameters c
+login_own law capabilities parameters payload c small h =
     let read = all_read (change_in_force_at capabilities.protocol.0 payload) ChangeUser c h in
-    subst (IsOwn capabilities parameters) read.2 (tt, refl)
+    let again = law capabilities.protocol.0 payload [] read.0 small read.1 in
+    subst (IsOwn capabilities parameters) read.2 (logins_read capabilities parameters read.0 again, refl)
 
 dump_own : (capabilities : Capabilities) (parameters : Option InForce) (payload : List ℕ) (c : Command) →
     AreBytes payload → fields BinlogDump binlog_dump_at payload ≡ Some c → IsOwn capabilities parameters c
@@ -48,10 +55,12 @@ replica_own capabilities parameters payload c small h =
     subst (IsOwn capabilities parameters) read.2 (replicas_read capabilities parameters read.0 part.0 part.1, refl)
 
 gtid_own : (capabilities : Capabilities) (parameters : Option InForce) (payload : List ℕ) (c : Command) →
-    fields BinlogDumpGtid binlog_dump_gtid_at payload ≡ Some c → IsOwn capabilities parameters c
-gtid_own capabilities parameters payload c h =
+    AreBytes payload → fields BinlogDumpGtid binlog_dump_gtid_at payload ≡ Some c → IsOwn capabilities parameters c
+gtid_own capabilities parameters payload c small h =
     let read = all_read (binlog_dump_gtid_at payload) BinlogDumpGtid c h in
-    subst (IsOwn capabilities parameters) read.2 (tt, refl)
+    let part = gtid_read payload read.0 small read.1 in
+    subst (IsOwn capabilities parameters) read.2
+    (gtids_read capabilities parameters read.0 part.0 part.1 part.2 part.3, refl)
 
 -- numbers
 refresh_own : (capabilities : Capabilities) (parameters : Option InForce) (x : ℕ) → x < 256 ^ 1 →
@@ -75,10 +84,10 @@ option_own : (capabilities : Capabilities) (parameters : Option InForce) (x : �
 option_own capabilities parameters x h = (rw (last_number-back 2 x h) refl, refl)
 
 -- all rows
-rows_own : ReadAttributesAreWritten → ReadExecutionsAreWritten → ReadBulksAreWritten →
+rows_own : ReadAttributesAreWritten → ReadExecutionsAreWritten → ReadBulksAreWritten → ChangedUsersReadAgain →
     (capabilities : Capabilities) (parameters : Option InForce) →
     AllByRecursion (RowIsOwn capabilities parameters) (layouts capabilities parameters)
-rows_own attributes executions bulks i p =
+rows_own attributes executions bulks logins i p =
     let P = IsOwn i p in (
       λ b c s h. alone_own P Quit c b (refl, refl) h,
       (
@@ -106,7 +115,7 @@ rows_own attributes executions bulks i p =
                             (
                               λ b c s h. alone_own P Ping c b (refl, refl) h,
                               (
-                                λ b c s h. login_own i p (17 ∷ b) c h,
+                                λ b c s h. login_own logins i p (17 ∷ b) c s h,
                                 (
                                   λ b c s h. dump_own i p (18 ∷ b) c s h,
                                   (
@@ -128,7 +137,7 @@ rows_own attributes executions bulks i p =
                                                   (
                                                     λ b c s h. fetch_own i p b c (tail_bytes 28 b s) h,
                                                     (
-                                                      λ b c s h. gtid_own i p (30 ∷ b) c h,
+                                                      λ b c s h. gtid_own i p (30 ∷ b) c s h,
                                                       (
                                                         λ b c s h. alone_own P ResetConnection c b (refl, refl) h,
                                                         (
@@ -165,6 +174,7 @@ rows_own attributes executions bulks i p =
       ),
     )
 
-pub commands_are_put : ReadAttributesAreWritten → ReadExecutionsAreWritten → ReadBulksAreWritten → ReadCommandsArePut
-commands_are_put attributes executions bulks capabilities parameters payload small =
-    read_own capabilities parameters (rows_own attributes executions bulks capabilities parameters) payload small
+pub commands_are_put : ReadAttributesAreWritten → ReadExecutionsAreWritten → ReadBulksAreWritten → ChangedUsersReadAgain →
+    ReadCommandsArePut
+commands_are_put attributes executions bulks logins capabilities parameters payload small =
+    read_own capabilities parameters (rows_own attributes executions bulks logins capabilities parameters) payload small

@@ -1,5 +1,5 @@
 -- Packets of a replica read as they were put exactly where their texts fit their lengths and their flags have names.
-use Rattle.std.proofs.Common.{◌≡◌, ◌≤◌, ◌<◌, ℕ, ◌^◌, ◌-◌, List, [], ◌∷◌, ◌++◌, Ok, Err, Option, Some, None, Bool, true, false, length, take}
+use Rattle.std.proofs.Common.{◌≡◌, ◌≤◌, ◌<◌, ℕ, ◌^◌, List, [], ◌∷◌, ◌++◌, Ok, Err, Option, true, false, length}
 use Rattle.std.proofs.Common.{refl, sym, ap, ◌∙◌, append-nil, arith, lit<, ◌&&◌, nat_le}
 use Rattle.std.proofs.lemmas.List.{take_all}
 use Rattle.std.proofs.lemmas.Bool.Decides.{nat_tests}
@@ -21,7 +21,7 @@ use Rattle.mysql_replication.specs.Packets.{IsBinlogDump, IsRegisterSlave, IsTab
 use Rattle.mysql_replication.specs.Packets.{binlog_dump_fields_at}
 use Rattle.mysql_replication.specs.Packets.{register_slave, register_slave_at, table_dump, table_dump_at}
 use Rattle.mysql_replication.specs.Packets.{whole_register_slave, whole_table_dump}
-use Rattle.mysql_commands.specs.Commands.{BinlogDump, Command, Other, RegisterSlave, TableDump, command_at}
+use Rattle.mysql_commands.specs.Commands.{BinlogDump, Other, RegisterSlave, TableDump, command_at}
 use Rattle.mysql_command_writer.specs.Refusals.{ReadsBack}
 use Rattle.mysql_command_writer.specs.Written.{command_bytes}
 

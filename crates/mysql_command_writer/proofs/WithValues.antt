@@ -1,6 +1,6 @@
 -- Commands with values read as they were put, by the laws of their values.
-use Rattle.std.proofs.Common.{◌≡◌, ◌==◌, ℕ, List, [], ◌∷◌, ◌++◌, length, Option, None, Some, Bool, true, false, refl, sym, ap}
-use Rattle.std.proofs.Common.{◌∙◌, arith, Result, Ok, Err}
+use Rattle.std.proofs.Common.{◌≡◌, ◌==◌, ℕ, List, [], ◌∷◌, length, Option, Some, true, false, refl}
+use Rattle.std.proofs.Common.{arith, Result, Ok, Err}
 use Rattle.std.proofs.lemmas.Bool.{eqb-true}
 use Rattle.mysql_const.specs.declared.capabilities.Capabilities.{Capabilities}
 use Rattle.mysql_execution_writer.specs.Cells.{are_attributes}

@@ -3,16 +3,14 @@ use Rattle.std.specs.Prelude.{◌≡◌, ℕ, true, List, Option}
 use Rattle.mysql_buf.specs.Bytes.{AreBytes}
 use Rattle.mysql_const.specs.declared.capabilities.Capabilities.{Capabilities}
 use Rattle.mysql_executions.specs.InForce.{InForce}
-use Rattle.mysql_commands.specs.Commands.{BinlogDumpGtid, BulkExecute, ChangeUser, Command, Execute, Query, command_at}
+use Rattle.mysql_commands.specs.Commands.{BulkExecute, Command, Execute, Query, command_at}
 use Rattle.mysql_command_writer.specs.Refusals.{ReadsBack, as_read, can_execute, can_execute_bulk, can_have_attributes}
 
--- nothing speaks against a command; of a change of user and of a request by sets of transactions it isn't said here
+-- nothing speaks against a command
 abbrev pub IsPut : Capabilities → Option InForce → Command → Type 0
 IsPut capabilities parameters (Query attributes sql) = can_have_attributes capabilities attributes ≡ true
 IsPut capabilities parameters (Execute execution) = can_execute capabilities parameters execution ≡ true
 IsPut capabilities parameters (BulkExecute execution) = can_execute_bulk capabilities parameters execution ≡ true
-IsPut capabilities parameters (ChangeUser login) = Unit {0}
-IsPut capabilities parameters (BinlogDumpGtid request) = Unit {0}
 IsPut capabilities parameters command = ReadsBack capabilities parameters command
 
 -- and it is read as itself

@@ -34,8 +34,9 @@ fn side_of(event: &Event) -> Side {
     }
 }
 
-/// Writes what a payload of a connection says, as a line without its end: whose it is, its name, and
-/// its fields.
+/// Writes what a payload of a connection says, as a line without its end.
+///
+/// The line has whose payload it is, the event's name, and its fields.
 ///
 /// # Errors
 /// - Those of the output.

@@ -1,5 +1,6 @@
 -- The first packet by the chunk at the front, and by its last chunk.
-use Rattle.std.specs.Prelude.{ℕ, zero, suc, ◌+◌, ◌*◌, ◌≤◌, List, [], ◌++◌, ◌==◌, if◌then◌else◌, length, take, drop}
+use Rattle.std.specs.Prelude.{ℕ, zero, suc, ◌+◌, ◌*◌, ◌≤◌, List, [], ◌++◌, ◌==◌, if◌then◌else◌}
+use Rattle.std.specs.Prelude.{length, take, drop}
 use Rattle.mysql_wire.specs.Framing.{max_payload_len}
 use Rattle.mysql_connection_packets.specs.FirstPacket.{Found, Short, TooLarge, OutOfSync, Whole}
 use Rattle.mysql_connection_packets.specs.FirstPacket.{with_chunk, next_number, packet_by}
@@ -39,7 +40,8 @@ header_behind full = full * (max_payload_len + 4)
 
 -- the payload of so many full chunks and a last one of so many bytes
 abbrev pub payload_of : (full last : ℕ) → List ℕ → List ℕ
-payload_of full last bytes = full_payloads full bytes ++ take last (drop 4 (drop (header_behind full) bytes))
+payload_of full last bytes =
+    full_payloads full bytes ++ take last (drop 4 (drop (header_behind full) bytes))
 
 -- what stands first by the extent of its chunks
 abbrev pub by_extent : List ℕ → Extent → Found

@@ -1,8 +1,8 @@
 -- The first packet of a stream, by the longest payload and the number that is due.
 -- (MySQL: Client/Server Protocol, "Protocol Basics: MySQL Packets", "Sending More Than 16Mb" and
 -- "Sequence ID".)
-use Rattle.std.specs.Prelude.{ℕ, zero, suc, ◌+◌, ◌*◌, ◌/◌, ◌%◌, Bool, true, false, List, [], ◌∷◌, ◌++◌}
-use Rattle.std.specs.Prelude.{◌==◌, if◌then◌else◌, length, take, drop, nat_le, nat_lt, not}
+use Rattle.std.specs.Prelude.{ℕ, zero, suc, ◌+◌, ◌*◌, ◌/◌, ◌%◌, Bool, true, false, List, [], ◌∷◌}
+use Rattle.std.specs.Prelude.{◌++◌, ◌==◌, if◌then◌else◌, length, take, drop, nat_le, nat_lt, not}
 use Rattle.mysql_wire.specs.Framing.{max_payload_len}
 
 -- What stands first: less than a whole packet; a header that takes it past the limit; a chunk with

@@ -51,4 +51,5 @@ FollowsBy bytes (Whole payload next rest) = (front : List ℕ) × (front ++ rest
 
 -- the bytes end with what follows their first packet
 abbrev pub RestsFollow : Type 0
-RestsFollow = (limit number : ℕ) (bytes : List ℕ) → FollowsBy bytes (first_packet limit number bytes)
+RestsFollow = (limit number : ℕ) (bytes : List ℕ) →
+    FollowsBy bytes (first_packet limit number bytes)

@@ -11,7 +11,8 @@ abbrev pub found_in : List ℕ → FirstPacket → Found
 found_in bytes held.Short = Short
 found_in bytes held.TooLarge = TooLarge
 found_in bytes (held.OutOfSync number) = OutOfSync number
-found_in bytes (held.Whole payload next used) = Whole (cow_slice_items payload) next (drop used bytes)
+found_in bytes (held.Whole payload next used) =
+    Whole (cow_slice_items payload) next (drop used bytes)
 
 -- a packet is no longer than the bytes
 abbrev pub StandsWithin : List ℕ → FirstPacket → Type 0

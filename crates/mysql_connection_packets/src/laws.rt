@@ -1,7 +1,7 @@
 //! Laws of the first packet, over the definitions alone.
 
-ghost use Rattle.mysql_connection_packets.specs.Laws.{FramingsAreFound, PacketsStay, PacketsTakeBytes};
-ghost use Rattle.mysql_connection_packets.specs.Laws.{RestsFollow, RoomIsEnough};
+ghost use Rattle.mysql_connection_packets.specs.Laws.{FramingsAreFound, PacketsStay};
+ghost use Rattle.mysql_connection_packets.specs.Laws.{PacketsTakeBytes, RestsFollow, RoomIsEnough};
 
 /// What was found first stays with more bytes behind.
 pub fn packets_stay()

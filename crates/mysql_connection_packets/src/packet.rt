@@ -73,6 +73,9 @@ fn join(alloc: Global, full: usize, last: usize, bytes: &[u8]) -> Result<Vec<u8>
 
 /// The first packet, by the longest payload and the number that is due.
 ///
+/// Chunk by chunk, a header that takes the packet past the limit comes first, then whether the chunk
+/// stands whole, and then its number.
+///
 /// A payload of one chunk is lent. One of several is joined in one allocation, once all of them
 /// stand: before that nothing is copied, and only the headers are looked at.
 ///
@@ -87,7 +90,8 @@ pub fn first_packet<'a>(
     number: u8,
     bytes: &'a [u8],
 ) -> Result<FirstPacket<'a>, AllocError>
-    ensures found { IfOk result (λ found. first_packet limit number bytes.now ≡ found_in bytes.now found) }
+    ensures found { IfOk result
+        (λ found. first_packet limit number bytes.now ≡ found_in bytes.now found) }
     ensures within { IfOk result (λ found. StandsWithin bytes.now found) }
     ensures err { OnErr result (HasManyChunks (first_packet limit number bytes.now)) }
 {

@@ -29,10 +29,10 @@ pub fn run_is_one()
     ensures { RunIsOne }
 {}
 
-/// Whatever pieces of two streams came in whatever order, and whenever events were taken, those
-/// that were taken and those that are left to take are, in order, the events of the one run.
+/// Events that were taken, and those that are left to take, are the events of the one run.
 ///
-/// They end where it ends, by the same fault if by one.
+/// So it is whatever pieces of two streams came, in whatever order, and whenever events were taken.
+/// They come in its order, and end where it ends, by the same fault if by one.
 pub fn pieces_are_the_run()
     ensures { PiecesAreTheRun }
 {

@@ -19,10 +19,10 @@ use std::marker::Model;
 use std::mem;
 use std::rc::RcSlice;
 
-/// A prepared statement of a connection: its text, what is in force of its parameters, and the
-/// columns that it last had.
+/// A prepared statement of a connection.
 ///
-/// It counts the payloads that are kept for it. (MySQL: Client/Server Protocol, "Prepared
+/// It has its text, what is in force of its parameters, and the columns that it last had, and
+/// counts the payloads that are kept for it. (MySQL: Client/Server Protocol, "Prepared
 /// Statements".)
 #[derive(Drop)]
 pub struct Statement {

@@ -27,10 +27,10 @@ use std::rc::RcSlice;
 /// The id that stands for the statement that was prepared last.
 const LAST_PREPARED: u32 = 0xffff_ffff;
 
-/// The prepared statements of a connection by their ids, which of them was prepared last, and how
-/// much is kept for all of them.
+/// The prepared statements of a connection by their ids.
 ///
-/// Each call takes constant time beside what it copies.
+/// It also has which of them was prepared last, and how much is kept for all of them. Each call
+/// takes constant time beside what it copies.
 ///
 /// Contracts see the list of the ids with their statements, the last one's id and the sum
 /// (`Statements`). Follows "Prepared Statements" of the client/server protocol documentation, and
@@ -86,8 +86,9 @@ impl Statements {
         }
     }
 
-    /// How much is kept for all statements: of each payload its length and 4, and 2 for each type
-    /// in force.
+    /// How much is kept for all statements.
+    ///
+    /// That is of each payload its length and 4, and 2 for each type in force.
     pub fn stored(&self) -> usize
         ensures { result ≡ self.now.stored }
     {

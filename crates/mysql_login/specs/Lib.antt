@@ -23,5 +23,6 @@ pub use Rattle.mysql_gtid.specs.Refusals
 pub use Rattle.mysql_replication.specs.Packets as ReplicationPackets
 pub use Rattle.mysql_replication.specs.Statements as ReplicationStatements
 pub use Rattle.mysql_replication.specs.Views as ReplicationViews
+pub mod ChangedUserStatements
 pub mod ChangedUserViews
 pub mod ChangedUsers

@@ -1,2 +1,7 @@
 mod Comparing
 mod Putting
+pub mod FieldsRead
+pub mod PacketsRead
+pub mod RowsRead
+pub mod Terminators
+pub mod ReadEvents

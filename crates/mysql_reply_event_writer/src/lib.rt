@@ -4,6 +4,7 @@
 //!     put_event(&mut state, &ReplyEvent::Ok(ok), &mut out)?;
 #![tactic(auto)]
 
+pub mod laws;
 mod payloads;
 mod put;
 pub mod refusal;

@@ -12,7 +12,7 @@ mod values;
 
 use crate::client::{print_command, print_response};
 pub use crate::ends::print_end;
-pub use crate::position::{BadTranscript, Position};
+pub use crate::position::{BadTranscript, Position, Record};
 use crate::server::{print_authentication, print_error, print_greeting, print_reply_event};
 use crate::values::print_text;
 use mysql_connection_state::Event;

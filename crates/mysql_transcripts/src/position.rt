@@ -1,17 +1,29 @@
 //! Where a transcript stands between two bytes.
 
+ghost use Rattle.std.specs.Prelude.{◌<◌};
+
 use mysql_connection_rules::Side;
 
 /// How many bytes stand before a record's bytes: the letter of its side, and its length.
 const HEADER_LEN: usize = 5;
+
+/// A record of which bytes are still to come.
+#[derive(Clone, Copy, Debug, PartialEq, Eq)]
+pub struct Record {
+    /// Whose bytes they are.
+    pub side: Side,
+    /// How many are still to come.
+    pub left: u32,
+    ghost is_unfinished: { 0 < left },
+}
 
 /// Where a transcript stands between two bytes of it.
 #[derive(Clone, Copy, Debug, PartialEq, Eq)]
 pub enum Position {
     /// So many bytes of a record's header came, which begins with them.
     Header([u8; HEADER_LEN], usize),
-    /// So many bytes of a record of this side are still to come.
-    Record(Side, u32),
+    /// Bytes of a record are still to come.
+    Record(Record),
 }
 
 /// A record has neither the client's letter nor the server's.
@@ -33,12 +45,12 @@ impl Position {
         Position::Header([0; HEADER_LEN], 0)
     }
 
-    /// Where so many bytes of a record are still to come; behind it the next one is due.
+    /// Where so many bytes of a record are still to come. Where none are, the next record is due.
     pub fn in_record(side: Side, left: u32) -> Position {
-        match left {
-            0 => Position::before_record(),
-            left => Position::Record(side, left),
+        if left == 0 {
+            return Position::before_record();
         }
+        Position::Record(Record { side, left })
     }
 
     /// Behind one more byte of a header of which so many came.

@@ -1,4 +1,4 @@
-use Rattle.std.proofs.Common.{◌≡◌, ◌<◌, length, arith, refl, sym, ◌∙◌}
+use Rattle.std.proofs.Common.{◌≡◌, length, arith, refl}
 use Rattle.mysql_connect_attributes.specs.AttributeViews.{attributes_view}
 use Rattle.mysql_command_writer.proofs.Lists.{same_lists}
 use Rattle.mysql_command_writer.proofs.same.same_attributes.Goals as goal

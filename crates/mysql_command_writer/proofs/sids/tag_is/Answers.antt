@@ -1,4 +1,4 @@
-use Rattle.std.proofs.Common.{◌≡◌, List, ℕ, None, Some, true, refl, sym, subst, Option}
+use Rattle.std.proofs.Common.{◌≡◌, List, ℕ, None, Some, true, refl, sym, subst}
 use Rattle.std.proofs.lemmas.Str.{is_utf8-from_IsUtf8}
 use Rattle.std.specs.Str.{IsUtf8}
 use Rattle.mysql_gtid.specs.Blocks.{IsTagOrNone, is_tag}

@@ -1,5 +1,5 @@
-use Rattle.std.proofs.Common.{◌≡◌, ◌<◌, ◌≤◌, ◌^◌, length, true, false, refl, sym, ◌∙◌, arith, ap, nat_lt}
-use Rattle.std.proofs.Common.{Bool, Some, None, Option, subst}
+use Rattle.std.proofs.Common.{◌≡◌, ◌^◌, length, true, false, refl, sym, ◌∙◌, arith, ap, nat_lt}
+use Rattle.std.proofs.Common.{subst}
 use Rattle.std.proofs.lemmas.Bool.{ltb-false, ltb-true}
 use Rattle.std.specs.List.{AllByRecursion}
 use Rattle.std.specs.Option.{option_copied}
@@ -7,7 +7,6 @@ use Rattle.mysql_const.specs.BinlogDumpFlags.{binlog_dump_flags}
 use Rattle.mysql_field_constants.specs.Flags.{are_named}
 use Rattle.mysql_gtid.specs.Blocks.{IsSid, block_bytes}
 use Rattle.mysql_replication.specs.Packets.{whole_binlog_dump_gtid}
-use Rattle.mysql_replication.specs.Packets as replica
 use Rattle.mysql_replication.specs.Views.{binlog_dump_gtid_view}
 use Rattle.mysql_command_writer.proofs.GtidDumps.{HasGtidParts, gtids_read, long_names, long_sids, nameless_gtids}
 use Rattle.mysql_command_writer.proofs.testing.test_binlog_dump_gtid.Goals as goal

@@ -1,4 +1,4 @@
-use Rattle.std.proofs.Common.{◌≡◌, false, refl, sym, ◌∙◌}
+use Rattle.std.proofs.Common.{◌≡◌, false, sym, ◌∙◌}
 use Rattle.mysql_command_writer.proofs.FieldLists.{field_lists, has_zero}
 use Rattle.std.specs.Option.{option_copied}
 use Rattle.mysql_command_writer.proofs.testing.test_field_list.Goals as goal

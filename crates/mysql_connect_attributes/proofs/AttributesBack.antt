@@ -22,7 +22,7 @@ one-back a rest few =
     ) refl
 
 -- it takes a byte at least
-some-byte : (n : ℕ) → 1 ≤ length (lenenc_int n)
+pub some-byte : (n : ℕ) → 1 ≤ length (lenenc_int n)
 some-byte n = go (nat_lt n 251) (nat_lt n (2 ^ 16)) (nat_lt n (2 ^ 24)) where
   go : (a b c : Bool) → 1 ≤ length (if a then n ∷ [] else if b then 252 ∷ little_bytes 2 n else if c then 253 ∷ little_bytes 3 n else 254 ∷ little_bytes 8 n)
   go true b c = omega arith

@@ -1,16 +1,15 @@
 -- Attributes that were read have each key once, and take no more bytes than they were read of.
-use Rattle.std.proofs.Common.{◌≡◌, ◌≤◌, ◌+◌, ◌==◌, if◌then◌else◌, nat_eq, nat_lt, ℕ, zero, suc, Bool, true, false, List, [], ◌∷◌, ◌++◌, length, take, drop, Option, None, Some, Ok}
+use Rattle.std.proofs.Common.{◌≡◌, ◌<◌, ◌≤◌, ◌+◌, ◌^◌, ◌==◌, if◌then◌else◌, nat_eq, nat_lt, ℕ, zero, suc, Bool, true, false, List, [], ◌∷◌, ◌++◌, length, take, drop, Option, None, Some, Ok}
 use Rattle.std.proofs.Common.{refl, sym, ap, ◌∙◌, subst, length-append, length-drop, arith, inl, inr, lit<}
 use Rattle.std.proofs.lemmas.Bool.{cases_lt}
-use Rattle.std.proofs.lemmas.List.{get_or-take, get_or_past, length-take}
+use Rattle.std.proofs.lemmas.List.{get_or-drop, get_or-take, get_or_past, length-take}
 use Rattle.std.specs.Cmp.Lexicographic.{nat_list_eq_equiv, pointwise}
 use Rattle.std.specs.List.{AllByRecursion, IsDistinct, flat_map}
 use Rattle.std.specs.Map.{keys_of}
-use Rattle.mysql_authentication.proofs.ResponsesPut.{bytes_behind}
 use Rattle.mysql_buf.specs.Bytes.{AreBytes}
 use Rattle.mysql_buf.specs.FirstBytes.{first-some}
 use Rattle.mysql_buf.specs.Reading.{bytes_at as buffer_bytes_at, lenenc_int_at, little_at, then_at}
-use Rattle.mysql_buf.specs.TextLaws.{lenenc_int-shortest}
+use Rattle.mysql_buf.specs.TextLaws.{left-of, lenenc_int-shortest}
 use Rattle.mysql_buf.specs.Writing.{lenenc_int, lenenc_str}
 use Rattle.mysql_connect_attributes.proofs.AttributeMaps.{distinct_stay}
 use Rattle.mysql_connect_attributes.specs.Attributes.{Attribute, all_attributes_at, at_most_at, attribute, attribute_at, attributes_at, kept_attributes_at, with_attribute, with_attributes, with_last_values}
@@ -91,24 +90,36 @@ pub some_same : {X : Type 0} (o : Option X) (x : X) → or_end o ≡ Ok x → o 
 some_same None x h = absurd cc
 some_same (Some y) x h = cc
 
-little_left : (n : ℕ) (bytes : List ℕ) (x : ℕ × List ℕ) → AreBytes bytes → little_at n bytes ≡ Some x → AreBytes x.1
-little_left n bytes x all h =
-    let part = first-some n _ bytes x h in
-    subst (λ (q : ℕ × List ℕ). AreBytes q.1) (sym part.1) (bytes_behind n bytes all)
+pub bytes_behind : (n : ℕ) (bytes : List ℕ) → AreBytes bytes → AreBytes (drop n bytes)
+bytes_behind n bytes all i = rw (get_or-drop n bytes i 0) (all (n + i))
 
-number_left : (bytes : List ℕ) (x : ℕ × List ℕ) → AreBytes bytes → lenenc_int_at bytes ≡ Some x → AreBytes x.1
+-- a number that fits 64 bits, and bytes behind it
+abbrev pub NumberHeld : ℕ × List ℕ → Type 0
+NumberHeld x = (x.0 < 2 ^ 64) × AreBytes x.1
+
+little_left : (n : ℕ) (bytes : List ℕ) (x : ℕ × List ℕ) → AreBytes bytes → little_at n bytes ≡ Some x →
+    (x.0 < 256 ^ n) × AreBytes x.1
+little_left n bytes x all h =
+    let part = first-some n _ bytes x h in (
+      (left-of n bytes x.0 x.1 all h).0,
+      subst (λ (q : ℕ × List ℕ). AreBytes q.1) (sym part.1) (bytes_behind n bytes all),
+    )
+
+number_left : (bytes : List ℕ) (x : ℕ × List ℕ) → AreBytes bytes → lenenc_int_at bytes ≡ Some x → NumberHeld x
 number_left [] x all h = absurd cc
 number_left (b ∷ bs) x all h = go (nat_lt b 251) (b == 252) (b == 253) (b == 254) h where
   rest : AreBytes bs
   rest i = all (suc i)
 
   go : (one two three eight : Bool) → (if one then Some (b, bs) else if two then little_at 2 bs else if three then little_at 3 bs
-      else if eight then little_at 8 bs else Some (0, bs)) ≡ Some x → AreBytes x.1
-  go true two three eight e = let same : (b, bs) ≡ x = cc in subst (λ (q : ℕ × List ℕ). AreBytes q.1) same rest
-  go false true three eight e = little_left 2 bs x rest e
-  go false false true eight e = little_left 3 bs x rest e
-  go false false false true e = little_left 8 bs x rest e
-  go false false false false e = let same : (0, bs) ≡ x = cc in subst (λ (q : ℕ × List ℕ). AreBytes q.1) same rest
+      else if eight then little_at 8 bs else Some (0, bs)) ≡ Some x → NumberHeld x
+  go true two three eight e =
+      let low : b < 256 = all 0 in
+      let same : (b, bs) ≡ x = cc in subst NumberHeld same (omega (arith, low), rest)
+  go false true three eight e = let part = little_left 2 bs x rest e in (omega (arith, part.0), part.1)
+  go false false true eight e = let part = little_left 3 bs x rest e in (omega (arith, part.0), part.1)
+  go false false false true e = let part = little_left 8 bs x rest e in (omega (arith, part.0), part.1)
+  go false false false false e = let same : (0, bs) ≡ x = cc in subst NumberHeld same (omega arith, rest)
 
 -- what a text takes that is written, and what is left
 abbrev pub TakesAtMost : List ℕ → ℕ → List ℕ → Type 0
@@ -120,7 +131,7 @@ text_takes bytes x all h = go (lenenc_int_at bytes) refl h where
   go None is e = absurd cc
   go (Some n) is e =
       let short = lenenc_int-shortest n.0 bytes n.1 all is in
-      let left = number_left bytes n all is in
+      let left = (number_left bytes n all is).1 in
       let part = first-some n.0 (take n.0) n.1 x (some_same (buffer_bytes_at n.0 n.1) x e) in
       let cut = length-take n.0 n.1 in
       let dropped = length-drop n.0 n.1 in
@@ -162,8 +173,12 @@ taken_bytes n bytes all i = elim (cases_lt i n) [
   | inr le ↦ rw (get_or_past (take n bytes) i 0 (omega (arith, length-take n bytes))) (lit< tt)
 ]
 
+-- each key stands once, and all take no more bytes than they were read of, and fewer than a length can say
+abbrev pub AreHeld : List ℕ → List Attribute → Type 0
+AreHeld bytes all = (with_last_values all ≡ all) × (total all ≤ length bytes) × (total all < 2 ^ 64)
+
 pub attributes_held : (bytes : List ℕ) (x : List Attribute × List ℕ) → AreBytes bytes → attributes_at bytes ≡ Ok x →
-    (with_last_values x.0 ≡ x.0) × (total x.0 ≤ length bytes)
+    AreHeld bytes x.0
 unfolding attributes_at
 attributes_held bytes x all h =
     let number = bind_ok (lenenc_number_at bytes) _ x h in
@@ -174,12 +189,14 @@ attributes_held bytes x all h =
     let taken : pairs.0.0 ≡ take number.0.0 number.0.1 = ap (λ (q : List ℕ × List ℕ). q.0) part.1 in
     let kept = bind_ok (kept_attributes_at pairs.0.0) _ x pairs.2 in
     let read = bind_ok (all_attributes_at pairs.0.0) _ kept.0 kept.1 in
-    let bound = many_take (length pairs.0.0) pairs.0.0 read.0 (subst AreBytes (sym taken) (taken_bytes number.0.0 number.0.1 left)) read.1 in
+    let bound = many_take (length pairs.0.0) pairs.0.0 read.0 (subst AreBytes (sym taken) (taken_bytes number.0.0 number.0.1 left.1)) read.1 in
     let last : (with_last_values read.0.0, read.0.1) ≡ kept.0 = ok_same (with_last_values read.0.0, read.0.1) kept.0 read.2 in
     let made : List Attribute × List ℕ = (kept.0.0, pairs.0.1) in
     let cut = length-take number.0.0 number.0.1 in
     let some = all_total [] read.0.0 in
-    let held : (with_last_values kept.0.0 ≡ kept.0.0) × (total kept.0.0 ≤ length bytes) =
-    subst (λ (q : List Attribute × List ℕ). (with_last_values q.0 ≡ q.0) × (total q.0 ≤ length bytes)) last
-    (kept_again read.0.0, omega (arith, short, bound, some, cut, ap length taken)) in
-    subst (λ (q : List Attribute × List ℕ). (with_last_values q.0 ≡ q.0) × (total q.0 ≤ length bytes)) (ok_same made x kept.2) held
+    let held : AreHeld bytes kept.0.0 = subst (λ (q : List Attribute × List ℕ). AreHeld bytes q.0) last (
+      kept_again read.0.0,
+      omega (arith, short, bound, some, cut, ap length taken),
+      omega (arith, left.0, bound, some, cut, ap length taken),
+    ) in
+    subst (λ (q : List Attribute × List ℕ). AreHeld bytes q.0) (ok_same made x kept.2) held

@@ -1,0 +1,5 @@
+pub mod Heads
+pub mod Putting
+pub mod Refusing
+pub mod Quiet
+pub mod Agreeing

@@ -1,0 +1,4 @@
+pub mod Puts
+pub mod Machines
+pub mod Refusals
+pub mod Laws

@@ -1,0 +1,44 @@
+//! Laws of what is put on a connection. Each function has no code but the laws that it rests on:
+//! its contract is the law.
+
+ghost use Rattle.mysql_connection_agreement.specs.Laws.{PutsAreNotRefused, PutsAreRead};
+ghost use Rattle.mysql_connection_agreement.specs.Laws.{PutsAreTheRun, ThreeAgree};
+
+use mysql_connection_packets::laws::framings_are_found;
+use mysql_connection_rules::laws::{
+    events_take_bytes, fronts_read_on, pieces_are_the_run, positions_stay, run_exists,
+};
+
+/// What a put appends is read as the event that was put, and nothing of it is left unread.
+pub fn puts_are_read()
+    ensures { PutsAreRead }
+{
+    framings_are_found();
+}
+
+/// An event that can be put is not refused.
+pub fn puts_are_not_refused()
+    ensures { PutsAreNotRefused }
+{}
+
+/// Events that were taken, put or are left to take are, in order, those of the one run.
+///
+/// So it is whatever pieces of two streams came, and whatever events were put in between.
+pub fn puts_are_the_run()
+    ensures { PutsAreTheRun }
+{
+    pieces_are_the_run();
+}
+
+/// A client, a server and an auditor between them agree on one list of events.
+///
+/// Its client's events are those that the client put, and its server's those that the server put.
+pub fn three_agree()
+    ensures { ThreeAgree }
+{
+    run_exists();
+    pieces_are_the_run();
+    fronts_read_on();
+    positions_stay();
+    events_take_bytes();
+}

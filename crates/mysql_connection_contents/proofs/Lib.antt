@@ -1,0 +1,9 @@
+pub mod Statements
+pub mod Commands
+pub mod Replies
+pub mod Ids
+pub mod Steps
+pub mod Connections
+pub mod Prepared
+pub mod Runs
+pub mod Streams

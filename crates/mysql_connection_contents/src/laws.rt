@@ -1,0 +1,73 @@
+//! What a connection's events say of one prepared statement. The functions change nothing: their
+//! contracts are the laws.
+
+ghost use Rattle.mysql_connection_contents.specs.Contents.{ConnectionExecutionsAreReceived};
+ghost use Rattle.mysql_connection_contents.specs.Contents.{HeardIsSpoken, IdsBeginOwn, IdsStayOwn};
+ghost use Rattle.mysql_connection_contents.specs.Contents.{PreparedStatementsStand, RunsAreHeard};
+ghost use Rattle.mysql_connection_contents.specs.Contents.{StreamsAreReceived};
+
+use mysql_connection_rules::laws::last_words_are_last;
+use mysql_execution_contents::laws::{prepared_statements_agree, received_commands_are_read};
+
+/// What `receive` reads of commands about one prepared statement, a connection's events say.
+///
+/// Of payloads that were read one after another, take those that are executions, bulk executions,
+/// long data and resets of one statement. Where `receive` reads these, the events of the executions
+/// have the contents that it reads, in the same order, and there is nothing between. Whatever else
+/// is said on the connection doesn't matter, as long as
+///
+/// - the statement stands, and what is in force of its parameters is what `receive` has in force, as
+///   it is behind a prepare;
+/// - it goes on to stand: it isn't closed, the user isn't changed, the session doesn't begin anew,
+///   and no other statement gets its id;
+/// - an execution of it that is refused was read by the server, whose error is neither 1835 nor
+///   1295, and the types that are in force are ones that all servers take;
+/// - query attributes aren't in force, and bulk executions are, where there are any.
+///
+/// A command that names the statement as the one that was prepared last counts as one about it, and
+/// `receive` reads only those that name it by its id.
+///
+/// MySQL: Client/Server Protocol, "Prepared Statements"; MariaDB: Client/Server Protocol,
+/// "3 - Binary Protocol (Prepared Statements)".
+pub fn connection_executions_are_received()
+    ensures { ConnectionExecutionsAreReceived }
+{
+    received_commands_are_read();
+}
+
+/// Behind the server's answer to a prepare the statement stands, with no types in force.
+pub fn prepared_statements_stand()
+    ensures { PreparedStatementsStand }
+{}
+
+/// Each statement of a connection has an id of its own, at first and whatever is said.
+pub fn statements_keep_own_ids()
+    ensures begins { IdsBeginOwn }
+    ensures stays { IdsStayOwn }
+{}
+
+/// The events of a run over two streams are those of payloads that were read one after another.
+///
+/// Each is the first packet of the stream whose turn it was; behind them stand last words of the
+/// server at most.
+pub fn runs_are_heard()
+    ensures heard { RunsAreHeard }
+    ensures spoken { HeardIsSpoken }
+{
+    last_words_are_last();
+}
+
+/// From a connection's first byte on, what `receive` reads of commands about a prepared statement,
+/// the events say.
+///
+/// They have the same contents, in the same order, and nothing between. The statement has the id that
+/// the server's answer to its prepare gave, and as many parameters as the query has places. As for
+/// the rest it is as `connection_executions_are_received` has it.
+///
+/// MySQL: Client/Server Protocol, "Connection Lifecycle" and "Prepared Statements".
+pub fn streams_are_received()
+    ensures { StreamsAreReceived }
+{
+    received_commands_are_read();
+    prepared_statements_agree();
+}

@@ -1,0 +1,7 @@
+use Rattle.mysql_connection_machine.proofs.Limits.{answers_stay}
+use Rattle.mysql_connection_machine.proofs.connection.Connection.next_event.Goals as goal
+
+pub invariant_of-self : goal.invariant_of-self
+invariant_of-self c = λ none.
+    answers_stay c.held_stays.ensures.events c.self.inside.reader c.next_event.new.self c.in-Ok.event
+    c.in-Ok.ensures (c.self.invariant none)

@@ -1,0 +1,4 @@
+pub mod Inside
+pub mod Machines
+pub mod Takes
+pub mod Endings

@@ -1,0 +1,121 @@
+-- What a machine that reads a connection holds, and what its calls do.
+-- MySQL: Client/Server Protocol, "Connection Lifecycle" and "MySQL Packets".
+use Rattle.std.specs.Prelude.{◌≡◌, ◌≢◌, ◌+◌, ◌-◌, ◌≤◌, ◌<◌, ℕ, true, false, List, length}
+use Rattle.std.specs.Prelude.{if◌then◌else◌}
+use Rattle.std.specs.Prelude.{Option, Some, None, Result, Ok, Err}
+use Rattle.mysql_connection_rules.specs.Laws.{WithinLimits, unread_length}
+use Rattle.mysql_connection_rules.specs.declared.fault.Fault.TheVariants as faults
+use Rattle.mysql_connection_rules.specs.declared.limits.Limits.{Limits}
+use Rattle.mysql_connection_rules.specs.declared.side.Side.{Side}
+use Rattle.mysql_connection_rules.specs.declared.side.Side.TheVariants.{Client, Server}
+use Rattle.mysql_connection_rules.specs.Standing.{Phase}
+use Rattle.mysql_connection_rules.specs.Steps.{turn}
+use Rattle.mysql_connection_rules.specs.Streams.{Coming, End, Fails, Failure, Piece, Says, Waits}
+use Rattle.mysql_connection_rules.specs.Streams.{Stream, World, come, held, next, no_bytes}
+use Rattle.mysql_connection_rules.specs.Streams.{room, start}
+use Rattle.mysql_connection_rules.specs.Streams.{stream_of}
+use Rattle.mysql_connection_state.specs.Views.{event_view}
+use Rattle.mysql_connection_state.specs.declared.event.Event.{Event}
+use Rattle.mysql_connection_machine.specs.declared.fault.ConnectionFault.{ConnectionFault}
+use Rattle.mysql_connection_machine.specs.declared.fault.FeedRefusal.{FeedRefusal}
+use Rattle.mysql_connection_machine.specs.declared.fault.FeedRefusal.TheVariants.{Closed, Held}
+use Rattle.mysql_connection_machine.specs.declared.fault.FeedRefusal.TheVariants.{Memory}
+
+abbrev pub failure_view : ConnectionFault → Failure
+failure_view f = record { side = f.side; byte = f.byte; fault = f.fault }
+
+-- The world of the connection, and the fault that was found.
+pub record Machine : Type 0 where
+  pub world : World
+  pub failure : Option Failure
+
+abbrev pub new_machine : Limits → Machine
+new_machine limits = record { world = start limits no_bytes; failure = None }
+
+abbrev pub stream_in : Side → Machine → Stream
+stream_in side m = stream_of side m.world.unread
+
+-- A piece of a side's stream came, or its end.
+abbrev pub come_to : Side → Coming → Machine → Machine
+come_to side coming m = record { world = come side coming m.world; failure = m.failure }
+
+-- No more comes of a side's stream.
+abbrev pub ended : Side → Machine → Machine
+ended side m = come_to side End m
+
+abbrev pub both_ended : Machine → Machine
+both_ended m = ended Server (ended Client m)
+
+-- Nobody's payload is due of a connection that has failed.
+abbrev pub turn_by : Option Failure → Phase → Option Side
+turn_by (Some failure) phase = None
+turn_by None phase = turn phase
+
+abbrev pub turn_in : Machine → Option Side
+turn_in m = turn_by m.failure m.world.standing.phase
+
+-- How many bytes of the side are taken.
+abbrev pub room_left : Side → Machine → ℕ
+room_left side m =
+    if (stream_in side m).closed then 0
+    else room side m.world.limits - length (stream_in side m).bytes
+
+-- How many bytes of the side would wait unread with this piece.
+abbrev pub length_with : Side → List ℕ → Machine → ℕ
+length_with side piece m = length (stream_in side m).bytes + length piece
+
+-- When each refusal of a piece comes.
+abbrev pub RefusesPiece : Machine → Side → List ℕ → FeedRefusal → Type 0
+RefusesPiece m side piece Closed = (stream_in side m).closed ≡ true
+RefusesPiece m side piece Held =
+    ((stream_in side m).closed ≡ false) × (room side m.world.limits < length_with side piece m)
+RefusesPiece m side piece Memory =
+    ((stream_in side m).closed ≡ false) × (length_with side piece m ≤ room side m.world.limits)
+
+-- A piece of the side is taken whole, or refused, which changes nothing.
+abbrev pub Feeds : Machine → Side → List ℕ → Result (Unit {0}) FeedRefusal → Machine → Type 0
+Feeds old side piece (Ok done) new =
+    ((stream_in side old).closed ≡ false) ×
+    (length_with side piece old ≤ room side old.world.limits) ×
+    (new ≡ come_to side (Piece piece) old)
+Feeds old side piece (Err cause) new = RefusesPiece old side piece cause × (new ≡ old)
+
+-- A fault was found: it is what comes next, but where memory ran out, of which nothing is known.
+-- Nothing is taken of the streams.
+pub record FindsFault (old : World) (fault : ConnectionFault) (new : World) : Type 0 where
+  pub next : fault.fault ≢ faults.Memory → next old ≡ Fails (failure_view fault)
+  pub limits : new.limits ≡ old.limits
+  pub unread : new.unread ≡ old.unread
+
+-- What comes next of the world.
+abbrev pub Answers : World → Result (Option Event) ConnectionFault → World → Type 0
+Answers old (Ok None) new = (next old ≡ Waits) × (new ≡ old)
+Answers old (Ok (Some event)) new = next old ≡ Says (event_view event) new
+Answers old (Err fault) new = FindsFault old fault new
+
+-- The fault that an answer is.
+abbrev pub failure_in : Result (Option Event) ConnectionFault → Option Failure
+failure_in (Ok event) = None
+failure_in (Err fault) = Some (failure_view fault)
+
+-- The answer is this fault.
+abbrev pub AnswersFault : Result (Option Event) ConnectionFault → Failure → Type 0
+AnswersFault (Ok event) failure = ⊥
+AnswersFault (Err fault) failure = failure_view fault ≡ failure
+
+-- An event leaves fewer bytes unread: it takes a header at least.
+abbrev pub TakesBytes : World → Result (Option Event) ConnectionFault → World → Type 0
+TakesBytes old (Ok (Some event)) new = unread_length new + 4 ≤ unread_length old
+TakesBytes old result new = Unit {0}
+
+-- LIMITS
+
+-- A machine that has found no fault is within its limits.
+abbrev pub IsWithinLimits : Machine → Type 0
+IsWithinLimits m = m.failure ≡ None → WithinLimits m.world
+
+-- It holds at most what they say, where this is the room of both sides at least.
+abbrev pub HoldsAtMost : Machine → Type 0
+HoldsAtMost m = m.failure ≡ None →
+    room Client m.world.limits + room Server m.world.limits ≤ m.world.limits.held →
+    held m.world ≤ m.world.limits.held

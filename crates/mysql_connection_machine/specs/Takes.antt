@@ -1,0 +1,89 @@
+-- What taking a payload of one stream answers.
+-- MySQL: Client/Server Protocol, "MySQL Packets" and "Sequence ID".
+use Rattle.std.specs.Prelude.{◌≡◌, ◌≢◌, ◌≤◌, ◌⊎◌, ℕ, Bool, true, false, List, drop, length, nat_le}
+use Rattle.std.specs.Prelude.{Option, Some, None, Result, Ok, Err, if◌then◌else◌}
+use Rattle.std.specs.Cow.{cow_slice_items}
+use Rattle.mysql_connection_packets.specs.FirstPacket.{Found, OutOfSync, Short, TooLarge, Whole}
+use Rattle.mysql_connection_packets.specs.FirstPacket.{first_packet}
+use Rattle.mysql_connection_rules.specs.declared.fault.Fault.{Fault}
+use Rattle.mysql_connection_rules.specs.declared.fault.Fault.TheVariants as faults
+use Rattle.mysql_connection_rules.specs.declared.limits.Limits.{Limits}
+use Rattle.mysql_connection_rules.specs.declared.side.Side.{Side}
+use Rattle.mysql_connection_rules.specs.Events as events
+use Rattle.mysql_connection_rules.specs.Standing.{Standing, kept}
+use Rattle.mysql_connection_rules.specs.Steps.{Step}
+use Rattle.mysql_connection_rules.specs.Streams.{Stream, begins_error, behind, numbered}
+use Rattle.mysql_connection_rules.specs.Streams.{room_to_keep}
+use Rattle.mysql_connection_state.specs.Reads.{farewell_step}
+use Rattle.mysql_connection_state.specs.Views.{event_view}
+use Rattle.mysql_connection_state.specs.declared.event.Event.{Event}
+use Rattle.mysql_connection_machine.specs.declared.taking.Packet.{Packet}
+
+-- PACKETS
+
+-- What stands first is no packet that can be read.
+abbrev pub IsNoPacket : Found → Fault → Type 0
+IsNoPacket found fault =
+    ((found ≡ TooLarge) × (fault ≡ faults.TooLarge)) ⊎
+    ((number : ℕ) × (found ≡ OutOfSync number) × (fault ≡ faults.OutOfSync number))
+
+-- The packet that stands first.
+abbrev pub FindsIn : ℕ → ℕ → List ℕ → Result (Option Packet) Fault → Type 0
+FindsIn limit number bytes (Ok None) = first_packet limit number bytes ≡ Short
+FindsIn limit number bytes (Ok (Some packet)) =
+    (first_packet limit number bytes ≡
+    Whole (cow_slice_items packet.payload) packet.next (drop packet.used bytes)) ×
+    (packet.used ≤ length bytes)
+FindsIn limit number bytes (Err fault) =
+    fault ≢ faults.Memory → IsNoPacket (first_packet limit number bytes) fault
+
+-- PAYLOADS
+
+-- What is kept behind a packet of the side has room.
+abbrev pub has_room : Limits → Side → ℕ → Standing → Bool
+has_room limits side number s = nat_le (kept (numbered side number s)) (room_to_keep limits)
+
+-- Behind a payload this number is due, where what is kept has room.
+abbrev pub Settles : Limits → Side → ℕ → Standing → Result (Unit {0}) Fault → Standing → Type 0
+Settles limits side number old (Ok done) new =
+    (has_room limits side number old ≡ true) × (new ≡ numbered side number old)
+Settles limits side number old (Err fault) new =
+    (has_room limits side number old ≡ false) × (fault ≡ faults.Held)
+
+-- What the payload says leads no further: it can't be read, or more is kept than has room.
+abbrev pub IsNotSaid : Limits → Side → ℕ → Step → Fault → Type 0
+IsNotSaid limits side number step fault =
+    (step ≡ Err fault) ⊎
+    ((event : events.Event) × (s : Standing) × (step ≡ Ok (event, s)) ×
+    (has_room limits side number s ≡ false) × (fault ≡ faults.Held))
+
+-- What the payload says, by its step.
+abbrev pub SaysBy : Limits → Side → ℕ → Step → Result Event Fault → Standing → Type 0
+SaysBy limits side number step (Ok event) new =
+    (s : Standing) × (step ≡ Ok (event_view event, s)) ×
+    (has_room limits side number s ≡ true) × (new ≡ numbered side number s)
+SaysBy limits side number step (Err fault) new =
+    fault ≢ faults.Memory → IsNotSaid limits side number step fault
+
+-- The server's last words: an error that answers nothing.
+abbrev pub words_step : Standing → List ℕ → Step
+words_step s payload =
+    if begins_error payload then farewell_step s payload else Err faults.Unasked
+
+-- ONE STREAM
+
+-- The payload that stands first, by the packet that was found and by what payloads say.
+abbrev pub TakesBy : Limits → Side → (List ℕ → Step) → Found → Standing → Stream →
+    Result (Option Event) Fault → Standing → Stream → Type 0
+TakesBy limits side says found old stream (Ok None) new left =
+    (found ≡ Short) × (new ≡ old) × (left ≡ stream)
+TakesBy limits side says found old stream (Ok (Some event)) new left =
+    (payload : List ℕ) × (number : ℕ) × (rest : List ℕ) × (s : Standing) ×
+    (found ≡ Whole payload number rest) × (says payload ≡ Ok (event_view event, s)) ×
+    (has_room limits side number s ≡ true) × (new ≡ numbered side number s) ×
+    (left ≡ behind rest stream)
+TakesBy limits side says found old stream (Err fault) new left =
+    fault ≢ faults.Memory →
+    IsNoPacket found fault ⊎
+    ((payload : List ℕ) × (number : ℕ) × (rest : List ℕ) × (found ≡ Whole payload number rest) ×
+    IsNotSaid limits side number (says payload) fault)

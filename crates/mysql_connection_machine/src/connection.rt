@@ -1,0 +1,264 @@
+//! A connection, read: bytes of both sides in, events out.
+
+ghost use Rattle.std.specs.Prelude.{◌≡◌, None, IfSome, min, option_copied, option_map};
+ghost use Rattle.mysql_connection_machine.specs.Endings.{end_view, ending_of};
+ghost use Rattle.mysql_connection_machine.specs.Machines.{Answers, AnswersFault, Feeds};
+ghost use Rattle.mysql_connection_machine.specs.Machines.{HoldsAtMost, TakesBytes, both_ended};
+ghost use Rattle.mysql_connection_machine.specs.Machines.{ended};
+ghost use Rattle.mysql_connection_machine.specs.Machines.{failure_in, failure_view, new_machine};
+ghost use Rattle.mysql_connection_machine.specs.Machines.{room_left, stream_in, turn_in};
+ghost use Rattle.mysql_connection_rules.specs.Streams.{held};
+ghost use Rattle.mysql_connection_state.specs.Views.{plain_phase};
+ghost use Rattle.mysql_connection_statements.specs.Statements.{statement_at};
+
+use crate::end::End;
+use crate::fault::{ConnectionFault, FeedRefusal};
+use crate::room::room;
+use crate::streams_reader::StreamsReader;
+use mysql_connection_rules::laws::{events_take_bytes, held_stays};
+use mysql_connection_rules::{Limits, Side};
+use mysql_connection_state::{Event, Phase};
+use mysql_connection_statements::Statement;
+use mysql_const::Capabilities;
+use std::alloc::Global;
+use std::marker::Model;
+
+/// Reads a connection: it is fed the bytes of both sides, and tells what was said. The pieces and
+/// their order don't matter, and each payload is one event.
+///
+/// Each payload is due of one side, so that what comes of the other waits until its turn. So the
+/// events are those of the two streams, however their bytes arrive. Of each side as many bytes wait
+/// unread as the longest payload takes with its headers; a side that is refused is fed again once
+/// events were taken.
+///
+///     let mut connection = Connection::new(alloc, limits);
+///     connection.feed(Side::Server, greeting)?;
+///     connection.feed(Side::Client, response)?;
+///     while let Some(event) = connection.next_event()? {
+///         ..
+///     }
+///
+/// Contracts see it as a `Machine`: the limits, what stands, what is unread of both streams, and
+/// the fault that was found.
+///
+/// MySQL: Client/Server Protocol, "Connection Lifecycle".
+#[derive(Drop)]
+pub struct Connection {
+    reader: StreamsReader,
+    fault: Option<ConnectionFault>,
+}
+
+impl Model for Connection {
+    ghost use Rattle.mysql_connection_machine.specs.Machines.{IsWithinLimits, Machine};
+
+    ghost Value = { Machine };
+
+    ghost use Rattle.mysql_connection_machine.specs.Inside.{machine_inside};
+
+    ghost view = { machine_inside };
+
+    ghost invariant = { λ c. IsWithinLimits (machine_inside c) };
+}
+
+impl Connection {
+    /// A connection of which no byte came.
+    ///
+    /// MySQL: Client/Server Protocol, "Connection Lifecycle".
+    pub fn new(alloc: Global, limits: Limits) -> Connection
+        ensures { result ≡ new_machine limits }
+    {
+        held_stays();
+        Connection {
+            reader: StreamsReader::new(alloc, limits),
+            fault: None,
+        }
+    }
+
+    /// Takes a piece of a side's stream, whole; nothing of it is read yet. After an `Err` nothing
+    /// has changed.
+    ///
+    /// Promise: the piece is taken where the stream is open and there is room for it, but for want
+    /// of memory, and each refusal comes exactly where it is named (`Feeds`).
+    ///
+    /// # Errors
+    /// - `Closed` where the side's stream has ended.
+    /// - `Held` where more of the side would wait unread than its longest payload takes with its
+    ///   headers. A caller takes events first, or feeds the side whose turn it is.
+    /// - `Memory`.
+    ///
+    /// MySQL: Client/Server Protocol, "MySQL Packets".
+    pub fn feed(&mut self, side: Side, piece: &[u8]) -> Result<(), FeedRefusal>
+        ensures { Feeds self.old side piece.now result self.new }
+    {
+        held_stays();
+        let stream = self.reader.stream(side);
+        if stream.is_closed() {
+            return Err(FeedRefusal::Closed);
+        }
+        let waiting = stream.as_slice().len() as u128 + piece.len() as u128;
+        if waiting > room(side, self.reader.limits()) {
+            return Err(FeedRefusal::Held);
+        }
+        match self.reader.extend(side, piece) {
+            Ok(()) => Ok(()),
+            Err(_) => Err(FeedRefusal::Memory),
+        }
+    }
+
+    /// Ends a side's stream: no more comes of it. Behind the client's end the server may say last
+    /// words.
+    ///
+    /// MySQL: Client/Server Protocol, "Connection Lifecycle".
+    pub fn close(&mut self, side: Side)
+        ensures { self.new ≡ ended side self.old }
+    {
+        self.reader.close(side);
+    }
+
+    /// The next event. `None` where the payload that is due isn't there whole, or the connection is
+    /// over.
+    ///
+    /// Promise: exactly what comes next of the two streams (`next`), for any bytes; an event takes
+    /// its bytes and leaves all others.
+    ///
+    /// # Errors
+    /// - The fault of the packet that stands first, with its side and its place: `TooLarge`,
+    ///   `OutOfSync`, those of the payload that is due, `Unasked`, `Held`.
+    /// - `Memory`.
+    ///
+    /// After an error it has failed: each call answers that error from then on, and what is unread
+    /// stays.
+    ///
+    /// MySQL: Client/Server Protocol, "Connection Phase", "Command Phase" and "Sequence ID".
+    pub fn next_event(&mut self) -> Result<Option<Event>, ConnectionFault>
+        ensures failed { IfSome self.old.failure (λ failure.
+            AnswersFault result failure × (self.new ≡ self.old)) }
+        ensures answers { self.old.failure ≡ None → Answers self.old.world result self.new.world }
+        ensures fault { self.old.failure ≡ None → self.new.failure ≡ failure_in result }
+        ensures fewer { TakesBytes self.old.world result self.new.world }
+    {
+        events_take_bytes();
+        held_stays();
+        if let Some(fault) = self.fault {
+            return Err(fault);
+        }
+        match self.reader.next_event() {
+            Ok(event) => Ok(event),
+            Err(fault) => {
+                self.fault = Some(fault);
+                Err(fault)
+            }
+        }
+    }
+
+    /// How many bytes of a side [`Connection::feed`] takes now: none where its stream has ended.
+    ///
+    /// MySQL: Client/Server Protocol, "MySQL Packets".
+    pub fn room(&self, side: Side) -> usize
+        ensures { result ≡ min (room_left side self.now) usize.MAX }
+    {
+        let stream = self.reader.stream(side);
+        if stream.is_closed() {
+            return 0;
+        }
+        let left = room(side, self.reader.limits()).saturating_sub(stream.as_slice().len() as u128);
+        left.min(usize::MAX as u128) as usize
+    }
+
+    /// How many bytes are held: the unread ones of both sides, and what is kept. That is of
+    /// statements, columns and long data. At most `usize::MAX` is told.
+    ///
+    /// Promise: no more than the limit, where this is the room of both sides at least
+    /// (`HoldsAtMost`).
+    ///
+    /// MySQL: Client/Server Protocol, "Prepared Statements".
+    pub fn held(&self) -> usize
+        ensures sum { result ≡ min (held self.now.world) usize.MAX }
+        ensures limit { HoldsAtMost self.now }
+    {
+        held_stays();
+        self.reader.held()
+    }
+
+    /// What of a side's stream is unread. Where the connection is over, it follows in a form of its
+    /// own: TLS, compressed packets, the events of a dump.
+    ///
+    /// MySQL: Client/Server Protocol, "TLS", "Compression" and "Replication Protocol".
+    pub fn rest(&self, side: Side) -> &[u8]
+        ensures { result.now ≡ (stream_in side self.now).bytes }
+    {
+        self.reader.stream(side).as_slice()
+    }
+
+    /// Whose payload is due: nobody's where the connection is over, or has failed.
+    ///
+    /// MySQL: Client/Server Protocol, "Connection Lifecycle".
+    pub fn turn(&self) -> Option<Side>
+        ensures { result ≡ turn_in self.now }
+    {
+        match self.fault {
+            None => self.reader.state().turn(),
+            Some(_) => None,
+        }
+    }
+
+    /// What is due. After an error it is no longer known.
+    ///
+    /// MySQL: Client/Server Protocol, "Connection Phase" and "Command Phase".
+    pub fn phase(&self) -> Phase
+        ensures { result ≡ plain_phase self.now.world.standing.phase }
+    {
+        self.reader.state().phase()
+    }
+
+    /// The capabilities in force: those that both sides have.
+    ///
+    /// MySQL: Client/Server Protocol, "Capabilities Flags".
+    pub fn capabilities(&self) -> Capabilities
+        ensures { result ≡ self.now.world.standing.capabilities }
+    {
+        self.reader.state().capabilities()
+    }
+
+    /// The prepared statement of this id.
+    ///
+    /// MySQL: Client/Server Protocol, "Prepared Statements".
+    pub fn statement(&self, id: u32) -> Option<&Statement>
+        ensures { option_copied result ≡ statement_at self.now.world.standing.statements id }
+    {
+        self.reader.state().statements().get(id)
+    }
+
+    /// The fault that was found.
+    ///
+    /// MySQL: Client/Server Protocol, "MySQL Packets".
+    pub fn fault(&self) -> Option<ConnectionFault>
+        ensures { option_map failure_view result ≡ self.now.failure }
+    {
+        self.fault
+    }
+
+    /// Ends both streams, and says how the connection stands.
+    ///
+    /// Nothing is taken. Where an event or a fault comes next it is `Unread`, also where that is last
+    /// words behind the end of the client's stream: [`Connection::next_event`] answers it.
+    ///
+    /// Promise: exactly by what comes next of the two ended streams (`ending_of`).
+    ///
+    /// MySQL: Client/Server Protocol, "Connection Lifecycle" and "COM_QUIT".
+    pub fn finish(&mut self) -> End
+        ensures closed { self.new ≡ both_ended self.old }
+        ensures end { end_view result ≡ ending_of self.new }
+    {
+        self.reader.close(Side::Client);
+        self.reader.close(Side::Server);
+        if let Some(fault) = self.fault {
+            return End::Fault(fault);
+        }
+        if self.reader.is_waiting() {
+            self.reader.waiting_end()
+        } else {
+            End::Unread
+        }
+    }
+}

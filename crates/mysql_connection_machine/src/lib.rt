@@ -1,0 +1,22 @@
+//! A whole connection, read: bytes of both sides in, events out.
+//!
+//!     let mut connection = Connection::new(alloc, limits);
+//!     connection.feed(Side::Server, greeting)?;
+//!     while let Some(event) = connection.next_event()? {
+//!         ..
+//!     }
+#![tactic(auto)]
+
+pub mod connection;
+pub mod end;
+pub mod fault;
+mod last_words;
+mod room;
+mod saying;
+mod stream_buffer;
+mod streams_reader;
+mod taking;
+
+pub use connection::Connection;
+pub use end::End;
+pub use fault::{ConnectionFault, FeedRefusal};

@@ -1,0 +1,110 @@
+//! The payload that stands first of a stream, taken from it.
+
+ghost use Rattle.std.specs.Prelude.{◌≡◌, OnErr};
+ghost use Rattle.mysql_connection_packets.specs.FirstPacket.{first_packet};
+ghost use Rattle.mysql_connection_machine.specs.Takes.{FindsIn, TakesBy, words_step};
+ghost use Rattle.mysql_connection_rules.specs.Steps.{step};
+ghost use Rattle.mysql_connection_rules.specs.Streams.{limit_of};
+ghost use Rattle.mysql_connection_rules.specs.declared.side.Side.TheVariants.{Server};
+
+use crate::room::limit_of;
+use crate::saying::{bid, say};
+use crate::stream_buffer::StreamBuffer;
+use mysql_connection_packets::{FirstPacket, first_packet};
+use mysql_connection_rules::{Fault, Limits, Side};
+use mysql_connection_state::{Event, State};
+use std::alloc::Global;
+use std::borrow::CowSlice;
+
+/// A packet that stands first.
+#[derive(Drop)]
+pub struct Packet<'a> {
+    payload: CowSlice<'a, u8>,
+    next: u8,
+    used: usize,
+}
+
+// The first packet, where it is whole.
+fn find_packet(
+    alloc: Global,
+    limit: usize,
+    number: u8,
+    bytes: &[u8],
+) -> Result<Option<Packet<'_>>, Fault>
+    ensures { FindsIn limit number bytes.now result }
+{
+    match first_packet(alloc, limit, number, bytes)? {
+        FirstPacket::Short => Ok(None),
+        FirstPacket::TooLarge => Err(Fault::TooLarge),
+        FirstPacket::OutOfSync(number) => Err(Fault::OutOfSync(number)),
+        FirstPacket::Whole {
+            payload,
+            next,
+            used,
+        } => Ok(Some(Packet {
+            payload,
+            next,
+            used,
+        })),
+    }
+}
+
+/// The payload of a side whose turn it is.
+pub fn take_packet(
+    alloc: Global,
+    limits: Limits,
+    side: Side,
+    state: &mut State,
+    stream: &mut StreamBuffer,
+) -> Result<Option<Event>, Fault>
+    ensures taken { TakesBy limits side (step state.old)
+        (first_packet (limit_of side limits) state.old.number stream.old.bytes) state.old stream.old
+        result state.new stream.new }
+    ensures err { OnErr result (stream.new ≡ stream.old) }
+{
+    let limit = limit_of(side, limits);
+    let number = state.number();
+    let Some(packet) = find_packet(alloc, limit, number, stream.as_slice())? else {
+        return Ok(None);
+    };
+    let Packet {
+        payload,
+        next,
+        used,
+    } = packet;
+    if !stream.can_advance(used) {
+        return Err(Fault::Memory);
+    }
+    let event = say(limits, side, next, state, payload)?;
+    stream.advance(used);
+    Ok(Some(event))
+}
+
+/// The server's last words, in a packet with this number.
+pub fn take_words(
+    alloc: Global,
+    limits: Limits,
+    number: u8,
+    state: &mut State,
+    server: &mut StreamBuffer,
+) -> Result<Option<Event>, Fault>
+    ensures taken { TakesBy limits Server (words_step state.old)
+        (first_packet limits.server number server.old.bytes) state.old server.old
+        result state.new server.new }
+    ensures err { OnErr result (server.new ≡ server.old) }
+{
+    let Some(packet) = find_packet(alloc, limits.server, number, server.as_slice())? else {
+        return Ok(None);
+    };
+    let Packet {
+        payload,
+        next,
+        used,
+    } = packet;
+    if !server.can_advance(used) {
+        return Err(Fault::Memory);
+    }
+    let event = bid(limits, next, state, payload)?;
+    server.advance(used);
+    Ok(Some(event))
+}

@@ -1,0 +1,161 @@
+//! Executions of a prepared statement: what they carry, and what they change.
+
+ghost use Rattle.std.specs.Prelude.{◌≡◌, IfOk, OnOk, Some, option_map, unwrap_or};
+ghost use Rattle.std.specs.Option.{option_and_then, option_copied};
+ghost use Rattle.mysql_executions.specs.Bulks.{bulk_head};
+ghost use Rattle.mysql_rows.specs.Views.{shared_columns};
+ghost use Rattle.mysql_connection_rules.specs.Steps.{about_execution, after_executing};
+ghost use Rattle.mysql_connection_rules.specs.Steps.{carried_types, execution_of};
+ghost use Rattle.mysql_connection_rules.specs.Steps.{id_in_question, refused_as};
+ghost use Rattle.mysql_connection_statements.specs.Statements.{statement_at};
+ghost use Rattle.mysql_connection_state.specs.Views.{about_view};
+
+use crate::due::About;
+use crate::state::State;
+use mysql_buf::ParseBuf;
+use mysql_columns::Column;
+use mysql_commands::Command;
+use mysql_connection_statements::{Pending, Statement, Statements};
+use mysql_const::Capabilities;
+use mysql_executions::{BoundType, Refused, read_bulk_types, read_execution_types};
+use mysql_reply_events::ReplyKind;
+use std::alloc::{AllocError, Global};
+use std::rc::RcSlice;
+
+// The number of MariaDB's bulk execution.
+const BULK_EXECUTE: u8 = 0xfa;
+
+/// The id of the statement that a command is about: 0xffffffff is the one that was prepared last.
+pub fn id_in_question(statements: &Statements, payload: &[u8]) -> Option<u32>
+    ensures { result ≡ id_in_question statements.now payload.now }
+{
+    match Command::statement_id(payload) {
+        Some(id) => statements.resolve(id),
+        None => None,
+    }
+}
+
+/// The statement that a command is about, where it is known.
+pub fn statement_of(statements: &Statements, id: Option<u32>) -> Option<&Statement>
+    ensures { option_copied result ≡ option_and_then (statement_at statements.now) id }
+{
+    match id {
+        Some(id) => statements.get(id),
+        None => None,
+    }
+}
+
+/// The columns that a statement last had, shared.
+pub fn shared_columns_of(
+    statement: Option<&Statement>,
+) -> Result<Option<RcSlice<Column>>, AllocError>
+    ensures { IfOk result (λ columns. option_map shared_columns columns ≡
+        option_and_then (λ x. x.columns) (option_copied statement.entry)) }
+{
+    let Some(statement) = statement else {
+        return Ok(None);
+    };
+    match statement.columns() {
+        Some(columns) => Ok(Some(columns.clone()?)),
+        None => Ok(None),
+    }
+}
+
+// The types that an execution carries, by its number and what stands behind it.
+fn carried_types(
+    alloc: Global,
+    capabilities: Capabilities,
+    number: u8,
+    count: u16,
+    body: &[u8],
+) -> Result<Vec<BoundType>, AllocError>
+    ensures { IfOk result (λ types. types.items ≡
+        carried_types capabilities number count body.now) }
+{
+    if number == BULK_EXECUTE {
+        read_bulk_types(alloc, count, body)
+    } else {
+        read_execution_types(alloc, capabilities, count, body)
+    }
+}
+
+// The flags of a bulk execution, as they were sent.
+#[tactic(auto, unfolding(mysql_executions::specs::Bulks::bulk_head))]
+fn bulk_flags(body: &[u8]) -> u16
+    ensures { result ≡ unwrap_or (option_map (λ head. head.flags) (bulk_head body.now)) 0 }
+{
+    // COM_STMT_BULK_EXECUTE, behind its first byte:
+    //   int<4>  statement_id
+    //   int<2>  bulk_flags
+    let mut rest = ParseBuf(body);
+    if rest.checked_eat_u32_le().is_none() {
+        return 0;
+    }
+    match rest.checked_eat_u16_le() {
+        Some(flags) => flags,
+        None => 0,
+    }
+}
+
+// How a refusal takes an execution back.
+fn refused_as(number: u8, body: &[u8]) -> Refused
+    ensures { result ≡ refused_as number body.now }
+{
+    if number == BULK_EXECUTE {
+        Refused::Bulk(bulk_flags(body))
+    } else {
+        Refused::Execution
+    }
+}
+
+// What the reply to an execution is about: until it comes, what was in force before is kept.
+fn about_execution(id: u32, pending: Option<Pending>) -> About
+    ensures { about_view result ≡ about_execution id pending }
+{
+    match pending {
+        Some(pending) => About::Executing(pending),
+        None => About::OfStatement(id),
+    }
+}
+
+impl State {
+    // An execution of the statement of this id came, which is known.
+    fn executing(
+        &mut self,
+        id: u32,
+        refused: Refused,
+        types: &[BoundType],
+    ) -> Result<(), AllocError>
+        ensures { OnOk result ((statement : Statement) → statement_at self.old.statements id ≡
+            Some statement →
+            self.new ≡ after_executing id statement refused types.now self.old) }
+    {
+        let columns = shared_columns_of(self.statements.get(id))?;
+        let pending = self.statements.execute(id, refused, types)?;
+        self.await_reply(ReplyKind::Binary, columns, about_execution(id, pending));
+        Ok(())
+    }
+
+    /// An execution came, with this number; of a statement that isn't known there is only a reply.
+    pub(crate) fn execution(
+        &mut self,
+        number: u8,
+        body: &[u8],
+        id: Option<u32>,
+    ) -> Result<(), AllocError>
+        ensures { OnOk result (self.new ≡ execution_of number body.now id
+            (option_and_then (statement_at self.old.statements) id) self.old) }
+    {
+        let Some(id) = id else {
+            self.await_reply(ReplyKind::Binary, None, About::Nothing);
+            return Ok(());
+        };
+        let Some(statement) = self.statements.get(id) else {
+            self.await_reply(ReplyKind::Binary, None, About::Nothing);
+            return Ok(());
+        };
+        let count = statement.parameters().count();
+        let types = carried_types(self.alloc, self.capabilities, number, count, body)?;
+        self.executing(id, refused_as(number, body), types.as_slice())
+    }
+}

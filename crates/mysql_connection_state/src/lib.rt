@@ -1,0 +1,21 @@
+//! What stands of a connection between two payloads, and what the payload that is due says.
+//!
+//! [`State`] reads the payloads of both sides, one event each, by one table of steps.
+#![tactic(auto)]
+
+mod authentication;
+mod changes;
+mod commands;
+mod due;
+pub mod event;
+mod executions;
+mod login;
+mod owned;
+pub mod phase;
+mod replies;
+mod sizes;
+mod state;
+
+pub use event::Event;
+pub use phase::Phase;
+pub use state::State;

@@ -1,0 +1,23 @@
+//! What is kept, in bytes.
+
+ghost use Rattle.std.specs.Prelude.{◌≡◌, ◌+◌, IfOk};
+ghost use Rattle.mysql_connection_statements.specs.Statements.{counted};
+
+use std::alloc::AllocError;
+
+/// A sum, where it fits: no memory has room for more.
+pub fn sum(a: usize, b: usize) -> Result<usize, AllocError>
+    ensures { IfOk result (λ sum. sum ≡ a + b) }
+{
+    match a.checked_add(b) {
+        Some(sum) => Ok(sum),
+        None => Err(AllocError),
+    }
+}
+
+/// What a payload counts of which something is kept.
+pub fn counted(payload: &[u8]) -> Result<usize, AllocError>
+    ensures { IfOk result (λ size. size ≡ counted payload.now) }
+{
+    sum(4, payload.len())
+}

@@ -1,0 +1,262 @@
+//! What stands of a connection between two payloads.
+
+ghost use Rattle.std.specs.Prelude.{◌≡◌, option_map};
+ghost use Rattle.mysql_auth.specs.Views.{plugin_view};
+ghost use Rattle.mysql_connection_rules.specs.Standing.{at_first, kept, phase_size};
+ghost use Rattle.mysql_connection_rules.specs.Steps.{in_phase, step, turn};
+ghost use Rattle.mysql_connection_rules.specs.Streams.{is_client, number_in, numbered};
+ghost use Rattle.mysql_connection_state.specs.Reads.{IsCount, Reads, farewell_step};
+ghost use Rattle.mysql_connection_state.specs.Views.{Fits, phase_view, plain_phase};
+
+use crate::changes::about_size;
+use crate::due::Due;
+use crate::event::Event;
+use crate::login::last_words;
+use crate::phase::Phase;
+use mysql_auth::AuthPlugin;
+use mysql_connection_rules::{Fault, Reason, Side};
+use mysql_connection_statements::Statements;
+use mysql_const::{Capabilities, CapabilityFlags, MariadbCapabilities};
+use std::alloc::Global;
+use std::marker::Model;
+use std::mem;
+
+/// What stands of a connection between two payloads.
+///
+/// That is what is due, the number that is due, the capabilities that the server offers and those in
+/// force, the plugin in force, and the prepared statements.
+///
+/// Contracts see it as a `Standing`.
+///
+/// MySQL: Client/Server Protocol, "Connection Phase", "Prepared Statements" and "Sequence ID".
+#[derive(Drop)]
+pub struct State {
+    pub(crate) alloc: Global,
+    pub(crate) due: Due,
+    number: u8,
+    answers: bool,
+    pub(crate) offered: Capabilities,
+    pub(crate) capabilities: Capabilities,
+    pub(crate) plugin: Option<AuthPlugin<'static>>,
+    pub(crate) statements: Statements,
+}
+
+impl Model for State {
+    ghost use Rattle.mysql_connection_rules.specs.Standing.{Standing};
+
+    ghost Value = { Standing };
+
+    ghost use Rattle.std.specs.Prelude.{option_map};
+    ghost use Rattle.mysql_auth.specs.Views.{plugin_view};
+    ghost use Rattle.mysql_connection_state.specs.Views.{Fits, phase_view};
+
+    ghost view = { λ s. record {
+      phase = phase_view s.due;
+      number = s.number;
+      answers = s.answers;
+      offered = s.offered;
+      capabilities = s.capabilities;
+      plugin = option_map plugin_view s.plugin;
+      statements = s.statements;
+    } };
+
+    ghost invariant = { λ s. Fits s.capabilities s.due };
+}
+
+/// The capabilities of a side that none are known of.
+fn no_capabilities() -> Capabilities
+    ensures { result ≡ at_first.offered }
+{
+    Capabilities {
+        protocol: CapabilityFlags(0),
+        mariadb: MariadbCapabilities(0),
+    }
+}
+
+// A command's packets are numbered from 0.
+fn number_in(due: &Due, number: u8) -> u8
+    ensures { result ≡ number_in (phase_view due.now) number }
+{
+    match due {
+        Due::Command => 0,
+        _ => number,
+    }
+}
+
+fn is_client(side: Side) -> bool
+    ensures { result ≡ is_client side }
+{
+    match side {
+        Side::Client => true,
+        Side::Server => false,
+    }
+}
+
+impl State {
+    /// A connection of which no byte came: the server's greeting is due.
+    pub fn new(alloc: Global) -> State
+        ensures { result ≡ at_first }
+    {
+        State {
+            alloc,
+            due: Due::Greeting,
+            number: 0,
+            answers: false,
+            offered: no_capabilities(),
+            capabilities: no_capabilities(),
+            plugin: None,
+            statements: Statements::new(alloc),
+        }
+    }
+
+    /// This is due now.
+    pub(crate) fn set_due(&mut self, due: Due)
+        requires { Fits self.old.capabilities due }
+        ensures { self.new ≡ in_phase (phase_view due) self.old }
+    {
+        self.due = due;
+    }
+
+    /// Reads the payload that is due, of the side whose turn it is.
+    ///
+    /// Promise: the event and what stands behind it are exactly those of the table of steps, or its
+    /// fault, for any bytes (`step`).
+    ///
+    /// # Errors
+    /// - `OldProtocol`, `BadGreeting`, `BadLogin`, `BadSwitch`, `BadReply`, each named by what
+    ///   can't be read.
+    /// - `Unasked` where nothing is due.
+    /// - `Memory`.
+    ///
+    /// After an error the state may be anything.
+    ///
+    /// MySQL: Client/Server Protocol, "Connection Phase" and "Command Phase"; MariaDB:
+    /// Client/Server Protocol, "Connecting", "2 - Text Protocol" and "3 - Binary Protocol (Prepared
+    /// Statements)".
+    #[tactic(auto, unfolding(mysql_connection_rules::specs::Steps::step))]
+    pub fn read(&mut self, payload: &[u8]) -> Result<Event, Fault>
+        ensures { Reads (step self.old payload.now) result self.new }
+    {
+        match mem::replace(&mut self.due, Due::Command) {
+            Due::Greeting => self.read_greeting(payload),
+            Due::Response => self.read_response(payload),
+            Due::Authentication(exchange) => self.read_authentication(exchange, payload),
+            Due::Answer(exchange) => self.read_answer(exchange, payload),
+            Due::Command => self.read_command(payload),
+            Due::Reply(reply) => self.read_in_reply(reply, payload),
+            Due::Over(_) => Err(Fault::Unasked),
+        }
+    }
+
+    /// Reads the server's last words: an error that answers nothing. The connection is over then.
+    ///
+    /// Promise: the error is the one that is read without capabilities (`farewell_step`).
+    ///
+    /// # Errors
+    /// - `BadReply(BadError)` where the payload is no error.
+    /// - `Memory`.
+    ///
+    /// After an error the state may be anything.
+    ///
+    /// MySQL: Client/Server Protocol, "ERR_Packet" and "Connection Lifecycle".
+    pub fn farewell(&mut self, payload: &[u8]) -> Result<Event, Fault>
+        ensures { Reads (farewell_step self.old payload.now) result self.new }
+    {
+        let error = last_words(self.alloc, payload)?;
+        self.set_due(Due::Over(Reason::Farewell));
+        Ok(Event::Farewell(error))
+    }
+
+    /// A packet of a side was read, behind which this number is due. A command begins anew at 0.
+    pub fn set_number(&mut self, side: Side, next: u8)
+        ensures { self.new ≡ numbered side next self.old }
+    {
+        self.number = number_in(&self.due, next);
+        self.answers = is_client(side);
+    }
+
+    /// Whose payload is due: nobody's where the connection is over.
+    pub fn turn(&self) -> Option<Side>
+        ensures { result ≡ turn self.now.phase }
+    {
+        match &self.due {
+            Due::Greeting | Due::Authentication(_) => Some(Side::Server),
+            Due::Response | Due::Answer(_) | Due::Command => Some(Side::Client),
+            Due::Reply(reply) => Some(reply.side()),
+            Due::Over(_) => None,
+        }
+    }
+
+    /// What is due.
+    pub fn phase(&self) -> Phase
+        ensures { result ≡ plain_phase self.now.phase }
+    {
+        match &self.due {
+            Due::Greeting => Phase::Greeting,
+            Due::Response => Phase::Response,
+            Due::Authentication(_) => Phase::Authentication,
+            Due::Answer(_) => Phase::Answer,
+            Due::Command => Phase::Command,
+            Due::Reply(reply) => reply.plain_phase(),
+            Due::Over(reason) => Phase::Over(*reason),
+        }
+    }
+
+    /// The number that is due of the next packet.
+    pub fn number(&self) -> u8
+        ensures { result ≡ self.now.number }
+    {
+        self.number
+    }
+
+    /// Whether the payload that came last is the client's, so that the server answers.
+    pub fn answers(&self) -> bool
+        ensures { result ≡ self.now.answers }
+    {
+        self.answers
+    }
+
+    /// The capabilities in force: none before the client's response.
+    pub fn capabilities(&self) -> Capabilities
+        ensures { result ≡ self.now.capabilities }
+    {
+        self.capabilities
+    }
+
+    /// The plugin in force.
+    pub fn plugin(&self) -> Option<&AuthPlugin<'static>>
+        ensures { option_map (λ plugin. plugin_view plugin.now) result ≡ self.now.plugin }
+    {
+        self.plugin.as_ref()
+    }
+
+    /// The prepared statements.
+    pub fn statements(&self) -> &Statements
+        ensures { result.now ≡ self.now.statements }
+    {
+        &self.statements
+    }
+
+    // What is kept for the reply that is due.
+    fn due_size(&self) -> Option<usize>
+        ensures { IsCount (phase_size self.now.statements self.now.phase) result }
+    {
+        let Due::Reply(reply) = &self.due else {
+            return Some(0);
+        };
+        let about = about_size(&self.statements, &reply.about)?;
+        let coming = reply.coming.checked_add(about)?;
+        reply.earlier.checked_add(coming)
+    }
+
+    /// How many bytes are kept, of statements, columns, types and long data. None where they are
+    /// more than a `usize` holds.
+    ///
+    /// Promise: exactly the sum (`kept`).
+    pub fn kept(&self) -> Option<usize>
+        ensures { IsCount (kept self.now) result }
+    {
+        let due = self.due_size()?;
+        self.statements.stored().checked_add(due)
+    }
+}

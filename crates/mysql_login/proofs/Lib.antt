@@ -1,0 +1,3 @@
+pub mod ChangedUsersAgain
+pub mod FieldsRead
+pub mod PluginsRead
