@@ -1,6 +1,6 @@
 //! A transcript of a connection, read piece by piece, whose events are printed.
 
-ghost use Rattle.std.specs.Prelude.{◌<◌, ◌≤◌, ◌×◌, IfOk, length};
+ghost use Rattle.std.specs.Prelude.{◌<◌, ◌≤◌, IfOk, length};
 
 use crate::stop::Stop;
 use mysql_connection_machine::{Connection, End, FeedRefusal};
