@@ -31,7 +31,7 @@ put_had : (limits : Limits) (streams : Streams) (events : List Event) (old new :
 put_had limits streams events old new event side bytes had put =
     takes {old = come side (Piece bytes) old} (comes {old = old} side (Piece bytes) had put.is_open refl) put.read
 
-had_too : (limits : Limits) (streams : Streams) (events : List Event) (held : World) → HadOrPut limits streams events held → Had limits streams events held
+pub had_too : (limits : Limits) (streams : Streams) (events : List Event) (held : World) → HadOrPut limits streams events held → Had limits streams events held
 had_too limits streams events held fresh_too = fresh
 had_too limits streams events held (comes_too {streams = before} {old = old} side coming had is_open e) = comes side coming (had_too limits before events old had) is_open e
 had_too limits streams events held (takes_too {events = front} {old = old} had e) = takes (had_too limits streams front old had) e

@@ -3,3 +3,5 @@ pub mod Putting
 pub mod Refusing
 pub mod Quiet
 pub mod Agreeing
+pub mod Numbers
+pub mod Pinging

@@ -1,6 +1,6 @@
 -- The laws. Each is the contract of a function in src/laws.rt.
 -- MySQL: Client/Server Protocol, "Connection Lifecycle", "MySQL Packets" and "Sequence ID".
-use Rattle.std.specs.Prelude.{◌≡◌, ℕ, ◌<◌, List, ◌++◌, Some}
+use Rattle.std.specs.Prelude.{◌≡◌, ◌⊎◌, ℕ, ◌<◌, List, ◌++◌, Option, Some}
 use Rattle.std.specs.List.{filter}
 use Rattle.mysql_connection_rules.specs.declared.limits.Limits.{Limits}
 use Rattle.mysql_connection_rules.specs.declared.side.Side.TheVariants.{Client, Server}
@@ -11,7 +11,8 @@ use Rattle.mysql_connection_rules.specs.Standing.{Standing}
 use Rattle.mysql_connection_rules.specs.Streams.{Streams, World, next}
 use Rattle.mysql_connection_agreement.specs.Machines.{HadAs, HadOrPut, Puts}
 use Rattle.mysql_connection_agreement.specs.Puts.{MayBePut, is_of, packets_for, put_on}
-use Rattle.mysql_connection_agreement.specs.Refusals.{PutRefusal, Refuses}
+use Rattle.mysql_connection_agreement.specs.Refusals.{IsPutBy, IsSaidBy, IsUnsaid, PutRefusal}
+use Rattle.mysql_connection_agreement.specs.Refusals.{Refuses}
 
 -- WHAT IS PUT
 
@@ -22,11 +23,28 @@ PutsAreRead = (old : World) (event : Event) (payload : List ℕ) (after : Standi
     Puts old event (side_of event) (packets_for event old.standing payload)
     (put_on old event payload after)
 
--- An event is put or refused, and refused for one cause.
+-- Of any machine that was new the number that is due is a byte's.
+abbrev pub NumbersAreBytes : Type 0
+NumbersAreBytes = (limits : Limits) (streams : Streams) (events : List Event) (held : World) →
+    HadOrPut limits streams events held → held.standing.number < 256
+
+-- An event that can be put isn't refused.
 abbrev pub PutsAreNotRefused : Type 0
 PutsAreNotRefused = (w : World) (event : Event) (payload : List ℕ) (after : Standing)
     (cause : PutRefusal) → MayBePut w event payload after →
     Refuses w event (Some payload) cause → ⊥
+
+-- And refused for one cause.
+abbrev pub RefusalsAreOne : Type 0
+RefusalsAreOne = (w : World) (event : Event) (written : Option (List ℕ))
+    (cause other : PutRefusal) → Refuses w event written cause → Refuses w event written other →
+    cause ≡ other
+
+-- One of both, once it is told whether the payload that was written says the event.
+abbrev pub PutOrRefused : Type 0
+PutOrRefused = (w : World) (event : Event) (written : Option (List ℕ)) →
+    IsSaidBy w event written ⊎ IsUnsaid w event written →
+    IsPutBy w event written ⊎ ((cause : PutRefusal) × Refuses w event written cause)
 
 -- Whatever pieces and ends of two streams came to a machine, and whatever events it put: those that
 -- were taken or put and those that are still there to take are the events of the one run over the

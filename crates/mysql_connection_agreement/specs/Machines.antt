@@ -5,8 +5,8 @@ use Rattle.mysql_connection_rules.specs.declared.limits.Limits.{Limits}
 use Rattle.mysql_connection_rules.specs.declared.side.Side.{Side}
 use Rattle.mysql_connection_rules.specs.Events.{Event, side_of}
 use Rattle.mysql_connection_rules.specs.Machines.{IsOpen, Takes}
-use Rattle.mysql_connection_rules.specs.Streams.{Coming, End, Piece, Says, Streams, World, come, grow}
-use Rattle.mysql_connection_rules.specs.Streams.{next, no_bytes, start, stream_of}
+use Rattle.mysql_connection_rules.specs.Streams.{Coming, End, Piece, Says, Streams, World, come}
+use Rattle.mysql_connection_rules.specs.Streams.{grow, next, no_bytes, start, stream_of}
 use Rattle.std.specs.Prelude.{ℕ}
 
 -- Bytes were put for an event of this side: once they have come of it, the event is the next, and

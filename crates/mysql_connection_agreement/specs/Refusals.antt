@@ -1,13 +1,15 @@
 -- Why an event isn't put, in order, and what a put that isn't refused appends.
 -- MySQL: Client/Server Protocol, "Connection Lifecycle" and "MySQL Packets".
-use Rattle.std.specs.Prelude.{◌≡◌, ℕ, ◌<◌, ◌≤◌, true, false, List, ◌++◌, length, Option, Some, None, Ok}
+use Rattle.std.specs.Prelude.{◌≡◌, ℕ, ◌<◌, ◌≤◌, true, false, List, ◌++◌, length}
+use Rattle.std.specs.Prelude.{Option, Some, None, Ok}
 use Rattle.mysql_connection_rules.specs.Events.{Event, side_of}
 use Rattle.mysql_connection_rules.specs.Standing.{Standing, kept}
 use Rattle.mysql_connection_rules.specs.Streams.{World, limit_of, room_to_keep}
 use Rattle.mysql_connection_agreement.specs.Puts.{MayBePut, is_due, packets_for, put_on, step_for}
 
 pub data PutRefusal : Type 0 where
-  -- It isn't its side's turn, or the side's stream has ended or has bytes that come first.
+  -- It isn't its side's turn, nor may last words be said; or the side's stream has ended, or has
+  -- bytes that come first.
   NotDue : PutRefusal
   -- No packet says it here.
   BadEvent : PutRefusal
@@ -22,7 +24,17 @@ IsUnsaid w event None = Unit {0}
 IsUnsaid w event (Some payload) =
     (after : Standing) → step_for event w.standing payload ≡ Ok (event, after) → ⊥
 
--- The payload says the event, and leads there.
+-- The payload that was written says the event.
+abbrev pub IsSaidBy : World → Event → Option (List ℕ) → Type 0
+IsSaidBy w event written = (payload : List ℕ) × (after : Standing) ×
+    (written ≡ Some payload) × (step_for event w.standing payload ≡ Ok (event, after))
+
+-- The event may be put by the payload that was written.
+abbrev pub IsPutBy : World → Event → Option (List ℕ) → Type 0
+IsPutBy w event written = (payload : List ℕ) × (after : Standing) ×
+    (written ≡ Some payload) × MayBePut w event payload after
+
+-- The event is due, and the payload says it and leads there.
 pub record IsSaid (w : World) (event : Event) (written : Option (List ℕ)) (payload : List ℕ)
     (after : Standing) : Type 0 where
   pub due : is_due w event ≡ true

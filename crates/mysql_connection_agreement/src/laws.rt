@@ -1,7 +1,9 @@
 //! Laws of what is put on a connection. Each function has no code but the laws that it rests on:
 //! its contract is the law.
 
-ghost use Rattle.mysql_connection_agreement.specs.Laws.{PutsAreNotRefused, PutsAreRead};
+ghost use Rattle.mysql_connection_agreement.specs.Examples.{PingIsPut};
+ghost use Rattle.mysql_connection_agreement.specs.Laws.{NumbersAreBytes, PutsAreNotRefused};
+ghost use Rattle.mysql_connection_agreement.specs.Laws.{PutOrRefused, PutsAreRead, RefusalsAreOne};
 ghost use Rattle.mysql_connection_agreement.specs.Laws.{PutsAreTheRun, ThreeAgree};
 
 use mysql_connection_packets::laws::framings_are_found;
@@ -16,9 +18,16 @@ pub fn puts_are_read()
     framings_are_found();
 }
 
-/// An event that can be put is not refused.
-pub fn puts_are_not_refused()
-    ensures { PutsAreNotRefused }
+/// The number of the packet that is due is a byte's, in any machine that was new.
+pub fn numbers_are_bytes()
+    ensures { NumbersAreBytes }
+{}
+
+/// An event is put, or refused for one cause.
+pub fn puts_or_refusals()
+    ensures put { PutsAreNotRefused }
+    ensures one { RefusalsAreOne }
+    ensures either { PutOrRefused }
 {}
 
 /// Events that were taken, put or are left to take are, in order, those of the one run.
@@ -41,4 +50,11 @@ pub fn three_agree()
     fronts_read_on();
     positions_stay();
     events_take_bytes();
+}
+
+/// A client whose command is due puts a ping in five bytes.
+pub fn ping_is_put()
+    ensures { PingIsPut }
+{
+    framings_are_found();
 }
