@@ -22,7 +22,8 @@ mod laws {
 
     mod agreement {
         use mysql_connection::laws::agreement::{
-            puts_are_not_refused, puts_are_read, puts_are_the_run, three_agree,
+            numbers_are_bytes, ping_is_put, puts_are_read, puts_are_the_run, puts_or_refusals,
+            three_agree,
         };
     }
 
