@@ -142,8 +142,10 @@ fn rows_taken(alloc: Global, reply: &[u8], size: usize, binary: bool) -> usize
     }
 }
 
-/// Reads a stream of commands by a receiver, and a stream of replies, each of so many bytes, by a reader for each.
-/// Both come in pieces of a size. Answers how many sets and rows there are.
+/// Reads a stream of commands by a receiver, and each reply of a stream by a reader of its own.
+///
+/// A reply has so many bytes, and both streams come in pieces of a size. Answers how many sets and
+/// rows there are.
 #[unsafe(no_mangle)]
 pub extern "C" fn mysql_bench_read_apart(
     alloc: Global,
