@@ -11,6 +11,7 @@ size_t mysql_bench_receive_taken(Pointer, size_t, Pointer, size_t, Pointer, size
 size_t mysql_bench_read_reply(Pointer, size_t, size_t, _Bool);
 size_t mysql_bench_read_reply_taken(Pointer, size_t, Pointer, size_t, size_t, size_t, _Bool);
 size_t mysql_bench_split(Pointer, size_t, size_t);
+size_t mysql_bench_read_long_connection(Pointer, size_t, Pointer, size_t, Pointer, size_t, size_t, size_t);
 
 static size_t held, most, last, calls;
 
@@ -173,6 +174,17 @@ static void waiting_pieces(void) {
     PEAK("long data of 1000 bytes that waits, taken", len, mysql_bench_receive_taken(query.at, query.len, front.at, front.len, block.at, block.len, 64, PIECE));
 }
 
+// A connection that logs in and asks for one reply, whose rows go on: events are taken and dropped.
+static void connection_taken(const char *what, Endless rows, size_t most_len) {
+    Bytes command = load("texts");
+    command.len = 4 + (command.at[0] | command.at[1] << 8);
+    Bytes client = repeated(load("login-client"), command, 1), front = repeated(load("login-server"), rows.front, 1);
+    for (size_t len = SHORTEST; len <= most_len; len *= 10) {
+        size_t times = len / rows.block.len + 1;
+        PEAK(what, front.len + times * rows.block.len, mysql_bench_read_long_connection(client.at, client.len, front.at, front.len, rows.block.at, rows.block.len, times, PIECE));
+    }
+}
+
 static void taken(void) {
     Bytes none = {0};
     receive_taken("texts of 123 bytes, taken", (Endless){load("query"), none, commands("texts", 1), 0}, LONGEST);
@@ -180,6 +192,7 @@ static void taken(void) {
     receive_taken("executes of 65535 NULLs, taken", wide_executions(), LONG);
     reply_taken("rows of four NULLs, taken", small_rows(251), LONGEST);
     reply_taken("rows of 65535 NULLs, taken", wide_rows(), LONG);
+    connection_taken("a connection, rows of four NULLs", small_rows(251), LONGEST);
     bulk_of_nulls();
     waiting_pieces();
 }

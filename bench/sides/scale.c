@@ -6,6 +6,7 @@ typedef const unsigned char *Pointer;
 size_t mysql_bench_send(Pointer, size_t, Pointer, size_t, size_t, size_t, _Bool, uint8_t, size_t, size_t);
 size_t mysql_bench_receive(Pointer, size_t, Pointer, size_t, size_t);
 size_t mysql_bench_recode(Pointer, size_t, Pointer, size_t);
+size_t mysql_bench_read_connection(Pointer, size_t, Pointer, size_t, size_t);
 
 enum { FEWEST = 1000, MOST = 100000000, LONGEST = 10000000, WORK = 100000000, WORK_BYTEWISE = 4000000 };
 
@@ -64,6 +65,16 @@ static Bytes front_of(Bytes before, Bytes block, size_t len) {
     return all;
 }
 
+// A connection that logs in and asks for one reply, of the front of many rows.
+static void connection_of(size_t len) {
+    Bytes command = load("texts"), rows = load("reply-text"), none = {0};
+    command.len = 4 + (command.at[0] | command.at[1] << 8);
+    Bytes client = repeated(load("login-client"), command, 1), server = repeated(load("login-server"), front_of(none, rows, len), 1);
+    COLUMN(LONGEST, WORK, mysql_bench_read_connection(client.at, client.len, server.at, server.len, PIECE));
+    COLUMN(LONGEST, WORK_BYTEWISE, mysql_bench_read_connection(client.at, client.len, server.at, server.len, 1));
+    free(command.at), free(rows.at), free(client.at), free(server.at);
+}
+
 static void row_of(size_t len) {
     Bytes query = load("query"), one = {(void *)"SELECT ?", 8}, none = {0};
     Bytes commands = front_of(load("prepare"), load("executes"), len), texts = front_of(none, load("texts"), len);
@@ -77,6 +88,7 @@ static void row_of(size_t len) {
     COLUMN(MOST, WORK, mysql_bench_receive(query.at, query.len, commands.at, commands.len, PIECE));
     COLUMN(LONGEST, WORK_BYTEWISE, mysql_bench_receive(query.at, query.len, commands.at, commands.len, 1));
     COLUMN(MOST, WORK, mysql_bench_recode(query.at, query.len, commands.at, commands.len));
+    connection_of(len);
     printf("\n");
     free(text.at), free(commands.at), free(texts.at);
 }
@@ -84,8 +96,8 @@ static void row_of(size_t len) {
 int main(int argc, char **argv) {
     (void)argc;
     INPUTS = argv[1];
-    printf("| bytes | a string sent by text | by execute | received by text | byte by byte | texts received | executions received | byte by byte | recoded |\n");
-    printf("|---|---|---|---|---|---|---|---|---|\n");
+    printf("| bytes | a string sent by text | by execute | received by text | byte by byte | texts received | executions received | byte by byte | recoded | a connection's rows | byte by byte |\n");
+    printf("|---|---|---|---|---|---|---|---|---|---|---|\n");
     for (size_t len = FEWEST; len <= MOST; len *= 10) row_of(len);
     if (wrong) printf("%zu calls did not do the work\n", wrong);
     return wrong != 0;
