@@ -2,9 +2,7 @@
 
 ghost use Rattle.std.specs.Prelude.{◌<◌};
 
-use mysql_connection::{
-    Command, Connection, End, Event, Fault, FeedRefusal, Limits, Reason, Side,
-};
+use mysql_connection::{Connection, End, Fault, FeedRefusal, Limits, Reason, Side};
 use std::alloc::Global;
 use std::process::Abort;
 use tests_support::Assert;
@@ -35,26 +33,17 @@ const SERVER: &[u8] = b"\x33\0\0\0\x0a5.5.5\0\x01\0\0\x0012345678\0\0\x82\x21\x0
     \x05\0\0\x03\xfe\0\0\x02\0\
     \x07\0\0\x01\0\0\0\x02\0\0\0";
 
-// How many events there are, and what the execution carries.
-struct Seen {
-    events: usize,
-    carried: usize,
-}
-
-// Takes the events that are there.
-fn take_events(connection: &mut Connection, seen: &mut Seen) -> Result<(), Fault> {
+// Takes the events that are there. Answers how many there were.
+fn take_events(connection: &mut Connection) -> Result<usize, Fault> {
+    let mut count: usize = 0;
     for _ in 0..20 {
         match connection.next_event() {
-            Ok(Some(Event::Command(Command::Execute(execution)))) => {
-                seen.events = seen.events.wrapping_add(1);
-                seen.carried = execution.parameters.len();
-            }
-            Ok(Some(_)) => seen.events = seen.events.wrapping_add(1),
-            Ok(None) => return Ok(()),
+            Ok(Some(_)) => count = count.wrapping_add(1),
+            Ok(None) => return Ok(count),
             Err(failure) => return Err(failure.fault),
         }
     }
-    Ok(())
+    Ok(count)
 }
 
 // Feeds a piece, which has room; for want of memory once more.
@@ -65,15 +54,13 @@ fn feed(connection: &mut Connection, side: Side, piece: &[u8]) -> Result<(), Fee
     }
 }
 
-// Reads the connection in pieces of a size, the client's first.
-fn read(alloc: Global, size: usize) -> Result<(Seen, End), Fault>
+// Reads the connection in pieces of a size, the client's first. Answers how many events there are,
+// and how it ends.
+fn read(alloc: Global, size: usize) -> Result<(usize, End), Fault>
     requires { 0 < size }
 {
     let mut connection = Connection::new(alloc, LIMITS);
-    let mut seen = Seen {
-        events: 0,
-        carried: 0,
-    };
+    let mut count: usize = 0;
     for piece in CLIENT.chunks(size) {
         if feed(&mut connection, Side::Client, piece).is_err() {
             return Err(Fault::Held);
@@ -83,14 +70,13 @@ fn read(alloc: Global, size: usize) -> Result<(Seen, End), Fault>
         if feed(&mut connection, Side::Server, piece).is_err() {
             return Err(Fault::Held);
         }
-        take_events(&mut connection, &mut seen)?;
+        count = count.wrapping_add(take_events(&mut connection)?);
     }
-    let end = connection.finish();
-    Ok((seen, end))
+    Ok((count, connection.finish()))
 }
 
 // Reads it, once more where memory ran out.
-fn read_again(alloc: Global, size: usize) -> Result<(Seen, End), Fault>
+fn read_again(alloc: Global, size: usize) -> Result<(usize, End), Fault>
     requires { 0 < size }
 {
     match read(alloc, size) {
@@ -99,11 +85,10 @@ fn read_again(alloc: Global, size: usize) -> Result<(Seen, End), Fault>
     }
 }
 
-fn is_read<R: Abort>(assert: &Asserting<'_, R>, answer: Result<(Seen, End), Fault>) {
+fn is_read<R: Abort>(assert: &Asserting<'_, R>, answer: Result<(usize, End), Fault>) {
     match answer {
-        Ok((seen, end)) => {
-            assert.holds(seen.events == 12);
-            assert.holds(seen.carried == 1);
+        Ok((count, end)) => {
+            assert.holds(count == 12);
             assert.holds(end == End::Over(Reason::Quit));
         }
         Err(_) => assert.holds(false),
