@@ -1,4 +1,4 @@
-"""Whole connections, and their payloads, each read by itself; `bindings/test` runs it.
+"""Payloads of whole connections, each read by itself; `bindings/test` runs it.
 
     connections.py FOLDER
 
@@ -7,9 +7,7 @@ NAME.events, what each payload is, a line each. A file NAME.payloads has payload
 the capabilities in force, and then lines of a side, the payload in hexadecimal and what it is; or
 lines of logging in, each with the capabilities by which it is read.
 
-Both streams of each are read as a connection, in pieces of all kinds (`streams.py`).
-
-Then each payload is handed to the library with what it needs: the capabilities in force, what is in
+Each payload is handed to the library with what it needs: the capabilities in force, what is in
 force of a statement, the kind of a reply. Here, and not in the library, it is kept which is due.
 Each line has to be as it stands, and each event is put again as a payload that reads the same.
 Fronts of payloads, payloads with a changed byte and random bytes have to be read as an event or a
@@ -25,8 +23,7 @@ import sys
 sys.path.insert(0, os.path.join(os.path.dirname(os.path.dirname(os.path.abspath(__file__))),
                                 "python"))
 
-from mysql_session import _BYTES, _HANDLE, _OUT, _SIZE, _U16, _U32, _Handle, _loaded
-from streams import read_connections
+from mysql_session import _BYTES, _HANDLE, _OUT, _U16, _U32, _Handle, _loaded
 
 LONGEST_CHUNK = 0xFFFFFF
 LONG_PASSWORD, PROTOCOL_41, COMPRESS, SSL = 0x1, 0x200, 0x20, 0x800
@@ -50,11 +47,6 @@ CALLS = {
     "greeting_again": (*_BYTES, _HANDLE),
     "response_again": (_U32, *_BYTES, _HANDLE),
     "authentication_again": (_U32, *_BYTES, _HANDLE),
-    "connection_new": (_HANDLE, _SIZE, _SIZE, _SIZE),
-    "connection_feed": (_HANDLE, _U32, *_BYTES),
-    "connection_close": (_HANDLE, _U32),
-    "connection_lines": (_HANDLE, _HANDLE),
-    "connection_end": (_HANDLE, _HANDLE),
 }
 
 # Whose payload is due behind one of a reply.
@@ -71,7 +63,7 @@ ABOUT_A_STATEMENT = (0x17, 0x18, 0x19, 0x1A, 0x1C, 0xFA)
 
 
 class Library:
-    """The calls of the library, which mostly have to answer 0."""
+    """The calls of the library, each of which has to answer 0."""
 
     def __init__(self):
         self._library = _loaded()
@@ -79,13 +71,9 @@ class Library:
             call = getattr(self._library, "mysql_session_" + name)
             call.argtypes, call.restype = arguments, _U32
 
-    def answer(self, name, *given):
-        """Calls it, and returns the code that it answers."""
-        return getattr(self._library, "mysql_session_" + name)(*given)
-
     def call(self, name, *given):
         """Calls it."""
-        code = self.answer(name, *given)
+        code = getattr(self._library, "mysql_session_" + name)(*given)
         if code != 0:
             raise ValueError(f"{name} answers {code}")
 
@@ -383,8 +371,6 @@ def read_strange(library, folder, many):
 
 def main():
     library, count = Library(), 0
-    connections = read_connections(library, sys.argv[1])
-    print(f"{connections} connections say what their lines say, however they are cut")
     for events in sorted(glob.glob(os.path.join(sys.argv[1], "*.events"))):
         count += walk_recording(library, events[:-len(".events")])
     for payloads in sorted(glob.glob(os.path.join(sys.argv[1], "*.payloads"))):

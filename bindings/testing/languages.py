@@ -113,7 +113,7 @@ def test_python(report, libraries, library, room):
     testing = os.path.join(BINDINGS, "testing")
     words = ["python3", os.path.join(testing, "connections.py"),
              os.path.join(testing, "connections")]
-    report.run("connections and their payloads", run, words, **how)
+    report.run("payloads of connections", run, words, **how)
     for file in sorted(glob.glob(os.path.join(folder, "examples", "*.py"))):
         words = ["python3", file, "--help"]
         report.run(os.path.relpath(file, ROOT) + " --help", run, words, **how)

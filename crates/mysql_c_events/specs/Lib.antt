@@ -1,3 +1,2 @@
-pub mod Connecting
 pub mod Following
 pub mod Printing

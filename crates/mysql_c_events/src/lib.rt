@@ -3,16 +3,12 @@
 #![tactic(auto)]
 
 mod command;
-mod connection;
 mod login;
 mod printing;
 mod reply;
 mod statement;
 
 pub use command::{command_again, command_line};
-pub use connection::{
-    connection_close, connection_end, connection_feed, connection_lines, connection_new,
-};
 pub use login::{
     authentication_again, authentication_line, greeting_again, greeting_line, response_again,
     response_line,

@@ -1,7 +1,6 @@
 //! What a handle stands for.
 
 use mysql_columns::Column;
-use mysql_connection_machine::Connection;
 use mysql_executions::{Refused, StatementParameters};
 use mysql_receive::{Audit, Receiver};
 use mysql_recoding::Recoder;
@@ -75,6 +74,4 @@ pub enum Object {
     Statement(FollowedStatement),
     /// A reader of a reply payload by payload.
     Events(EventReader),
-    /// A connection, both streams of it.
-    Connection(Connection),
 }
