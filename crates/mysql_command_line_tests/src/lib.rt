@@ -5,8 +5,6 @@
 #![tactic(auto)]
 
 #[cfg(test)]
-mod connection;
-#[cfg(test)]
 mod ends;
 #[cfg(test)]
 mod following;
