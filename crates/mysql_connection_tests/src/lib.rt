@@ -3,6 +3,4 @@
 #![tactic(auto)]
 
 #[cfg(test)]
-mod connection;
-#[cfg(test)]
 mod memory;
