@@ -1,8 +1,7 @@
 //! Short programs over the public calls, one in each file: they audit a captured stream, send a
 //! query, load rows in bulk, read a reply, log in, sort what a client sends, look on at what passes
 //! between a client and a server, answer in a server's place, let rows go that were looked at,
-//! keep a query, by which sets go to a connection, print what a client sends, and watch a whole
-//! connection.
+//! keep a query, by which sets go to a connection, and print what a client sends.
 #![tactic(auto)]
 
 mod answering;
@@ -17,7 +16,6 @@ mod reading;
 mod sending;
 mod serving;
 mod sorting;
-mod watching;
 
 use std::fs::File;
 use std::io;
@@ -42,8 +40,5 @@ fn main(rt: HostRuntime) -> anyhow::Result<()> {
     let mut connection = Vec::new(alloc);
     keeping::send_all(alloc, &mut connection, &mut out)?;
     printing::print(alloc, &mut out)?;
-    let mut client = File::open(&rt, "client.bin")?;
-    let mut server = File::open(&rt, "server.bin")?;
-    watching::watch(alloc, &mut client, &mut server, &mut out)?;
     Ok(())
 }
