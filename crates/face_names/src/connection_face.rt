@@ -4,7 +4,7 @@
 use mysql_connection::{
     Attribute, AuthenticationEvent, BoundType, BulkExecution, BulkValue, Capabilities,
     CapabilityFlags, Command, CommandRefusal, Connection, ConnectionFault, Context, End, Event,
-    EventReader, Execution, ExtendedColumn, Fault, FeedRefusal, GreetingEvent, Limits,
+    EventReader, Execution, ExtendedColumn, Fault, FeedRefusal, GreetingEvent, LentEvent, Limits,
     ListedColumn, LoginFault, LoginRefusal, LoginResponse, MariadbCapabilities, ParameterType,
     Phase, PutRefusal, Reason, Refused, Reply, ReplyEvent, ReplyFault, ReplyKind, ResponseEvent,
     Side, Statement, StatementParameters, Statements, Turn, capabilities_in_force,

@@ -23,7 +23,7 @@ pub use mysql_commands::{
     Execution, MariadbCapabilities, ParameterType, Reply, StatementParameters,
 };
 pub use mysql_connection_lines::{write_end, write_event};
-pub use mysql_connection_machine::{Connection, ConnectionFault, End, FeedRefusal};
+pub use mysql_connection_machine::{Connection, ConnectionFault, End, FeedRefusal, LentEvent};
 pub use mysql_connection_rules::{Fault, Limits, Reason, Side};
 pub use mysql_connection_state::{Event, Phase};
 pub use mysql_connection_statements::{Statement, Statements};

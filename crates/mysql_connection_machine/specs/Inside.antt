@@ -1,20 +1,47 @@
 -- What the fields of the crate's types stand for.
-use Rattle.std.specs.Prelude.{option_map}
-use Rattle.mysql_connection_rules.specs.Streams.{Stream, World}
-use Rattle.mysql_connection_machine.specs.Machines.{Machine, failure_view}
+use Rattle.std.specs.Prelude.{ℕ, ◌≤◌, Bool, true, false, List, drop, length, take, option_map}
+use Rattle.std.specs.Prelude.{Option, Some, None}
+use Rattle.mysql_connection_machine.specs.Buffers.{Buffer}
+use Rattle.mysql_connection_machine.specs.Machines.{LendingWorld, Machine, failure_view}
 use Rattle.mysql_connection_machine.specs.declared.connection.Connection as connection
 use Rattle.mysql_connection_machine.specs.declared.stream_buffer.StreamBuffer as stream
 use Rattle.mysql_connection_machine.specs.declared.streams_reader.StreamsReader as reader
+use Rattle.mysql_reply_events.specs.Standing.{RowAt}
+use Rattle.mysql_row_refs.specs.RowRefs.{row_held}
+use Rattle.mysql_row_refs.specs.declared.reader.RowReader.{RowReader}
+use Rattle.mysql_rows.specs.Rows.{Row}
 
-abbrev pub stream_inside : stream.TheInside.Inside → Stream
-stream_inside s = record { read = s.read; bytes = s.bytes.items; closed = s.closed }
+abbrev pub buffer_inside : stream.TheInside.Inside → Buffer
+buffer_inside s = record {
+  stream = record { read = s.read; bytes = drop s.lent s.bytes.items; closed = s.closed };
+  lent = drop 4 (take s.lent s.bytes.items);
+}
 
-abbrev pub world_inside : reader.TheInside.Inside → World
-world_inside r = record {
-  limits = r.limits;
-  standing = r.state;
-  unread = record { client = r.client; server = r.server };
+abbrev pub IsLentWithin : stream.TheInside.Inside → Type 0
+IsLentWithin s = s.lent ≤ length s.bytes.items
+
+-- The row that lies in the payload that was lent.
+abbrev pub row_lent : Bool → Option RowReader → List ℕ → Option Row
+row_lent true (Some reader) payload = Some (row_held reader payload)
+row_lent has reader payload = None
+
+abbrev pub IsLent : Bool → Option RowReader → List ℕ → Type 0
+IsLent true rows payload = (row : Row) × RowAt rows payload row
+IsLent false rows payload = Unit {0}
+
+abbrev pub lending_inside : reader.TheInside.Inside → LendingWorld
+lending_inside r = record {
+  world = record {
+    limits = r.limits;
+    standing = r.state.standing;
+    unread = record { client = r.client.stream; server = r.server.stream };
+  };
+  row = row_lent r.lends r.state.rows r.server.lent;
 }
 
 abbrev pub machine_inside : connection.TheInside.Inside → Machine
-machine_inside c = record { world = c.reader; failure = option_map failure_view c.fault }
+machine_inside c = record {
+  world = c.reader.world;
+  failure = option_map failure_view c.fault;
+  row = c.reader.row;
+}

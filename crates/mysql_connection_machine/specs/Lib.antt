@@ -1,3 +1,4 @@
+pub mod Buffers
 pub mod Inside
 pub mod Machines
 pub mod Takes

@@ -14,30 +14,49 @@ use Rattle.mysql_connection_rules.specs.Streams.{Coming, End, Fails, Failure, Pi
 use Rattle.mysql_connection_rules.specs.Streams.{Stream, World, come, held, next, no_bytes}
 use Rattle.mysql_connection_rules.specs.Streams.{room, start}
 use Rattle.mysql_connection_rules.specs.Streams.{stream_of}
+use Rattle.mysql_connection_rules.specs.Events.Event.{Replied}
 use Rattle.mysql_connection_state.specs.Views.{event_view}
 use Rattle.mysql_connection_state.specs.declared.event.Event.{Event}
+use Rattle.mysql_reply_events.specs.Events.Event.{RowEvent}
+use Rattle.mysql_rows.specs.Rows.{Row}
 use Rattle.mysql_connection_machine.specs.declared.fault.ConnectionFault.{ConnectionFault}
 use Rattle.mysql_connection_machine.specs.declared.fault.FeedRefusal.{FeedRefusal}
 use Rattle.mysql_connection_machine.specs.declared.fault.FeedRefusal.TheVariants.{Closed, Held}
 use Rattle.mysql_connection_machine.specs.declared.fault.FeedRefusal.TheVariants.{Memory}
+use Rattle.mysql_connection_machine.specs.declared.lent_event.LentEvent.{LentEvent}
+use Rattle.mysql_connection_machine.specs.declared.lent_event.LentEvent.TheVariants as lent
 
 abbrev pub failure_view : ConnectionFault → Failure
 failure_view f = record { side = f.side; byte = f.byte; fault = f.fault }
 
--- The world of the connection, and the fault that was found.
+-- The world of a connection, and the row that was lent last.
+pub record LendingWorld : Type 0 where
+  pub world : World
+  pub row : Option Row
+
+-- No row is lent.
+abbrev pub lending_none : World → LendingWorld
+lending_none w = record { world = w; row = None }
+
+-- The world of the connection, the fault that was found, and the row that was lent last.
 pub record Machine : Type 0 where
   pub world : World
   pub failure : Option Failure
+  pub row : Option Row
 
 abbrev pub new_machine : Limits → Machine
-new_machine limits = record { world = start limits no_bytes; failure = None }
+new_machine limits = record { world = start limits no_bytes; failure = None; row = None }
 
 abbrev pub stream_in : Side → Machine → Stream
 stream_in side m = stream_of side m.world.unread
 
 -- A piece of a side's stream came, or its end.
 abbrev pub come_to : Side → Coming → Machine → Machine
-come_to side coming m = record { world = come side coming m.world; failure = m.failure }
+come_to side coming m = record {
+  world = come side coming m.world;
+  failure = m.failure;
+  row = None;
+}
 
 -- No more comes of a side's stream.
 abbrev pub ended : Side → Machine → Machine
@@ -78,7 +97,8 @@ Feeds old side piece (Ok done) new =
     ((stream_in side old).closed ≡ false) ×
     (length_with side piece old ≤ room side old.world.limits) ×
     (new ≡ come_to side (Piece piece) old)
-Feeds old side piece (Err cause) new = RefusesPiece old side piece cause × (new ≡ old)
+Feeds old side piece (Err cause) new =
+    RefusesPiece old side piece cause × (new.world ≡ old.world) × (new.failure ≡ old.failure)
 
 -- A fault was found: it is what comes next, but where memory ran out, of which nothing is known.
 -- Nothing is taken of the streams.
@@ -94,19 +114,30 @@ Answers old (Ok (Some event)) new = next old ≡ Says (event_view event) new
 Answers old (Err fault) new = FindsFault old fault new
 
 -- The fault that an answer is.
-abbrev pub failure_in : Result (Option Event) ConnectionFault → Option Failure
+abbrev pub failure_in : {X : Type 0} → Result (Option X) ConnectionFault → Option Failure
 failure_in (Ok event) = None
 failure_in (Err fault) = Some (failure_view fault)
 
 -- The answer is this fault.
-abbrev pub AnswersFault : Result (Option Event) ConnectionFault → Failure → Type 0
+abbrev pub AnswersFault : {X : Type 0} → Result (Option X) ConnectionFault → Failure → Type 0
 AnswersFault (Ok event) failure = ⊥
 AnswersFault (Err fault) failure = failure_view fault ≡ failure
 
 -- An event leaves fewer bytes unread: it takes a header at least.
-abbrev pub TakesBytes : World → Result (Option Event) ConnectionFault → World → Type 0
+abbrev pub TakesBytes : {X : Type 0} → World → Result (Option X) ConnectionFault → World → Type 0
 TakesBytes old (Ok (Some event)) new = unread_length new + 4 ≤ unread_length old
 TakesBytes old result new = Unit {0}
+
+-- ROWS THAT ARE LENT
+
+-- What comes next of the world, of which a row is lent.
+abbrev pub AnswersLent : World → Result (Option LentEvent) ConnectionFault → LendingWorld → Type 0
+AnswersLent old (Ok None) new = (next old ≡ Waits) × (new.world ≡ old)
+AnswersLent old (Ok (Some (lent.Event event))) new =
+    next old ≡ Says (event_view event) new.world
+AnswersLent old (Ok (Some lent.Row)) new =
+    (row : Row) × (new.row ≡ Some row) × (next old ≡ Says (Replied (RowEvent row)) new.world)
+AnswersLent old (Err fault) new = FindsFault old fault new.world
 
 -- LIMITS
 

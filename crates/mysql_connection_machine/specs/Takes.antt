@@ -1,8 +1,10 @@
 -- What taking a payload of one stream answers.
 -- MySQL: Client/Server Protocol, "MySQL Packets" and "Sequence ID".
-use Rattle.std.specs.Prelude.{◌≡◌, ◌≢◌, ◌≤◌, ◌⊎◌, ℕ, Bool, true, false, List, drop, length, nat_le}
+use Rattle.std.specs.Prelude.{◌≡◌, ◌≢◌, ◌≤◌, ◌⊎◌, ℕ, Bool, true, false, List, drop, length, nat_le, take}
 use Rattle.std.specs.Prelude.{Option, Some, None, Result, Ok, Err, if◌then◌else◌}
 use Rattle.std.specs.Cow.{cow_slice_items}
+use Rattle.std.specs.declared.borrow.CowSlice.{CowSlice}
+use Rattle.std.specs.declared.borrow.CowSlice.TheVariants as slice
 use Rattle.mysql_connection_packets.specs.FirstPacket.{Found, OutOfSync, Short, TooLarge, Whole}
 use Rattle.mysql_connection_packets.specs.FirstPacket.{first_packet}
 use Rattle.mysql_connection_rules.specs.declared.fault.Fault.{Fault}
@@ -15,9 +17,15 @@ use Rattle.mysql_connection_rules.specs.Steps.{Step}
 use Rattle.mysql_connection_rules.specs.Streams.{Stream, begins_error, behind, numbered}
 use Rattle.mysql_connection_rules.specs.Streams.{room_to_keep}
 use Rattle.mysql_connection_state.specs.Reads.{farewell_step}
-use Rattle.mysql_connection_state.specs.Views.{event_view}
+use Rattle.mysql_connection_state.specs.Views.{ConnectionState, event_view}
 use Rattle.mysql_connection_state.specs.declared.event.Event.{Event}
+use Rattle.mysql_connection_machine.specs.Buffers.{Buffer}
+use Rattle.mysql_connection_machine.specs.declared.lent_event.LentEvent.{LentEvent}
+use Rattle.mysql_connection_machine.specs.declared.lent_event.LentEvent.TheVariants as lent
 use Rattle.mysql_connection_machine.specs.declared.taking.Packet.{Packet}
+use Rattle.mysql_reply_events.specs.Events.Event.{RowEvent}
+use Rattle.mysql_reply_events.specs.Standing.{RowAt}
+use Rattle.mysql_rows.specs.Rows.{Row}
 
 -- PACKETS
 
@@ -26,6 +34,11 @@ abbrev pub IsNoPacket : Found → Fault → Type 0
 IsNoPacket found fault =
     ((found ≡ TooLarge) × (fault ≡ faults.TooLarge)) ⊎
     ((number : ℕ) × (found ≡ OutOfSync number) × (fault ≡ faults.OutOfSync number))
+
+-- A payload that is lent is this one.
+abbrev pub IsLentAs : {Z : Type 0} → List ℕ → CowSlice ℕ Z → Type 0
+IsLentAs bytes (slice.Borrowed payload) = payload.now ≡ bytes
+IsLentAs bytes (slice.Owned payload) = Unit {0}
 
 -- The packet that stands first.
 abbrev pub FindsIn : ℕ → ℕ → List ℕ → Result (Option Packet) Fault → Type 0
@@ -36,6 +49,11 @@ FindsIn limit number bytes (Ok (Some packet)) =
     (packet.used ≤ length bytes)
 FindsIn limit number bytes (Err fault) =
     fault ≢ faults.Memory → IsNoPacket (first_packet limit number bytes) fault
+
+-- A payload that is lent stands behind the header of its packet.
+abbrev pub IsLentFrom : List ℕ → Result (Option Packet) Fault → Type 0
+IsLentFrom bytes (Ok (Some packet)) = IsLentAs (drop 4 (take packet.used bytes)) packet.payload
+IsLentFrom bytes result = Unit {0}
 
 -- PAYLOADS
 
@@ -65,6 +83,18 @@ SaysBy limits side number step (Ok event) new =
 SaysBy limits side number step (Err fault) new =
     fault ≢ faults.Memory → IsNotSaid limits side number step fault
 
+-- What the payload says, where a row lies in it.
+abbrev pub SaysInPlaceBy : Limits → Side → ℕ → Step → List ℕ → Result (Option Event) Fault →
+    ConnectionState → Type 0
+SaysInPlaceBy limits side number step payload (Ok None) new =
+    (row : Row) × (s : Standing) × RowAt new.rows payload row ×
+    (step ≡ Ok (events.Replied (RowEvent row), s)) × (has_room limits side number s ≡ true) ×
+    (new.standing ≡ numbered side number s)
+SaysInPlaceBy limits side number step payload (Ok (Some event)) new =
+    SaysBy limits side number step (Ok event) new.standing
+SaysInPlaceBy limits side number step payload (Err fault) new =
+    SaysBy limits side number step (Err fault) new.standing
+
 -- The server's last words: an error that answers nothing.
 abbrev pub words_step : Standing → List ℕ → Step
 words_step s payload =
@@ -87,3 +117,19 @@ TakesBy limits side says found old stream (Err fault) new left =
     IsNoPacket found fault ⊎
     ((payload : List ℕ) × (number : ℕ) × (rest : List ℕ) × (found ≡ Whole payload number rest) ×
     IsNotSaid limits side number (says payload) fault)
+
+-- The same, where a row lies in its payload, which is lent.
+abbrev pub TakesLentBy : Limits → Side → (List ℕ → Step) → Found → Standing → Stream →
+    Result (Option LentEvent) Fault → ConnectionState → Buffer → Type 0
+TakesLentBy limits side says found old stream (Ok None) new left =
+    TakesBy limits side says found old stream (Ok None) new.standing left.stream
+TakesLentBy limits side says found old stream (Ok (Some (lent.Event event))) new left =
+    TakesBy limits side says found old stream (Ok (Some event)) new.standing left.stream
+TakesLentBy limits side says found old stream (Ok (Some lent.Row)) new left =
+    (row : Row) × (number : ℕ) × (rest : List ℕ) × (s : Standing) × RowAt new.rows left.lent row ×
+    (found ≡ Whole left.lent number rest) ×
+    (says left.lent ≡ Ok (events.Replied (RowEvent row), s)) ×
+    (has_room limits side number s ≡ true) × (new.standing ≡ numbered side number s) ×
+    (left.stream ≡ behind rest stream)
+TakesLentBy limits side says found old stream (Err fault) new left =
+    TakesBy limits side says found old stream (Err fault) new.standing left.stream

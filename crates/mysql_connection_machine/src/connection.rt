@@ -2,7 +2,7 @@
 
 ghost use Rattle.std.specs.Prelude.{◌≡◌, None, IfSome, min, option_copied, option_map};
 ghost use Rattle.mysql_connection_machine.specs.Endings.{end_view, ending_of};
-ghost use Rattle.mysql_connection_machine.specs.Machines.{Answers, AnswersFault, Feeds};
+ghost use Rattle.mysql_connection_machine.specs.Machines.{Answers, AnswersFault, AnswersLent, Feeds};
 ghost use Rattle.mysql_connection_machine.specs.Machines.{HoldsAtMost, TakesBytes, both_ended};
 ghost use Rattle.mysql_connection_machine.specs.Machines.{ended};
 ghost use Rattle.mysql_connection_machine.specs.Machines.{failure_in, failure_view, new_machine};
@@ -10,9 +10,11 @@ ghost use Rattle.mysql_connection_machine.specs.Machines.{room_left, stream_in, 
 ghost use Rattle.mysql_connection_rules.specs.Streams.{held};
 ghost use Rattle.mysql_connection_state.specs.Views.{plain_phase};
 ghost use Rattle.mysql_connection_statements.specs.Statements.{statement_at};
+ghost use Rattle.mysql_row_refs.specs.RowRefs.{row_ref_view};
 
 use crate::end::End;
 use crate::fault::{ConnectionFault, FeedRefusal};
+use crate::lent_event::LentEvent;
 use crate::room::room;
 use crate::streams_reader::StreamsReader;
 use mysql_connection_rules::laws::{events_take_bytes, held_stays};
@@ -20,6 +22,7 @@ use mysql_connection_rules::{Limits, Side};
 use mysql_connection_state::{Event, Phase};
 use mysql_connection_statements::Statement;
 use mysql_const::Capabilities;
+use mysql_row_refs::RowRef;
 use std::alloc::Global;
 use std::marker::Model;
 
@@ -38,11 +41,10 @@ use std::marker::Model;
 ///         ..
 ///     }
 ///
-/// Contracts see it as a `Machine`: the limits, what stands, what is unread of both streams, and
-/// the fault that was found.
+/// Contracts see it as a `Machine`: the limits, what stands, what is unread of both streams, the
+/// fault that was found, and the row that was lent last.
 ///
 /// MySQL: Client/Server Protocol, "Connection Lifecycle".
-#[derive(Drop)]
 pub struct Connection {
     reader: StreamsReader,
     fault: Option<ConnectionFault>,
@@ -58,6 +60,16 @@ impl Model for Connection {
     ghost view = { machine_inside };
 
     ghost invariant = { λ c. IsWithinLimits (machine_inside c) };
+}
+
+// Written out, so that who owns a connection lets it go in one step.
+impl Drop for Connection {
+    fn drop(self) {
+        let Connection {
+            reader: _reader,
+            fault: _,
+        } = self;
+    }
 }
 
 impl Connection {
@@ -134,6 +146,7 @@ impl Connection {
         ensures failed { IfSome self.old.failure (λ failure.
             AnswersFault result failure × (self.new ≡ self.old)) }
         ensures answers { self.old.failure ≡ None → Answers self.old.world result self.new.world }
+        ensures row { self.old.failure ≡ None → self.new.row ≡ None }
         ensures fault { self.old.failure ≡ None → self.new.failure ≡ failure_in result }
         ensures fewer { TakesBytes self.old.world result self.new.world }
     {
@@ -149,6 +162,60 @@ impl Connection {
                 Err(fault)
             }
         }
+    }
+
+    /// The next event, as [`Connection::next_event`] tells it, but a row stays where it lies.
+    ///
+    /// [`Connection::row`] then lends it. None of it is copied, and memory is asked for at the first
+    /// row of a result alone. A row of more than one packet's chunk is no row that is lent, but an
+    /// event as any other.
+    ///
+    ///     while let Some(event) = connection.next_event_lent()? {
+    ///         match event {
+    ///             LentEvent::Row => look_at(connection.row()),
+    ///             LentEvent::Event(event) => ..
+    ///         }
+    ///     }
+    ///
+    /// Promise: exactly what comes next of the two streams, and the row that is lent is that event's
+    /// (`AnswersLent`).
+    ///
+    /// # Errors
+    /// - Those of [`Connection::next_event`], in the same order. After an error it has failed in the
+    ///   same way.
+    ///
+    /// MySQL: Client/Server Protocol, "Text Resultset Row" and "Binary Protocol Resultset Row"; C
+    /// API, "mysql_use_result()".
+    pub fn next_event_lent(&mut self) -> Result<Option<LentEvent>, ConnectionFault>
+        ensures failed { IfSome self.old.failure (λ failure.
+            AnswersFault result failure × (self.new ≡ self.old)) }
+        ensures answers { self.old.failure ≡ None →
+            AnswersLent self.old.world result (record { world = self.new.world; row = self.new.row }) }
+        ensures fault { self.old.failure ≡ None → self.new.failure ≡ failure_in result }
+        ensures fewer { TakesBytes self.old.world result self.new.world }
+    {
+        events_take_bytes();
+        held_stays();
+        if let Some(fault) = self.fault {
+            return Err(fault);
+        }
+        match self.reader.next_event_lent() {
+            Ok(event) => Ok(event),
+            Err(fault) => {
+                self.fault = Some(fault);
+                Err(fault)
+            }
+        }
+    }
+
+    /// The row that [`Connection::next_event_lent`] told of: it is lent until the next call that
+    /// changes the connection.
+    ///
+    /// MySQL: Client/Server Protocol, "Text Resultset Row" and "Binary Protocol Resultset Row".
+    pub fn row(&self) -> Option<RowRef<'_, '_>>
+        ensures { option_map row_ref_view result ≡ self.now.row }
+    {
+        self.reader.row()
     }
 
     /// How many bytes of a side [`Connection::feed`] takes now: none where its stream has ended.

@@ -17,7 +17,7 @@ pub fn has_number(number: u8, bytes: &[u8]) -> bool
 
 /// Whether an error stands first whose number is below the one that is due.
 pub fn is_early(state: &State, bytes: &[u8]) -> bool
-    ensures { result ≡ is_early state.now bytes.now }
+    ensures { result ≡ is_early state.now.standing bytes.now }
 {
     match bytes {
         [0, 0, 0, ..] => false,

@@ -22,8 +22,9 @@ pub fn limit_of(side: Side, limits: Limits) -> usize
 pub fn room(side: Side, limits: Limits) -> u128
     ensures { result ≡ room side limits }
 {
-    let limit = limit_of(side, limits) as u128;
-    limit + 4 * (limit / MAX_PAYLOAD_LEN as u128 + 1)
+    let limit = limit_of(side, limits);
+    let headers = 4 * (limit / MAX_PAYLOAD_LEN + 1);
+    limit as u128 + headers as u128
 }
 
 /// What the limit leaves for what is kept.
@@ -36,7 +37,7 @@ fn room_to_keep(limits: Limits) -> u128
 
 /// Whether what is kept is within its room.
 pub fn is_kept(limits: Limits, state: &State) -> bool
-    ensures { result ≡ nat_le (kept state.now) (room_to_keep limits) }
+    ensures { result ≡ nat_le (kept state.now.standing) (room_to_keep limits) }
 {
     match state.kept() {
         Some(size) => size as u128 <= room_to_keep(limits),

@@ -2,7 +2,8 @@
 
 ghost use Rattle.std.specs.Prelude.{◌≡◌, MatchResult};
 ghost use Rattle.std.specs.Cow.{cow_slice_items};
-ghost use Rattle.mysql_connection_machine.specs.Takes.{SaysBy, Settles, words_step};
+ghost use Rattle.mysql_connection_machine.specs.Takes.{SaysBy, SaysInPlaceBy, Settles};
+ghost use Rattle.mysql_connection_machine.specs.Takes.{words_step};
 ghost use Rattle.mysql_connection_rules.specs.Steps.{step};
 ghost use Rattle.mysql_connection_rules.specs.Streams.{begins_error};
 ghost use Rattle.mysql_connection_rules.specs.declared.side.Side.TheVariants.{Server};
@@ -15,7 +16,8 @@ use std::borrow::CowSlice;
 
 // Behind a packet of a side this number is due.
 fn settle(limits: Limits, side: Side, next: u8, state: &mut State) -> Result<(), Fault>
-    ensures { Settles limits side next state.old result state.new }
+    ensures settles { Settles limits side next state.old.standing result state.new.standing }
+    ensures rows { state.new.rows ≡ state.old.rows }
 {
     state.set_number(side, next);
     if is_kept(limits, state) {
@@ -35,16 +37,16 @@ fn if_settled<T: Drop>(said: T, settled: Result<(), Fault>) -> Result<T, Fault>
     }
 }
 
-// What the payload that is due says.
+/// What the payload that is due says, behind which this number is due.
 #[tactic(auto, using(crate::proofs::Reading::read_fault))]
-fn say_bytes(
+pub fn say_bytes(
     limits: Limits,
     side: Side,
     next: u8,
     state: &mut State,
     payload: &[u8],
 ) -> Result<Event, Fault>
-    ensures { SaysBy limits side next (step state.old payload.now) result state.new }
+    ensures { SaysBy limits side next (step state.old.standing payload.now) result state.new.standing }
 {
     let event = state.read(payload)?;
     let settled = settle(limits, side, next, state);
@@ -63,7 +65,7 @@ fn begins_error(payload: &[u8]) -> bool
 
 // What last words say.
 fn read_words(state: &mut State, payload: &[u8]) -> Result<Event, Fault>
-    ensures { Reads (words_step state.old payload.now) result state.new }
+    ensures { Reads (words_step state.old.standing payload.now) result state.new.standing }
 {
     if !begins_error(payload) {
         return Err(Fault::Unasked);
@@ -74,14 +76,31 @@ fn read_words(state: &mut State, payload: &[u8]) -> Result<Event, Fault>
 // What the server's last words say.
 #[tactic(auto, using(crate::proofs::Reading::read_fault))]
 fn bid_bytes(limits: Limits, next: u8, state: &mut State, payload: &[u8]) -> Result<Event, Fault>
-    ensures { SaysBy limits Server next (words_step state.old payload.now) result state.new }
+    ensures { SaysBy limits Server next (words_step state.old.standing payload.now) result state.new.standing }
 {
     let event = read_words(state, payload)?;
     let settled = settle(limits, Side::Server, next, state);
     if_settled(event, settled)
 }
 
-/// What the payload that is due says, behind which this number is due.
+/// The same, but a row is read where it lies.
+#[tactic(auto, using(crate::proofs::Reading::read_fault))]
+pub fn say_in_place(
+    limits: Limits,
+    side: Side,
+    next: u8,
+    state: &mut State,
+    payload: &[u8],
+) -> Result<Option<Event>, Fault>
+    ensures { SaysInPlaceBy limits side next (step state.old.standing payload.now) payload.now
+        result state.new }
+{
+    let event = state.read_in_place(payload)?;
+    let settled = settle(limits, side, next, state);
+    if_settled(event, settled)
+}
+
+/// The same of a payload that is lent or joined.
 pub fn say(
     limits: Limits,
     side: Side,
@@ -89,21 +108,22 @@ pub fn say(
     state: &mut State,
     payload: CowSlice<'_, u8>,
 ) -> Result<Event, Fault>
-    ensures { SaysBy limits side next (step state.old (cow_slice_items payload.entry))
-        result state.new }
+    ensures { SaysBy limits side next (step state.old.standing (cow_slice_items payload.entry))
+        result state.new.standing }
 {
     say_bytes(limits, side, next, state, payload.as_slice())
 }
 
 /// What the server's last words say, behind which this number is due.
+#[inline(never)]
 pub fn bid(
     limits: Limits,
     next: u8,
     state: &mut State,
     payload: CowSlice<'_, u8>,
 ) -> Result<Event, Fault>
-    ensures { SaysBy limits Server next (words_step state.old (cow_slice_items payload.entry))
-        result state.new }
+    ensures { SaysBy limits Server next (words_step state.old.standing (cow_slice_items payload.entry))
+        result state.new.standing }
 {
     bid_bytes(limits, next, state, payload.as_slice())
 }

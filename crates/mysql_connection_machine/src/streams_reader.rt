@@ -1,30 +1,36 @@
 //! Both streams of a connection, and what stands of it: the next event of them.
 
-ghost use Rattle.std.specs.Prelude.{◌≡◌, Some, min, OnErr, OnOk, true};
+ghost use Rattle.std.specs.Prelude.{◌≡◌, None, Some, false, min, option_map, OnErr, OnOk, true};
 ghost use Rattle.mysql_connection_machine.specs.Endings.{end_view, is_waiting, server_number};
 ghost use Rattle.mysql_connection_machine.specs.Endings.{waiting_ending};
-ghost use Rattle.mysql_connection_machine.specs.Machines.{Answers, failure_view};
+ghost use Rattle.mysql_connection_machine.specs.Machines.{Answers, AnswersLent, failure_view};
+ghost use Rattle.mysql_connection_machine.specs.Machines.{lending_none};
 ghost use Rattle.mysql_connection_packets.specs.FirstPacket.{Short, first_packet};
 ghost use Rattle.mysql_connection_rules.specs.Steps.{turn};
 ghost use Rattle.mysql_connection_rules.specs.Streams.{End as Ended, Piece, client_by, come, held};
-ghost use Rattle.mysql_connection_rules.specs.Streams.{next};
+ghost use Rattle.mysql_connection_rules.specs.Streams.{is_early, next};
 ghost use Rattle.mysql_connection_rules.specs.Streams.{no_bytes, of_server, start, stream_of};
 ghost use Rattle.mysql_connection_rules.specs.Streams.{words};
 ghost use Rattle.mysql_connection_rules.specs.declared.side.Side.TheVariants.{Client, Server};
 ghost use Rattle.mysql_connection_state.specs.Views.{plain_phase};
+ghost use Rattle.mysql_row_refs.specs.RowRefs.{row_ref_view};
 
 use crate::end::End;
 use crate::fault::ConnectionFault;
 use crate::last_words::{has_number, is_early, number_of};
+use crate::lent_event::LentEvent;
 use crate::stream_buffer::StreamBuffer;
-use crate::taking::{take_packet, take_words};
+use crate::taking::{take_lent, take_packet, take_words};
 use mysql_connection_packets::is_short;
 use mysql_connection_rules::{Fault, Limits, Reason, Side};
 use mysql_connection_state::{Event, Phase, State};
+use mysql_row_refs::RowRef;
 use std::alloc::{AllocError, Global};
 use std::marker::Model;
 
-/// Both streams of a connection, what stands of it, and the limits.
+/// Both streams of a connection, what stands of it, the limits, and the row that was lent last.
+///
+/// Contracts see it as a `LendingWorld`.
 #[derive(Drop)]
 pub struct StreamsReader {
     alloc: Global,
@@ -32,22 +38,26 @@ pub struct StreamsReader {
     state: State,
     client: StreamBuffer,
     server: StreamBuffer,
+    // A row lies in the payload that the server's buffer lends.
+    lends: bool,
 }
 
 impl Model for StreamsReader {
-    ghost use Rattle.mysql_connection_rules.specs.Streams.{World};
+    ghost use Rattle.mysql_connection_machine.specs.Machines.{LendingWorld};
 
-    ghost Value = { World };
+    ghost Value = { LendingWorld };
 
-    ghost use Rattle.mysql_connection_machine.specs.Inside.{world_inside};
+    ghost use Rattle.mysql_connection_machine.specs.Inside.{IsLent, lending_inside};
 
-    ghost view = { world_inside };
+    ghost view = { lending_inside };
+
+    ghost invariant = { λ r. IsLent r.lends r.state.rows r.server.lent };
 }
 
 impl StreamsReader {
     /// Streams of which no byte came.
     pub fn new(alloc: Global, limits: Limits) -> StreamsReader
-        ensures { result ≡ start limits no_bytes }
+        ensures { result ≡ lending_none (start limits no_bytes) }
     {
         StreamsReader {
             alloc,
@@ -55,26 +65,27 @@ impl StreamsReader {
             state: State::new(alloc),
             client: StreamBuffer::new(alloc),
             server: StreamBuffer::new(alloc),
+            lends: false,
         }
     }
 
     /// The limits.
     pub fn limits(&self) -> Limits
-        ensures { result ≡ self.now.limits }
+        ensures { result ≡ self.now.world.limits }
     {
         self.limits
     }
 
     /// What stands.
     pub fn state(&self) -> &State
-        ensures { result.now ≡ self.now.standing }
+        ensures { result.now.standing ≡ self.now.world.standing }
     {
         &self.state
     }
 
     /// A side's stream.
     pub fn stream(&self, side: Side) -> &StreamBuffer
-        ensures { result.now ≡ stream_of side self.now.unread }
+        ensures { result.now.stream ≡ stream_of side self.now.world.unread }
     {
         match side {
             Side::Client => &self.client,
@@ -84,9 +95,11 @@ impl StreamsReader {
 
     /// A piece of a side's stream came.
     pub fn extend(&mut self, side: Side, piece: &[u8]) -> Result<(), AllocError>
-        ensures came { OnOk result (self.new ≡ come side (Piece piece.now) self.old) }
-        ensures err { OnErr result (self.new ≡ self.old) }
+        ensures came { OnOk result (self.new ≡
+            lending_none (come side (Piece piece.now) self.old.world)) }
+        ensures err { OnErr result (self.new ≡ lending_none self.old.world) }
     {
+        self.lends = false;
         match side {
             Side::Client => self.client.extend(piece),
             Side::Server => self.server.extend(piece),
@@ -95,8 +108,9 @@ impl StreamsReader {
 
     /// No more comes of a side's stream.
     pub fn close(&mut self, side: Side)
-        ensures { self.new ≡ come side Ended self.old }
+        ensures { self.new ≡ lending_none (come side Ended self.old.world) }
     {
+        self.lends = false;
         match side {
             Side::Client => self.client.close(),
             Side::Server => self.server.close(),
@@ -105,7 +119,7 @@ impl StreamsReader {
 
     /// How many bytes are held, or the most that a `usize` tells.
     pub fn held(&self) -> usize
-        ensures { result ≡ min (held self.now) usize.MAX }
+        ensures { result ≡ min (held self.now.world) usize.MAX }
     {
         let unread = self.client.as_slice().len() + self.server.as_slice().len();
         match self.state.kept() {
@@ -116,13 +130,16 @@ impl StreamsReader {
 
     // Last words, behind the end of the client's stream.
     #[tactic(auto, using(crate::proofs::Words::words_said))]
+    #[inline(never)]
     fn last_words(&mut self) -> Result<Option<Event>, ConnectionFault>
-        requires turn { turn self.old.standing.phase ≡ Some Client }
-        requires closed { self.old.unread.client.closed ≡ true }
-        requires short { first_packet self.old.limits.client self.old.standing.number
-            self.old.unread.client.bytes ≡ Short }
-        ensures { Answers self.old result self.new }
+        requires turn { turn self.old.world.standing.phase ≡ Some Client }
+        requires closed { self.old.world.unread.client.closed ≡ true }
+        requires short { first_packet self.old.world.limits.client self.old.world.standing.number
+            self.old.world.unread.client.bytes ≡ Short }
+        ensures answers { Answers self.old.world result self.new.world }
+        ensures row { self.new.row ≡ None }
     {
+        self.lends = false;
         let number = self.state.number();
         if !has_number(number, self.server.as_slice()) {
             return Ok(None);
@@ -137,9 +154,11 @@ impl StreamsReader {
 
     // The next event where the client's payload is due.
     fn next_of_client(&mut self) -> Result<Option<Event>, ConnectionFault>
-        requires { turn self.old.standing.phase ≡ Some Client }
-        ensures { Answers self.old result self.new }
+        requires { turn self.old.world.standing.phase ≡ Some Client }
+        ensures answers { Answers self.old.world result self.new.world }
+        ensures row { self.new.row ≡ None }
     {
+        self.lends = false;
         let alloc = self.alloc;
         let limits = self.limits;
         match take_packet(
@@ -158,9 +177,11 @@ impl StreamsReader {
     // The next event where the server's payload is due.
     #[tactic(auto, using(crate::proofs::Words::words_said))]
     fn next_of_server(&mut self) -> Result<Option<Event>, ConnectionFault>
-        requires { turn self.old.standing.phase ≡ Some Server }
-        ensures { Answers self.old result self.new }
+        requires { turn self.old.world.standing.phase ≡ Some Server }
+        ensures answers { Answers self.old.world result self.new.world }
+        ensures row { self.new.row ≡ None }
     {
+        self.lends = false;
         let alloc = self.alloc;
         let limits = self.limits;
         let bytes = self.server.as_slice();
@@ -184,8 +205,10 @@ impl StreamsReader {
 
     /// The next event of both streams.
     pub fn next_event(&mut self) -> Result<Option<Event>, ConnectionFault>
-        ensures { Answers self.old result self.new }
+        ensures answers { Answers self.old.world result self.new.world }
+        ensures row { self.new.row ≡ None }
     {
+        self.lends = false;
         match self.state.turn() {
             None => Ok(None),
             Some(Side::Client) => self.next_of_client(),
@@ -193,10 +216,70 @@ impl StreamsReader {
         }
     }
 
+    // An event that is no row, where the client's payload or the server's last words are due.
+    fn next_of_others(&mut self) -> Result<Option<LentEvent>, ConnectionFault>
+        ensures { AnswersLent self.old.world result self.new }
+    {
+        match self.next_event() {
+            Ok(None) => Ok(None),
+            Ok(Some(event)) => Ok(Some(LentEvent::Event(event))),
+            Err(fault) => Err(fault),
+        }
+    }
+
+    // The next payload of a reply; a row of it is lent.
+    fn lend_of_server(&mut self) -> Result<Option<LentEvent>, ConnectionFault>
+        requires turn { turn self.old.world.standing.phase ≡ Some Server }
+        requires answer { is_early self.old.world.standing self.old.world.unread.server.bytes ≡
+            false }
+        ensures { AnswersLent self.old.world result self.new }
+    {
+        let alloc = self.alloc;
+        let limits = self.limits;
+        self.lends = false;
+        match take_lent(
+            alloc,
+            limits,
+            Side::Server,
+            &mut self.state,
+            &mut self.server,
+        ) {
+            Ok(Some(LentEvent::Row)) => {
+                self.lends = true;
+                Ok(Some(LentEvent::Row))
+            }
+            Ok(event) => Ok(event),
+            Err(fault) => Err(fault_in(Side::Server, &self.server, fault)),
+        }
+    }
+
+    /// The next event of both streams; a row is lent, where it has one chunk.
+    pub fn next_event_lent(&mut self) -> Result<Option<LentEvent>, ConnectionFault>
+        ensures { AnswersLent self.old.world result self.new }
+    {
+        match self.state.turn() {
+            Some(Side::Server) if !is_early(&self.state, self.server.as_slice()) => {
+                self.lend_of_server()
+            }
+            _ => self.next_of_others(),
+        }
+    }
+
+    /// The row that was lent last, until something changes.
+    pub fn row(&self) -> Option<RowRef<'_, '_>>
+        ensures { option_map row_ref_view result ≡ self.now.row }
+    {
+        if self.lends {
+            Some(self.state.row_ref(self.server.lent()))
+        } else {
+            None
+        }
+    }
+
     // Whether nothing comes next of the server's last words, behind the end of the client's stream.
     #[tactic(auto, using(crate::proofs::Waiting::words_waited))]
     fn waits_for_words(&self) -> bool
-        ensures { result ≡ is_waiting (words self.now) }
+        ensures { result ≡ is_waiting (words self.now.world) }
     {
         let number = self.state.number();
         let bytes = self.server.as_slice();
@@ -206,9 +289,9 @@ impl StreamsReader {
     // Whether nothing comes next where the client's payload is due.
     #[tactic(auto, using(crate::proofs::Waiting::client_waited))]
     fn waits_for_client(&self) -> bool
-        ensures { result ≡ is_waiting (client_by self.now (first_packet
-            self.now.limits.client self.now.standing.number
-            self.now.unread.client.bytes)) }
+        ensures { result ≡ is_waiting (client_by self.now.world (first_packet
+            self.now.world.limits.client self.now.world.standing.number
+            self.now.world.unread.client.bytes)) }
     {
         let number = self.state.number();
         is_short(self.limits.client, number, self.client.as_slice())
@@ -217,7 +300,7 @@ impl StreamsReader {
 
     // The number that the server's packet is read by.
     fn server_number(&self) -> u8
-        ensures { result ≡ server_number self.now.standing self.now.unread.server.bytes }
+        ensures { result ≡ server_number self.now.world.standing self.now.world.unread.server.bytes }
     {
         let bytes = self.server.as_slice();
         if is_early(&self.state, bytes) {
@@ -230,7 +313,7 @@ impl StreamsReader {
     // Whether nothing comes next where the server's payload is due.
     #[tactic(auto, using(crate::proofs::Waiting::server_waited))]
     fn waits_for_server(&self) -> bool
-        ensures { result ≡ is_waiting (of_server self.now self.now.unread.server.bytes) }
+        ensures { result ≡ is_waiting (of_server self.now.world self.now.world.unread.server.bytes) }
     {
         let number = self.server_number();
         is_short(self.limits.server, number, self.server.as_slice())
@@ -238,7 +321,7 @@ impl StreamsReader {
 
     /// Whether nothing comes next.
     pub fn is_waiting(&self) -> bool
-        ensures { result ≡ is_waiting (next self.now) }
+        ensures { result ≡ is_waiting (next self.now.world) }
     {
         match self.state.turn() {
             None => true,
@@ -249,8 +332,8 @@ impl StreamsReader {
 
     /// How a connection stands that waits for more.
     pub fn waiting_end(&self) -> End
-        ensures { end_view result ≡ waiting_ending self.now
-            (plain_phase self.now.standing.phase) (turn self.now.standing.phase) }
+        ensures { end_view result ≡ waiting_ending self.now.world
+            (plain_phase self.now.world.standing.phase) (turn self.now.world.standing.phase) }
     {
         let is_read = self.client.is_empty();
         match self.state.phase() {
@@ -269,7 +352,7 @@ impl StreamsReader {
 
 // A fault of the packet that stands first of a side's stream.
 fn fault_in(side: Side, stream: &StreamBuffer, fault: Fault) -> ConnectionFault
-    ensures { failure_view result ≡ record { side = side; byte = stream.now.read; fault = fault } }
+    ensures { failure_view result ≡ record { side = side; byte = stream.now.stream.read; fault = fault } }
 {
     ConnectionFault {
         side,

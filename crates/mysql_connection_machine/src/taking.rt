@@ -2,13 +2,15 @@
 
 ghost use Rattle.std.specs.Prelude.{◌≡◌, OnErr};
 ghost use Rattle.mysql_connection_packets.specs.FirstPacket.{first_packet};
-ghost use Rattle.mysql_connection_machine.specs.Takes.{FindsIn, TakesBy, words_step};
+ghost use Rattle.mysql_connection_machine.specs.Takes.{FindsIn, IsLentFrom, TakesBy, TakesLentBy};
+ghost use Rattle.mysql_connection_machine.specs.Takes.{words_step};
 ghost use Rattle.mysql_connection_rules.specs.Steps.{step};
 ghost use Rattle.mysql_connection_rules.specs.Streams.{limit_of};
 ghost use Rattle.mysql_connection_rules.specs.declared.side.Side.TheVariants.{Server};
 
+use crate::lent_event::LentEvent;
 use crate::room::limit_of;
-use crate::saying::{bid, say};
+use crate::saying::{bid, say, say_bytes, say_in_place};
 use crate::stream_buffer::StreamBuffer;
 use mysql_connection_packets::{FirstPacket, first_packet};
 use mysql_connection_rules::{Fault, Limits, Side};
@@ -31,7 +33,8 @@ fn find_packet(
     number: u8,
     bytes: &[u8],
 ) -> Result<Option<Packet<'_>>, Fault>
-    ensures { FindsIn limit number bytes.now result }
+    ensures found { FindsIn limit number bytes.now result }
+    ensures lent { IsLentFrom bytes.now result }
 {
     match first_packet(alloc, limit, number, bytes)? {
         FirstPacket::Short => Ok(None),
@@ -57,10 +60,10 @@ pub fn take_packet(
     state: &mut State,
     stream: &mut StreamBuffer,
 ) -> Result<Option<Event>, Fault>
-    ensures taken { TakesBy limits side (step state.old)
-        (first_packet (limit_of side limits) state.old.number stream.old.bytes) state.old stream.old
-        result state.new stream.new }
-    ensures err { OnErr result (stream.new ≡ stream.old) }
+    ensures taken { TakesBy limits side (step state.old.standing)
+        (first_packet (limit_of side limits) state.old.standing.number stream.old.stream.bytes)
+        state.old.standing stream.old.stream result state.new.standing stream.new.stream }
+    ensures err { OnErr result (stream.new.stream ≡ stream.old.stream) }
 {
     let limit = limit_of(side, limits);
     let number = state.number();
@@ -75,12 +78,72 @@ pub fn take_packet(
     if !stream.can_advance(used) {
         return Err(Fault::Memory);
     }
-    let event = say(limits, side, next, state, payload)?;
-    stream.advance(used);
-    Ok(Some(event))
+    match say(limits, side, next, state, payload) {
+        Ok(event) => {
+            stream.advance(used);
+            Ok(Some(event))
+        }
+        Err(fault) => Err(fault),
+    }
+}
+
+/// The payload of a side whose turn it is; a row of one chunk is lent.
+pub fn take_lent(
+    alloc: Global,
+    limits: Limits,
+    side: Side,
+    state: &mut State,
+    stream: &mut StreamBuffer,
+) -> Result<Option<LentEvent>, Fault>
+    ensures taken { TakesLentBy limits side (step state.old.standing)
+        (first_packet (limit_of side limits) state.old.standing.number stream.old.stream.bytes)
+        state.old.standing stream.old.stream result state.new stream.new }
+    ensures err { OnErr result (stream.new.stream ≡ stream.old.stream) }
+{
+    let limit = limit_of(side, limits);
+    let number = state.number();
+    let Some(packet) = find_packet(alloc, limit, number, stream.as_slice())? else {
+        return Ok(None);
+    };
+    let Packet {
+        payload,
+        next,
+        used,
+    } = packet;
+    if !stream.can_advance(used) {
+        return Err(Fault::Memory);
+    }
+    match payload {
+        CowSlice::Owned(joined) => {
+            match say_bytes(limits, side, next, state, joined.as_slice()) {
+                Ok(event) => {
+                    stream.advance(used);
+                    Ok(Some(LentEvent::Event(event)))
+                }
+                Err(fault) => Err(fault),
+            }
+        }
+        CowSlice::Borrowed(lent) => {
+            let said = match say_in_place(limits, side, next, state, lent) {
+                Ok(said) => said,
+                Err(fault) => return Err(fault),
+            };
+            match said {
+                None => {
+                    stream.lend(used);
+                    Ok(Some(LentEvent::Row))
+                }
+                Some(event) => {
+                    stream.advance(used);
+                    Ok(Some(LentEvent::Event(event)))
+                }
+            }
+        }
+    }
 }
 
 /// The server's last words, in a packet with this number.
+#[inline(never)]
 pub fn take_words(
     alloc: Global,
     limits: Limits,
@@ -88,10 +151,10 @@ pub fn take_words(
     state: &mut State,
     server: &mut StreamBuffer,
 ) -> Result<Option<Event>, Fault>
-    ensures taken { TakesBy limits Server (words_step state.old)
-        (first_packet limits.server number server.old.bytes) state.old server.old
-        result state.new server.new }
-    ensures err { OnErr result (server.new ≡ server.old) }
+    ensures taken { TakesBy limits Server (words_step state.old.standing)
+        (first_packet limits.server number server.old.stream.bytes)
+        state.old.standing server.old.stream result state.new.standing server.new.stream }
+    ensures err { OnErr result (server.new.stream ≡ server.old.stream) }
 {
     let Some(packet) = find_packet(alloc, limits.server, number, server.as_slice())? else {
         return Ok(None);
@@ -104,7 +167,11 @@ pub fn take_words(
     if !server.can_advance(used) {
         return Err(Fault::Memory);
     }
-    let event = bid(limits, next, state, payload)?;
-    server.advance(used);
-    Ok(Some(event))
+    match bid(limits, next, state, payload) {
+        Ok(event) => {
+            server.advance(used);
+            Ok(Some(event))
+        }
+        Err(fault) => Err(fault),
+    }
 }

@@ -9,7 +9,8 @@
 ghost use Rattle.std.specs.Prelude.{◌≡◌, ℕ, ◌+◌, ◌<◌, ◌≤◌, IfOk, MatchOption, OnErr, length};
 ghost use Rattle.mysql_connection_packets.specs.Chunks.{header_behind, payload_of};
 ghost use Rattle.mysql_connection_packets.specs.FirstPacket.{first_packet, framed, is_short};
-ghost use Rattle.mysql_connection_packets.specs.Views.{HasManyChunks, StandsWithin, found_in};
+ghost use Rattle.mysql_connection_packets.specs.Views.{HasManyChunks, IsLentFrom, StandsWithin};
+ghost use Rattle.mysql_connection_packets.specs.Views.{found_in};
 
 use crate::extent::{Extent, extent_at};
 use mysql_const::MAX_PAYLOAD_LEN;
@@ -93,6 +94,7 @@ pub fn first_packet<'a>(
     ensures found { IfOk result
         (λ found. first_packet limit number bytes.now ≡ found_in bytes.now found) }
     ensures within { IfOk result (λ found. StandsWithin bytes.now found) }
+    ensures lent { IfOk result (λ found. IsLentFrom bytes.now found) }
     ensures err { OnErr result (HasManyChunks (first_packet limit number bytes.now)) }
 {
     let (full, last, next) = match extent_at(limit, number, bytes) {
@@ -101,13 +103,15 @@ pub fn first_packet<'a>(
         Extent::OutOfSync(other) => return Ok(FirstPacket::OutOfSync(other)),
         Extent::Whole { full, last, next } => (full, last, next),
     };
-    let payload = if full == 0 {
-        CowSlice::Borrowed(&bytes[4..4 + last])
-    } else {
-        CowSlice::Owned(join(alloc, full, last, bytes)?)
-    };
+    if full == 0 {
+        return Ok(FirstPacket::Whole {
+            payload: CowSlice::Borrowed(&bytes[4..4 + last]),
+            next,
+            used: 4 + last,
+        });
+    }
     Ok(FirstPacket::Whole {
-        payload,
+        payload: CowSlice::Owned(join(alloc, full, last, bytes)?),
         next,
         used: full * (4 + MAX_PAYLOAD_LEN) + 4 + last,
     })

@@ -1,24 +1,30 @@
--- What a payload of a reply says is the same whatever phase stands beside the reply.
-use Rattle.std.proofs.Common.{◌≡◌, ℕ, List, Result, refl}
-use Rattle.mysql_connection_rules.specs.Standing.{InReply, Phase, Reply, Standing}
-use Rattle.mysql_connection_rules.specs.Steps.{by_turn, in_phase, step, turn_in_reply}
-use Rattle.mysql_connection_rules.specs.declared.fault.Fault.{Fault}
+-- Where the server's payload of a reply is due, the step is that of the reply.
+use Rattle.std.proofs.Common.{◌≡◌, ℕ, List, true, refl}
+use Rattle.mysql_connection_rules.specs.Standing.{InReply, Phase, Standing}
+use Rattle.mysql_connection_rules.specs.Standing.Phase.{Answer, Authentication, Command, Greeting}
+use Rattle.mysql_connection_rules.specs.Standing.Phase.{Over, Reply, Response}
+use Rattle.mysql_connection_rules.specs.Steps.{by_turn, in_turn, reply_step, step, turn_in_reply}
 use Rattle.mysql_connection_rules.specs.declared.side.Side.{Side}
 use Rattle.mysql_connection_rules.specs.declared.side.Side.TheVariants.{Client, Server}
-use Rattle.mysql_connection_state.specs.Reads.{Reads}
-use Rattle.mysql_connection_state.specs.declared.event.Event.{Event}
+use Rattle.mysql_connection_state.specs.Reads.{awaits_reply, is_server}
 
-any_phase : (side : Side) (r : InReply) (phase : Phase) (s : Standing) (payload : List ℕ) →
-    by_turn side r (in_phase phase s) payload ≡ by_turn side r s payload
-any_phase Client r phase s payload = refl
-any_phase Server r phase s payload = refl
+by_server : (side : Side) (r : InReply) (s : Standing) (payload : List ℕ) →
+    is_server side ≡ true → by_turn side r s payload ≡ reply_step r s payload
+by_server Client r s payload h = absurd cc
+by_server Server r s payload h = refl
 
-pub step_by_turn : (r : InReply) (phase : Phase) (old after : Standing) (payload : List ℕ)
-    (result : Result Event Fault) → old.phase ≡ Reply r →
-    Reads (by_turn (turn_in_reply r.so_far.awaited) r (in_phase phase old) payload) result after →
-    Reads (step old payload) result after
+in_reply : (phase : Phase) (s : Standing) (payload : List ℕ) → awaits_reply phase ≡ true →
+    (r : InReply) × (phase ≡ Reply r) × (in_turn phase s payload ≡ reply_step r s payload)
+in_reply Greeting s payload h = absurd cc
+in_reply Response s payload h = absurd cc
+in_reply (Authentication exchange) s payload h = absurd cc
+in_reply (Answer exchange) s payload h = absurd cc
+in_reply Command s payload h = absurd cc
+in_reply (Reply r) s payload h =
+    (r, refl, by_server (turn_in_reply r.so_far.awaited) r s payload h)
+in_reply (Over reason) s payload h = absurd cc
+
+pub reply_due : (s : Standing) (payload : List ℕ) → awaits_reply s.phase ≡ true →
+    (r : InReply) × (s.phase ≡ Reply r) × (step s payload ≡ reply_step r s payload)
 unfolding step
-step_by_turn r phase old after payload result due read =
-    let side = turn_in_reply r.so_far.awaited in
-    let any = rw (any_phase side r phase old payload) at read in
-    rw (due, any_phase side r (Reply r) old payload) any
+reply_due s payload h = in_reply s.phase s payload h

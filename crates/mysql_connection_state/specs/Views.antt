@@ -1,6 +1,6 @@
 -- What the code holds, as values.
 -- MySQL: Client/Server Protocol, "Connection Lifecycle", "Connection Phase" and "Command Phase".
-use Rattle.std.specs.Prelude.{◌≡◌, None}
+use Rattle.std.specs.Prelude.{◌≡◌, Option, None}
 use Rattle.mysql_authentication.specs.Views.{authentication_view, greeting_view}
 use Rattle.mysql_authentication.specs.Views.{response_event_view}
 use Rattle.mysql_commands.specs.Views.{command_view}
@@ -8,10 +8,11 @@ use Rattle.mysql_const.specs.declared.capabilities.Capabilities.{Capabilities}
 use Rattle.mysql_reply_events.specs.Events.{Awaited}
 use Rattle.mysql_reply_events.specs.Events as awaiting
 use Rattle.mysql_reply_events.specs.Views.{event_view as reply_view}
+use Rattle.mysql_row_refs.specs.declared.reader.RowReader.{RowReader}
 use Rattle.mysql_server_packets.specs.Views.{server_error_view}
 use Rattle.mysql_connection_rules.specs.Events.{Event}
 use Rattle.mysql_connection_rules.specs.Events as events
-use Rattle.mysql_connection_rules.specs.Standing.{About, InReply, Phase}
+use Rattle.mysql_connection_rules.specs.Standing.{About, InReply, Phase, Standing}
 use Rattle.mysql_connection_rules.specs.Standing.About.{Executing, Nothing, OfStatement, Preparing}
 use Rattle.mysql_connection_rules.specs.Standing.About.{Resetting, Streaming}
 use Rattle.mysql_connection_rules.specs.Standing as phases
@@ -26,12 +27,12 @@ use Rattle.mysql_connection_state.specs.declared.phase.Phase.{Phase as PlainPhas
 use Rattle.mysql_connection_state.specs.declared.phase.Phase.TheVariants as plain
 
 abbrev pub event_view : HeldEvent → Event
-event_view (held.Greeting said) = events.Greeting (greeting_view said)
-event_view (held.Response said) = events.Response (response_event_view said)
-event_view (held.Authentication said) = events.Authentication (authentication_view said)
+event_view (held.Greeting said) = events.Greeting (greeting_view said.value)
+event_view (held.Response said) = events.Response (response_event_view said.value)
+event_view (held.Authentication said) = events.Authentication (authentication_view said.value)
 event_view (held.Answer bytes) = events.Answer bytes
-event_view (held.Command command) = events.Asked (command_view command)
-event_view (held.Reply said) = events.Replied (reply_view said)
+event_view (held.Command command) = events.Asked (command_view command.value)
+event_view (held.Reply said) = events.Replied (reply_view said.value)
 event_view (held.FileData bytes) = events.FileData bytes
 event_view (held.Farewell error) = events.Farewell (server_error_view error)
 
@@ -61,6 +62,16 @@ phase_view (due.Answer exchange) = phases.Answer exchange
 phase_view due.Command = phases.Command
 phase_view (due.Reply r) = phases.Reply (in_reply_view r)
 phase_view (due.Over reason) = phases.Over reason
+
+-- What a state holds: what stands of the connection, and what reads rows where they lie, once one
+-- was.
+pub record ConnectionState : Type 0 where
+  pub standing : Standing
+  pub rows : Option RowReader
+
+abbrev pub rows_of : Due → Option RowReader
+rows_of (due.Reply r) = r.reader.rows
+rows_of phase = None
 
 -- A reply's reader has found no fault, and reads by the capabilities in force.
 pub record ReadsBy (capabilities : Capabilities) (r : HeldReply) : Type 0 where

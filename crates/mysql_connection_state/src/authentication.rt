@@ -17,6 +17,7 @@ use crate::due::Due;
 use crate::event::Event;
 use crate::login::login_fault;
 use crate::owned::owned_authentication;
+use crate::said::{boxed, said_if};
 use crate::state::State;
 use bitflags::Flags;
 use mysql_auth::AuthPlugin;
@@ -92,8 +93,8 @@ fn greets_anew(exchange: Exchange, payload: &[u8]) -> bool
 impl State {
     // The user is logged in.
     fn accepted(&mut self)
-        ensures { self.new ≡ (if is_compressed self.old.capabilities
-            then over reasons.Compressed self.old else in_phase phases.Command self.old) }
+        ensures { self.new.standing ≡ (if is_compressed self.old.standing.capabilities
+            then over reasons.Compressed self.old.standing else in_phase phases.Command self.old.standing) }
     {
         if is_compressed(self.capabilities) {
             self.set_due(Due::Over(Reason::Compressed));
@@ -104,7 +105,7 @@ impl State {
 
     // The user isn't: behind a change of user the connection goes on.
     fn denied(&mut self, exchange: Exchange)
-        ensures { self.new ≡ after_denial exchange self.old }
+        ensures { self.new.standing ≡ after_denial exchange self.old.standing }
     {
         match exchange {
             Exchange::Login => self.set_due(Due::Over(Reason::Denied)),
@@ -114,7 +115,7 @@ impl State {
 
     // The server goes on with this plugin.
     fn switched(&mut self, exchange: Exchange, plugin: AuthPlugin<'static>)
-        ensures { self.new ≡ with_plugin exchange (Some (plugin_view plugin.entry)) self.old }
+        ensures { self.new.standing ≡ with_plugin exchange (Some (plugin_view plugin.entry)) self.old.standing }
     {
         self.plugin = Some(plugin);
         self.set_due(Due::Answer(answered(exchange)));
@@ -122,16 +123,16 @@ impl State {
 
     // The plugin stays, whose data came.
     fn went_on(&mut self, exchange: Exchange)
-        ensures { self.new ≡ with_plugin exchange self.old.plugin self.old }
+        ensures { self.new.standing ≡ with_plugin exchange self.old.standing.plugin self.old.standing }
     {
         self.set_due(Due::Answer(answered(exchange)));
     }
 
     // Data of the plugin came, behind 01.
     fn more_came(&mut self, exchange: Exchange, bytes: &[u8])
-        ensures { self.new ≡ (if is_fast self.old.plugin bytes.now
-            then in_phase (phases.Authentication (answered_by exchange)) self.old
-            else with_plugin exchange self.old.plugin self.old) }
+        ensures { self.new.standing ≡ (if is_fast self.old.standing.plugin bytes.now
+            then in_phase (phases.Authentication (answered_by exchange)) self.old.standing
+            else with_plugin exchange self.old.standing.plugin self.old.standing) }
     {
         if is_fast(&self.plugin, bytes) {
             self.set_due(Due::Authentication(answered(exchange)));
@@ -146,8 +147,8 @@ impl State {
         exchange: Exchange,
         said: &AuthenticationEvent,
     ) -> Result<(), AllocError>
-        ensures { OnOk result (self.new ≡
-            after_authentication exchange self.old (authentication_view said.now)) }
+        ensures { OnOk result (self.new.standing ≡
+            after_authentication exchange self.old.standing (authentication_view said.now)) }
     {
         match said {
             AuthenticationEvent::Accepted(_) => {
@@ -184,24 +185,27 @@ impl State {
     }
 
     /// Reads a server's payload by which a user is logged in or changed.
+    #[inline(never)]
     pub(crate) fn read_authentication(
         &mut self,
         exchange: Exchange,
         payload: &[u8],
     ) -> Result<Event, Fault>
-        ensures { Reads (authentication_step exchange self.old payload.now) result self.new }
+        ensures { Reads (authentication_step exchange self.old.standing payload.now) result self.new.standing }
     {
         if greets_anew(exchange, payload) {
             return Err(Fault::BadGreeting);
         }
         let said = authentication(self.alloc, self.capabilities.protocol, payload)?;
-        self.follow_authentication(exchange, &said)?;
-        Ok(Event::Authentication(said))
+        let said = boxed(self.alloc, said)?;
+        let done = self.follow_authentication(exchange, &said);
+        said_if(Event::Authentication(said), done)
     }
 
     /// Reads the client's answer to such a one.
+    #[inline(never)]
     pub(crate) fn read_answer(&mut self, exchange: Exchange, payload: &[u8]) -> Result<Event, Fault>
-        ensures { Reads (answer_step exchange self.old payload.now) result self.new }
+        ensures { Reads (answer_step exchange self.old.standing payload.now) result self.new.standing }
     {
         let Ok(bytes) = ByteString::copy(self.alloc, payload) else {
             return Err(Fault::Memory);

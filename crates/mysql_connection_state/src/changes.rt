@@ -1,11 +1,13 @@
 //! What an event of a reply changes of the statements and of what is kept.
 
-ghost use Rattle.std.specs.Prelude.{◌≡◌, IfOk, OnOk};
+ghost use Rattle.std.specs.Prelude.{◌≡◌, ℕ, IfOk, OnOk};
 ghost use Rattle.mysql_connection_rules.specs.Standing as abouts;
 ghost use Rattle.mysql_connection_rules.specs.Standing.{about_size};
 ghost use Rattle.mysql_connection_rules.specs.Steps as steps;
+ghost use Rattle.mysql_reply_events.specs.Events.Event.{RowEvent};
 ghost use Rattle.mysql_reply_events.specs.Views.{event_view as reply_view};
-ghost use Rattle.mysql_connection_state.specs.Reads.{IsCount};
+ghost use Rattle.mysql_rows.specs.Rows.{Row};
+ghost use Rattle.mysql_connection_state.specs.Reads.{IsCount, kept_columns};
 ghost use Rattle.mysql_connection_state.specs.Views.{about_view, in_reply_view};
 
 use crate::due::{About, InReply};
@@ -14,6 +16,7 @@ use mysql_connection_statements::{Pending, Statements};
 use mysql_queries::ByteString;
 use mysql_reply_events::ReplyEvent;
 use std::alloc::AllocError;
+use std::mem;
 
 // A statement is prepared, or an error or progress was told of it.
 fn preparing(
@@ -63,9 +66,8 @@ fn executing(
     }
 }
 
-/// What an event changes of the statements; its payload counts so much. It answers what the reply
-/// is about behind it.
-pub fn change(
+// What an event changes of the statements, and what the reply is about behind it.
+fn changed(
     about: About,
     more: usize,
     event: &ReplyEvent,
@@ -86,6 +88,31 @@ pub fn change(
             Ok(About::Resetting)
         }
         about => Ok(about),
+    }
+}
+
+/// What an event changes of the statements, and of what the reply is about; its payload counts so
+/// much.
+pub fn change(
+    about: &mut About,
+    more: usize,
+    event: &ReplyEvent,
+    statements: &mut Statements,
+) -> Result<(), AllocError>
+    ensures statements { OnOk result (statements.new ≡
+        steps.changed_by (about_view about.old) more (reply_view event.now) statements.old) }
+    ensures about { OnOk result (about_view about.new ≡
+        steps.about_after (about_view about.old) (reply_view event.now)) }
+{
+    match about {
+        About::Nothing => Ok(()),
+        About::OfStatement(_) => Ok(()),
+        About::Streaming(_) => Ok(()),
+        _ => {
+            let before = mem::replace(about, About::Nothing);
+            *about = changed(before, more, event, statements)?;
+            Ok(())
+        }
     }
 }
 
@@ -117,8 +144,8 @@ impl InReply {
         Ok(())
     }
 
-    /// What is kept of columns behind an event whose payload counts so much.
-    pub fn keep_size(&mut self, event: &ReplyEvent, size: usize) -> Result<(), AllocError>
+    // What is kept of columns behind an event whose payload counts so much.
+    fn keep_size(&mut self, event: &ReplyEvent, size: usize) -> Result<(), AllocError>
         ensures kept { OnOk result (in_reply_view self.new ≡
             steps.sized (reply_view event.now) size (in_reply_view self.old)) }
         ensures reader { self.new.reader ≡ self.old.reader }
@@ -148,38 +175,56 @@ impl InReply {
             _ => Ok(()),
         }
     }
-}
 
-/// What an event, whose payload counts so much, changes of a reply and of the statements.
-pub fn follow(
-    mut reply: InReply,
-    event: &ReplyEvent,
-    size: usize,
-    statements: &mut Statements,
-) -> Result<InReply, AllocError>
-    ensures reply { IfOk result (λ after. in_reply_view after ≡
-        record (steps.sized (reply_view event.now) size (in_reply_view reply)) {
-          about =
-              steps.about_after (about_view reply.about) (reply_view event.now);
-        }) }
-    ensures reader { IfOk result (λ after. after.reader ≡ reply.reader) }
-    ensures statements { OnOk result (statements.new ≡
-        steps.changed_by (about_view reply.about) size (reply_view event.now) statements.old) }
-{
-    reply.keep_size(event, size)?;
-    let InReply {
-        reader,
-        about,
-        earlier,
-        coming,
-        parameters,
-    } = reply;
-    let about = change(about, size, event, statements)?;
-    Ok(InReply {
-        reader,
-        about,
-        earlier,
-        coming,
-        parameters,
-    })
+    // Behind the last payload: the columns that stand are those that the reply's statement has.
+    fn keep_columns(&self, statements: &mut Statements) -> Result<(), AllocError>
+        ensures { OnOk result (statements.new ≡ steps.with_columns (in_reply_view self.now)
+            (about_view self.now.about) statements.old) }
+    {
+        match &self.about {
+            About::OfStatement(id) => {
+                let columns = match self.reader.columns() {
+                    Some(columns) => Some(columns.clone()?),
+                    None => None,
+                };
+                statements.set_columns(*id, columns, self.coming)
+            }
+            _ => Ok(()),
+        }
+    }
+
+    /// What an event of the reply, whose payload counts so much, changes of it and of the
+    /// statements. The reader has read it.
+    pub fn follow(
+        &mut self,
+        event: &ReplyEvent,
+        size: usize,
+        statements: &mut Statements,
+    ) -> Result<(), AllocError>
+        ensures reply { OnOk result (in_reply_view self.new ≡ steps.reply_after
+            (in_reply_view self.old) size (reply_view event.now) self.old.reader.so_far) }
+        ensures reader { self.new.reader ≡ self.old.reader }
+        ensures statements { OnOk result (statements.new ≡ kept_columns (in_reply_view self.new)
+            (steps.changed_by (about_view self.old.about) size (reply_view event.now)
+            statements.old)) }
+    {
+        self.keep_size(event, size)?;
+        change(&mut self.about, size, event, statements)?;
+        if self.is_whole() {
+            self.keep_columns(statements)
+        } else {
+            Ok(())
+        }
+    }
+
+    /// A row came, which was read where it lies.
+    pub fn row_came(&mut self)
+        ensures reply { (size : ℕ) (row : Row) → in_reply_view self.new ≡ steps.reply_after
+            (in_reply_view self.old) size (RowEvent row) self.old.reader.so_far }
+        ensures reader { self.new.reader ≡ self.old.reader }
+    {
+        if let About::Executing(pending) = &self.about {
+            self.about = About::OfStatement(pending.id);
+        }
+    }
 }

@@ -16,6 +16,7 @@ ghost use Rattle.mysql_reply_events.specs.declared.context.ReplyKind.TheVariants
 use crate::due::{About, Due, InReply};
 use crate::event::Event;
 use crate::executions::{id_in_question, shared_columns_of, statement_of};
+use crate::said::{boxed, said_if};
 use crate::sizes::counted;
 use crate::state::State;
 use mysql_auth::AuthPlugin;
@@ -126,8 +127,8 @@ impl State {
         columns: Option<RcSlice<Column>>,
         about: About,
     )
-        ensures { self.new ≡ steps.reply_due kind (option_map shared_columns columns)
-            (about_view about) self.old }
+        ensures { self.new.standing ≡ steps.reply_due kind (option_map shared_columns columns)
+            (about_view about) self.old.standing }
     {
         let reader = EventReader::new(self.alloc, kind, self.capabilities, columns);
         self.set_due(Due::Reply(InReply {
@@ -141,8 +142,8 @@ impl State {
 
     // Another user logs in: no statement stays, whatever the answer.
     fn change_user(&mut self, payload: &[u8], command: &Command) -> Result<(), AllocError>
-        ensures { OnOk result (self.new ≡
-            steps.after_change payload.now (command_view command.now) self.old) }
+        ensures { OnOk result (self.new.standing ≡
+            steps.after_change payload.now (command_view command.now) self.old.standing) }
     {
         self.plugin = changed_plugin(self.alloc, command)?;
         self.statements.clear();
@@ -152,8 +153,8 @@ impl State {
 
     // A statement is prepared.
     fn prepare(&mut self, payload: &[u8], command: &Command) -> Result<(), AllocError>
-        ensures { OnOk result (self.new ≡
-            steps.after_prepare payload.now (command_view command.now) self.old) }
+        ensures { OnOk result (self.new.standing ≡
+            steps.after_prepare payload.now (command_view command.now) self.old.standing) }
     {
         let text = text_of(self.alloc, command)?;
         let size = counted(payload)?;
@@ -169,8 +170,8 @@ impl State {
         payload: &[u8],
         command: &Command,
     ) -> Result<(), AllocError>
-        ensures { OnOk result (self.new ≡ steps.in_phase standing.Command
-            (steps.after_data id payload.now (command_view command.now) self.old)) }
+        ensures { OnOk result (self.new.standing ≡ steps.in_phase standing.Command
+            (steps.after_data id payload.now (command_view command.now) self.old.standing)) }
     {
         self.set_due(Due::Command);
         let Some(id) = id else {
@@ -191,7 +192,7 @@ impl State {
 
     // A statement goes, without a reply.
     fn close(&mut self, id: Option<u32>)
-        ensures { self.new ≡ steps.in_phase standing.Command (steps.closing id self.old) }
+        ensures { self.new.standing ≡ steps.in_phase standing.Command (steps.closing id self.old.standing) }
     {
         self.set_due(Due::Command);
         if let Some(id) = id {
@@ -201,8 +202,8 @@ impl State {
 
     // A statement's long data go.
     fn reset(&mut self, id: Option<u32>) -> Result<(), AllocError>
-        ensures { OnOk result (self.new ≡ steps.reply_due kinds.Plain None standing.Nothing
-            (steps.changing is_reset id self.old)) }
+        ensures { OnOk result (self.new.standing ≡ steps.reply_due kinds.Plain None standing.Nothing
+            (steps.changing is_reset id self.old.standing)) }
     {
         if let Some(id) = id {
             self.statements.reset(id)?;
@@ -213,10 +214,10 @@ impl State {
 
     // Rows of an open cursor, under the columns that the statement last had.
     fn fetch(&mut self, id: Option<u32>) -> Result<(), AllocError>
-        ensures { OnOk result (self.new ≡ steps.reply_due kinds.Fetch
+        ensures { OnOk result (self.new.standing ≡ steps.reply_due kinds.Fetch
             (option_and_then (λ x. x.columns)
-            (option_and_then (statement_at self.old.statements) id))
-            standing.Nothing self.old) }
+            (option_and_then (statement_at self.old.standing.statements) id))
+            standing.Nothing self.old.standing) }
     {
         let columns = shared_columns_of(statement_of(&self.statements, id))?;
         self.await_reply(ReplyKind::Fetch, columns, About::Nothing);
@@ -225,7 +226,7 @@ impl State {
 
     // A command that changes nothing before its reply.
     fn other(&mut self, number: u8, payload: &[u8])
-        ensures { self.new ≡ steps.after_other number payload.now self.old }
+        ensures { self.new.standing ≡ steps.after_other number payload.now self.old.standing }
     {
         let kind = kind_of(Command::reply(payload));
         self.await_reply(kind, None, about_by(number));
@@ -239,10 +240,10 @@ impl State {
         payload: &[u8],
         command: &Command,
     ) -> Result<(), AllocError>
-        ensures { OnOk result (self.new ≡ steps.by_number number body.now
-            (steps.id_in_question self.old.statements payload.now)
-            (steps.statement_in_question self.old.statements payload.now)
-            payload.now (command_view command.now) self.old) }
+        ensures { OnOk result (self.new.standing ≡ steps.by_number number body.now
+            (steps.id_in_question self.old.standing.statements payload.now)
+            (steps.statement_in_question self.old.standing.statements payload.now)
+            payload.now (command_view command.now) self.old.standing) }
     {
         let id = id_in_question(&self.statements, payload);
         match number {
@@ -269,8 +270,8 @@ impl State {
 
     // What a command changes, and what is due behind it; an empty payload is one too.
     fn follow_command(&mut self, payload: &[u8], command: &Command) -> Result<(), AllocError>
-        ensures { OnOk result (self.new ≡
-            steps.after_command self.old payload.now (command_view command.now)) }
+        ensures { OnOk result (self.new.standing ≡
+            steps.after_command self.old.standing payload.now (command_view command.now)) }
     {
         match payload {
             [] => {
@@ -283,10 +284,11 @@ impl State {
 
     /// Reads a command.
     pub(crate) fn read_command(&mut self, payload: &[u8]) -> Result<Event, Fault>
-        ensures { Reads (steps.command_step self.old payload.now) result self.new }
+        ensures { Reads (steps.command_step self.old.standing payload.now) result self.new.standing }
     {
         let command = command_of(self.alloc, self.capabilities, &self.statements, payload)?;
-        self.follow_command(payload, &command)?;
-        Ok(Event::Command(command))
+        let command = boxed(self.alloc, command)?;
+        let done = self.follow_command(payload, &command);
+        said_if(Event::Command(command), done)
     }
 }

@@ -23,7 +23,6 @@ pub enum About {
 }
 
 /// A reply that isn't whole.
-#[derive(Drop)]
 pub struct InReply {
     pub reader: EventReader,
     pub about: About,
@@ -32,6 +31,19 @@ pub struct InReply {
     pub earlier: usize,
     pub coming: usize,
     pub parameters: u16,
+}
+
+// Written out, so that who owns a reply lets it go in one step.
+impl Drop for InReply {
+    fn drop(self) {
+        let InReply {
+            reader: _reader,
+            about: _about,
+            earlier: _,
+            coming: _,
+            parameters: _,
+        } = self;
+    }
 }
 
 /// What is due.

@@ -1,30 +1,77 @@
 //! What one payload of a connection says.
 
+ghost use Rattle.std.specs.Prelude.{◌≡◌, option_map};
+ghost use Rattle.mysql_commands.specs.Views.{command_view};
+ghost use Rattle.mysql_reply_events.specs.Views.{event_view as reply_view};
+ghost use Rattle.mysql_connection_state.specs.Reads.{asked, replied};
+ghost use Rattle.mysql_connection_state.specs.Views.{event_view};
+
 use mysql_authentication::{AuthenticationEvent, GreetingEvent, ResponseEvent};
 use mysql_commands::Command;
 use mysql_queries::ByteString;
 use mysql_reply_events::ReplyEvent;
 use mysql_server_packets::ServerError;
 
-/// What one payload of a connection says. It borrows nothing.
+/// What one payload of a connection says. It borrows nothing; large kinds are in a box, so that an
+/// event is moved at little cost.
+///
+/// Its drop is written out, so that it is one step of a caller's proof; so a `match` borrows what an
+/// event holds, and [`Event::into_reply`] and [`Event::into_command`] take it out.
 ///
 /// MySQL: Client/Server Protocol, "Connection Lifecycle", "Connection Phase" and "Command Phase".
-#[derive(Drop)]
 pub enum Event {
     /// The server greets, or refuses the connection.
-    Greeting(GreetingEvent<'static>),
+    Greeting(Box<GreetingEvent<'static>>),
     /// The client logs in, or asks for TLS.
-    Response(ResponseEvent<'static>),
+    Response(Box<ResponseEvent<'static>>),
     /// A payload of the server's while a user is logged in or changed.
-    Authentication(AuthenticationEvent<'static>),
+    Authentication(Box<AuthenticationEvent<'static>>),
     /// The client's answer to such a one.
     Answer(ByteString),
     /// What the client asks for.
-    Command(Command<'static>),
+    Command(Box<Command<'static>>),
     /// What the server replies.
-    Reply(ReplyEvent),
+    Reply(Box<ReplyEvent>),
     /// Bytes of a file of the client's that the server asked for. No bytes end the file.
     FileData(ByteString),
     /// The server's last words: an error that answers nothing.
     Farewell(ServerError<'static>),
+}
+
+impl Drop for Event {
+    fn drop(self) {
+        match self {
+            Event::Greeting(_said) => {}
+            Event::Response(_said) => {}
+            Event::Authentication(_said) => {}
+            Event::Answer(_bytes) => {}
+            Event::Command(_command) => {}
+            Event::Reply(_said) => {}
+            Event::FileData(_bytes) => {}
+            Event::Farewell(_error) => {}
+        }
+    }
+}
+
+impl Event {
+    /// What the server replies, where it is that.
+    pub fn into_reply(self) -> Option<Box<ReplyEvent>>
+        ensures { option_map (λ said. reply_view said.value) result ≡ replied (event_view self) }
+    {
+        match self {
+            Event::Reply(said) => Some(said),
+            _ => None,
+        }
+    }
+
+    /// What the client asks for, where it is that.
+    pub fn into_command(self) -> Option<Box<Command<'static>>>
+        ensures { option_map (λ command. command_view command.value) result ≡
+            asked (event_view self) }
+    {
+        match self {
+            Event::Command(command) => Some(command),
+            _ => None,
+        }
+    }
 }

@@ -119,18 +119,19 @@ fn about_execution(id: u32, pending: Option<Pending>) -> About
 }
 
 impl State {
-    // An execution of the statement of this id came, which is known.
+    // An execution of the statement of this id came, which is known and last had these columns.
     fn executing(
         &mut self,
         id: u32,
+        columns: Option<RcSlice<Column>>,
         refused: Refused,
         types: &[BoundType],
     ) -> Result<(), AllocError>
-        ensures { OnOk result ((statement : Statement) → statement_at self.old.statements id ≡
-            Some statement →
-            self.new ≡ after_executing id statement refused types.now self.old) }
+        ensures { OnOk result ((statement : Statement) →
+            statement_at self.old.standing.statements id ≡ Some statement →
+            option_map shared_columns columns ≡ statement.columns →
+            self.new.standing ≡ after_executing id statement refused types.now self.old.standing) }
     {
-        let columns = shared_columns_of(self.statements.get(id))?;
         let pending = self.statements.execute(id, refused, types)?;
         self.await_reply(ReplyKind::Binary, columns, about_execution(id, pending));
         Ok(())
@@ -143,8 +144,8 @@ impl State {
         body: &[u8],
         id: Option<u32>,
     ) -> Result<(), AllocError>
-        ensures { OnOk result (self.new ≡ execution_of number body.now id
-            (option_and_then (statement_at self.old.statements) id) self.old) }
+        ensures { OnOk result (self.new.standing ≡ execution_of number body.now id
+            (option_and_then (statement_at self.old.standing.statements) id) self.old.standing) }
     {
         let Some(id) = id else {
             self.await_reply(ReplyKind::Binary, None, About::Nothing);
@@ -155,7 +156,8 @@ impl State {
             return Ok(());
         };
         let count = statement.parameters().count();
+        let columns = shared_columns_of(Some(statement))?;
         let types = carried_types(self.alloc, self.capabilities, number, count, body)?;
-        self.executing(id, refused_as(number, body), types.as_slice())
+        self.executing(id, columns, refused_as(number, body), types.as_slice())
     }
 }

@@ -13,6 +13,7 @@ mod login;
 mod owned;
 pub mod phase;
 mod replies;
+mod said;
 mod sizes;
 mod state;
 

@@ -16,6 +16,7 @@ ghost use Rattle.mysql_connection_state.specs.Reads.{Gives, Reads, or_bad_error}
 use crate::due::Due;
 use crate::event::Event;
 use crate::owned::{owned_greeting, owned_response};
+use crate::said::{boxed, said_if};
 use crate::state::State;
 use mysql_auth::AuthPlugin;
 use mysql_authentication::{
@@ -107,7 +108,7 @@ fn login_plugin(
 impl State {
     // The server greeted, or refused the connection.
     fn greeted(&mut self, said: &GreetingEvent)
-        ensures { self.new ≡ after_greeting self.old (greeting_view said.now) }
+        ensures { self.new.standing ≡ after_greeting self.old.standing (greeting_view said.now) }
     {
         match said {
             GreetingEvent::Rejected(_) => self.set_due(Due::Over(Reason::Rejected)),
@@ -119,19 +120,20 @@ impl State {
     }
 
     /// Reads the server's first payload.
+    #[inline(never)]
     pub(crate) fn read_greeting(&mut self, payload: &[u8]) -> Result<Event, Fault>
-        ensures { Reads (says events.Greeting (after_greeting self.old)
+        ensures { Reads (says events.Greeting (after_greeting self.old.standing)
             (of_login (greeting_at payload.now)))
-            result self.new }
+            result self.new.standing }
     {
-        let said = greeting(self.alloc, payload)?;
+        let said = boxed(self.alloc, greeting(self.alloc, payload)?)?;
         self.greeted(&said);
         Ok(Event::Greeting(said))
     }
 
     // The capabilities of both are in force now, and the server answers a login.
     fn agree(&mut self, capabilities: Capabilities)
-        ensures { self.new ≡ record self.old {
+        ensures { self.new.standing ≡ record self.old.standing {
           phase = standing.Authentication exchanges.Login;
           capabilities = capabilities;
         } }
@@ -142,7 +144,7 @@ impl State {
 
     // The client logged in.
     fn logged_in(&mut self, login: &LoginResponse) -> Result<(), AllocError>
-        ensures { OnOk result (self.new ≡ after_login self.old (login_view login.now)) }
+        ensures { OnOk result (self.new.standing ≡ after_login self.old.standing (login_view login.now)) }
     {
         self.plugin = login_plugin(self.alloc, login)?;
         self.agree(in_force(self.offered, login.request().offered()));
@@ -151,7 +153,7 @@ impl State {
 
     // The client logged in, or asked for TLS.
     fn responded(&mut self, said: &ResponseEvent) -> Result<(), AllocError>
-        ensures { OnOk result (self.new ≡ after_response self.old (response_event_view said.now)) }
+        ensures { OnOk result (self.new.standing ≡ after_response self.old.standing (response_event_view said.now)) }
     {
         match said {
             ResponseEvent::SecureRequest(_) => {
@@ -163,12 +165,14 @@ impl State {
     }
 
     /// Reads the client's first payload.
+    #[inline(never)]
     pub(crate) fn read_response(&mut self, payload: &[u8]) -> Result<Event, Fault>
-        ensures { Reads (says events.Response (after_response self.old)
-            (of_login (response_at self.old.offered.protocol.0 payload.now))) result self.new }
+        ensures { Reads (says events.Response (after_response self.old.standing)
+            (of_login (response_at self.old.standing.offered.protocol.0 payload.now))) result self.new.standing }
     {
         let said = response(self.alloc, self.offered.protocol, payload)?;
-        self.responded(&said)?;
-        Ok(Event::Response(said))
+        let said = boxed(self.alloc, said)?;
+        let done = self.responded(&said);
+        said_if(Event::Response(said), done)
     }
 }

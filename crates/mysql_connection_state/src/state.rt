@@ -19,17 +19,15 @@ use mysql_connection_statements::Statements;
 use mysql_const::{Capabilities, CapabilityFlags, MariadbCapabilities};
 use std::alloc::Global;
 use std::marker::Model;
-use std::mem;
 
 /// What stands of a connection between two payloads.
 ///
 /// That is what is due, the number that is due, the capabilities that the server offers and those in
 /// force, the plugin in force, and the prepared statements.
 ///
-/// Contracts see it as a `Standing`.
+/// Contracts see it as a `ConnectionState`: a `Standing`, and what reads rows where they lie.
 ///
 /// MySQL: Client/Server Protocol, "Connection Phase", "Prepared Statements" and "Sequence ID".
-#[derive(Drop)]
 pub struct State {
     pub(crate) alloc: Global,
     pub(crate) due: Due,
@@ -42,25 +40,44 @@ pub struct State {
 }
 
 impl Model for State {
-    ghost use Rattle.mysql_connection_rules.specs.Standing.{Standing};
+    ghost use Rattle.mysql_connection_state.specs.Views.{ConnectionState};
 
-    ghost Value = { Standing };
+    ghost Value = { ConnectionState };
 
     ghost use Rattle.std.specs.Prelude.{option_map};
     ghost use Rattle.mysql_auth.specs.Views.{plugin_view};
-    ghost use Rattle.mysql_connection_state.specs.Views.{Fits, phase_view};
+    ghost use Rattle.mysql_connection_state.specs.Views.{Fits, phase_view, rows_of};
 
     ghost view = { λ s. record {
-      phase = phase_view s.due;
-      number = s.number;
-      answers = s.answers;
-      offered = s.offered;
-      capabilities = s.capabilities;
-      plugin = option_map plugin_view s.plugin;
-      statements = s.statements;
+      standing = record {
+        phase = phase_view s.due;
+        number = s.number;
+        answers = s.answers;
+        offered = s.offered;
+        capabilities = s.capabilities;
+        plugin = option_map plugin_view s.plugin;
+        statements = s.statements;
+      };
+      rows = rows_of s.due;
     } };
 
     ghost invariant = { λ s. Fits s.capabilities s.due };
+}
+
+// Written out, so that who owns a state lets it go in one step.
+impl Drop for State {
+    fn drop(self) {
+        let State {
+            alloc: _,
+            due: _due,
+            number: _,
+            answers: _,
+            offered: _,
+            capabilities: _,
+            plugin: _plugin,
+            statements: _statements,
+        } = self;
+    }
 }
 
 /// The capabilities of a side that none are known of.
@@ -95,7 +112,7 @@ fn is_client(side: Side) -> bool
 impl State {
     /// A connection of which no byte came: the server's greeting is due.
     pub fn new(alloc: Global) -> State
-        ensures { result ≡ at_first }
+        ensures { result.standing ≡ at_first }
     {
         State {
             alloc,
@@ -111,8 +128,8 @@ impl State {
 
     /// This is due now.
     pub(crate) fn set_due(&mut self, due: Due)
-        requires { Fits self.old.capabilities due }
-        ensures { self.new ≡ in_phase (phase_view due) self.old }
+        requires { Fits self.old.standing.capabilities due }
+        ensures { self.new.standing ≡ in_phase (phase_view due) self.old.standing }
     {
         self.due = due;
     }
@@ -135,15 +152,24 @@ impl State {
     /// Statements)".
     #[tactic(auto, unfolding(mysql_connection_rules::specs::Steps::step))]
     pub fn read(&mut self, payload: &[u8]) -> Result<Event, Fault>
-        ensures { Reads (step self.old payload.now) result self.new }
+        ensures { Reads (step self.old.standing payload.now) result self.new.standing }
     {
-        match mem::replace(&mut self.due, Due::Command) {
+        match &self.due {
             Due::Greeting => self.read_greeting(payload),
             Due::Response => self.read_response(payload),
-            Due::Authentication(exchange) => self.read_authentication(exchange, payload),
-            Due::Answer(exchange) => self.read_answer(exchange, payload),
+            Due::Authentication(exchange) => {
+                let exchange = *exchange;
+                self.read_authentication(exchange, payload)
+            }
+            Due::Answer(exchange) => {
+                let exchange = *exchange;
+                self.read_answer(exchange, payload)
+            }
             Due::Command => self.read_command(payload),
-            Due::Reply(reply) => self.read_in_reply(reply, payload),
+            Due::Reply(reply) => {
+                let side = reply.side();
+                self.read_in_reply(payload, side)
+            }
             Due::Over(_) => Err(Fault::Unasked),
         }
     }
@@ -159,8 +185,9 @@ impl State {
     /// After an error the state may be anything.
     ///
     /// MySQL: Client/Server Protocol, "ERR_Packet" and "Connection Lifecycle".
+    #[inline(never)]
     pub fn farewell(&mut self, payload: &[u8]) -> Result<Event, Fault>
-        ensures { Reads (farewell_step self.old payload.now) result self.new }
+        ensures { Reads (farewell_step self.old.standing payload.now) result self.new.standing }
     {
         let error = last_words(self.alloc, payload)?;
         self.set_due(Due::Over(Reason::Farewell));
@@ -169,7 +196,8 @@ impl State {
 
     /// A packet of a side was read, behind which this number is due. A command begins anew at 0.
     pub fn set_number(&mut self, side: Side, next: u8)
-        ensures { self.new ≡ numbered side next self.old }
+        ensures standing { self.new.standing ≡ numbered side next self.old.standing }
+        ensures rows { self.new.rows ≡ self.old.rows }
     {
         self.number = number_in(&self.due, next);
         self.answers = is_client(side);
@@ -177,7 +205,7 @@ impl State {
 
     /// Whose payload is due: nobody's where the connection is over.
     pub fn turn(&self) -> Option<Side>
-        ensures { result ≡ turn self.now.phase }
+        ensures { result ≡ turn self.now.standing.phase }
     {
         match &self.due {
             Due::Greeting | Due::Authentication(_) => Some(Side::Server),
@@ -189,7 +217,7 @@ impl State {
 
     /// What is due.
     pub fn phase(&self) -> Phase
-        ensures { result ≡ plain_phase self.now.phase }
+        ensures { result ≡ plain_phase self.now.standing.phase }
     {
         match &self.due {
             Due::Greeting => Phase::Greeting,
@@ -204,42 +232,42 @@ impl State {
 
     /// The number that is due of the next packet.
     pub fn number(&self) -> u8
-        ensures { result ≡ self.now.number }
+        ensures { result ≡ self.now.standing.number }
     {
         self.number
     }
 
     /// Whether the payload that came last is the client's, so that the server answers.
     pub fn answers(&self) -> bool
-        ensures { result ≡ self.now.answers }
+        ensures { result ≡ self.now.standing.answers }
     {
         self.answers
     }
 
     /// The capabilities in force: none before the client's response.
     pub fn capabilities(&self) -> Capabilities
-        ensures { result ≡ self.now.capabilities }
+        ensures { result ≡ self.now.standing.capabilities }
     {
         self.capabilities
     }
 
     /// The plugin in force.
     pub fn plugin(&self) -> Option<&AuthPlugin<'static>>
-        ensures { option_map (λ plugin. plugin_view plugin.now) result ≡ self.now.plugin }
+        ensures { option_map (λ plugin. plugin_view plugin.now) result ≡ self.now.standing.plugin }
     {
         self.plugin.as_ref()
     }
 
     /// The prepared statements.
     pub fn statements(&self) -> &Statements
-        ensures { result.now ≡ self.now.statements }
+        ensures { result.now ≡ self.now.standing.statements }
     {
         &self.statements
     }
 
     // What is kept for the reply that is due.
     fn due_size(&self) -> Option<usize>
-        ensures { IsCount (phase_size self.now.statements self.now.phase) result }
+        ensures { IsCount (phase_size self.now.standing.statements self.now.standing.phase) result }
     {
         let Due::Reply(reply) = &self.due else {
             return Some(0);
@@ -254,7 +282,7 @@ impl State {
     ///
     /// Promise: exactly the sum (`kept`).
     pub fn kept(&self) -> Option<usize>
-        ensures { IsCount (kept self.now) result }
+        ensures { IsCount (kept self.now.standing) result }
     {
         let due = self.due_size()?;
         self.statements.stored().checked_add(due)

@@ -125,6 +125,7 @@ reads_row old new payload format due same context so_far fault answered =
       event =
           step.2 ∙ ap (λ (r : Result Row ReplyFault). r >>= λ found. Ok (RowEvent found, record old.so_far { awaited = Rows true })) row_read
           ∙ ap (λ (s : ReplySoFar). Ok (RowEvent found.0, s)) (sym so_far);
+      awaits = ap (λ (s : ReplySoFar). s.awaited) so_far;
       goes_on = record { context = context; fault = fault };
     }
 

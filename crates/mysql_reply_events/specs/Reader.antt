@@ -63,11 +63,12 @@ TakesFileData old payload (Ok _) new =
 TakesFileData old payload (Err fault) new =
     (file_data_at old.so_far old.so_far.awaited payload ≡ Err fault) × HasFailed old fault new
 
--- The payload is a row, which lies in it.
+-- The payload is a row, which lies in it; behind it more rows are due.
 pub record ReadsRow (old : ReaderState) (payload : Payload) (new : ReaderState) : Type 0 where
   pub row : Row
   pub lies : RowAt new.rows payload row
   pub event : event_at old.context old.so_far payload ≡ Ok (RowEvent row, new.so_far)
+  pub awaits : new.so_far.awaited ≡ Rows true
   pub goes_on : GoesOn old new
 
 -- What it makes of a payload of the server whose row isn't kept.

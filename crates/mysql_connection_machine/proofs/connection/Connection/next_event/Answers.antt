@@ -3,5 +3,5 @@ use Rattle.mysql_connection_machine.proofs.connection.Connection.next_event.Goal
 
 pub invariant_of-self : goal.invariant_of-self
 invariant_of-self c = λ none.
-    answers_stay c.held_stays.ensures.events c.self.inside.reader c.next_event.new.self c.in-Ok.event
-    c.in-Ok.ensures (c.self.invariant none)
+    answers_stay c.held_stays.ensures.events c.self.inside.reader.world
+    c.next_event.new.self.world c.in-Ok.event c.in-Ok.ensures.answers (c.self.invariant none)

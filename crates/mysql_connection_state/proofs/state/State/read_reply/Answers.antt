@@ -1,12 +1,34 @@
-use Rattle.std.proofs.Common.{◌≡◌, refl}
-use Rattle.mysql_connection_rules.specs.Steps.{context_of}
-use Rattle.mysql_connection_state.proofs.Faults.{event_fault}
-use Rattle.mysql_connection_state.specs.Views.{in_reply_view}
+use Rattle.std.proofs.Common.{◌≡◌, Ok, refl}
+use Rattle.mysql_connection_rules.specs.Standing.{InReply}
+use Rattle.mysql_connection_rules.specs.Standing.Phase.{Reply}
+use Rattle.mysql_connection_state.proofs.Parts.{part_fault, part_said}
+use Rattle.mysql_connection_state.specs.Reads.{SaysPart}
+use Rattle.mysql_connection_state.specs.Views.{ReadsBy, in_reply_view}
 use Rattle.mysql_connection_state.proofs.state.State.read_reply.Goals as goal
 
 pub returns-in-Err : goal.returns-in-Err
-returns-in-Err c =
-    let context : c.args.reply.reader.context ≡ context_of c.args.self.now (in_reply_view c.args.reply) =
-    rw (← c.requires.context) refl in
-    event_fault c.args.reply.reader c.next_event.new.reader c.args.payload.now (in_reply_view c.args.reply)
-    c.args.self.now c.args.self.now c.in-Err.fault context refl c.in-Err.ensures
+returns-in-Err c = λ (r : InReply) (is : c.args.self.now.standing.phase ≡ Reply r).
+    let due : c.args.self.now.standing.phase ≡ Reply (in_reply_view c.in-Reply.reply) =
+    rw (← c.self.view_is, c.in-Reply.is) refl in
+    let same : in_reply_view c.in-Reply.reply ≡ r = cc in
+    let reads : ReadsBy c.self.inside.capabilities c.in-Reply.reply =
+    rw c.in-Reply.is at c.self.invariant in
+    part_fault c.in-Reply.reply c.read.new.self.reader r c.args.self.now.standing _
+    c.args.payload.now c.in-Err.fault same (rw (← c.self.view_is) reads.context) c.in-Err.ensures
+
+pub returns-in-Ok : goal.returns-in-Ok
+returns-in-Ok c = λ (r : InReply) (is : c.args.self.now.standing.phase ≡ Reply r).
+    let due : c.args.self.now.standing.phase ≡ Reply (in_reply_view c.in-Reply.reply) =
+    rw (← c.self.view_is, c.in-Reply.is) refl in
+    let same : in_reply_view c.in-Reply.reply ≡ r = cc in
+    let reads : ReadsBy c.self.inside.capabilities c.in-Reply.reply =
+    rw c.in-Reply.is at c.self.invariant in
+    let part : SaysPart c.in-Reply.reply c.self.inside.statements c.args.payload.now (Ok c.in-Ok.event)
+    c.read.new.self c.read.new.statements = c.in-Ok.ensures in
+    let said : SaysPart c.in-Reply.reply c.args.self.now.standing.statements c.args.payload.now
+    (Ok c.in-Ok.event) c.read.new.self c.read.new.statements = rw (← c.self.view_is) part in
+    let stepped = part_said c.in-Reply.reply c.read.new.self r c.args.self.now.standing
+    c.read.new.statements c.args.payload.now c.in-Ok.event same
+    (rw (← c.self.view_is) reads.context) said in
+    let state = c.tell.ensures.state (in_reply_view c.read.new.self) refl in
+    rw (c.tell.ensures.event, state, ← c.self.view_is) (rw (← c.self.view_is) at stepped)
