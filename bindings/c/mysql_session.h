@@ -41,8 +41,15 @@
 extern "C" {
 #endif
 
+/* The version of the library that this header belongs to, as CHANGELOG.md counts versions. */
+#define MYSQL_SESSION_VERSION "0.1.0"
+#define MYSQL_SESSION_VERSION_MAJOR 0
+#define MYSQL_SESSION_VERSION_MINOR 1
+#define MYSQL_SESSION_VERSION_PATCH 0
+
 /* The number of this interface. mysql_session_abi() answers the library's: compare them before
- * any other call. It changes with each change of a declaration below. */
+ * any other call. It changes with each change of a declaration below, and the shared object's name
+ * has it: libmysql_session.so.4. */
 #define MYSQL_SESSION_ABI 4
 
 uint32_t mysql_session_abi(void);

@@ -10,8 +10,9 @@ The C library of `bindings/c/mysql_session.h` by ctypes, for Python 3.8 and late
             print(values)  # (1, b"it's"), then (None, b'2024-02-29')
         print(receiver.end())
 
-The shared object is looked for where the environment variable MYSQL_SESSION_LIBRARY says, else
-beside this file as libmysql_session.so, which `make` puts there.
+The shared object is libmysql_session.so in the folder that the environment variable
+MYSQL_SESSION_LIBRARY names, else beside this file, as a wheel has it, else where `bindings/build`
+puts it. `__build__` says whether it was proved before it was compiled.
 
 Texts (queries, names, messages) are str, which goes as UTF-8, or bytes; what comes out is bytes.
 
@@ -68,6 +69,8 @@ __all__ = [
     "positional", "put_greeting", "put_login", "put_packet", "read_greeting", "read_login",
     "read_reply", "recode", "register_replica", "send",
 ]
+
+__version__ = "0.1.0"
 
 # The number of the interface that this module calls.
 ABI = 4
@@ -622,19 +625,40 @@ _NUMBER_ARGUMENTS: Dict[str, Tuple[Any, ...]] = {
 }
 
 
+def _folder() -> str:
+    """The folder of the library."""
+    named = os.environ.get("MYSQL_SESSION_LIBRARY")
+    if named:
+        return named
+    here = os.path.dirname(os.path.abspath(__file__))
+    has = os.path.exists(os.path.join(here, "libmysql_session.so"))
+    return here if has else os.path.join(os.path.dirname(here), "out")
+
+
+def _build_word() -> str:
+    """Whether the library was proved before it was compiled: `proved`, `unproved`, or `unknown`
+    where its folder doesn't say."""
+    try:
+        with open(os.path.join(_folder(), "mysql_session.build"), encoding="utf-8") as it:
+            return it.readline().strip()
+    except OSError:
+        return "unknown"
+
+
 def _loaded() -> ctypes.CDLL:
     """The library, where its interface is the one that this module calls."""
-    beside = os.path.join(os.path.dirname(os.path.abspath(__file__)), "libmysql_session.so")
-    path = os.environ.get("MYSQL_SESSION_LIBRARY", beside)
+    path = os.path.join(_folder(), "libmysql_session.so")
     try:
         library = ctypes.CDLL(path)
     except OSError as error:
-        raise ImportError(f"the library of mysql_session isn't there: {error}") from error
+        raise ImportError(f"the library of mysql_session can't be loaded: {error}. Run "
+                          "bindings/build, which makes it, or have MYSQL_SESSION_LIBRARY name the "
+                          "folder that has libmysql_session.so.") from error
     library.mysql_session_abi.argtypes = ()
     library.mysql_session_abi.restype = _U32
     found = library.mysql_session_abi()
     if found != ABI:
-        raise ImportError(f"{path} has the interface {found}, not {ABI}")
+        raise ImportError(f"{path} has the interface {found}, not {ABI}: run bindings/build again")
     library.mysql_session_free.argtypes = (_HANDLE,)
     library.mysql_session_free.restype = None
     library.mysql_session_code_text.argtypes = (_U32, _OUT, _OUT)
@@ -654,6 +678,7 @@ def _functions(library: ctypes.CDLL, declared: Dict[str, Tuple[Any, ...]]) -> Di
 
 
 _library = _loaded()
+__build__ = _build_word()
 _calls = _functions(_library, _ARGUMENTS)
 _numbers = _functions(_library, _NUMBER_ARGUMENTS)
 
@@ -746,6 +771,8 @@ def _count(name: str, *arguments: object) -> int:
 
 def _fitting(number: int, bits: int) -> int:
     """The number, where it is one of so many bits without a sign; ctypes cuts others off."""
+    if not isinstance(number, int):
+        raise TypeError(f"a number is wanted, or a name of a number as Road.TEXT, not {number!r}")
     if not 0 <= number < 1 << bits:
         raise OverflowError(f"{number} is no number of {bits} bits without a sign")
     return number
@@ -767,6 +794,13 @@ def _lent(text: Union[str, bytes, bytearray, memoryview]) -> Tuple[bytes, int]:
     """A text as the two arguments that it goes in by."""
     data = _as_bytes(text)
     return data, len(data)
+
+
+def _received(data: Union[bytes, bytearray, memoryview]) -> bytes:
+    """What came of a stream, as bytes: never a str, for a stream has no character set."""
+    if isinstance(data, str):
+        raise TypeError("bytes are wanted, not a str")
+    return _as_bytes(data)
 
 
 # The most bytes that ctypes.string_at copies: it takes their number as a C int, and cuts off what
@@ -950,7 +984,7 @@ class Receiver(_Object):
         Raises MySQLSessionError with the stream's fault, from the first on at each call. The sets
         before the fault are there, and `end` says where it is.
         """
-        data, length = _lent(piece)
+        data, length = _lent(_received(piece))
         with self._alone():
             if self._given:
                 # Nothing came behind the sets that were given: they alone are let go.
@@ -1206,7 +1240,7 @@ class Recoder(_Object):
         Raises MySQLSessionError with the fault and its payload, or REFUSED_PACKET_TOO_LARGE with
         its set, and from then on the same at each call.
         """
-        data, length = _lent(piece)
+        data, length = _lent(_received(piece))
         with self._alone():
             _call_at(_Stop(), "recoder_feed", self._at, data, length, self._out.to_write())
             return self._out.take()
@@ -1401,7 +1435,7 @@ class ReplyReader(_Object):
         Raises MySQLSessionError with the reply's fault, from the first on at each call. The
         results before the fault are there, and `end` says where it is.
         """
-        _call("reply_feed", self._handle, *_lent(piece))
+        _call("reply_feed", self._handle, *_lent(_received(piece)))
 
     def take(self) -> List[Result]:
         """The results so far that weren't taken before: those that stand whole, and of rows that
@@ -1671,7 +1705,7 @@ class PacketReader(_Object):
 
     def feed(self, piece: Union[bytes, bytearray, memoryview]) -> None:
         """Takes the next bytes. They are read as payloads are asked for."""
-        data = _as_bytes(piece)
+        data = _received(piece)
         with self._alone():
             if not self._at.at:
                 raise MySQLSessionError(Code.EMPTY_HANDLE)
@@ -1736,7 +1770,7 @@ def put_packet(payload: Union[bytes, bytearray, memoryview], number: int = 0,
     Raises MySQLSessionError by FAULT_TOO_LARGE where the payload has more than `limit` bytes.
     """
     following = _U8(_fitting(number, 8))
-    packet = _written("packet_put", *_lent(payload), ctypes.byref(following),
+    packet = _written("packet_put", *_lent(_received(payload)), ctypes.byref(following),
                       _fitting(limit, _SIZE_BITS))
     return packet, following.value
 
@@ -1775,7 +1809,7 @@ def read_greeting(payload: Union[bytes, bytearray, memoryview]) -> Greeting:
     """The greeting in the payload of a server's first packet. Raises MySQLSessionError:
     BAD_PACKET."""
     # The texts that are shown lie in `data`, which holds them until they are copied.
-    data, length = _lent(payload)
+    data, length = _lent(_received(payload))
     shown = _Greeting()
     _call("greeting_read", data, length, ctypes.byref(shown))
     return Greeting(connection=shown.connection, capabilities=shown.capabilities,
@@ -1806,7 +1840,7 @@ def read_login(payload: Union[bytes, bytearray, memoryview], offered: int = 2**3
     Those that weren't offered don't count: many clients name more, and leave out what belongs to
     them. Raises MySQLSessionError: BAD_PACKET.
     """
-    data = _as_bytes(payload)
+    data = _received(payload)
     counted = int.from_bytes(data[:4], "little") & _fitting(offered, 32)
     # The texts that are shown lie in `data`, which holds them until they are copied.
     data = counted.to_bytes(len(data[:4]), "little") + data[4:]

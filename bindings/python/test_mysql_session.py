@@ -105,6 +105,11 @@ class Interface(Case):
         assert found
         self.assertEqual(int(found.group(1)), ms.ABI)
 
+    def test_version(self) -> None:
+        found = re.findall(r"#define MYSQL_SESSION_VERSION\w* (\S+)", self.header)
+        self.assertEqual(found, [f'"{ms.__version__}"', *ms.__version__.split(".")])
+        self.assertIn(ms.__build__, ("proved", "unproved", "unknown"))
+
     def test_numbers(self) -> None:
         self.assertEqual(self.numbers("mysql_session_code"), {it.name: int(it) for it in Code})
         self.assertEqual(self.numbers("mysql_session_road"), {it.name: int(it) for it in Road})
@@ -165,6 +170,21 @@ class Interface(Case):
             pathlib.Path(source).write_text(program)
             subprocess.run([os.environ.get("CC", "gcc"), source, "-o", made], check=True)
             return subprocess.run([made], check=True, stdout=subprocess.PIPE).stdout.decode()
+
+    def test_wrong_types(self) -> None:
+        """A str is no stream, and a word is no road; nothing is taken of either."""
+        with ms.Receiver("SELECT ?") as receiver, ms.Recoder("SELECT ?") as recoder, \
+                ms.ReplyReader(ReplyKind.QUERY, 0) as reply, ms.PacketReader() as packets:
+            for it in (receiver, recoder, reply, packets):
+                with self.assertRaisesRegex(TypeError, "bytes are wanted, not a str"):
+                    it.feed("abc")  # type: ignore[arg-type]
+            self.assertEqual(receiver.end().kind, EndKind.WHOLE)
+            self.assertIsNone(packets.payload())
+        for call in (lambda: ms.read_greeting("abc"), lambda: ms.read_login("abc", 0)):
+            with self.assertRaisesRegex(TypeError, "bytes are wanted, not a str"):
+                call()  # type: ignore[arg-type]
+        with self.assertRaisesRegex(TypeError, "a number is wanted.*not 'text'"):
+            ms.send("SELECT ?", [(1,)], "text")  # type: ignore[arg-type]
 
     def test_texts(self) -> None:
         texts = {ms.code_text(code) for code in Code}

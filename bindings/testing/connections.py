@@ -1,11 +1,12 @@
 """Payloads of whole connections, each read by itself; `bindings/test` runs it.
 
-    connections.py FOLDER
+    connections.py RECORDINGS PAYLOADS
 
-FOLDER has recorded connections: NAME.client and NAME.server, the bytes of both sides, and
-NAME.events, what each payload is, a line each. A file NAME.payloads has payloads written by hand:
-the capabilities in force, and then lines of a side, the payload in hexadecimal and what it is; or
-lines of logging in, each with the capabilities by which it is read.
+The folder RECORDINGS has recorded connections: NAME.client and NAME.server, the bytes of both
+sides, and NAME.events, what each payload is, a line each. The folder PAYLOADS has files
+NAME.payloads of payloads written by hand: the capabilities in force, and then lines of a side, the
+payload in hexadecimal and what it is; or lines of logging in, each with the capabilities by which
+it is read.
 
 Each payload is handed to the library with what it needs: the capabilities in force, what is in
 force of a statement, the kind of a reply. Here, and not in the library, it is kept which is due.
@@ -371,11 +372,12 @@ def read_strange(library, folder, many):
 
 def main():
     library, count = Library(), 0
-    for events in sorted(glob.glob(os.path.join(sys.argv[1], "*.events"))):
+    recordings, by_hand = sys.argv[1:]
+    for events in sorted(glob.glob(os.path.join(recordings, "*.events"))):
         count += walk_recording(library, events[:-len(".events")])
-    for payloads in sorted(glob.glob(os.path.join(sys.argv[1], "*.payloads"))):
+    for payloads in sorted(glob.glob(os.path.join(by_hand, "*.payloads"))):
         count += walk_payloads(library, payloads)
-    read_strange(library, sys.argv[1], STRANGE)
+    read_strange(library, recordings, STRANGE)
     print(f"{count} payloads are what their lines say, and {9 * STRANGE} strange ones are read")
 
 

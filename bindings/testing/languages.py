@@ -3,10 +3,9 @@
 import glob
 import os
 import re
-import shutil
 
-from .support import (BINDINGS, C99, CPP17, Failure, ROOT, compare, has, python_environment, run,
-                      rust_environment)
+from .support import (BINDINGS, C99, CPP17, Failure, ROOT, archive_in, compare, has,
+                      python_environment, run, rust_environment)
 
 SANITIZERS = ["-fsanitize=address,undefined", "-fno-sanitize-recover=all"]
 # By these the tests can have an allocation be refused.
@@ -21,8 +20,8 @@ VALGRIND = ["valgrind", "--quiet", "--error-exitcode=9", "--leak-check=full",
 class C:
     """The tests and examples in C."""
 
-    def __init__(self, report, libraries, room):
-        self.report, self.libraries, self.room = report, libraries, room
+    def __init__(self, report, library, room):
+        self.report, self.library, self.room = report, library, room
         self.folder = os.path.join(BINDINGS, "c")
         files = sorted(glob.glob(os.path.join(self.folder, "tests", "*.c")))
         # A file with a header of its own is shared by the tests.
@@ -32,8 +31,8 @@ class C:
     def build(self, compiler, sources, name):
         """Compiles and links a program, and returns its file."""
         made = os.path.join(self.room, name)
-        # By -x none, archives aren't read as C++.
-        run([*compiler, *sources, "-x", "none", *self.libraries, "-o", made])
+        # By -x none, the archive isn't read as C++.
+        run([*compiler, *sources, "-x", "none", archive_in(self.library), "-o", made])
         return made
 
     def header(self, compiler):
@@ -76,43 +75,22 @@ class C:
 # ---- Rust and Python --------------------------------------------------------------------------
 
 
-def test_rust(report, libraries, room):
+def test_rust(report, library, room):
     """Runs the crate's tests and builds its examples."""
-    how = {"cwd": os.path.join(BINDINGS, "rust"), "env": rust_environment(libraries, room)}
+    how = {"cwd": os.path.join(BINDINGS, "rust"), "env": rust_environment(library, room)}
     report.run("cargo test", run, ["cargo", "test", "--offline"], **how)
     report.run("cargo build --examples", run, ["cargo", "build", "--offline", "--examples"], **how)
 
 
-def shared_object(libraries, room):
-    """Links the library as a shared object for Python, and returns its file."""
-    made = os.path.join(room, "libmysql_session.so")
-    exports = os.path.join(BINDINGS, "python", "exports.map")
-    run(["gcc", "-shared", "-o", made, f"-Wl,--version-script={exports}", "-Wl,-z,defs",
-         "-Wl,-z,text", "-Wl,--whole-archive", libraries[0], "-Wl,--no-whole-archive",
-         libraries[1]])
-    return made
-
-
-def make_shared_object(libraries, room):
-    """Links it by the Makefile, in a folder aside."""
-    folder = os.path.join(room, "python")
-    os.makedirs(folder)
-    for name in ("Makefile", "exports.map"):
-        shutil.copy(os.path.join(BINDINGS, "python", name), folder)
-    run(["make", "-C", folder, f"ARCHIVE={libraries[0]}", f"HEAP={libraries[1]}",
-         "libmysql_session.so"])
-
-
-def test_python(report, libraries, library, room):
+def test_python(report, library):
     """Runs the module's tests, and reads each example as a program."""
     folder = os.path.join(BINDINGS, "python")
-    if has("make"):
-        report.run("bindings/python/Makefile", make_shared_object, libraries, room)
     how = {"cwd": folder, "env": python_environment(library)}
     report.run("Python tests", run, ["python3", "-m", "unittest", "discover"], **how)
     testing = os.path.join(BINDINGS, "testing")
-    words = ["python3", os.path.join(testing, "connections.py"),
-             os.path.join(testing, "connections")]
+    recordings = os.path.join(ROOT, "crates", "connection_conformance", "data")
+    words = ["python3", os.path.join(testing, "connections.py"), recordings,
+             os.path.join(testing, "payloads")]
     report.run("payloads of connections", run, words, **how)
     for file in sorted(glob.glob(os.path.join(folder, "examples", "*.py"))):
         words = ["python3", file, "--help"]
@@ -134,8 +112,8 @@ def blocks_of(file):
 class Programs:
     """Runs programs of documents as they stand there."""
 
-    def __init__(self, libraries, library, room):
-        self.libraries, self.library, self.room = libraries, library, room
+    def __init__(self, library, room):
+        self.library, self.room = library, room
 
     def write(self, name, text):
         """Writes a file in a folder of its own."""
@@ -149,7 +127,7 @@ class Programs:
         """Compiles and runs a program in C."""
         file = self.write("program.c", text)
         made = file + ".out"
-        run([*C99, f"-I{BINDINGS}/c", file, *self.libraries, "-o", made])
+        run([*C99, f"-I{BINDINGS}/c", file, archive_in(self.library), "-o", made])
         return run([made])
 
     def rust(self, text):
@@ -159,7 +137,7 @@ class Programs:
                               'version = "0.0.0"\n[dependencies]\nmysql_session = { path = '
                               f'"{BINDINGS}/rust" }}\n[workspace]\n')
         words = ["cargo", "build", "--offline", "--quiet", "--manifest-path", manifest]
-        run(words, env=rust_environment(self.libraries, self.room))
+        run(words, env=rust_environment(self.library, self.room))
         return run([os.path.join(self.room, "target", "debug", "program")])
 
     def python(self, text):

@@ -16,7 +16,7 @@ import subprocess
 import sys
 import time
 
-from .support import (BINDINGS, C99, Failure, ROOT, compare, python_environment, run,
+from .support import (BINDINGS, C99, Failure, ROOT, archive_in, compare, python_environment, run,
                       rust_environment)
 
 SERVER_PACKAGES = {"mariadbd": "mariadb-server", "mariadb-install-db": "mariadb-server",
@@ -109,9 +109,9 @@ def mariadb(room):
 class Tests:
     """The examples against the server at a port."""
 
-    def __init__(self, room, libraries, shared, port):
-        self.room, self.libraries, self.shared, self.port = room, libraries, shared, port
-        self.python = python_environment(shared)
+    def __init__(self, room, library, port):
+        self.room, self.library, self.port = room, library, port
+        self.python = python_environment(library)
 
     # What is run.
 
@@ -137,7 +137,7 @@ class Tests:
         """Returns the file of an example in Rust, which is built."""
         folder = os.path.join(BINDINGS, "rust")
         run(["cargo", "build", "--offline", "--quiet", "--example", name], cwd=folder,
-            env=rust_environment(self.libraries, self.room))
+            env=rust_environment(self.library, self.room))
         return self.file(os.path.join("target", "debug", "examples", name))
 
     def c_client(self):
@@ -160,7 +160,7 @@ class Tests:
         made = self.file("bulk_load")
         if not os.path.exists(made):
             source = os.path.join(BINDINGS, "c", "examples", "bulk_load.c")
-            run([*C99, "-O2", source, *self.libraries, "-o", made])
+            run([*C99, "-O2", source, archive_in(self.library), "-o", made])
         return made
 
     def load(self, table, name, **how):
@@ -481,13 +481,13 @@ def pymysql_python():
     raise Failure("no Python has PyMySQL: apt-get install python3-pymysql")
 
 
-def test_server(report, room, libraries, shared):
+def test_server(report, room, library):
     """Runs the five examples, and texts in each mode, against a server."""
     with contextlib.ExitStack() as stack:
         port = report.run("a MariaDB server", lambda: stack.enter_context(mariadb(room)))
         if not port:
             return
-        it = Tests(room, libraries, shared, port)
+        it = Tests(room, library, port)
         for test in (it.bulk_load, it.bulk_load_refused, it.bulk_load_memory,
                      it.bulk_load_valgrind, it.proxy_texts, it.proxy_statements, it.proxy_rows,
                      it.replays, it.replay_faults, it.replication, it.replication_by_gtid,

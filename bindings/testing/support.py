@@ -72,10 +72,15 @@ def has(*names):
     return all(shutil.which(it) for it in names)
 
 
-def rust_environment(libraries, room):
-    """Returns the environment in which the crate links these libraries, and is built aside."""
-    return {**os.environ, "MYSQL_SESSION_LIBRARY": libraries[0],
-            "MYSQL_SESSION_RUNTIME": libraries[1], "CARGO_TARGET_DIR": os.path.join(room, "target")}
+def archive_in(library):
+    """Returns the static library of a folder that `bindings/build` made."""
+    return os.path.join(library, "libmysql_session.a")
+
+
+def rust_environment(library, room):
+    """Returns the environment in which the crate finds the library, and is built aside."""
+    return {**os.environ, "MYSQL_SESSION_LIBRARY": library,
+            "CARGO_TARGET_DIR": os.path.join(room, "target")}
 
 
 def python_environment(library):

@@ -67,3 +67,14 @@ pub use sending::{bind_text, bind_text_in, send, send_in, value_text, value_text
 pub use sets::ParameterSets;
 pub use values::{Content, Date, Time, Value};
 pub use writer::ReplyWriter;
+
+/// The version of this crate and of the library.
+pub const VERSION: &str = env!("CARGO_PKG_VERSION");
+
+/// Whether the library that this crate links was proved before it was compiled: `proved`,
+/// `unproved`, or `unknown` where the library's folder doesn't say.
+///
+/// ```
+/// assert!(["proved", "unproved", "unknown"].contains(&mysql_session::BUILD));
+/// ```
+pub const BUILD: &str = env!("MYSQL_SESSION_BUILD");

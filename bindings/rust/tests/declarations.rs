@@ -259,6 +259,23 @@ fn flags_and_the_interface_are_those_of_the_header() {
 }
 
 #[test]
+fn version_is_that_of_the_header() {
+    let text = text_of("../c/mysql_session.h");
+    let defined = |name: &str| {
+        let (_, rest) = text
+            .split_once(&format!("#define MYSQL_SESSION_{name} "))
+            .expect("the header has the name");
+        rest.split_whitespace().next().expect("a value").to_string()
+    };
+    let parts = ["MAJOR", "MINOR", "PATCH"].map(|part| defined(&format!("VERSION_{part}")));
+    assert_eq!(
+        defined("VERSION"),
+        format!("\"{}\"", mysql_session::VERSION)
+    );
+    assert_eq!(parts.join("."), mysql_session::VERSION);
+}
+
+#[test]
 fn codes_are_those_of_the_header() {
     let mut wanted = header_numbers("mysql_session_code");
     wanted.remove("OK");

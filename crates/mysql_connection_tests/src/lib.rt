@@ -3,4 +3,6 @@
 #![tactic(auto)]
 
 #[cfg(test)]
+mod connection;
+#[cfg(test)]
 mod memory;

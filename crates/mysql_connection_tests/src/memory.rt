@@ -12,7 +12,7 @@ use tests_support::{Assert, assert_bytes};
 
 /// Ends a test by an assertion.
 #[derive(Drop)]
-struct Asserting<'a, R>(&'a R);
+pub struct Asserting<'a, R>(pub &'a R);
 
 impl<R: Abort> Assert for Asserting<'_, R> {
     fn holds(&self, is_so: bool)

@@ -1,0 +1,157 @@
+"""What `bindings/build` makes: the shared object, what is installed, the wheel, and what is said
+where the library is missing."""
+
+import os
+import re
+import zipfile
+
+from .support import (BINDINGS, C99, Failure, compare, has, python_environment, run,
+                      rust_environment)
+
+HEADER = os.path.join(BINDINGS, "c", "mysql_session.h")
+PROGRAM = """#include <stdio.h>
+#include "mysql_session.h"
+int main(void)
+{
+    printf("%d\\n", mysql_session_abi() == MYSQL_SESSION_ABI);
+    return 0;
+}
+"""
+CMAKE = """cmake_minimum_required(VERSION 3.10)
+project(program C)
+find_package(PkgConfig REQUIRED)
+pkg_check_modules(MYSQL_SESSION REQUIRED IMPORTED_TARGET mysql_session)
+add_executable(program program.c)
+target_link_libraries(program PkgConfig::MYSQL_SESSION)
+"""
+
+
+def header():
+    """The header without its comments."""
+    with open(HEADER, encoding="utf-8") as it:
+        return re.sub(r"/\*.*?\*/", " ", it.read(), flags=re.S)
+
+
+def defined(name):
+    """What the header defines a name as, without quotes."""
+    return re.search(rf'^#define MYSQL_SESSION_{name} "?([0-9.]+)', header(), re.M).group(1)
+
+
+def declared_calls():
+    """The names of the calls that the header declares."""
+    return set(re.findall(r"\b(mysql_session_\w+)\([^)]*\);", header()))
+
+
+def shared_object(library):
+    """It has the name that goes with the header's interface, all calls of the header, and no name
+    without the prefix."""
+    file = os.path.join(library, "libmysql_session.so")
+    said = run(["readelf", "--dynamic", file])
+    compare(re.findall(r"\(SONAME\).*\[(.*)\]", said), [f"libmysql_session.so.{defined('ABI')}"])
+    exports = {line.split()[-1] for line in run(["nm", "-D", "--defined-only", file]).splitlines()}
+    compare(sorted(declared_calls() - exports), [])
+    compare([it for it in exports if not it.startswith("mysql_session_")], [])
+
+
+def build_word(library):
+    """What the file beside the library says: whether it is proved."""
+    with open(os.path.join(library, "mysql_session.build"), encoding="utf-8") as it:
+        word, version = it.readline().strip(), it.readline().strip()
+    compare(version, f"mysql_session {defined('VERSION')}, interface {defined('ABI')}")
+    if word not in ("proved", "unproved", "unknown"):
+        raise Failure(f"it says {word}")
+    return word
+
+
+class Installed:
+    """What is installed in a prefix, and used from there alone."""
+
+    def __init__(self, library, room):
+        self.library, self.prefix = library, os.path.join(room, "prefix")
+        self.lib = os.path.join(self.prefix, "lib")
+        self.environment = {**os.environ,
+                            "PKG_CONFIG_PATH": os.path.join(self.lib, "pkgconfig")}
+        self.folder = os.path.join(room, "installed")
+
+    def install(self):
+        """The header, the libraries and what pkg-config reads are there, and nothing else is."""
+        run([os.path.join(BINDINGS, "build"), "--to", self.library, "--install", self.prefix])
+        found = [os.path.relpath(os.path.join(at, name), self.prefix)
+                 for at, _, names in os.walk(self.prefix) for name in names]
+        compare(sorted(found), ["include/mysql_session.h", "lib/libmysql_session.a",
+                                "lib/libmysql_session.so",
+                                f"lib/libmysql_session.so.{defined('ABI')}",
+                                "lib/mysql_session.build", "lib/pkgconfig/mysql_session.pc"])
+        os.makedirs(self.folder)
+        self.write("program.c", PROGRAM)
+        self.write("CMakeLists.txt", CMAKE)
+
+    def write(self, name, text):
+        """Writes a file of the program."""
+        with open(os.path.join(self.folder, name), "w", encoding="utf-8") as it:
+            it.write(text)
+
+    def asked(self, *words):
+        """What pkg-config answers, as words."""
+        return run(["pkg-config", *words, "mysql_session"], env=self.environment).split()
+
+    def pkg_config(self):
+        """A program is linked with either library, and pkg-config knows the version."""
+        compare(self.asked("--modversion"), [defined("VERSION")])
+        compare(self.asked("--variable=build"), [build_word(self.library)])
+        ways = [[*self.asked("--libs"), f"-Wl,-rpath,{self.lib}"],
+                self.asked("--variable=archive")]
+        for words in ways:
+            made = os.path.join(self.folder, "program")
+            run([*C99, *self.asked("--cflags"), "program.c", *words, "-o", made], cwd=self.folder)
+            compare(run([made]), "1\n")
+
+    def cmake(self):
+        """A program is built by CMake, as bindings/c/README.md says."""
+        made = os.path.join(self.folder, "made")
+        run(["cmake", "-S", self.folder, "-B", made], env=self.environment)
+        run(["cmake", "--build", made], env=self.environment)
+        compare(run([os.path.join(made, "program")]), "1\n")
+
+
+def wheel(library, room):
+    """The wheel has the module and the library, which work without the repository."""
+    made = os.path.join(room, "wheel")
+    os.makedirs(made)
+    program = "import make_wheel, sys; print(make_wheel.build_wheel(sys.argv[1]))"
+    name = run(["python3", "-c", program, made], env=python_environment(library)).strip()
+    with zipfile.ZipFile(os.path.join(made, name)) as it:
+        compare(it.testzip(), None)
+        it.extractall(made)
+    bare = {key: text for key, text in os.environ.items() if not key.startswith("MYSQL_SESSION_")}
+    program = "import mysql_session as it; print(it.__file__, it.__version__, it.__build__)"
+    said = run(["python3", "-c", program], env={**bare, "PYTHONPATH": made}).split()
+    compare(said, [os.path.join(made, "mysql_session", "__init__.py"), defined("VERSION"),
+                   build_word(library)])
+
+
+def lacks_library(words, status, environment, folder):
+    """A command fails where its environment names an empty folder, and says what makes the library."""
+    said = run(words, status, cwd=folder, env=environment)
+    if "Run bindings/build, which makes it" not in said:
+        raise Failure(f"it says {said}")
+
+
+def test_build(report, library, room):
+    """Tests what `bindings/build` made, and how it is taken."""
+    report.run("libmysql_session.so", shared_object, library)
+    report.run("mysql_session.build", build_word, library)
+    installed = Installed(library, room)
+    if report.run("bindings/build --install", installed.install):
+        if has("pkg-config"):
+            report.run("a program by pkg-config", installed.pkg_config)
+        if has("pkg-config", "cmake", "make"):
+            report.run("a program by CMake", installed.cmake)
+    report.run("a wheel", wheel, library, room)
+    nothing = os.path.join(room, "nothing")
+    os.makedirs(nothing)
+    report.run("Python without the library", lacks_library, ["python3", "-c", "import mysql_session"],
+               1, python_environment(nothing), nothing)
+    if has("cargo"):
+        report.run("cargo without the library", lacks_library, ["cargo", "build", "--offline"],
+                   101, rust_environment(nothing, nothing), os.path.join(BINDINGS, "rust"))

@@ -1,0 +1,51 @@
+//! Recorded connections, read whole, in pieces, cut and with bytes changed.
+//!
+//! Each argument names a recording: NAME.client and NAME.server are the bytes of both sides, and
+//! NAME.events has a line for each payload, in the order in which they are due, and one for the end.
+//! However the bytes arrive, these lines have to come, each as soon as its bytes are there.
+#![tactic(auto)]
+
+mod calls;
+mod numbers;
+mod orders;
+mod readings;
+mod recordings;
+mod streams;
+mod troubles;
+
+use crate::recordings::{Recording, Tally};
+use std::process::ExitCode;
+use std::rt::Files;
+use std::{env, io};
+
+/// Reads a recording in all ways and prints how much was read: whether all was as it has to be.
+fn check<R: Files + AllocGlobal + Print>(rt: &R, name: &str, all: &mut Tally) -> io::Result<bool> {
+    let mut recording = Recording::read(rt, name)?;
+    let mut tally = Tally::new();
+    let checked = recording.check(rt.alloc(), &mut tally);
+    all.add(tally);
+    match checked {
+        Ok(()) => println!(rt; "{name}: {tally}")?,
+        Err(failure) => println!(rt; "{name}: {failure}")?,
+    }
+    Ok(checked.is_ok())
+}
+
+fn main(rt: HostRuntime) -> io::Result<ExitCode> {
+    let mut all = Tally::new();
+    let (mut passed, mut failed) = (0u64, 0u64);
+    for name in env::args(&rt)?.skip(1) {
+        if check(&rt, name.as_str(), &mut all)? {
+            passed = passed.saturating_add(1);
+        } else {
+            failed = failed.saturating_add(1);
+        }
+    }
+    println!(rt; "all: {all}")?;
+    println!(rt; "{passed} passed, {failed} failed")?;
+    Ok(if failed == 0 {
+        ExitCode::SUCCESS
+    } else {
+        ExitCode::from(1)
+    })
+}

@@ -1,0 +1,108 @@
+//! A side's stream: how far it was fed, and how far events took it.
+
+use crate::troubles::Trouble;
+
+/// What of a side's stream wasn't fed yet, and what no event took yet.
+#[derive(Clone, Copy)]
+pub struct Stream<'a> {
+    unfed: &'a [u8],
+    untaken: &'a [u8],
+}
+
+/// How many bytes the packet that stands first takes, where its header is there. No packet of a
+/// recording is as long as a chunk, so that each is a payload.
+fn packet_length(bytes: &[u8]) -> Option<usize> {
+    match bytes {
+        [low, middle, high, _, ..] => {
+            let length = u32::from_le_bytes([*low, *middle, *high, 0]);
+            Some((length as usize).saturating_add(4))
+        }
+        _ => None,
+    }
+}
+
+/// The longest payload of a stream, by the headers of its packets.
+pub fn longest_payload(stream: &[u8]) -> usize {
+    let mut left = stream;
+    let mut longest = 0;
+    for _ in 0..stream.len() {
+        let Some(length) = packet_length(left) else {
+            break;
+        };
+        longest = length.saturating_sub(4).max(longest);
+        let Some(behind) = left.get(length..) else {
+            break;
+        };
+        left = behind;
+    }
+    longest
+}
+
+/// The packets of a stream that stand whole.
+pub fn packets_front(stream: &[u8]) -> &[u8] {
+    let mut left = stream;
+    for _ in 0..stream.len() {
+        let Some(length) = packet_length(left) else {
+            break;
+        };
+        let Some(behind) = left.get(length..) else {
+            break;
+        };
+        left = behind;
+    }
+    let count = stream.len().saturating_sub(left.len());
+    stream.get(..count).unwrap_or(stream)
+}
+
+impl<'a> Stream<'a> {
+    /// A stream of which nothing was fed.
+    pub fn new(bytes: &'a [u8]) -> Stream<'a> {
+        Stream {
+            unfed: bytes,
+            untaken: bytes,
+        }
+    }
+
+    /// How many bytes weren't fed yet.
+    pub fn left(&self) -> usize {
+        self.unfed.len()
+    }
+
+    /// So many of the bytes that weren't fed yet, or all of them.
+    pub fn piece(&self, count: usize) -> &'a [u8] {
+        self.unfed.get(..count).unwrap_or(self.unfed)
+    }
+
+    /// So many bytes were fed.
+    pub fn feed(&mut self, count: usize) {
+        self.unfed = self.unfed.get(count..).unwrap_or(&[]);
+    }
+
+    /// How many bytes were fed that no event took.
+    pub fn waiting(&self) -> usize {
+        self.untaken.len().saturating_sub(self.unfed.len())
+    }
+
+    /// Whether the packet that stands first was fed whole.
+    pub fn is_whole(&self) -> bool {
+        match packet_length(self.untaken) {
+            Some(length) => length <= self.waiting(),
+            None => false,
+        }
+    }
+
+    /// An event took the packet that stands first.
+    pub fn take(&mut self) -> Result<(), Trouble> {
+        if !self.is_whole() {
+            return Err(Trouble::Early);
+        }
+        let length = packet_length(self.untaken).unwrap_or(0);
+        self.untaken = self.untaken.get(length..).unwrap_or(&[]);
+        Ok(())
+    }
+
+    /// Whether these are the bytes that were fed and that no event took.
+    pub fn is_rest(&self, bytes: &[u8]) -> bool {
+        bytes.len() == self.waiting() && self.untaken.starts_with(bytes)
+    }
+}

@@ -1,0 +1,111 @@
+//! What a reading gives otherwise than it has to.
+
+use crate::orders::Order;
+use mysql_connection_rules::Side;
+use std::alloc::AllocError;
+use std::{fmt, io};
+
+/// What a reading gives otherwise than it has to.
+#[derive(Clone, Copy)]
+pub enum Trouble {
+    Memory,
+    /// A piece is refused that there is room for, or taken though there is none.
+    Feed,
+    /// An event, or the end, is another.
+    Line,
+    /// An event comes before its bytes.
+    Early,
+    /// No event comes though its bytes are there.
+    Late,
+    /// A fault is found where none is.
+    Fault,
+    /// Another side is due.
+    Turn,
+    /// Other bytes are unread.
+    Rest,
+    /// More is kept than the limit leaves.
+    Held,
+    /// The end isn't how the connection stands.
+    End,
+}
+
+impl Trouble {
+    fn text(self) -> &'static str {
+        match self {
+            Trouble::Memory => "memory is refused twice",
+            Trouble::Feed => "a piece is refused or taken against what there is room for",
+            Trouble::Line => "the next line is another",
+            Trouble::Early => "the next line comes before its bytes",
+            Trouble::Late => "the next line doesn't come though its bytes are there",
+            Trouble::Fault => "there is a fault",
+            Trouble::Turn => "another side is due",
+            Trouble::Rest => "other bytes are unread",
+            Trouble::Held => "more is kept than the limit leaves",
+            Trouble::End => "the end isn't how the connection stands",
+        }
+    }
+}
+
+impl From<AllocError> for Trouble {
+    fn from(_e: AllocError) -> Trouble {
+        Trouble::Memory
+    }
+}
+
+/// Lines are written to memory, which alone can refuse them.
+impl From<io::Error> for Trouble {
+    fn from(_e: io::Error) -> Trouble {
+        Trouble::Memory
+    }
+}
+
+/// What is read of a recording.
+#[derive(Clone, Copy)]
+pub enum Part {
+    /// All of it.
+    Whole,
+    /// Fronts of both streams, of so many bytes of the client's and of the server's.
+    Fronts(usize, usize),
+    /// All of it, but this byte of this side is another.
+    Changed(Side, usize),
+    /// All of it, where a byte less may be kept than has to be.
+    Short,
+}
+
+impl fmt::Display for Part {
+    fn fmt<W: fmt::Write>(&self, f: &mut fmt::Formatter<W>) -> fmt::Result {
+        match self {
+            Part::Whole => f.write_str("whole"),
+            Part::Fronts(client, server) => write!(f, "fronts of {client} and {server} bytes"),
+            Part::Changed(Side::Client, byte) => write!(f, "byte {byte} of the client changed"),
+            Part::Changed(Side::Server, byte) => write!(f, "byte {byte} of the server changed"),
+            Part::Short => f.write_str("with too little room"),
+        }
+    }
+}
+
+/// A reading that gives other than it has to.
+#[derive(Clone, Copy)]
+pub struct Failure {
+    pub part: Part,
+    pub order: Order,
+    pub trouble: Trouble,
+    /// How many lines came before.
+    pub lines: u64,
+    /// How many bytes were fed in how many pieces.
+    pub pieces: u64,
+}
+
+impl fmt::Display for Failure {
+    fn fmt<W: fmt::Write>(&self, f: &mut fmt::Formatter<W>) -> fmt::Result {
+        write!(
+            f,
+            "{}, {}: {} behind {} lines and {} pieces",
+            self.part,
+            self.order.name(),
+            self.trouble.text(),
+            self.lines,
+            self.pieces
+        )
+    }
+}
