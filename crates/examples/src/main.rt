@@ -1,7 +1,8 @@
 //! Short programs over the public calls, one in each file: they audit a captured stream, send a
 //! query, load rows in bulk, read a reply, log in, sort what a client sends, look on at what passes
 //! between a client and a server, answer in a server's place, let rows go that were looked at,
-//! keep a query, by which sets go to a connection, and print what a client sends.
+//! keep a query, by which sets go to a connection, print what a client sends, and watch a whole
+//! connection.
 #![tactic(auto)]
 
 mod answering;
@@ -16,6 +17,7 @@ mod reading;
 mod sending;
 mod serving;
 mod sorting;
+mod watching;
 
 use std::fs::File;
 use std::io;
@@ -40,5 +42,8 @@ fn main(rt: HostRuntime) -> anyhow::Result<()> {
     let mut connection = Vec::new(alloc);
     keeping::send_all(alloc, &mut connection, &mut out)?;
     printing::print(alloc, &mut out)?;
+    let mut client = File::open(&rt, "client.bin")?;
+    let mut server = File::open(&rt, "server.bin")?;
+    watching::watch(alloc, &mut client, &mut server, &mut out)?;
     Ok(())
 }
