@@ -20,6 +20,7 @@ size_t mysql_bench_store_rows(Pointer, size_t, size_t, _Bool);
 size_t mysql_bench_write_reply(Pointer, size_t, _Bool, size_t);
 size_t mysql_bench_read_reply_taken(Pointer, size_t, Pointer, size_t, size_t, size_t, _Bool);
 size_t mysql_bench_read_connection(Pointer, size_t, Pointer, size_t, size_t);
+size_t mysql_bench_read_connection_lent(Pointer, size_t, Pointer, size_t, size_t);
 size_t mysql_bench_read_apart(Pointer, size_t, Pointer, size_t, Pointer, size_t, size_t, size_t, _Bool);
 size_t mysql_bench_cells(Pointer, size_t, _Bool, _Bool, size_t);
 int64_t mysql_bench_convert(Pointer, size_t, size_t, size_t);
@@ -49,13 +50,21 @@ static void send_sets(const char *what, Work work, int rounds) {
 typedef struct { Bytes client, server, commands, replies; size_t reply; } Streams;
 
 static Streams streams_of(const char *what) {
-    _Bool rows = ENDS("-rows"), executions = ENDS("-executions");
+    _Bool rows = BEGINS("connection-rows"), executions = ENDS("-executions");
     Bytes none = {0}, commands = executions ? repeated(load("prepare"), load("executes"), 1) : load("texts");
     if (rows) commands.len = 4 + (commands.at[0] | commands.at[1] << 8);
     Bytes replies = load(rows ? "reply-text" : executions ? "replies-binary" : "replies-text");
     Bytes before = repeated(load("login-server"), executions ? load("prepared") : none, 1);
     Bytes client = repeated(load("login-client"), commands, 1), server = repeated(before, replies, 1);
     return (Streams){client, server, commands, replies, rows ? replies.len : replies.len / CONNECTION_COMMANDS};
+}
+
+// The rows lent, looked at and let go, by the connection and by a reader of the reply.
+static void lend_connection(const char *what, int rounds) {
+    Bytes query = load("query");
+    Streams all = streams_of(what);
+    MEASURE("library", (double)ROWS, mysql_bench_read_connection_lent(all.client.at, all.client.len, all.server.at, all.server.len, PIECE))
+    MEASURE("apart", (double)ROWS, mysql_bench_receive_taken(query.at, query.len, all.commands.at, 0, all.commands.at, all.commands.len, 1, PIECE) + mysql_bench_lend_rows(all.replies.at, all.replies.len, PIECE, 0))
 }
 
 static void read_connection(const char *what, int rounds) {
@@ -110,6 +119,8 @@ static void run(const char *what, int rounds) {
     } else if (BEGINS("convert")) {
         Bytes values = load(IS("convert-digits") ? "digits" : "numbers");
         MEASURE("library", (double)CONVERTED * CONVERT_TIMES, mysql_bench_convert(values.at, values.len, CONVERTED, CONVERT_TIMES))
+    } else if (IS("connection-rows-lent")) {
+        lend_connection(what, rounds);
     } else if (BEGINS("connection")) {
         read_connection(what, rounds);
     } else if (find_work(what, &work)) {

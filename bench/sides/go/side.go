@@ -154,8 +154,11 @@ func sumOf(row []driver.Value) int {
 	return sum
 }
 
+// copied is the copy of a row that was read last.
+var copied []driver.Value
+
 // readAll reads a reply, keeps copies of its rows where asked for, and answers how many there are, or what all cells come to.
-func readAll(reply []byte, isBinary, keeps, sums bool) int {
+func readAll(reply []byte, isBinary, copies, keeps, sums bool) int {
 	mc := connected(&memory{left: reply})
 	mc.sequence = 1
 	count, err := mc.readResultSetHeaderPacket()
@@ -177,8 +180,11 @@ func readAll(reply []byte, isBinary, keeps, sums bool) int {
 			break
 		}
 		check(err)
+		if copies {
+			copied = kept(dest)
+		}
 		if keeps {
-			all = append(all, kept(dest))
+			all = append(all, copied)
 		}
 		if sums && !keeps {
 			n += sumOf(dest)
@@ -208,10 +214,18 @@ func run(what string, rounds int) {
 		isBinary := strings.HasPrefix(what, "reply-binary")
 		reply := load(map[bool]string{false: "reply-text", true: "reply-binary"}[isBinary])
 		if isLent {
-			measure("go-sql-driver-row", what, rows, rounds, func() int { return readAll(reply, isBinary, false, sums) })
+			measure("go-sql-driver-row", what, rows, rounds, func() int { return readAll(reply, isBinary, false, false, sums) })
 		}
 		if !isLent {
-			measure("go-sql-driver-kept", what, rows, rounds, func() int { return readAll(reply, isBinary, true, sums) })
+			measure("go-sql-driver-kept", what, rows, rounds, func() int { return readAll(reply, isBinary, true, true, sums) })
+		}
+	}
+	// Of a connection the rows of its one reply alone.
+	if strings.HasPrefix(what, "connection-rows") {
+		reply, isLent := load("reply-text"), strings.HasSuffix(what, "-lent")
+		measure("go-sql-driver-row", what, rows, rounds, func() int { return readAll(reply, false, false, false, isLent) })
+		if !isLent {
+			measure("go-sql-driver-copied", what, rows, rounds, func() int { return readAll(reply, false, true, false, false) })
 		}
 	}
 }

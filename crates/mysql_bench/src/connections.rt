@@ -4,9 +4,10 @@
 ghost use Rattle.std.specs.Prelude.{◌<◌};
 
 use crate::commands::taken_sets;
+use crate::lent::sum_of;
 use crate::replies::{reader_of, taken_rows};
 use crate::{LIMIT, STATEMENT};
-use mysql_connection::{Connection, ConnectionFault, Limits, Side};
+use mysql_connection::{Connection, ConnectionFault, LentEvent, Limits, Side};
 use mysql_session::{End, Receiver, ReplyEnd};
 use std::alloc::Global;
 
@@ -72,24 +73,57 @@ fn taken_events(connection: &mut Connection, most: usize) -> Result<usize, Conne
     Ok(count)
 }
 
+/// What the cells of the row that is lent come to, and 1 for the row.
+fn sum_of_lent(connection: &Connection) -> usize {
+    match connection.row() {
+        Some(row) => sum_of(&row),
+        None => 0,
+    }
+}
+
+/// Takes the events that stand, at most so many, and looks at each row where it lies. Answers what
+/// the rows come to, and 1 for each other event.
+fn lent_events(connection: &mut Connection, most: usize) -> Result<usize, ConnectionFault> {
+    let mut sum: usize = 0;
+    for _ in 0..most {
+        let more = match connection.next_event_lent()? {
+            Some(LentEvent::Row) => sum_of_lent(connection),
+            Some(LentEvent::Event(_)) => 1,
+            None => return Ok(sum),
+        };
+        sum = sum.wrapping_add(more);
+    }
+    Ok(sum)
+}
+
+/// Takes the events that stand, with rows that are lent or each row as an event.
+fn taken(connection: &mut Connection, most: usize, lent: bool) -> Result<usize, ConnectionFault> {
+    if lent {
+        lent_events(connection, most)
+    } else {
+        taken_events(connection, most)
+    }
+}
+
 /// Reads both streams on, each in pieces of a size, until the side whose payload is due has no more.
-/// Answers how many events there are.
+/// Answers how many events there are, or what they come to where rows are lent.
 fn read_on(
     connection: &mut Connection,
     client: &[u8],
     server: &[u8],
     size: usize,
+    lent: bool,
 ) -> Result<usize, ConnectionFault> {
     // There are fewer events than bytes, and no more pieces.
     let most = client.len().saturating_add(server.len());
     let mut coming = Coming { client, server };
-    let mut count = taken_events(connection, most)?;
+    let mut count = taken(connection, most, lent)?;
     for _ in 0..most {
         match fed(connection, coming, size) {
             Some(rest) => coming = rest,
             None => return Ok(count),
         }
-        count = count.wrapping_add(taken_events(connection, most)?);
+        count = count.wrapping_add(taken(connection, most, lent)?);
     }
     Ok(count)
 }
@@ -103,7 +137,20 @@ pub extern "C" fn mysql_bench_read_connection(
     size: usize,
 ) -> usize {
     let mut connection = Connection::new(alloc, LIMITS);
-    read_on(&mut connection, client, server, size).unwrap_or(0)
+    read_on(&mut connection, client, server, size, false).unwrap_or(0)
+}
+
+/// Reads a connection whose streams come in pieces of a size, and looks at each row where it lies.
+/// Answers what the rows come to, and 1 for each other event.
+#[unsafe(no_mangle)]
+pub extern "C" fn mysql_bench_read_connection_lent(
+    alloc: Global,
+    client: &[u8],
+    server: &[u8],
+    size: usize,
+) -> usize {
+    let mut connection = Connection::new(alloc, LIMITS);
+    read_on(&mut connection, client, server, size, true).unwrap_or(0)
 }
 
 /// Reads a connection whose server's stream is a front and then a block so many times.
@@ -118,11 +165,11 @@ pub extern "C" fn mysql_bench_read_long_connection(
     size: usize,
 ) -> usize {
     let mut connection = Connection::new(alloc, LIMITS);
-    let Ok(mut count) = read_on(&mut connection, client, front, size) else {
+    let Ok(mut count) = read_on(&mut connection, client, front, size, false) else {
         return 0;
     };
     for _ in 0..times {
-        match read_on(&mut connection, &[], block, size) {
+        match read_on(&mut connection, &[], block, size, false) {
             Ok(more) => count = count.wrapping_add(more),
             Err(_) => return 0,
         }
