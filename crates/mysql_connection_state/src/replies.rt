@@ -4,7 +4,7 @@ ghost use Rattle.std.specs.Prelude.{◌≡◌, None, OnOk, true};
 ghost use Rattle.mysql_const.specs.declared.capabilities.Capabilities.{Capabilities};
 ghost use Rattle.mysql_connection_rules.specs.Events.Event.{Replied};
 ghost use Rattle.mysql_connection_rules.specs.Standing as phases;
-ghost use Rattle.mysql_connection_rules.specs.Standing.{InReply as ReplySoFar};
+ghost use Rattle.mysql_connection_rules.specs.Standing.{InReply as StandingReply};
 ghost use Rattle.mysql_connection_rules.specs.Steps as steps;
 ghost use Rattle.mysql_reply_events.specs.Standing.{RowAt};
 ghost use Rattle.mysql_reply_events.specs.Views.{event_view as reply_view};
@@ -204,7 +204,7 @@ impl State {
     // What is due behind the last event of a reply. Apart from its caller, as `give_up` is.
     #[inline(never)]
     fn end_reply(&mut self, event: &ReplyEvent)
-        ensures { (r : ReplySoFar) → self.old.standing.phase ≡ phases.Reply r →
+        ensures { (r : StandingReply) → self.old.standing.phase ≡ phases.Reply r →
             self.new.standing ≡
             steps.in_phase (steps.phase_behind r.about (reply_view event.now)) self.old.standing }
     {
@@ -215,7 +215,7 @@ impl State {
 
     // Whether the reply that is due is whole.
     fn has_whole_reply(&self) -> bool
-        ensures { (r : ReplySoFar) → self.now.standing.phase ≡ phases.Reply r →
+        ensures { (r : StandingReply) → self.now.standing.phase ≡ phases.Reply r →
             result ≡ steps.is_whole r.so_far.awaited }
     {
         match &self.due {
@@ -226,7 +226,7 @@ impl State {
 
     // What is due behind an event that the reply has read, and the event.
     fn tell(&mut self, event: Box<ReplyEvent>) -> Event
-        ensures state { (r : ReplySoFar) → self.old.standing.phase ≡ phases.Reply r →
+        ensures state { (r : StandingReply) → self.old.standing.phase ≡ phases.Reply r →
             self.new.standing ≡ told r (reply_view event.value) self.old.standing }
         ensures event { event_view result ≡ Replied (reply_view event.value) }
     {
@@ -241,7 +241,7 @@ impl State {
     // Reads a payload of the server.
     fn read_reply(&mut self, payload: &[u8]) -> Result<Event, Fault>
         requires { IsInReply self.old.standing.phase }
-        ensures { (r : ReplySoFar) → self.old.standing.phase ≡ phases.Reply r →
+        ensures { (r : StandingReply) → self.old.standing.phase ≡ phases.Reply r →
             Reads (steps.reply_step r self.old.standing payload.now) result self.new.standing }
     {
         let Due::Reply(reply) = &mut self.due else {
@@ -259,7 +259,7 @@ impl State {
     // Reads bytes of the client's file.
     fn read_file(&mut self, payload: &[u8]) -> Result<Event, Fault>
         requires { IsInReply self.old.standing.phase }
-        ensures { (r : ReplySoFar) → self.old.standing.phase ≡ phases.Reply r →
+        ensures { (r : StandingReply) → self.old.standing.phase ≡ phases.Reply r →
             Reads (steps.file_step r self.old.standing payload.now) result self.new.standing }
     {
         let Due::Reply(reply) = &mut self.due else {
@@ -277,7 +277,7 @@ impl State {
     /// Reads a payload of a reply, or of a file that it asks for.
     pub(crate) fn read_in_reply(&mut self, payload: &[u8], side: Side) -> Result<Event, Fault>
         requires { IsInReply self.old.standing.phase }
-        ensures { (r : ReplySoFar) → self.old.standing.phase ≡ phases.Reply r →
+        ensures { (r : StandingReply) → self.old.standing.phase ≡ phases.Reply r →
             Reads (steps.by_turn side r self.old.standing payload.now) result self.new.standing }
     {
         match side {
@@ -302,7 +302,7 @@ impl State {
     // Reads a payload of the server; a row where it lies.
     fn read_reply_in_place(&mut self, payload: &[u8]) -> Result<Option<Event>, Fault>
         requires { IsInReply self.old.standing.phase }
-        ensures { (r : ReplySoFar) → self.old.standing.phase ≡ phases.Reply r →
+        ensures { (r : StandingReply) → self.old.standing.phase ≡ phases.Reply r →
             ReadsInPlace (steps.reply_step r self.old.standing payload.now) payload.now result
             self.new }
     {
