@@ -19,8 +19,9 @@ answers_stay stay old new (Some event) answers within =
 pub lent_stays : EventsStayWithinLimits → (old : World) (new : LendingWorld)
     (event : Option LentEvent) → AnswersLent old (Ok event) new → WithinLimits old →
     WithinLimits new.world
-lent_stays stay old new None answers within = subst WithinLimits (sym answers.1) within
+lent_stays stay old new None answers within =
+    subst (λ (w : LendingWorld). WithinLimits w.world) (sym answers.1) within
 lent_stays stay old new (Some lent.Row) answers within =
     stay old new.world (Replied (RowEvent answers.0)) answers.2 within
 lent_stays stay old new (Some (lent.Event event)) answers within =
-    stay old new.world (event_view event) answers within
+    stay old new.world (event_view event) answers.0 within

@@ -91,14 +91,16 @@ RefusesPiece m side piece Held =
 RefusesPiece m side piece Memory =
     ((stream_in side m).closed ≡ false) × (length_with side piece m ≤ room side m.world.limits)
 
--- A piece of the side is taken whole, or refused, which changes nothing.
+-- A piece of the side is taken whole, or refused, which changes nothing, but that for want of
+-- memory no row is lent any more.
 abbrev pub Feeds : Machine → Side → List ℕ → Result (Unit {0}) FeedRefusal → Machine → Type 0
 Feeds old side piece (Ok done) new =
     ((stream_in side old).closed ≡ false) ×
     (length_with side piece old ≤ room side old.world.limits) ×
     (new ≡ come_to side (Piece piece) old)
-Feeds old side piece (Err cause) new =
-    RefusesPiece old side piece cause × (new.world ≡ old.world) × (new.failure ≡ old.failure)
+Feeds old side piece (Err Memory) new =
+    RefusesPiece old side piece Memory × (new ≡ record old { row = None })
+Feeds old side piece (Err cause) new = RefusesPiece old side piece cause × (new ≡ old)
 
 -- A fault was found: it is what comes next, but where memory ran out, of which nothing is known.
 -- Nothing is taken of the streams.
@@ -130,14 +132,14 @@ TakesBytes old result new = Unit {0}
 
 -- ROWS THAT ARE LENT
 
--- What comes next of the world, of which a row is lent.
+-- What comes next of the world, of which a row is lent; by any other answer none is.
 abbrev pub AnswersLent : World → Result (Option LentEvent) ConnectionFault → LendingWorld → Type 0
-AnswersLent old (Ok None) new = (next old ≡ Waits) × (new.world ≡ old)
+AnswersLent old (Ok None) new = (next old ≡ Waits) × (new ≡ lending_none old)
 AnswersLent old (Ok (Some (lent.Event event))) new =
-    next old ≡ Says (event_view event) new.world
+    (next old ≡ Says (event_view event) new.world) × (new.row ≡ None)
 AnswersLent old (Ok (Some lent.Row)) new =
     (row : Row) × (new.row ≡ Some row) × (next old ≡ Says (Replied (RowEvent row)) new.world)
-AnswersLent old (Err fault) new = FindsFault old fault new.world
+AnswersLent old (Err fault) new = FindsFault old fault new.world × (new.row ≡ None)
 
 -- LIMITS
 

@@ -87,7 +87,7 @@ impl Connection {
     }
 
     /// Takes a piece of a side's stream, whole; nothing of it is read yet. After an `Err` nothing
-    /// has changed.
+    /// has changed, but that for want of memory no row is lent any more.
     ///
     /// Promise: the piece is taken where the stream is open and there is room for it, but for want
     /// of memory, and each refusal comes exactly where it is named (`Feeds`).

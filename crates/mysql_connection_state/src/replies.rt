@@ -230,10 +230,8 @@ impl State {
             self.new.standing ≡ told r (reply_view event.value) self.old.standing }
         ensures event { event_view result ≡ Replied (reply_view event.value) }
     {
-        if let Due::Reply(reply) = &self.due
-            && reply.is_whole()
-        {
-            self.due = due_behind(&reply.about, &event);
+        if self.has_whole_reply() {
+            self.end_reply(&event);
         }
         Event::Reply(event)
     }
