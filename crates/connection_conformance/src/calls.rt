@@ -1,8 +1,8 @@
 //! The calls of a connection, each with what it has to answer.
 
 use crate::troubles::Trouble;
-use mysql_connection_lines::{write_end, write_event};
-use mysql_connection_machine::{Connection, End, FeedRefusal};
+use mysql_connection_lines::{write_end, write_event, write_lent_row};
+use mysql_connection_machine::{Connection, ConnectionFault, End, FeedRefusal, LentEvent};
 use mysql_connection_rules::{Fault, Reason, Side};
 use mysql_connection_state::{Event, Phase};
 
@@ -48,29 +48,76 @@ pub fn close(connection: &mut Connection) -> Result<(), Trouble> {
 }
 
 /// Appends an event's line.
-fn put_event(event: &Event, text: &mut Vec<u8>) -> Result<(), Trouble> {
+pub fn put_event(event: &Event, text: &mut Vec<u8>) -> Result<(), Trouble> {
     write_event(text, event)?;
     text.extend_from_slice(b"\n")?;
     Ok(())
 }
 
+/// What a fault leads to.
+fn failed(failure: ConnectionFault) -> Result<Next, Trouble> {
+    match failure.fault {
+        Fault::Memory => Err(Trouble::Memory),
+        _ => Ok(Next::Failed),
+    }
+}
+
 /// Appends the line of the event that comes next.
-pub fn put_next(connection: &mut Connection, text: &mut Vec<u8>) -> Result<Next, Trouble> {
+fn put_next_kept(connection: &mut Connection, text: &mut Vec<u8>) -> Result<Next, Trouble> {
     match connection.next_event() {
         Ok(Some(event)) => match put_event(&event, text) {
             Ok(()) => Ok(Next::Line),
             Err(trouble) => Err(trouble),
         },
         Ok(None) => Ok(Next::Nothing),
-        Err(failure) if matches!(failure.fault, Fault::Memory) => Err(Trouble::Memory),
-        Err(_) => Ok(Next::Failed),
+        Err(failure) => failed(failure),
+    }
+}
+
+/// Appends the line of the row that is lent.
+fn put_row(connection: &Connection, text: &mut Vec<u8>) -> Result<(), Trouble> {
+    let Some(row) = connection.row() else {
+        return Err(Trouble::Row);
+    };
+    write_lent_row(text, &row)?;
+    text.extend_from_slice(b"\n")?;
+    Ok(())
+}
+
+/// Appends the line of the event that comes next, of which a row is lent.
+fn put_next_lent(connection: &mut Connection, text: &mut Vec<u8>) -> Result<Next, Trouble> {
+    match connection.next_event_lent() {
+        Ok(Some(LentEvent::Row)) => match put_row(connection, text) {
+            Ok(()) => Ok(Next::Line),
+            Err(trouble) => Err(trouble),
+        },
+        Ok(Some(LentEvent::Event(event))) => match put_event(&event, text) {
+            Ok(()) if connection.row().is_some() => Err(Trouble::Row),
+            Ok(()) => Ok(Next::Line),
+            Err(trouble) => Err(trouble),
+        },
+        Ok(None) => Ok(Next::Nothing),
+        Err(failure) => failed(failure),
+    }
+}
+
+/// Appends the line of what comes next, of which a row is lent or is an event as any other.
+pub fn put_next(
+    connection: &mut Connection,
+    lent: bool,
+    text: &mut Vec<u8>,
+) -> Result<Next, Trouble> {
+    if lent {
+        put_next_lent(connection, text)
+    } else {
+        put_next_kept(connection, text)
     }
 }
 
 /// Appends the lines of all events that come.
 pub fn put_lines(connection: &mut Connection, text: &mut Vec<u8>) -> Result<(), Trouble> {
     for _ in 0..u64::MAX {
-        if !matches!(put_next(connection, text)?, Next::Line) {
+        if !matches!(put_next_kept(connection, text)?, Next::Line) {
             break;
         }
     }

@@ -1,4 +1,4 @@
-//! Recorded connections, read whole, in pieces, cut and with bytes changed.
+//! Recorded connections, read whole, in pieces, cut, with bytes changed and with rows that are lent.
 //!
 //! Each argument names a recording: NAME.client and NAME.server are the bytes of both sides, and
 //! NAME.events has a line for each payload, in the order in which they are due, and one for the end.
@@ -10,6 +10,7 @@ mod numbers;
 mod orders;
 mod readings;
 mod recordings;
+mod speaking;
 mod streams;
 mod troubles;
 

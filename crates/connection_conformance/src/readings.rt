@@ -17,6 +17,8 @@ pub struct Task<'a> {
     /// The lines of the events and of the end. Of fronts they are those of the whole streams.
     pub lines: &'a [u8],
     pub order: Order,
+    /// Whether rows are lent, or are events as any other.
+    pub lent: bool,
     pub limits: Limits,
 }
 
@@ -27,6 +29,8 @@ pub struct Reading<'a> {
     server: Stream<'a>,
     /// The lines that are still to come.
     lines: &'a [u8],
+    /// Whether rows are lent.
+    lent: bool,
     /// How many came.
     pub taken: u64,
     /// In how many pieces.
@@ -63,6 +67,7 @@ impl<'a> Reading<'a> {
             client: Stream::new(task.client),
             server: Stream::new(task.server),
             lines: task.lines,
+            lent: task.lent,
             taken: 0,
             pieces: 0,
             kept: 0,
@@ -130,7 +135,7 @@ impl<'a> Reading<'a> {
     ) -> Result<(), Trouble> {
         for _ in 0..u64::MAX {
             line.clear();
-            match put_next(connection, line)? {
+            match put_next(connection, self.lent, line)? {
                 Next::Line => self.take(line.as_slice())?,
                 Next::Nothing => return self.wait(connection.turn()),
                 Next::Failed => return self.fail(connection),

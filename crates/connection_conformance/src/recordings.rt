@@ -3,6 +3,7 @@
 use crate::numbers::Numbers;
 use crate::orders::Order;
 use crate::readings::{Task, collect, read};
+use crate::speaking::say;
 use crate::streams::{longest_payload, packets_front};
 use crate::troubles::{Failure, Part};
 use mysql_connection_machine::Connection;
@@ -37,6 +38,8 @@ pub struct Tally {
     pub events: u64,
     pub readings: u64,
     pub pieces: u64,
+    /// How many events a client and a server said again.
+    pub said: u64,
 }
 
 impl Tally {
@@ -46,6 +49,7 @@ impl Tally {
             events: 0,
             readings: 0,
             pieces: 0,
+            said: 0,
         }
     }
 
@@ -54,6 +58,7 @@ impl Tally {
         self.events = self.events.saturating_add(other.events);
         self.readings = self.readings.saturating_add(other.readings);
         self.pieces = self.pieces.saturating_add(other.pieces);
+        self.said = self.said.saturating_add(other.said);
     }
 
     /// Reads it, counts the reading, and returns the most that was kept.
@@ -63,6 +68,7 @@ impl Tally {
             events: 0,
             readings: 1,
             pieces: reading.pieces,
+            said: 0,
         });
         if let Part::Whole = task.part {
             self.events = reading.taken;
@@ -75,8 +81,8 @@ impl fmt::Display for Tally {
     fn fmt<W: fmt::Write>(&self, f: &mut fmt::Formatter<W>) -> fmt::Result {
         write!(
             f,
-            "{} events, {} readings in {} pieces",
-            self.events, self.readings, self.pieces
+            "{} events, {} readings in {} pieces, {} said again",
+            self.events, self.readings, self.pieces, self.said
         )
     }
 }
@@ -141,6 +147,21 @@ fn read_in_orders(alloc: Global, task: Task<'_>, tally: &mut Tally) -> Result<us
     Ok(kept)
 }
 
+/// Reads all of it with rows that are lent.
+fn read_lent(alloc: Global, task: Task<'_>, tally: &mut Tally) -> Result<(), Failure> {
+    for order in [Order::First(Side::Server), Order::ByTurns, Order::Random(4)] {
+        tally.read(
+            alloc,
+            &Task {
+                order,
+                lent: true,
+                ..task
+            },
+        )?;
+    }
+    Ok(())
+}
+
 /// Reads all of it under the least limits, and with a byte less to keep.
 fn read_under_limits(
     alloc: Global,
@@ -179,7 +200,7 @@ fn read_under_limits(
     Ok(())
 }
 
-/// Reads fronts of both streams.
+/// Reads fronts of both streams, every other one with rows that are lent.
 fn read_fronts(alloc: Global, task: Task<'_>, tally: &mut Tally) -> Result<(), Failure> {
     let mut numbers = Numbers::new(5);
     for seed in 0..FRONTS {
@@ -194,6 +215,7 @@ fn read_fronts(alloc: Global, task: Task<'_>, tally: &mut Tally) -> Result<(), F
                 client,
                 server,
                 order,
+                lent: seed % 2 == 1,
                 ..task
             },
         )?;
@@ -201,7 +223,27 @@ fn read_fronts(alloc: Global, task: Task<'_>, tally: &mut Tally) -> Result<(), F
     Ok(())
 }
 
-/// Reads streams of which a byte is changed, in pieces: the lines have to be those of one piece.
+/// Has a client and a server say it again.
+fn say_again(alloc: Global, task: Task<'_>, tally: &mut Tally) -> Result<(), Failure> {
+    for seed in 6..8 {
+        match say(alloc, &task, seed) {
+            Ok(said) => tally.said = tally.said.saturating_add(said),
+            Err(trouble) => {
+                return Err(Failure {
+                    part: Part::Said,
+                    order: Order::Random(seed),
+                    trouble,
+                    lines: 0,
+                    pieces: 0,
+                });
+            }
+        }
+    }
+    Ok(())
+}
+
+/// Reads streams of which a byte is changed, in pieces: the lines have to be those of one piece. For
+/// every other number rows are lent.
 fn read_in_pieces(
     alloc: Global,
     task: Task<'_>,
@@ -213,7 +255,14 @@ fn read_in_pieces(
         Order::ByTurns,
         Order::Random(seed),
     ] {
-        tally.read(alloc, &Task { order, ..task })?;
+        tally.read(
+            alloc,
+            &Task {
+                order,
+                lent: seed % 2 == 1,
+                ..task
+            },
+        )?;
     }
     Ok(())
 }
@@ -239,6 +288,7 @@ impl Recording {
             server: self.server.as_slice(),
             lines: self.lines.as_slice(),
             order: Order::First(Side::Client),
+            lent: false,
             limits: LIMITS,
         }
     }
@@ -318,8 +368,10 @@ impl Recording {
     pub fn check(&mut self, alloc: Global, tally: &mut Tally) -> Result<(), Failure> {
         let task = self.task();
         let kept = read_in_orders(alloc, task, tally)?;
+        read_lent(alloc, task, tally)?;
         read_under_limits(alloc, task, kept, tally)?;
         read_fronts(alloc, task, tally)?;
+        say_again(alloc, task, tally)?;
         self.read_changes(alloc, tally)
     }
 }

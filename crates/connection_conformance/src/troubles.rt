@@ -13,6 +13,8 @@ pub enum Trouble {
     Feed,
     /// An event, or the end, is another.
     Line,
+    /// No row is lent though one is told of, or one though none is.
+    Row,
     /// An event comes before its bytes.
     Early,
     /// No event comes though its bytes are there.
@@ -27,6 +29,8 @@ pub enum Trouble {
     Held,
     /// The end isn't how the connection stands.
     End,
+    /// An event that was read isn't put again.
+    Put,
 }
 
 impl Trouble {
@@ -35,6 +39,7 @@ impl Trouble {
             Trouble::Memory => "memory is refused twice",
             Trouble::Feed => "a piece is refused or taken against what there is room for",
             Trouble::Line => "the next line is another",
+            Trouble::Row => "no row is lent, or one that wasn't told of",
             Trouble::Early => "the next line comes before its bytes",
             Trouble::Late => "the next line doesn't come though its bytes are there",
             Trouble::Fault => "there is a fault",
@@ -42,6 +47,7 @@ impl Trouble {
             Trouble::Rest => "other bytes are unread",
             Trouble::Held => "more is kept than the limit leaves",
             Trouble::End => "the end isn't how the connection stands",
+            Trouble::Put => "an event that was read isn't put again",
         }
     }
 }
@@ -70,6 +76,8 @@ pub enum Part {
     Changed(Side, usize),
     /// All of it, where a byte less may be kept than has to be.
     Short,
+    /// All of it, said again by a client and a server.
+    Said,
 }
 
 impl fmt::Display for Part {
@@ -80,6 +88,7 @@ impl fmt::Display for Part {
             Part::Changed(Side::Client, byte) => write!(f, "byte {byte} of the client changed"),
             Part::Changed(Side::Server, byte) => write!(f, "byte {byte} of the server changed"),
             Part::Short => f.write_str("with too little room"),
+            Part::Said => f.write_str("said again"),
         }
     }
 }

@@ -1,8 +1,8 @@
 //! Short programs over the public calls, one in each file: they audit a captured stream, send a
 //! query, load rows in bulk, read a reply, log in, sort what a client sends, look on at what passes
 //! between a client and a server, answer in a server's place, let rows go that were looked at,
-//! keep a query, by which sets go to a connection, print what a client sends, and watch a whole
-//! connection.
+//! keep a query, by which sets go to a connection, print what a client sends, watch a whole
+//! connection, and let a client and a server talk by a proxy.
 #![tactic(auto)]
 
 mod answering;
@@ -17,6 +17,7 @@ mod reading;
 mod sending;
 mod serving;
 mod sorting;
+mod talking;
 mod watching;
 
 use std::fs::File;
@@ -45,5 +46,6 @@ fn main(rt: HostRuntime) -> anyhow::Result<()> {
     let mut client = File::open(&rt, "client.bin")?;
     let mut server = File::open(&rt, "server.bin")?;
     watching::watch(alloc, &mut client, &mut server, &mut out)?;
+    talking::talk(alloc, &mut out)?;
     Ok(())
 }

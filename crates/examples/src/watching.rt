@@ -12,7 +12,7 @@ const LIMITS: Limits = Limits {
 };
 
 /// Prints the events that stand whole. A fault is told at the end.
-fn print_events<W: Write>(connection: &mut Connection, out: &mut W) -> io::Result<()> {
+pub fn print_events<W: Write>(connection: &mut Connection, out: &mut W) -> io::Result<()> {
     for _ in 0..u64::MAX {
         let Ok(Some(event)) = connection.next_event() else {
             break;

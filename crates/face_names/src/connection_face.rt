@@ -2,22 +2,22 @@
 //! Written by `tools/faces` from the sources. A name that the face doesn't pass on is refused here.
 
 use mysql_connection::{
-    Attribute, AuthenticationEvent, BoundType, BulkExecution, BulkValue, Capabilities,
+    Attribute, AuthenticationEvent, BadEvent, BoundType, BulkExecution, BulkValue, Capabilities,
     CapabilityFlags, Command, CommandRefusal, Connection, ConnectionFault, Context, End, Event,
     EventReader, Execution, ExtendedColumn, Fault, FeedRefusal, GreetingEvent, LentEvent, Limits,
     ListedColumn, LoginFault, LoginRefusal, LoginResponse, MariadbCapabilities, ParameterType,
-    Phase, PutRefusal, Reason, Refused, Reply, ReplyEvent, ReplyFault, ReplyKind, ResponseEvent,
-    Side, Statement, StatementParameters, Statements, Turn, capabilities_in_force,
+    Phase, PutRefusal, Reason, Refused, Reply, ReplyEvent, ReplyFault, ReplyKind, ReplyPutRefusal,
+    ResponseEvent, Side, Statement, StatementParameters, Statements, Turn, capabilities_in_force,
     put_authentication, put_command, put_event, put_greeting, put_response, read_authentication,
     read_bulk_types, read_execution_types, read_greeting, read_response,
     write_authentication_event, write_command, write_end, write_event, write_greeting_event,
-    write_reply_event, write_response_event,
+    write_lent_row, write_reply_event, write_response_event, write_row_ref,
 };
 
 mod laws {
     use mysql_connection::laws::{
-        connection_executions_are_received, read_commands_are_put, read_events_are_put,
-        stored_is_the_sum,
+        connection_executions_are_received, events_lead_on, read_commands_are_put,
+        read_events_are_put, stored_is_the_sum,
     };
 
     mod agreement {

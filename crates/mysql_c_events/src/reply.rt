@@ -9,7 +9,7 @@ use mysql_c_handles::{Code, Handle, Object, append};
 use mysql_columns::Column;
 use mysql_const::Capabilities;
 use mysql_event_lines::write_reply_event;
-use mysql_reply_event_writer::{PutRefusal, put_event};
+use mysql_reply_event_writer::{ReplyPutRefusal, put_event};
 use mysql_reply_events::{EventReader, ReplyFault, ReplyKind, Turn};
 use std::alloc::{AllocError, Global};
 use std::io;
@@ -204,7 +204,7 @@ fn read_and_put(
     };
     match put_event(writer, &event, again) {
         Ok(()) => Code::Done,
-        Err(PutRefusal::Memory) => Code::Memory,
+        Err(ReplyPutRefusal::Memory) => Code::Memory,
         Err(_) => Code::BadPacket,
     }
 }

@@ -3,7 +3,7 @@
 
 pub mod laws;
 pub mod refusal;
-mod same;
+pub mod same;
 mod sids;
 mod testing;
 mod values;

@@ -1,4 +1,4 @@
-//! Whether two changes of user say the same.
+//! Whether two changes of user say the same, and the parts of which a login has some too.
 
 ghost use Rattle.std.specs.Prelude.{◌≡◌, ◌↔◌, IsTrue, length, option_map, slice_get};
 ghost use Rattle.mysql_auth.specs.Views.{plugin_view};
@@ -35,7 +35,7 @@ fn same_plugin(one: &AuthPlugin, other: &AuthPlugin) -> bool
 }
 
 /// Two plugins that are the same, or none of both.
-fn same_plugins(one: Option<&AuthPlugin>, other: Option<&AuthPlugin>) -> bool
+pub fn same_plugins(one: Option<&AuthPlugin>, other: Option<&AuthPlugin>) -> bool
     ensures { IsTrue result ↔
         (option_map (λ p. plugin_view p.now) one.entry ≡ option_map (λ p. plugin_view p.now) other.entry) }
 {
@@ -74,7 +74,7 @@ fn same_attributes(one: &ConnectAttributes, other: &ConnectAttributes) -> bool
 }
 
 /// Attributes that are the same, or none of both.
-fn same_all(one: Option<&ConnectAttributes>, other: Option<&ConnectAttributes>) -> bool
+pub fn same_all(one: Option<&ConnectAttributes>, other: Option<&ConnectAttributes>) -> bool
     ensures { IsTrue result ↔
         (option_map (λ all. attributes_view all.now) one.entry ≡
         option_map (λ all. attributes_view all.now) other.entry) }

@@ -10,3 +10,4 @@ pub use mysql_connection_statements::laws::stored_is_the_sum;
 pub use mysql_execution_contents::laws as contents;
 pub use mysql_execution_writer::laws as executions;
 pub use mysql_reply_event_writer::laws::read_events_are_put;
+pub use mysql_reply_events::laws::events_lead_on;

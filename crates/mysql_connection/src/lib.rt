@@ -22,17 +22,20 @@ pub use mysql_commands::{
     Attribute, BoundType, BulkExecution, BulkValue, Capabilities, CapabilityFlags, Command,
     Execution, MariadbCapabilities, ParameterType, Reply, StatementParameters,
 };
-pub use mysql_connection_lines::{write_end, write_event};
-pub use mysql_connection_machine::{Connection, ConnectionFault, End, FeedRefusal, LentEvent};
+pub use mysql_connection_lines::{write_end, write_event, write_lent_row};
+pub use mysql_connection_machine::{
+    Connection, ConnectionFault, End, FeedRefusal, LentEvent, PutRefusal,
+};
 pub use mysql_connection_rules::{Fault, Limits, Reason, Side};
 pub use mysql_connection_state::{Event, Phase};
 pub use mysql_connection_statements::{Statement, Statements};
+pub use mysql_connection_writer::BadEvent;
 pub use mysql_event_lines::{
     write_authentication_event, write_command, write_greeting_event, write_reply_event,
-    write_response_event,
+    write_response_event, write_row_ref,
 };
 pub use mysql_executions::{Refused, read_bulk_types, read_execution_types};
 pub use mysql_login;
-pub use mysql_reply_event_writer::{PutRefusal, put_event};
+pub use mysql_reply_event_writer::{ReplyPutRefusal, put_event};
 pub use mysql_reply_events::{Context, EventReader, ReplyEvent, ReplyFault, ReplyKind, Turn};
 pub use mysql_session;

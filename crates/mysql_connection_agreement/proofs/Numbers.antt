@@ -8,7 +8,6 @@ use Rattle.mysql_server_packets.specs.Packets.{ServerError}
 use Rattle.mysql_wire.specs.Framing.{max_payload_len}
 use Rattle.mysql_connection_rules.specs.declared.fault.Fault.{Fault}
 use Rattle.mysql_connection_rules.specs.declared.fault.Fault.TheVariants as faults
-use Rattle.mysql_connection_rules.specs.declared.limits.Limits.{Limits}
 use Rattle.mysql_connection_rules.specs.declared.reason.Reason.TheVariants as reasons
 use Rattle.mysql_connection_rules.specs.declared.side.Side.{Side}
 use Rattle.mysql_connection_rules.specs.declared.side.Side.TheVariants.{Client, Server}
@@ -18,7 +17,7 @@ use Rattle.mysql_connection_rules.specs.Machines.{Had, fresh, comes, takes}
 use Rattle.mysql_connection_rules.specs.Standing.{Phase, Standing, kept}
 use Rattle.mysql_connection_rules.specs.Standing as phases
 use Rattle.mysql_connection_rules.specs.Steps.{over, step, turn}
-use Rattle.mysql_connection_rules.specs.Streams.{World, Streams, Next, Waits, Says, Fails, next}
+use Rattle.mysql_connection_rules.specs.Streams.{Beginning, World, Streams, Next, Waits, Says, Fails, next}
 use Rattle.mysql_connection_rules.specs.Streams.{begins_error, client_by, farewell, has_number, is_early, moved, number_in}
 use Rattle.mysql_connection_rules.specs.Streams.{next_by, numbered, room_to_keep, said_by, server_by, words_by}
 use Rattle.mysql_connection_rules.proofs.OneStep.{by_room, by_error, by_number, by_early, by_end}
@@ -149,11 +148,11 @@ turn_byte w (Some Server) =
     let early = slice_index_or bytes 3 0 in
     either_byte w (is_early s bytes) (first_packet limit early bytes) (first_packet limit s.number bytes) (found_byte limit early bytes) (found_byte limit s.number bytes)
 
-had_byte : (limits : Limits) (streams : Streams) (events : List Event) (held : World) → Had limits streams events held → held.standing.number < 256
-had_byte limits streams events held fresh = omega arith
-had_byte limits streams events held (comes {streams = before} {old = old} side coming had is_open e) =
-    subst (λ (w : World). w.standing.number < 256) (sym e) (had_byte limits before events old had)
-had_byte limits streams events held (takes {events = front} {old = old} had e) = subst Numbered e (turn_byte old (turn old.standing.phase))
+had_byte : (begun : Beginning) (streams : Streams) (events : List Event) (held : World) → begun.first.number < 256 → Had begun streams events held → held.standing.number < 256
+had_byte begun streams events held first fresh = first
+had_byte begun streams events held first (comes {streams = before} {old = old} side coming had is_open e) =
+    subst (λ (w : World). w.standing.number < 256) (sym e) (had_byte begun before events old first had)
+had_byte begun streams events held first (takes {events = front} {old = old} had e) = subst Numbered e (turn_byte old (turn old.standing.phase))
 
 pub numbers_are_bytes : NumbersAreBytes
-numbers_are_bytes limits streams events held had = had_byte limits streams events held (had_too limits streams events held had)
+numbers_are_bytes begun streams events held first had = had_byte begun streams events held first (had_too begun streams events held had)

@@ -2,13 +2,12 @@
 -- MySQL: Client/Server Protocol, "Connection Lifecycle", "MySQL Packets" and "Sequence ID".
 use Rattle.std.specs.Prelude.{◌≡◌, ◌⊎◌, ℕ, ◌<◌, List, ◌++◌, Option, Some}
 use Rattle.std.specs.List.{filter}
-use Rattle.mysql_connection_rules.specs.declared.limits.Limits.{Limits}
 use Rattle.mysql_connection_rules.specs.declared.side.Side.TheVariants.{Client, Server}
 use Rattle.mysql_connection_rules.specs.Events.{Event, side_of}
 use Rattle.mysql_connection_rules.specs.Machines.{Had}
 use Rattle.mysql_connection_rules.specs.Runs.{HasCome, HasComeOf, IsFront, IsLast, IsRun, Runs}
 use Rattle.mysql_connection_rules.specs.Standing.{Standing}
-use Rattle.mysql_connection_rules.specs.Streams.{Streams, World, next}
+use Rattle.mysql_connection_rules.specs.Streams.{Beginning, Streams, World, next}
 use Rattle.mysql_connection_agreement.specs.Machines.{HadAs, HadOrPut, Puts}
 use Rattle.mysql_connection_agreement.specs.Puts.{MayBePut, is_of, packets_for, put_on}
 use Rattle.mysql_connection_agreement.specs.Refusals.{IsPutBy, IsSaidBy, IsUnsaid, PutRefusal}
@@ -25,8 +24,8 @@ PutsAreRead = (old : World) (event : Event) (payload : List ℕ) (after : Standi
 
 -- Of any machine that was new the number that is due is a byte's.
 abbrev pub NumbersAreBytes : Type 0
-NumbersAreBytes = (limits : Limits) (streams : Streams) (events : List Event) (held : World) →
-    HadOrPut limits streams events held → held.standing.number < 256
+NumbersAreBytes = (begun : Beginning) (streams : Streams) (events : List Event) (held : World) →
+    begun.first.number < 256 → HadOrPut begun streams events held → held.standing.number < 256
 
 -- An event that can be put isn't refused.
 abbrev pub PutsAreNotRefused : Type 0
@@ -50,10 +49,10 @@ PutOrRefused = (w : World) (event : Event) (written : Option (List ℕ)) →
 -- were taken or put and those that are still there to take are the events of the one run over the
 -- two streams.
 abbrev pub PutsAreTheRun : Type 0
-PutsAreTheRun = (limits : Limits) (streams : Streams) (taken left events : List Event)
-    (now last end : World) → HadOrPut limits streams taken now → Runs now left last →
+PutsAreTheRun = (begun : Beginning) (streams : Streams) (taken left events : List Event)
+    (now last end : World) → HadOrPut begun streams taken now → Runs now left last →
     IsLast (next last) →
-    IsRun limits streams events end → (taken ++ left ≡ events) × (last ≡ end)
+    IsRun begun streams events end → (taken ++ left ≡ events) × (last ≡ end)
 
 -- AGREEMENT
 
@@ -79,11 +78,11 @@ sent_by client server =
 
 -- One list of events, the run over all that was sent: its client's events are those that the client
 -- put, its server's those that the server put, and each of the three has a front of it.
-pub record Agreement (limits : Limits) (asked answered : List Event)
+pub record Agreement (begun : Beginning) (asked answered : List Event)
     (client server auditor : Member) : Type 0 where
   pub events : List Event
   pub last : World
-  pub run : IsRun limits (sent_by client server) events last
+  pub run : IsRun begun (sent_by client server) events last
   pub asked_all : filter (is_of Client) events ≡ asked
   pub answered_all : filter (is_of Server) events ≡ answered
   pub client_agrees : AgreesOn (sent_by client server) events last client
@@ -91,25 +90,25 @@ pub record Agreement (limits : Limits) (asked answered : List Event)
   pub auditor_agrees : AgreesOn (sent_by client server) events last auditor
 
 -- The client's machine put what was asked, and had what came of the server.
-abbrev pub IsClient : Limits → List Event → Member → Type 0
-IsClient limits asked member =
-    HadAs Client Server limits asked member.streams member.events member.held
+abbrev pub IsClient : Beginning → List Event → Member → Type 0
+IsClient begun asked member =
+    HadAs Client Server begun asked member.streams member.events member.held
 
 -- The server's machine put what was answered, and had what came of the client.
-abbrev pub IsServer : Limits → List Event → Member → Type 0
-IsServer limits answered member =
-    HadAs Server Client limits answered member.streams member.events member.held
+abbrev pub IsServer : Beginning → List Event → Member → Type 0
+IsServer begun answered member =
+    HadAs Server Client begun answered member.streams member.events member.held
 
 -- The auditor's machine had what came of both.
-abbrev pub IsAuditor : Limits → Member → Type 0
-IsAuditor limits member = Had limits member.streams member.events member.held
+abbrev pub IsAuditor : Beginning → Member → Type 0
+IsAuditor begun member = Had begun member.streams member.events member.held
 
 -- A client and a server that put their events and read the other's, and an auditor between them,
 -- agree: at each moment, whatever has come so far, in whatever pieces and order.
 abbrev pub ThreeAgree : Type 0
-ThreeAgree = (limits : Limits) (asked answered : List Event) (client server auditor : Member) →
-    IsClient limits asked client → IsServer limits answered server → IsAuditor limits auditor →
+ThreeAgree = (begun : Beginning) (asked answered : List Event) (client server auditor : Member) →
+    IsClient begun asked client → IsServer begun answered server → IsAuditor begun auditor →
     HasComeOf client.streams.server server.streams.server →
     HasComeOf server.streams.client client.streams.client →
     HasCome auditor.streams (sent_by client server) →
-    Agreement limits asked answered client server auditor
+    Agreement begun asked answered client server auditor

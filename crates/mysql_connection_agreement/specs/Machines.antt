@@ -1,11 +1,10 @@
 -- What a machine that reads and writes a connection has had of both streams.
 -- MySQL: Client/Server Protocol, "Connection Lifecycle".
 use Rattle.std.specs.Prelude.{◌≡◌, List, [], ◌∷◌, ◌++◌, Some}
-use Rattle.mysql_connection_rules.specs.declared.limits.Limits.{Limits}
 use Rattle.mysql_connection_rules.specs.declared.side.Side.{Side}
 use Rattle.mysql_connection_rules.specs.Events.{Event, side_of}
 use Rattle.mysql_connection_rules.specs.Machines.{IsOpen, Takes}
-use Rattle.mysql_connection_rules.specs.Streams.{Coming, End, Piece, Says, Streams, World, come}
+use Rattle.mysql_connection_rules.specs.Streams.{Beginning, Coming, End, Piece, Says, Streams, World, come}
 use Rattle.mysql_connection_rules.specs.Streams.{grow, next, no_bytes, start, stream_of}
 use Rattle.std.specs.Prelude.{ℕ}
 
@@ -21,39 +20,39 @@ pub record Puts (old : World) (event : Event) (side : Side) (bytes : List ℕ) (
 
 -- A machine that was new has had these bytes and ends of both streams, fed or put, in any pieces
 -- and any order, has handed out or put these events in between, and holds this.
-pub data HadOrPut (limits : Limits) : Streams → List Event → World → Type 0 where
-  fresh : HadOrPut limits no_bytes [] (start limits no_bytes)
+pub data HadOrPut (begun : Beginning) : Streams → List Event → World → Type 0 where
+  fresh : HadOrPut begun no_bytes [] (start begun no_bytes)
   comes : {streams : Streams} {events : List Event} {old new : World} (side : Side)
       (coming : Coming) →
-      HadOrPut limits streams events old → IsOpen old side → new ≡ come side coming old →
-      HadOrPut limits (grow side coming streams) events new
+      HadOrPut begun streams events old → IsOpen old side → new ≡ come side coming old →
+      HadOrPut begun (grow side coming streams) events new
   takes : {streams : Streams} {events : List Event} {old new : World} {event : Event} →
-      HadOrPut limits streams events old → Takes old (Some event) new →
-      HadOrPut limits streams (events ++ event ∷ []) new
+      HadOrPut begun streams events old → Takes old (Some event) new →
+      HadOrPut begun streams (events ++ event ∷ []) new
   puts : {streams : Streams} {events : List Event} {old new : World} {event : Event} (side : Side)
       (bytes : List ℕ) →
-      HadOrPut limits streams events old → Puts old event side bytes new →
-      HadOrPut limits (grow side (Piece bytes) streams) (events ++ event ∷ []) new
+      HadOrPut begun streams events old → Puts old event side bytes new →
+      HadOrPut begun (grow side (Piece bytes) streams) (events ++ event ∷ []) new
 
 -- A machine of one side: of the other side bytes and the end came, and of its own it put these
 -- events, and then the end where it ended it.
-pub data HadAs (own other : Side) (limits : Limits) :
+pub data HadAs (own other : Side) (begun : Beginning) :
     List Event → Streams → List Event → World → Type 0 where
-  fresh_as : HadAs own other limits [] no_bytes [] (start limits no_bytes)
+  fresh_as : HadAs own other begun [] no_bytes [] (start begun no_bytes)
   comes_as : {put : List Event} {streams : Streams} {events : List Event} {old new : World}
       (coming : Coming) →
-      HadAs own other limits put streams events old → IsOpen old other →
+      HadAs own other begun put streams events old → IsOpen old other →
       new ≡ come other coming old →
-      HadAs own other limits put (grow other coming streams) events new
+      HadAs own other begun put (grow other coming streams) events new
   ends_as : {put : List Event} {streams : Streams} {events : List Event} {old new : World} →
-      HadAs own other limits put streams events old → IsOpen old own → new ≡ come own End old →
-      HadAs own other limits put (grow own End streams) events new
+      HadAs own other begun put streams events old → IsOpen old own → new ≡ come own End old →
+      HadAs own other begun put (grow own End streams) events new
   takes_as : {put : List Event} {streams : Streams} {events : List Event} {old new : World}
       {event : Event} →
-      HadAs own other limits put streams events old → Takes old (Some event) new →
-      HadAs own other limits put streams (events ++ event ∷ []) new
+      HadAs own other begun put streams events old → Takes old (Some event) new →
+      HadAs own other begun put streams (events ++ event ∷ []) new
   puts_as : {put : List Event} {streams : Streams} {events : List Event} {old new : World}
       {event : Event} (bytes : List ℕ) →
-      HadAs own other limits put streams events old → Puts old event own bytes new →
-      HadAs own other limits (put ++ event ∷ []) (grow own (Piece bytes) streams)
+      HadAs own other begun put streams events old → Puts old event own bytes new →
+      HadAs own other begun (put ++ event ∷ []) (grow own (Piece bytes) streams)
       (events ++ event ∷ []) new

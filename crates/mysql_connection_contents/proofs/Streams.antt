@@ -1,7 +1,7 @@
 -- A connection from its first byte on.
 use Rattle.std.proofs.Common.{◌≡◌, List, [], ◌∷◌, ◌++◌, Ok, sym, ap, subst, ◌∙◌}
 use Rattle.mysql_connection_rules.specs.Steps.{step}
-use Rattle.mysql_connection_rules.specs.Streams.{World, moved, numbered, start}
+use Rattle.mysql_connection_rules.specs.Streams.{World, from_greeting, moved, numbered, start}
 use Rattle.mysql_executions.specs.After.{freshly_prepared}
 use Rattle.mysql_executions.specs.Types.{has_bulk_operations, has_query_attributes}
 use Rattle.mysql_execution_contents.specs.Agreement.{EachIsRead, PreparedAgree}
@@ -21,7 +21,7 @@ heard_from (x ∷ before) answer xs w last own h =
 
 pub streams_are_received : EachIsRead → PreparedAgree → StreamsAreReceived
 streams_are_received each agree limits streams before answer xs last id statement first reads heard prepares none bulks leave read =
-    let from = heard_from before answer xs (start limits streams) last no_ids heard in
+    let from = heard_from before answer xs (start (from_greeting limits) streams) last no_ids heard in
     let v = from.0 in
     let spoke : Spoke v.standing (answer ∷ xs) last.standing = heard_spoken (answer ∷ xs) v last from.2 in
     let same : answer.standing ≡ v.standing = spoke.0 in

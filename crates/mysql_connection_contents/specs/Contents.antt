@@ -16,7 +16,7 @@ use Rattle.mysql_connection_rules.specs.Standing.About.{Executing, Preparing, Re
 use Rattle.mysql_connection_rules.specs.Standing as phases
 use Rattle.mysql_connection_rules.specs.Steps.{id_in_question, step, turn}
 use Rattle.mysql_connection_rules.specs.Streams.{Says, World, limit_of, moved, next, numbered}
-use Rattle.mysql_connection_rules.specs.Streams.{Streams, start, stream_of}
+use Rattle.mysql_connection_rules.specs.Streams.{Streams, from_greeting, start, stream_of}
 use Rattle.mysql_connection_statements.specs.Statements.{Statement, Statements, statement_at}
 use Rattle.mysql_execution_contents.specs.Agreement.{Agree, BulksInForce, all_there}
 use Rattle.mysql_execution_contents.specs.Agreement.{is_about_parameters, sets_of}
@@ -219,7 +219,7 @@ StreamsAreReceived =
     (limits : Limits) (streams : Streams) (before : List Spoken) (answer : Spoken)
     (xs : List Spoken) (last : World) (id : ℕ) (statement : ReceivedStatement) (first : ℕ)
     (reads : List (List Set)) →
-    Heard (start limits streams) (before ++ answer ∷ xs) last →
+    Heard (start (from_greeting limits) streams) (before ++ answer ∷ xs) last →
     PreparesIn id (place_count statement.query) answer.standing.phase answer.event →
     has_query_attributes answer.standing.capabilities ≡ false →
     BulksInForce answer.standing.capabilities (payloads_about id xs) →

@@ -9,8 +9,9 @@ use mysql_connection_rules::{Fault, Side};
 use mysql_connection_state::Event;
 use mysql_event_lines::{
     write_answer, write_authentication_event, write_command, write_farewell, write_file_data,
-    write_greeting_event, write_reply_event, write_response_event,
+    write_greeting_event, write_reply_event, write_response_event, write_row_ref,
 };
+use mysql_row_refs::RowRef;
 use std::io;
 use std::io::Write;
 
@@ -52,6 +53,15 @@ pub fn write_event<W: Write>(output: &mut W, event: &Event) -> io::Result<()> {
         Event::FileData(data) => write_file_data(output, data.as_slice()),
         Event::Farewell(error) => write_farewell(output, error),
     }
+}
+
+/// Writes a row that a connection lends, as [`write_event`] writes it where it is kept.
+///
+/// # Errors
+/// - Those of the output.
+pub fn write_lent_row<W: Write>(output: &mut W, row: &RowRef<'_, '_>) -> io::Result<()> {
+    output.write_all(b"server ")?;
+    write_row_ref(output, row)
 }
 
 /// Writes the name of a fault, without the number that a packet out of its order has.

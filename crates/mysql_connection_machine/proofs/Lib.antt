@@ -1,4 +1,5 @@
 pub mod Limits
+pub mod PutEvents
 pub mod Reading
 pub mod Waiting
 pub mod Words

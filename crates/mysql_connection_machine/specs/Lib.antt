@@ -3,3 +3,5 @@ pub mod Inside
 pub mod Machines
 pub mod Takes
 pub mod Endings
+pub mod Writing
+pub mod NextRows

@@ -3,19 +3,20 @@
 use Rattle.std.specs.Prelude.{◌≡◌, ◌≢◌, ◌+◌, ◌-◌, ◌≤◌, ◌<◌, ℕ, true, false, List, length}
 use Rattle.std.specs.Prelude.{if◌then◌else◌}
 use Rattle.std.specs.Prelude.{Option, Some, None, Result, Ok, Err}
+use Rattle.std.specs.Option.{option_and_then}
 use Rattle.mysql_connection_rules.specs.Laws.{WithinLimits, unread_length}
 use Rattle.mysql_connection_rules.specs.declared.fault.Fault.TheVariants as faults
-use Rattle.mysql_connection_rules.specs.declared.limits.Limits.{Limits}
 use Rattle.mysql_connection_rules.specs.declared.side.Side.{Side}
 use Rattle.mysql_connection_rules.specs.declared.side.Side.TheVariants.{Client, Server}
 use Rattle.mysql_connection_rules.specs.Standing.{Phase}
 use Rattle.mysql_connection_rules.specs.Steps.{turn}
-use Rattle.mysql_connection_rules.specs.Streams.{Coming, End, Fails, Failure, Piece, Says, Waits}
-use Rattle.mysql_connection_rules.specs.Streams.{Stream, World, come, held, next, no_bytes}
+use Rattle.mysql_connection_rules.specs.Streams.{Beginning, Coming, End, Fails, Failure, Piece, Says}
+use Rattle.mysql_connection_rules.specs.Streams.{Stream, Waits, World, come, held, next, no_bytes}
 use Rattle.mysql_connection_rules.specs.Streams.{room, start}
 use Rattle.mysql_connection_rules.specs.Streams.{stream_of}
 use Rattle.mysql_connection_rules.specs.Events.Event.{Replied}
 use Rattle.mysql_connection_state.specs.Views.{event_view}
+use Rattle.mysql_connection_statements.specs.Statements.{Statement, Statements, resolved, statement_at}
 use Rattle.mysql_connection_state.specs.declared.event.Event.{Event}
 use Rattle.mysql_reply_events.specs.Events.Event.{RowEvent}
 use Rattle.mysql_rows.specs.Rows.{Row}
@@ -44,8 +45,9 @@ pub record Machine : Type 0 where
   pub failure : Option Failure
   pub row : Option Row
 
-abbrev pub new_machine : Limits → Machine
-new_machine limits = record { world = start limits no_bytes; failure = None; row = None }
+-- A machine to which no byte came.
+abbrev pub new_machine : Beginning → Machine
+new_machine begun = record { world = start begun no_bytes; failure = None; row = None }
 
 abbrev pub stream_in : Side → Machine → Stream
 stream_in side m = stream_of side m.world.unread
@@ -72,6 +74,10 @@ turn_by None phase = turn phase
 
 abbrev pub turn_in : Machine → Option Side
 turn_in m = turn_by m.failure m.world.standing.phase
+
+-- The prepared statement that an id of a command stands for.
+abbrev pub statement_meant : Statements → ℕ → Option Statement
+statement_meant s id = option_and_then (statement_at s) (resolved s id)
 
 -- How many bytes of the side are taken.
 abbrev pub room_left : Side → Machine → ℕ

@@ -1,25 +1,28 @@
 //! A connection, read: bytes of both sides in, events out.
 
-ghost use Rattle.std.specs.Prelude.{◌≡◌, None, IfSome, min, option_copied, option_map};
+ghost use Rattle.std.specs.Prelude.{◌≡◌, Err, IfSome, None, OnOk, min, option_copied, option_map};
 ghost use Rattle.mysql_connection_machine.specs.Endings.{end_view, ending_of};
 ghost use Rattle.mysql_connection_machine.specs.Machines.{Answers, AnswersFault, AnswersLent, Feeds};
 ghost use Rattle.mysql_connection_machine.specs.Machines.{HoldsAtMost, TakesBytes, both_ended};
 ghost use Rattle.mysql_connection_machine.specs.Machines.{ended};
 ghost use Rattle.mysql_connection_machine.specs.Machines.{failure_in, failure_view, new_machine};
-ghost use Rattle.mysql_connection_machine.specs.Machines.{room_left, stream_in, turn_in};
-ghost use Rattle.mysql_connection_rules.specs.Streams.{held};
-ghost use Rattle.mysql_connection_state.specs.Views.{plain_phase};
-ghost use Rattle.mysql_connection_statements.specs.Statements.{statement_at};
+ghost use Rattle.mysql_connection_machine.specs.Machines.{room_left, statement_meant, stream_in, turn_in};
+ghost use Rattle.mysql_connection_machine.specs.Writing.{IsReadFrom, PutsOn};
+ghost use Rattle.mysql_connection_machine.specs.declared.put_refusal.PutRefusal.TheVariants.{NotDue};
+ghost use Rattle.mysql_connection_rules.specs.Streams.{from_greeting, from_login, held};
+ghost use Rattle.mysql_connection_state.specs.Views.{event_view, plain_phase};
 ghost use Rattle.mysql_row_refs.specs.RowRefs.{row_ref_view};
 
 use crate::end::End;
 use crate::fault::{ConnectionFault, FeedRefusal};
 use crate::lent_event::LentEvent;
+use crate::put_refusal::PutRefusal;
 use crate::room::room;
 use crate::streams_reader::StreamsReader;
+use mysql_connection_agreement::laws::puts_are_read;
 use mysql_connection_rules::laws::{events_take_bytes, held_stays};
 use mysql_connection_rules::{Limits, Side};
-use mysql_connection_state::{Event, Phase};
+use mysql_connection_state::{Event, Phase, State};
 use mysql_connection_statements::Statement;
 use mysql_const::Capabilities;
 use mysql_row_refs::RowRef;
@@ -77,11 +80,26 @@ impl Connection {
     ///
     /// MySQL: Client/Server Protocol, "Connection Lifecycle".
     pub fn new(alloc: Global, limits: Limits) -> Connection
-        ensures { result ≡ new_machine limits }
+        ensures { result ≡ new_machine (from_greeting limits) }
     {
         held_stays();
         Connection {
-            reader: StreamsReader::new(alloc, limits),
+            reader: StreamsReader::new(alloc, limits, State::new(alloc)),
+            fault: None,
+        }
+    }
+
+    /// A connection behind a login that was made elsewhere, by TLS or a pool.
+    ///
+    /// A command is due, and no byte came since. `capabilities` are those that both sides have.
+    ///
+    /// MySQL: Client/Server Protocol, "Command Phase" and "Capabilities Flags".
+    pub fn after_login(alloc: Global, limits: Limits, capabilities: Capabilities) -> Connection
+        ensures { result ≡ new_machine (from_login limits capabilities) }
+    {
+        held_stays();
+        Connection {
+            reader: StreamsReader::new(alloc, limits, State::after_login(alloc, capabilities)),
             fault: None,
         }
     }
@@ -218,6 +236,49 @@ impl Connection {
         self.reader.row()
     }
 
+    /// Appends the packets of an event of the side that is due, and goes on behind it.
+    ///
+    /// The connection stands then as if they had come. A client puts what it asks, and sends what
+    /// is appended; a server what it answers. What the other side sends is fed. Last words are put
+    /// by a server in place of an answer, or behind the end of the client's stream.
+    ///
+    ///     connection.put(&event, &mut output)?;
+    ///     socket.write_all(&output)?;
+    ///
+    /// Promise: exactly the packets of the one payload are appended that the event has here, and they
+    /// are read here as the event, by this connection and by any other that has seen the same
+    /// (`AppendsEvent`, `Puts`); or it is refused for the first cause that there is, and nothing has
+    /// changed (`RefusesEvent`).
+    ///
+    /// # Errors
+    /// - `NotDue` where it isn't the turn of the event's side, where bytes of that side wait unread or
+    ///   its stream has ended, and where the connection has failed.
+    /// - `BadEvent` where no payload says the event here, with its packet's cause.
+    /// - `TooLarge` where its payload is longer than the limit of its side.
+    /// - `Held` where more would be kept behind it than the limit leaves.
+    /// - `Memory`.
+    ///
+    /// MySQL: Client/Server Protocol, "Connection Phase", "Command Phase", "MySQL Packets" and "Sequence
+    /// ID".
+    #[tactic(auto, using(crate::proofs::PutEvents::read_from))]
+    pub fn put(&mut self, event: &Event, out: &mut Vec<u8>) -> Result<(), PutRefusal>
+        ensures failed { IfSome self.old.failure (λ failure. (result ≡ Err NotDue) ×
+            (self.new ≡ self.old) × (out.new.items ≡ out.old.items)) }
+        ensures puts { self.old.failure ≡ None → PutsOn self.old (event_view event.now)
+            out.old.items result self.new out.new.items }
+        ensures read { OnOk result (IsReadFrom self.old.world (event_view event.now)
+            out.old.items out.new.items self.new.world) }
+    {
+        puts_are_read();
+        held_stays();
+        if self.fault.is_some() {
+            return Err(PutRefusal::NotDue);
+        }
+        // A byte, which the law wants to know.
+        let _number = self.reader.state().number();
+        self.reader.put(event, out)
+    }
+
     /// How many bytes of a side [`Connection::feed`] takes now: none where its stream has ended.
     ///
     /// MySQL: Client/Server Protocol, "MySQL Packets".
@@ -287,13 +348,21 @@ impl Connection {
         self.reader.state().capabilities()
     }
 
-    /// The prepared statement of this id.
+    /// The prepared statement that this id of a command stands for: 0xffffffff for that which was
+    /// prepared last.
     ///
-    /// MySQL: Client/Server Protocol, "Prepared Statements".
+    /// Promise: exactly the statement by which such a command is read (`statement_meant`).
+    ///
+    /// MySQL: Client/Server Protocol, "Prepared Statements"; MariaDB: "COM_STMT_EXECUTE" (statement
+    /// id).
     pub fn statement(&self, id: u32) -> Option<&Statement>
-        ensures { option_copied result ≡ statement_at self.now.world.standing.statements id }
+        ensures { option_copied result ≡ statement_meant self.now.world.standing.statements id }
     {
-        self.reader.state().statements().get(id)
+        let statements = self.reader.state().statements();
+        match statements.resolve(id) {
+            Some(found) => statements.get(found),
+            None => None,
+        }
     }
 
     /// The fault that was found.

@@ -8,10 +8,14 @@
 #![tactic(auto)]
 
 pub mod connection;
+mod due;
 pub mod end;
 pub mod fault;
 mod last_words;
 pub mod lent_event;
+mod next_rows;
+pub mod put_refusal;
+mod putting;
 mod room;
 mod saying;
 mod stream_buffer;
@@ -22,3 +26,4 @@ pub use connection::Connection;
 pub use end::End;
 pub use fault::{ConnectionFault, FeedRefusal};
 pub use lent_event::LentEvent;
+pub use put_refusal::PutRefusal;

@@ -1,6 +1,7 @@
 //! How much of a connection is held.
 
-ghost use Rattle.std.specs.Prelude.{◌≡◌, nat_le};
+ghost use Rattle.std.specs.Prelude.{◌≡◌, ◌*◌, nat_le};
+ghost use Rattle.mysql_connection_packets.specs.FirstPacket.{most_chunks};
 ghost use Rattle.mysql_connection_rules.specs.Standing.{kept};
 ghost use Rattle.mysql_connection_rules.specs.Streams.{limit_of, room, room_to_keep};
 
@@ -18,21 +19,34 @@ pub fn limit_of(side: Side, limits: Limits) -> usize
     }
 }
 
+// The headers of the longest payload.
+fn headers(limit: usize) -> usize
+    ensures { result ≡ 4 * most_chunks limit }
+{
+    4 * (limit / MAX_PAYLOAD_LEN + 1)
+}
+
 /// How many bytes of a side may wait unread.
 pub fn room(side: Side, limits: Limits) -> u128
     ensures { result ≡ room side limits }
 {
     let limit = limit_of(side, limits);
-    let headers = 4 * (limit / MAX_PAYLOAD_LEN + 1);
-    limit as u128 + headers as u128
+    limit as u128 + headers(limit) as u128
 }
 
 /// What the limit leaves for what is kept.
-fn room_to_keep(limits: Limits) -> u128
+pub fn room_to_keep(limits: Limits) -> usize
     ensures { result ≡ room_to_keep limits }
 {
-    let streams = room(Side::Client, limits) + room(Side::Server, limits);
-    (limits.held as u128).saturating_sub(streams)
+    let Limits {
+        client,
+        server,
+        held,
+    } = limits;
+    let behind_client = held.saturating_sub(client).saturating_sub(headers(client));
+    behind_client
+        .saturating_sub(server)
+        .saturating_sub(headers(server))
 }
 
 /// Whether what is kept is within its room.
@@ -40,7 +54,7 @@ pub fn is_kept(limits: Limits, state: &State) -> bool
     ensures { result ≡ nat_le (kept state.now.standing) (room_to_keep limits) }
 {
     match state.kept() {
-        Some(size) => size as u128 <= room_to_keep(limits),
+        Some(size) => size <= room_to_keep(limits),
         None => false,
     }
 }

@@ -2,6 +2,7 @@
 
 ghost use Rattle.std.specs.Prelude.{◌≡◌, ◌+◌, ◌≤◌, ◌↔◌, [], length, drop, take, IsTrue, OnOk};
 ghost use Rattle.std.specs.Prelude.{OnErr};
+ghost use Rattle.mysql_connection_agreement.specs.Puts.{passed};
 ghost use Rattle.mysql_connection_machine.specs.Endings.{is_empty};
 ghost use Rattle.mysql_connection_rules.specs.Streams.{Piece, End, behind, grown, nothing_came};
 
@@ -128,6 +129,15 @@ impl StreamBuffer {
         let_go(&mut self.bytes, &mut self.lent);
         self.read += count as u64;
         self.bytes.advance(count);
+    }
+
+    /// So many bytes more were read, which never waited here.
+    pub fn pass(&mut self, count: usize)
+        requires place { self.old.stream.read + count ≤ u64.MAX }
+        ensures stream { self.new.stream ≡ passed count self.old.stream }
+        ensures lent { self.new.lent ≡ self.old.lent }
+    {
+        self.read += count as u64;
     }
 
     /// A packet of so many bytes was read, and its payload is lent.

@@ -1,14 +1,16 @@
 //! Both streams of a connection, and what stands of it: the next event of them.
 
-ghost use Rattle.std.specs.Prelude.{◌≡◌, None, Some, false, min, option_map, OnErr, OnOk, true};
+ghost use Rattle.std.specs.Prelude.{◌≡◌, ◌≤◌, None, Some, false, min, option_map, OnErr, OnOk, true};
 ghost use Rattle.mysql_connection_machine.specs.Endings.{end_view, is_waiting, server_number};
 ghost use Rattle.mysql_connection_machine.specs.Endings.{waiting_ending};
 ghost use Rattle.mysql_connection_machine.specs.Machines.{Answers, AnswersLent, failure_view};
 ghost use Rattle.mysql_connection_machine.specs.Machines.{lending_none};
 ghost use Rattle.mysql_connection_packets.specs.FirstPacket.{Short, first_packet};
+ghost use Rattle.mysql_connection_machine.specs.NextRows.{LendsRow};
+ghost use Rattle.mysql_connection_rules.specs.Standing.{kept};
 ghost use Rattle.mysql_connection_rules.specs.Steps.{turn};
 ghost use Rattle.mysql_connection_rules.specs.Streams.{End as Ended, Piece, client_by, come, held};
-ghost use Rattle.mysql_connection_rules.specs.Streams.{is_early, next};
+ghost use Rattle.mysql_connection_rules.specs.Streams.{is_early, next, room_to_keep};
 ghost use Rattle.mysql_connection_rules.specs.Streams.{no_bytes, of_server, start, stream_of};
 ghost use Rattle.mysql_connection_rules.specs.Streams.{words};
 ghost use Rattle.mysql_connection_rules.specs.declared.side.Side.TheVariants.{Client, Server};
@@ -19,6 +21,7 @@ use crate::end::End;
 use crate::fault::ConnectionFault;
 use crate::last_words::{has_number, is_early, number_of};
 use crate::lent_event::LentEvent;
+use crate::next_rows::take_row;
 use crate::stream_buffer::StreamBuffer;
 use crate::taking::{take_lent, take_packet, take_words};
 use mysql_connection_packets::is_short;
@@ -33,13 +36,13 @@ use std::marker::Model;
 /// Contracts see it as a `LendingWorld`.
 #[derive(Drop)]
 pub struct StreamsReader {
-    alloc: Global,
-    limits: Limits,
-    state: State,
-    client: StreamBuffer,
-    server: StreamBuffer,
+    pub(crate) alloc: Global,
+    pub(crate) limits: Limits,
+    pub(crate) state: State,
+    pub(crate) client: StreamBuffer,
+    pub(crate) server: StreamBuffer,
     // A row lies in the payload that the server's buffer lends.
-    lends: bool,
+    pub(crate) lends: bool,
 }
 
 impl Model for StreamsReader {
@@ -55,14 +58,15 @@ impl Model for StreamsReader {
 }
 
 impl StreamsReader {
-    /// Streams of which no byte came.
-    pub fn new(alloc: Global, limits: Limits) -> StreamsReader
-        ensures { result ≡ lending_none (start limits no_bytes) }
+    /// Streams of which no byte came, where this stands.
+    pub fn new(alloc: Global, limits: Limits, state: State) -> StreamsReader
+        ensures { result ≡ lending_none (start
+            (record { limits = limits; first = state.standing }) no_bytes) }
     {
         StreamsReader {
             alloc,
             limits,
-            state: State::new(alloc),
+            state,
             client: StreamBuffer::new(alloc),
             server: StreamBuffer::new(alloc),
             lends: false,
@@ -253,8 +257,37 @@ impl StreamsReader {
         }
     }
 
+    // A row behind another one is lent, where one comes next. `false` says nothing of what comes.
+    fn lend_row(&mut self) -> bool
+        requires { kept self.old.world.standing ≤ room_to_keep self.old.world.limits }
+        ensures { LendsRow self.old.world result self.new }
+    {
+        self.lends = false;
+        let limits = self.limits;
+        if take_row(limits, &mut self.state, &mut self.server) {
+            self.lends = true;
+            true
+        } else {
+            false
+        }
+    }
+
     /// The next event of both streams; a row is lent, where it has one chunk.
     pub fn next_event_lent(&mut self) -> Result<Option<LentEvent>, ConnectionFault>
+        requires { kept self.old.world.standing ≤ room_to_keep self.old.world.limits }
+        ensures { AnswersLent self.old.world result self.new }
+    {
+        if self.lend_row() {
+            Ok(Some(LentEvent::Row))
+        } else {
+            self.lend_next()
+        }
+    }
+
+    // The next event of both streams, whatever it is. Apart from its caller, so that a row that is
+    // taken there pays for none of it.
+    #[inline(never)]
+    fn lend_next(&mut self) -> Result<Option<LentEvent>, ConnectionFault>
         ensures { AnswersLent self.old.world result self.new }
     {
         match self.state.turn() {

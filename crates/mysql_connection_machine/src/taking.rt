@@ -12,7 +12,7 @@ use crate::lent_event::LentEvent;
 use crate::room::limit_of;
 use crate::saying::{bid, say, say_bytes, say_in_place};
 use crate::stream_buffer::StreamBuffer;
-use mysql_connection_packets::{FirstPacket, first_packet};
+use mysql_connection_packets::{FirstPacket, first_packet, one_chunk};
 use mysql_connection_rules::{Fault, Limits, Side};
 use mysql_connection_state::{Event, State};
 use std::alloc::Global;
@@ -26,8 +26,29 @@ pub struct Packet<'a> {
     used: usize,
 }
 
-// The first packet, where it is whole.
+// The first packet, where it is whole. Most have one chunk, and pay for nothing else.
 fn find_packet(
+    alloc: Global,
+    limit: usize,
+    number: u8,
+    bytes: &[u8],
+) -> Result<Option<Packet<'_>>, Fault>
+    ensures found { FindsIn limit number bytes.now result }
+    ensures lent { IsLentFrom bytes.now result }
+{
+    match one_chunk(limit, number, bytes) {
+        Some(payload) => Ok(Some(Packet {
+            payload: CowSlice::Borrowed(payload),
+            next: number.wrapping_add(1),
+            used: 4 + payload.len(),
+        })),
+        None => find_chunks(alloc, limit, number, bytes),
+    }
+}
+
+// The first packet, whatever chunks it has.
+#[inline(never)]
+fn find_chunks(
     alloc: Global,
     limit: usize,
     number: u8,

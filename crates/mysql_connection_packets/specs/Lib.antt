@@ -2,3 +2,4 @@ pub mod FirstPacket
 pub mod Laws
 pub mod Chunks
 pub mod Views
+pub mod OneChunk

@@ -6,5 +6,7 @@ mod chunk;
 mod extent;
 pub mod laws;
 pub mod packet;
+mod single;
 
 pub use packet::{FirstPacket, first_packet, framed, is_short};
+pub use single::one_chunk;

@@ -2,11 +2,10 @@
 use Rattle.std.proofs.Common.{◌≡◌, ℕ, ◌+◌, ◌<◌, zero, suc, Bool, true, false, List, [], ◌∷◌, ◌++◌, ◌⊎◌, inl, inr, refl, sym, ap, subst, ◌∙◌, arith}
 use Rattle.std.proofs.lemmas.List.{append-nil}
 use Rattle.mysql_server_packets.specs.Packets.{ServerError}
-use Rattle.mysql_connection_rules.specs.declared.limits.Limits.{Limits}
 use Rattle.mysql_connection_rules.specs.declared.side.Side.{Side}
 use Rattle.mysql_connection_rules.specs.declared.side.Side.TheVariants.{Client, Server}
 use Rattle.mysql_connection_rules.specs.Events.{Event, Farewell}
-use Rattle.mysql_connection_rules.specs.Streams.{Stream, Streams, stream_of, with_stream, Coming, Piece, End, grow, World, start, come, Failure, Next, Waits, Says, Fails, next}
+use Rattle.mysql_connection_rules.specs.Streams.{Beginning, Stream, Streams, stream_of, with_stream, Coming, Piece, End, grow, World, start, come, Failure, Next, Waits, Says, Fails, next}
 use Rattle.mysql_connection_rules.specs.Runs.{Runs, IsLast, IsRun, HasCome}
 use Rattle.mysql_connection_rules.specs.Machines.{IsOpen, Had, fresh, comes, takes}
 use Rattle.mysql_connection_rules.specs.Laws.{RunExists, RunIsOne, PiecesAreTheRun, FrontsReadOn, EndAddsLastWords, ServersEndChangesNothing, unread_length}
@@ -64,7 +63,7 @@ run_is_one_from w xs ys last end h stop k halt =
     (sym (append-nil xs) ∙ ap (λ (l : List Event). xs ++ l) (sym none.0) ∙ rest.1, none.1)
 
 pub run_is_one : RunIsOne
-run_is_one limits streams events others last end h k = run_is_one_from (start limits streams) events others last end h.runs h.ends k.runs k.ends
+run_is_one begun streams events others last end h k = run_is_one_from (start begun streams) events others last end h.runs h.ends k.runs k.ends
 
 -- ---- there is a run
 
@@ -85,8 +84,8 @@ run_within packets (suc n) w h = run_by w (next w) refl (λ event mid e. run_wit
 
 pub run_exists : PacketLaws → RunExists
 unfolding HasRun
-run_exists packets limits streams =
-    let run = run_within packets (unread_length (start limits streams) + 1) (start limits streams) (omega arith) in
+run_exists packets begun streams =
+    let run = run_within packets (unread_length (start begun streams) + 1) (start begun streams) (omega arith) in
     (run.0, run.1, record { runs = run.2; ends = run.3 })
 
 -- ---- what a machine has had
@@ -98,16 +97,16 @@ come-runs : PacketLaws → (w : World) (events : List Event) (old : World) (side
 come-runs packets w events old side coming h is_open = runs-come packets w events old side coming (sym (runs-closed packets w events old h side) ∙ is_open) h
 
 -- The whole streams that came run by the events that were taken to what is held.
-pub had_runs : PacketLaws → (limits : Limits) (streams : Streams) (events : List Event) (held : World) → Had limits streams events held → Runs (start limits streams) events held
-had_runs packets limits streams events held fresh = refl
-had_runs packets limits streams events held (comes {streams = before} {old = old} side coming had is_open e) =
-    subst (λ (v : World). Runs (start limits streams) events v) (sym e) (come-runs packets (start limits before) events old side coming (had_runs packets limits before events old had) is_open)
-had_runs packets limits streams events held (takes {events = front} {old = old} {event = event} had e) =
-    runs-append (start limits streams) front (event ∷ []) old held (had_runs packets limits streams front old had) (step-runs old event held e)
+pub had_runs : PacketLaws → (begun : Beginning) (streams : Streams) (events : List Event) (held : World) → Had begun streams events held → Runs (start begun streams) events held
+had_runs packets begun streams events held fresh = refl
+had_runs packets begun streams events held (comes {streams = before} {old = old} side coming had is_open e) =
+    subst (λ (v : World). Runs (start begun streams) events v) (sym e) (come-runs packets (start begun before) events old side coming (had_runs packets begun before events old had) is_open)
+had_runs packets begun streams events held (takes {events = front} {old = old} {event = event} had e) =
+    runs-append (start begun streams) front (event ∷ []) old held (had_runs packets begun streams front old had) (step-runs old event held e)
 
 pub pieces_are_the_run : PacketLaws → PiecesAreTheRun
-pieces_are_the_run packets limits streams taken left events held last end had more stop run =
-    run_is_one_from (start limits streams) (taken ++ left) events last end (runs-append (start limits streams) taken left held last (had_runs packets limits streams taken held had) more) stop run.runs run.ends
+pieces_are_the_run packets begun streams taken left events held last end had more stop run =
+    run_is_one_from (start begun streams) (taken ++ left) events last end (runs-append (start begun streams) taken left held last (had_runs packets begun streams taken held had) more) stop run.runs run.ends
 
 -- ---- fronts
 
@@ -171,11 +170,11 @@ whole_comes side w whole more false true p q r e all = (ended side w whole more 
 whole_comes side w whole more false false p q r e all = (piece_came side w whole more (p ∙ sym q) r e, (p, tt))
 
 -- what ran over fronts of the streams runs over the whole streams, and a fault stays
-pub front_runs : PacketLaws → (limits : Limits) (front whole : Streams) (events : List Event) (last : World) → HasCome front whole → Runs (start limits front) events last
-    → (mid : World) × Runs (start limits whole) events mid × ((failure : Failure) → next last ≡ Fails failure → next mid ≡ Fails failure)
-front_runs packets limits front whole events last come h =
-    let w = start limits front in
-    let half = start limits (record { client = whole.client; server = front.server }) in
+pub front_runs : PacketLaws → (begun : Beginning) (front whole : Streams) (events : List Event) (last : World) → HasCome front whole → Runs (start begun front) events last
+    → (mid : World) × Runs (start begun whole) events mid × ((failure : Failure) → next last ≡ Fails failure → next mid ≡ Fails failure)
+front_runs packets begun front whole events last come h =
+    let w = start begun front in
+    let half = start begun (record { client = whole.client; server = front.server }) in
     let a = come.client in
     let b = come.server in
     let c = whole_comes Client w whole.client a.bytes.0 front.client.closed whole.client.closed refl refl a.read a.bytes.1 a.all in
@@ -187,9 +186,9 @@ front_runs packets limits front whole events last come h =
     (end, subst (λ (v : World). Runs v events end) s.0 two.0, λ failure e. two.1 failure (one.1 failure e))
 
 pub fronts_read_on : PacketLaws → FrontsReadOn
-fronts_read_on packets limits front whole events all last end come h k =
-    let on = front_runs packets limits front whole events last come h.runs in
-    let rest = runs-split (start limits whole) events all on.0 end on.1 k.runs k.ends in (
+fronts_read_on packets begun front whole events all last end come h k =
+    let on = front_runs packets begun front whole events last come h.runs in
+    let rest = runs-split (start begun whole) events all on.0 end on.1 k.runs k.ends in (
       (rest.0, rest.1),
       λ failure e.
           let fails = on.2 failure e in
@@ -221,10 +220,10 @@ at_end packets (Fails failure) last end more e stop is_open h = inl (none_left (
 at_end packets (Says event mid) last end more e stop is_open h = absurd stop
 
 pub end_adds_last_words : PacketLaws → EndAddsLastWords
-end_adds_last_words packets limits streams events all last end is_open h k =
-    let on = runs-come packets (start limits streams) events last Client End is_open h.runs in
-    let rest = runs-split (start limits (grow Client End streams)) events all (come Client End last) end on k.runs k.ends in
-    joined events rest.0 all rest.1 (at_end packets (next last) last end rest.0 refl h.ends (runs-closed packets (start limits streams) events last h.runs Client ∙ is_open) rest.2)
+end_adds_last_words packets begun streams events all last end is_open h k =
+    let on = runs-come packets (start begun streams) events last Client End is_open h.runs in
+    let rest = runs-split (start begun (grow Client End streams)) events all (come Client End last) end on k.runs k.ends in
+    joined events rest.0 all rest.1 (at_end packets (next last) last end rest.0 refl h.ends (runs-closed packets (start begun streams) events last h.runs Client ∙ is_open) rest.2)
 
 -- ---- the end of the server's stream
 
@@ -237,19 +236,19 @@ still_last packets (Says event mid) last e stop is_open = absurd stop
 closed_same : (w : World) → w.unread.server.closed ≡ true → come Server End w ≡ w
 closed_same w e = λ i. set_stream Server (record { read = w.unread.server.read; bytes = w.unread.server.bytes; closed = sym e i }) w
 
-closed_runs : PacketLaws → (limits : Limits) (streams : Streams) (events : List Event) (last : World) (closed : Bool) → streams.server.closed ≡ closed
-    → IsRun limits streams events last → IsRun limits (grow Server End streams) events (come Server End last)
-closed_runs packets limits streams events last false is_open h = record {
-  runs = runs-come packets (start limits streams) events last Server End is_open h.runs;
-  ends = still_last packets (next last) last refl h.ends (runs-closed packets (start limits streams) events last h.runs Server ∙ is_open);
+closed_runs : PacketLaws → (begun : Beginning) (streams : Streams) (events : List Event) (last : World) (closed : Bool) → streams.server.closed ≡ closed
+    → IsRun begun streams events last → IsRun begun (grow Server End streams) events (come Server End last)
+closed_runs packets begun streams events last false is_open h = record {
+  runs = runs-come packets (start begun streams) events last Server End is_open h.runs;
+  ends = still_last packets (next last) last refl h.ends (runs-closed packets (start begun streams) events last h.runs Server ∙ is_open);
 }
-closed_runs packets limits streams events last true is_closed h =
-    let same = closed_same last (runs-closed packets (start limits streams) events last h.runs Server ∙ is_closed) in record {
-      runs = subst (λ (v : World). Runs v events (come Server End last)) (sym (closed_same (start limits streams) is_closed))
-          (subst (λ (v : World). Runs (start limits streams) events v) (sym same) h.runs);
+closed_runs packets begun streams events last true is_closed h =
+    let same = closed_same last (runs-closed packets (start begun streams) events last h.runs Server ∙ is_closed) in record {
+      runs = subst (λ (v : World). Runs v events (come Server End last)) (sym (closed_same (start begun streams) is_closed))
+          (subst (λ (v : World). Runs (start begun streams) events v) (sym same) h.runs);
       ends = subst (λ (v : World). IsLast (next v)) (sym same) h.ends;
     }
 
 pub servers_end_changes_nothing : PacketLaws → ServersEndChangesNothing
-servers_end_changes_nothing packets limits streams events all last end h k =
-    run_is_one limits (grow Server End streams) events all (come Server End last) end (closed_runs packets limits streams events last streams.server.closed refl h) k
+servers_end_changes_nothing packets begun streams events all last end h k =
+    run_is_one begun (grow Server End streams) events all (come Server End last) end (closed_runs packets begun streams events last streams.server.closed refl h) k

@@ -33,7 +33,7 @@ pub faults_are_of_their_bytes : PacketLaws → FaultsAreOfTheirBytes
 faults_are_of_their_bytes packets w failure e = next_goes-fails packets w failure e
 
 pub fresh_is_within_limits : FreshIsWithinLimits
-fresh_is_within_limits limits = record { client = omega arith; server = omega arith; kept = omega arith }
+fresh_is_within_limits begun fits = record { client = omega arith; server = omega arith; kept = fits }
 
 fits_joined : (bytes piece : List ℕ) (room : ℕ) → length bytes + length piece ≤ room → length (bytes ++ piece) ≤ room
 fits_joined bytes piece room h = grind (arith, common_steps)

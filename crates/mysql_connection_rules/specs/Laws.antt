@@ -3,7 +3,6 @@
 use Rattle.std.specs.Prelude.{◌≡◌, ◌≤◌, ◌<◌, ℕ, ◌+◌, true, false, List, [], ◌∷◌, ◌++◌, ◌⊎◌, length}
 use Rattle.std.specs.Prelude.{Some}
 use Rattle.mysql_connection_rules.specs.declared.fault.Fault.TheVariants as faults
-use Rattle.mysql_connection_rules.specs.declared.limits.Limits.{Limits}
 use Rattle.mysql_connection_rules.specs.declared.side.Side.{Side}
 use Rattle.mysql_connection_rules.specs.declared.side.Side.TheVariants.{Client, Server}
 use Rattle.mysql_connection_rules.specs.Events.{Event, side_of}
@@ -13,7 +12,7 @@ use Rattle.mysql_connection_rules.specs.Runs.{HasCome, IsFront, IsLast, IsRun, R
 use Rattle.mysql_server_packets.specs.Packets.{ServerError}
 use Rattle.mysql_connection_rules.specs.Standing.{kept}
 use Rattle.mysql_connection_rules.specs.Steps.{turn}
-use Rattle.mysql_connection_rules.specs.Streams.{End, Fails, Failure, Piece, Says, Stream, Streams}
+use Rattle.mysql_connection_rules.specs.Streams.{Beginning, End, Fails, Failure, Piece, Says, Stream, Streams}
 use Rattle.mysql_connection_rules.specs.Streams.{Waits, World, come, grow, held, next, no_bytes}
 use Rattle.mysql_connection_rules.specs.Streams.{room}
 use Rattle.mysql_connection_rules.specs.Streams.{room_to_keep, start, stream_of}
@@ -22,48 +21,48 @@ use Rattle.mysql_connection_rules.specs.Streams.{room_to_keep, start, stream_of}
 
 -- Any two streams have a run, and no other.
 abbrev pub RunExists : Type 0
-RunExists = (limits : Limits) (streams : Streams) →
-    (events : List Event) × (last : World) × IsRun limits streams events last
+RunExists = (begun : Beginning) (streams : Streams) →
+    (events : List Event) × (last : World) × IsRun begun streams events last
 
 abbrev pub RunIsOne : Type 0
-RunIsOne = (limits : Limits) (streams : Streams) (events others : List Event) (last end : World) →
-    IsRun limits streams events last → IsRun limits streams others end →
+RunIsOne = (begun : Beginning) (streams : Streams) (events others : List Event) (last end : World) →
+    IsRun begun streams events last → IsRun begun streams others end →
     (events ≡ others) × (last ≡ end)
 
 -- Whatever pieces and ends of two streams came to a machine, in whatever order, and whenever events
 -- were taken: those that were taken and those that are still there to take are the events of the
 -- one run over the two streams, and end where it ends, a fault too.
 abbrev pub PiecesAreTheRun : Type 0
-PiecesAreTheRun = (limits : Limits) (streams : Streams) (taken left events : List Event)
-    (now last end : World) → Had limits streams taken now → Runs now left last →
+PiecesAreTheRun = (begun : Beginning) (streams : Streams) (taken left events : List Event)
+    (now last end : World) → Had begun streams taken now → Runs now left last →
     IsLast (next last) →
-    IsRun limits streams events end → (taken ++ left ≡ events) × (last ≡ end)
+    IsRun begun streams events end → (taken ++ left ≡ events) × (last ≡ end)
 
 -- FRONTS AND ENDS
 
 -- The events of fronts of the streams are a front of the events; a fault of them is the whole
 -- streams' fault, behind the same events.
 abbrev pub FrontsReadOn : Type 0
-FrontsReadOn = (limits : Limits) (front whole : Streams) (events all : List Event)
+FrontsReadOn = (begun : Beginning) (front whole : Streams) (events all : List Event)
     (last end : World) →
-    HasCome front whole → IsRun limits front events last → IsRun limits whole all end →
+    HasCome front whole → IsRun begun front events last → IsRun begun whole all end →
     IsFront events all ×
     ((failure : Failure) → next last ≡ Fails failure →
     (events ≡ all) × (next end ≡ Fails failure))
 
 -- The end of the client's stream adds last words of the server at most.
 abbrev pub EndAddsLastWords : Type 0
-EndAddsLastWords = (limits : Limits) (streams : Streams) (events all : List Event)
+EndAddsLastWords = (begun : Beginning) (streams : Streams) (events all : List Event)
     (last end : World) →
-    streams.client.closed ≡ false → IsRun limits streams events last →
-    IsRun limits (grow Client End streams) all end →
+    streams.client.closed ≡ false → IsRun begun streams events last →
+    IsRun begun (grow Client End streams) all end →
     (events ≡ all) ⊎ ((error : ServerError) × (all ≡ events ++ Farewell error ∷ []))
 
 -- The end of the server's stream changes nothing.
 abbrev pub ServersEndChangesNothing : Type 0
-ServersEndChangesNothing = (limits : Limits) (streams : Streams) (events all : List Event)
-    (last end : World) → IsRun limits streams events last →
-    IsRun limits (grow Server End streams) all end → (events ≡ all) × (come Server End last ≡ end)
+ServersEndChangesNothing = (begun : Beginning) (streams : Streams) (events all : List Event)
+    (last end : World) → IsRun begun streams events last →
+    IsRun begun (grow Server End streams) all end → (events ≡ all) × (come Server End last ≡ end)
 
 -- Behind the server's last words nothing more is said.
 abbrev pub LastWordsAreLast : Type 0
@@ -113,9 +112,10 @@ pub record WithinLimits (w : World) : Type 0 where
   pub server : length w.unread.server.bytes ≤ room Server w.limits
   pub kept : kept w.standing ≤ room_to_keep w.limits
 
--- Nothing is held at first.
+-- At first no more is held than what is kept where it begins.
 abbrev pub FreshIsWithinLimits : Type 0
-FreshIsWithinLimits = (limits : Limits) → WithinLimits (start limits no_bytes)
+FreshIsWithinLimits = (begun : Beginning) → kept begun.first ≤ room_to_keep begun.limits →
+    WithinLimits (start begun no_bytes)
 
 -- A piece that has room beside what is unread of its side leaves all within the limits.
 abbrev pub PiecesStayWithinLimits : Type 0

@@ -1,9 +1,8 @@
 -- The run of the table over two streams.
 -- MySQL: Client/Server Protocol, "Connection Lifecycle".
 use Rattle.std.specs.Prelude.{◌≡◌, true, List, [], ◌∷◌, ◌++◌}
-use Rattle.mysql_connection_rules.specs.declared.limits.Limits.{Limits}
 use Rattle.mysql_connection_rules.specs.Events.{Event}
-use Rattle.mysql_connection_rules.specs.Streams.{Fails, Next, Says, Stream, Streams, Waits, World}
+use Rattle.mysql_connection_rules.specs.Streams.{Beginning, Fails, Next, Says, Stream, Streams, Waits, World}
 use Rattle.mysql_connection_rules.specs.Streams.{next, start}
 
 -- These events, one after another, lead from the one to the other.
@@ -19,9 +18,9 @@ IsLast (Fails failure) = Unit {0}
 
 -- The run over two streams: all events, up to where more bytes are waited for, the connection is
 -- over, or it can't be read further.
-pub record IsRun (limits : Limits) (streams : Streams) (events : List Event) (last : World) : Type 0
+pub record IsRun (begun : Beginning) (streams : Streams) (events : List Event) (last : World) : Type 0
   where
-    pub runs : Runs (start limits streams) events last
+    pub runs : Runs (start begun streams) events last
     pub ends : IsLast (next last)
 
 -- The one is a front of the other.

@@ -84,6 +84,19 @@ at_first = record {
   statements = no_statements;
 }
 
+-- Behind a login by which these capabilities are in force a command is due, and no statement is
+-- prepared.
+abbrev pub logged_in : Capabilities → Standing
+logged_in capabilities = record {
+  phase = Command;
+  number = 0;
+  answers = false;
+  offered = capabilities;
+  capabilities = capabilities;
+  plugin = None;
+  statements = no_statements;
+}
+
 -- WHAT IS KEPT
 
 abbrev pub about_size : Statements → About → ℕ

@@ -6,6 +6,7 @@ use Rattle.std.specs.Prelude.{List, [], ◌∷◌, ◌++◌, length, slice_index
 use Rattle.mysql_authentication.specs.Readings.{early_error_at}
 use Rattle.mysql_connection_packets.specs.FirstPacket.{Found, OutOfSync, Short, TooLarge, Whole}
 use Rattle.mysql_connection_packets.specs.FirstPacket.{first_packet, framed}
+use Rattle.mysql_const.specs.declared.capabilities.Capabilities.{Capabilities}
 use Rattle.mysql_fields.specs.Wire.{Reading}
 use Rattle.mysql_reply_events.specs.declared.fault.ReplyFault.TheVariants.{BadError}
 use Rattle.mysql_server_packets.specs.Packets.{ServerError}
@@ -17,7 +18,7 @@ use Rattle.mysql_connection_rules.specs.declared.side.Side.{Side}
 use Rattle.mysql_connection_rules.specs.declared.side.Side.TheVariants.{Client, Server}
 use Rattle.mysql_connection_rules.specs.Events.{Event}
 use Rattle.mysql_connection_rules.specs.Events.Event.{Farewell}
-use Rattle.mysql_connection_rules.specs.Standing.{Phase, Standing, at_first, kept}
+use Rattle.mysql_connection_rules.specs.Standing.{Phase, Standing, at_first, kept, logged_in}
 use Rattle.mysql_connection_rules.specs.Standing.Phase.{Command}
 use Rattle.mysql_connection_rules.specs.Steps.{over, step, turn}
 
@@ -82,8 +83,21 @@ pub record World : Type 0 where
   pub standing : Standing
   pub unread : Streams
 
-abbrev pub start : Limits → Streams → World
-start limits streams = record { limits = limits; standing = at_first; unread = streams }
+-- How a connection begins to be read: under these limits, where this stands.
+pub record Beginning : Type 0 where
+  pub limits : Limits
+  pub first : Standing
+
+-- From its first byte on.
+abbrev pub from_greeting : Limits → Beginning
+from_greeting limits = record { limits = limits; first = at_first }
+
+-- Behind a login that was read or made elsewhere, by which these capabilities are in force.
+abbrev pub from_login : Limits → Capabilities → Beginning
+from_login limits capabilities = record { limits = limits; first = logged_in capabilities }
+
+abbrev pub start : Beginning → Streams → World
+start begun streams = record { limits = begun.limits; standing = begun.first; unread = streams }
 
 abbrev pub come : Side → Coming → World → World
 come side coming w =

@@ -1,2 +1,7 @@
+pub mod Executing
+pub mod GoingOn
+pub mod Leading
 pub mod Parts
+pub mod Passing
 pub mod Turns
+mod NextRows

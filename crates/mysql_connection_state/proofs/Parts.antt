@@ -108,7 +108,7 @@ row_part old new reader before payload first same came =
     record { read = read; reply = cc; statements = refl }
 
 -- what stands behind an event, by whether the reply is whole
-by_whole : (whole : Bool) (r : InReply) (event : ReplySaid) (s : Standing) (these : Statements) →
+pub by_whole : (whole : Bool) (r : InReply) (event : ReplySaid) (s : Standing) (these : Statements) →
     (if whole then behind_reply r.about event (with_statements (with_columns r r.about these)
     (with_statements these s)) else in_phase (Reply r) (with_statements these s)) ≡
     in_phase (if whole then phase_behind r.about event else Reply r)

@@ -1,2 +1,4 @@
 pub mod Reads
 pub mod Views
+pub mod Follows
+pub mod NextRows

@@ -20,7 +20,7 @@ use Rattle.mysql_reply_events.specs.declared.fault.ReplyFault.{ReplyFault}
 use Rattle.mysql_reply_events.specs.declared.fault.ReplyFault.TheVariants as reply_faults
 use Rattle.mysql_rows.specs.Rows.{Row}
 use Rattle.mysql_connection_rules.specs.Events as events
-use Rattle.mysql_connection_rules.specs.Standing.{InReply, Phase, Standing}
+use Rattle.mysql_connection_rules.specs.Standing.{About, InReply, Phase, Standing}
 use Rattle.mysql_connection_rules.specs.Standing as phases
 use Rattle.mysql_connection_rules.specs.Steps.{Step, changed_by, in_phase, is_whole, of_reply, over}
 use Rattle.mysql_connection_rules.specs.Steps.{phase_behind, reply_after, says, turn_in_reply, with_columns}
@@ -146,6 +146,11 @@ TakesFile old payload (Err fault) new =
 abbrev pub told : InReply → ReplySaid → Standing → Standing
 told r event s =
     in_phase (if is_whole r.so_far.awaited then phase_behind r.about event else phases.Reply r) s
+
+-- An execution isn't answered yet.
+abbrev pub IsExecuting : About → Type 0
+IsExecuting (phases.Executing pending) = Unit {0}
+IsExecuting about = ⊥
 
 -- A reply is due, or a file that it asks for.
 abbrev pub IsInReply : Phase → Type 0

@@ -1,6 +1,6 @@
 //! Payloads by which a user is logged in or changed.
 
-ghost use Rattle.std.specs.Prelude.{◌≡◌, OnOk, Some, if◌then◌else◌, option_map};
+ghost use Rattle.std.specs.Prelude.{◌≡◌, OnErr, OnOk, Some, if◌then◌else◌, option_map};
 ghost use Rattle.mysql_auth.specs.Views.{plugin_view};
 ghost use Rattle.mysql_authentication.specs.Readings.{authentication_at};
 ghost use Rattle.mysql_authentication.specs.Views.{authentication_view};
@@ -141,14 +141,15 @@ impl State {
         }
     }
 
-    // What stands behind a server's payload.
-    fn follow_authentication(
+    /// What stands behind a server's payload.
+    pub(crate) fn follow_authentication(
         &mut self,
         exchange: Exchange,
         said: &AuthenticationEvent,
     ) -> Result<(), AllocError>
-        ensures { OnOk result (self.new.standing ≡
+        ensures ok { OnOk result (self.new.standing ≡
             after_authentication exchange self.old.standing (authentication_view said.now)) }
+        ensures err { OnErr result (self.new ≡ self.old) }
     {
         match said {
             AuthenticationEvent::Accepted(_) => {

@@ -1,6 +1,6 @@
 //! What an event of a reply changes of the statements and of what is kept.
 
-ghost use Rattle.std.specs.Prelude.{◌≡◌, ℕ, IfOk, OnOk};
+ghost use Rattle.std.specs.Prelude.{◌≡◌, ℕ, ◌≤◌, ◌^◌, IfOk, OnErr, OnOk};
 ghost use Rattle.mysql_connection_rules.specs.Standing as abouts;
 ghost use Rattle.mysql_connection_rules.specs.Standing.{about_size};
 ghost use Rattle.mysql_connection_rules.specs.Steps as steps;
@@ -44,8 +44,8 @@ fn preparing(
     }
 }
 
-// An execution is answered, by an error too; a report of progress is no answer.
-fn executing(
+/// An execution is answered, by an error too; a report of progress is no answer.
+pub fn executing(
     pending: Pending,
     event: &ReplyEvent,
     statements: &mut Statements,
@@ -54,6 +54,8 @@ fn executing(
         steps.changed_by (abouts.Executing pending) 0 (reply_view event.now) statements.old) }
     ensures about { IfOk result (λ after. about_view after ≡
         steps.about_after (abouts.Executing pending) (reply_view event.now)) }
+    ensures err { OnErr result (2 ^ 64 ≤
+        (steps.changed_by (abouts.Executing pending) 0 (reply_view event.now) statements.old).stored) }
 {
     let id = pending.id;
     match event {

@@ -1,6 +1,6 @@
 //! Commands: what each says, changes, and what is due behind it.
 
-ghost use Rattle.std.specs.Prelude.{◌≡◌, IfOk, None, OnOk, option_map};
+ghost use Rattle.std.specs.Prelude.{◌≡◌, IfOk, None, OnErr, OnOk, option_map};
 ghost use Rattle.std.specs.Option.{option_and_then};
 ghost use Rattle.mysql_auth.specs.Views.{plugin_view};
 ghost use Rattle.mysql_commands.specs.Commands.{command_at};
@@ -142,8 +142,9 @@ impl State {
 
     // Another user logs in: no statement stays, whatever the answer.
     fn change_user(&mut self, payload: &[u8], command: &Command) -> Result<(), AllocError>
-        ensures { OnOk result (self.new.standing ≡
+        ensures ok { OnOk result (self.new.standing ≡
             steps.after_change payload.now (command_view command.now) self.old.standing) }
+        ensures err { OnErr result (self.new ≡ self.old) }
     {
         self.plugin = changed_plugin(self.alloc, command)?;
         self.statements.clear();
@@ -153,8 +154,9 @@ impl State {
 
     // A statement is prepared.
     fn prepare(&mut self, payload: &[u8], command: &Command) -> Result<(), AllocError>
-        ensures { OnOk result (self.new.standing ≡
+        ensures ok { OnOk result (self.new.standing ≡
             steps.after_prepare payload.now (command_view command.now) self.old.standing) }
+        ensures err { OnErr result (self.new ≡ self.old) }
     {
         let text = text_of(self.alloc, command)?;
         let size = counted(payload)?;
@@ -170,10 +172,26 @@ impl State {
         payload: &[u8],
         command: &Command,
     ) -> Result<(), AllocError>
-        ensures { OnOk result (self.new.standing ≡ steps.in_phase standing.Command
+        ensures ok { OnOk result (self.new.standing ≡ steps.in_phase standing.Command
             (steps.after_data id payload.now (command_view command.now) self.old.standing)) }
+        ensures err { OnErr result (self.new ≡ self.old) }
     {
+        self.keep_data(id, payload, command)?;
         self.set_due(Due::Command);
+        Ok(())
+    }
+
+    // Long data waits for the statement's next execution.
+    fn keep_data(
+        &mut self,
+        id: Option<u32>,
+        payload: &[u8],
+        command: &Command,
+    ) -> Result<(), AllocError>
+        ensures ok { OnOk result (self.new.standing ≡
+            steps.after_data id payload.now (command_view command.now) self.old.standing) }
+        ensures err { OnErr result (self.new ≡ self.old) }
+    {
         let Some(id) = id else {
             return Ok(());
         };
@@ -202,8 +220,9 @@ impl State {
 
     // A statement's long data go.
     fn reset(&mut self, id: Option<u32>) -> Result<(), AllocError>
-        ensures { OnOk result (self.new.standing ≡ steps.reply_due kinds.Plain None standing.Nothing
-            (steps.changing is_reset id self.old.standing)) }
+        ensures ok { OnOk result (self.new.standing ≡ steps.reply_due kinds.Plain None
+            standing.Nothing (steps.changing is_reset id self.old.standing)) }
+        ensures err { OnErr result (self.new ≡ self.old) }
     {
         if let Some(id) = id {
             self.statements.reset(id)?;
@@ -214,10 +233,11 @@ impl State {
 
     // Rows of an open cursor, under the columns that the statement last had.
     fn fetch(&mut self, id: Option<u32>) -> Result<(), AllocError>
-        ensures { OnOk result (self.new.standing ≡ steps.reply_due kinds.Fetch
+        ensures ok { OnOk result (self.new.standing ≡ steps.reply_due kinds.Fetch
             (option_and_then (λ x. x.columns)
             (option_and_then (statement_at self.old.standing.statements) id))
             standing.Nothing self.old.standing) }
+        ensures err { OnErr result (self.new ≡ self.old) }
     {
         let columns = shared_columns_of(statement_of(&self.statements, id))?;
         self.await_reply(ReplyKind::Fetch, columns, About::Nothing);
@@ -232,18 +252,19 @@ impl State {
         self.await_reply(kind, None, about_by(number));
     }
 
-    // What a command changes, and what is due behind it, by its number.
-    fn by_number(
+    /// What a command changes, and what is due behind it, by its number.
+    pub(crate) fn by_number(
         &mut self,
         number: u8,
         body: &[u8],
         payload: &[u8],
         command: &Command,
     ) -> Result<(), AllocError>
-        ensures { OnOk result (self.new.standing ≡ steps.by_number number body.now
+        ensures ok { OnOk result (self.new.standing ≡ steps.by_number number body.now
             (steps.id_in_question self.old.standing.statements payload.now)
             (steps.statement_in_question self.old.standing.statements payload.now)
             payload.now (command_view command.now) self.old.standing) }
+        ensures err { OnErr result (self.new ≡ self.old) }
     {
         let id = id_in_question(&self.statements, payload);
         match number {

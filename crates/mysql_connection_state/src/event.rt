@@ -1,16 +1,23 @@
 //! What one payload of a connection says.
 
-ghost use Rattle.std.specs.Prelude.{◌≡◌, option_map};
+ghost use Rattle.std.specs.Prelude.{◌≡◌, IfOk, option_map};
+ghost use Rattle.mysql_authentication.specs.Views.{authentication_view, greeting_view};
+ghost use Rattle.mysql_authentication.specs.Views.{response_event_view};
 ghost use Rattle.mysql_commands.specs.Views.{command_view};
+ghost use Rattle.mysql_connection_rules.specs.Events.Event.{Asked, Authentication, Greeting};
+ghost use Rattle.mysql_connection_rules.specs.Events.Event.{Replied, Response};
+ghost use Rattle.mysql_connection_rules.specs.Events.{side_of};
 ghost use Rattle.mysql_reply_events.specs.Views.{event_view as reply_view};
 ghost use Rattle.mysql_connection_state.specs.Reads.{asked, replied};
 ghost use Rattle.mysql_connection_state.specs.Views.{event_view};
 
 use mysql_authentication::{AuthenticationEvent, GreetingEvent, ResponseEvent};
 use mysql_commands::Command;
+use mysql_connection_rules::Side;
 use mysql_queries::ByteString;
 use mysql_reply_events::ReplyEvent;
 use mysql_server_packets::ServerError;
+use std::alloc::{AllocError, Global};
 
 /// What one payload of a connection says. It borrows nothing; large kinds are in a box, so that an
 /// event is moved at little cost.
@@ -54,6 +61,76 @@ impl Drop for Event {
 }
 
 impl Event {
+    /// The server greets, or refuses the connection.
+    ///
+    /// # Errors
+    /// - `AllocError` for want of memory.
+    pub fn greeting(alloc: Global, said: GreetingEvent<'static>) -> Result<Event, AllocError>
+        ensures { IfOk result (λ event. event_view event ≡ Greeting (greeting_view said.entry)) }
+    {
+        Ok(Event::Greeting(Box::new(alloc, said)?))
+    }
+
+    /// The client logs in, or asks for TLS.
+    ///
+    /// # Errors
+    /// - `AllocError` for want of memory.
+    pub fn response(alloc: Global, said: ResponseEvent<'static>) -> Result<Event, AllocError>
+        ensures { IfOk result (λ event. event_view event ≡ Response (response_event_view said.entry)) }
+    {
+        Ok(Event::Response(Box::new(alloc, said)?))
+    }
+
+    /// A payload of the server's while a user is logged in or changed.
+    ///
+    /// # Errors
+    /// - `AllocError` for want of memory.
+    pub fn authentication(
+        alloc: Global,
+        said: AuthenticationEvent<'static>,
+    ) -> Result<Event, AllocError>
+        ensures { IfOk result (λ event. event_view event ≡
+            Authentication (authentication_view said.entry)) }
+    {
+        Ok(Event::Authentication(Box::new(alloc, said)?))
+    }
+
+    /// What the client asks for.
+    ///
+    /// # Errors
+    /// - `AllocError` for want of memory.
+    pub fn command(alloc: Global, command: Command<'static>) -> Result<Event, AllocError>
+        ensures { IfOk result (λ event. event_view event ≡ Asked (command_view command.entry)) }
+    {
+        Ok(Event::Command(Box::new(alloc, command)?))
+    }
+
+    /// What the server replies.
+    ///
+    /// # Errors
+    /// - `AllocError` for want of memory.
+    pub fn reply(alloc: Global, said: ReplyEvent) -> Result<Event, AllocError>
+        ensures { IfOk result (λ event. event_view event ≡ Replied (reply_view said)) }
+    {
+        Ok(Event::Reply(Box::new(alloc, said)?))
+    }
+
+    /// The side that says it.
+    pub fn side(&self) -> Side
+        ensures { result ≡ side_of (event_view self.now) }
+    {
+        match self {
+            Event::Greeting(_) => Side::Server,
+            Event::Response(_) => Side::Client,
+            Event::Authentication(_) => Side::Server,
+            Event::Answer(_) => Side::Client,
+            Event::Command(_) => Side::Client,
+            Event::Reply(_) => Side::Server,
+            Event::FileData(_) => Side::Client,
+            Event::Farewell(_) => Side::Server,
+        }
+    }
+
     /// What the server replies, where it is that.
     pub fn into_reply(self) -> Option<Box<ReplyEvent>>
         ensures { option_map (λ said. reply_view said.value) result ≡ replied (event_view self) }

@@ -1,6 +1,6 @@
 //! Executions of a prepared statement: what they carry, and what they change.
 
-ghost use Rattle.std.specs.Prelude.{◌≡◌, IfOk, OnOk, Some, option_map, unwrap_or};
+ghost use Rattle.std.specs.Prelude.{◌≡◌, IfOk, OnErr, OnOk, Some, option_map, unwrap_or};
 ghost use Rattle.std.specs.Option.{option_and_then, option_copied};
 ghost use Rattle.mysql_executions.specs.Bulks.{bulk_head};
 ghost use Rattle.mysql_rows.specs.Views.{shared_columns};
@@ -61,8 +61,8 @@ pub fn shared_columns_of(
     }
 }
 
-// The types that an execution carries, by its number and what stands behind it.
-fn carried_types(
+/// The types that an execution carries, by its number and what stands behind it.
+pub fn carried_types(
     alloc: Global,
     capabilities: Capabilities,
     number: u8,
@@ -97,8 +97,8 @@ fn bulk_flags(body: &[u8]) -> u16
     }
 }
 
-// How a refusal takes an execution back.
-fn refused_as(number: u8, body: &[u8]) -> Refused
+/// How a refusal takes an execution back.
+pub fn refused_as(number: u8, body: &[u8]) -> Refused
     ensures { result ≡ refused_as number body.now }
 {
     if number == BULK_EXECUTE {
@@ -119,18 +119,19 @@ fn about_execution(id: u32, pending: Option<Pending>) -> About
 }
 
 impl State {
-    // An execution of the statement of this id came, which is known and last had these columns.
-    fn executing(
+    /// An execution of the statement of this id came, which is known and last had these columns.
+    pub(crate) fn executing(
         &mut self,
         id: u32,
         columns: Option<RcSlice<Column>>,
         refused: Refused,
         types: &[BoundType],
     ) -> Result<(), AllocError>
-        ensures { OnOk result ((statement : Statement) →
+        ensures ok { OnOk result ((statement : Statement) →
             statement_at self.old.standing.statements id ≡ Some statement →
             option_map shared_columns columns ≡ statement.columns →
             self.new.standing ≡ after_executing id statement refused types.now self.old.standing) }
+        ensures err { OnErr result (self.new ≡ self.old) }
     {
         let pending = self.statements.execute(id, refused, types)?;
         self.await_reply(ReplyKind::Binary, columns, about_execution(id, pending));
@@ -144,8 +145,9 @@ impl State {
         body: &[u8],
         id: Option<u32>,
     ) -> Result<(), AllocError>
-        ensures { OnOk result (self.new.standing ≡ execution_of number body.now id
+        ensures ok { OnOk result (self.new.standing ≡ execution_of number body.now id
             (option_and_then (statement_at self.old.standing.statements) id) self.old.standing) }
+        ensures err { OnErr result (self.new ≡ self.old) }
     {
         let Some(id) = id else {
             self.await_reply(ReplyKind::Binary, None, About::Nothing);

@@ -1,6 +1,6 @@
 //! The first payload of each side.
 
-ghost use Rattle.std.specs.Prelude.{◌≡◌, IfOk, OnOk, option_map};
+ghost use Rattle.std.specs.Prelude.{◌≡◌, IfOk, OnErr, OnOk, option_map};
 ghost use Rattle.mysql_auth.specs.Views.{plugin_view};
 ghost use Rattle.mysql_authentication.specs.Events.{login_plugin};
 ghost use Rattle.mysql_authentication.specs.Readings.{early_error_at, greeting_at, response_at};
@@ -106,8 +106,8 @@ fn login_plugin(
 }
 
 impl State {
-    // The server greeted, or refused the connection.
-    fn greeted(&mut self, said: &GreetingEvent)
+    /// The server greeted, or refused the connection.
+    pub(crate) fn greeted(&mut self, said: &GreetingEvent)
         ensures { self.new.standing ≡ after_greeting self.old.standing (greeting_view said.now) }
     {
         match said {
@@ -144,16 +144,19 @@ impl State {
 
     // The client logged in.
     fn logged_in(&mut self, login: &LoginResponse) -> Result<(), AllocError>
-        ensures { OnOk result (self.new.standing ≡ after_login self.old.standing (login_view login.now)) }
+        ensures ok { OnOk result (self.new.standing ≡ after_login self.old.standing (login_view login.now)) }
+        ensures err { OnErr result (self.new ≡ self.old) }
     {
         self.plugin = login_plugin(self.alloc, login)?;
         self.agree(in_force(self.offered, login.request().offered()));
         Ok(())
     }
 
-    // The client logged in, or asked for TLS.
-    fn responded(&mut self, said: &ResponseEvent) -> Result<(), AllocError>
-        ensures { OnOk result (self.new.standing ≡ after_response self.old.standing (response_event_view said.now)) }
+    /// The client logged in, or asked for TLS.
+    pub(crate) fn responded(&mut self, said: &ResponseEvent) -> Result<(), AllocError>
+        ensures ok { OnOk result (self.new.standing ≡
+            after_response self.old.standing (response_event_view said.now)) }
+        ensures err { OnErr result (self.new ≡ self.old) }
     {
         match said {
             ResponseEvent::SecureRequest(_) => {

@@ -201,9 +201,9 @@ fn give_up(due: &mut Due)
 }
 
 impl State {
-    // What is due behind the last event of a reply. Apart from its caller, as `give_up` is.
+    /// What is due behind the last event of a reply. Apart from its caller, as `give_up` is.
     #[inline(never)]
-    fn end_reply(&mut self, event: &ReplyEvent)
+    pub(crate) fn end_reply(&mut self, event: &ReplyEvent)
         ensures { (r : StandingReply) → self.old.standing.phase ≡ phases.Reply r →
             self.new.standing ≡
             steps.in_phase (steps.phase_behind r.about (reply_view event.now)) self.old.standing }
@@ -213,8 +213,8 @@ impl State {
         }
     }
 
-    // Whether the reply that is due is whole.
-    fn has_whole_reply(&self) -> bool
+    /// Whether the reply that is due is whole.
+    pub(crate) fn has_whole_reply(&self) -> bool
         ensures { (r : StandingReply) → self.now.standing.phase ≡ phases.Reply r →
             result ≡ steps.is_whole r.so_far.awaited }
     {

@@ -1,8 +1,10 @@
 //! What stands of a connection between two payloads.
 
 ghost use Rattle.std.specs.Prelude.{◌≡◌, option_map};
+ghost use Rattle.std.specs.Option.{option_and_then, option_copied};
 ghost use Rattle.mysql_auth.specs.Views.{plugin_view};
-ghost use Rattle.mysql_connection_rules.specs.Standing.{at_first, kept, phase_size};
+ghost use Rattle.mysql_connection_statements.specs.Statements.{resolved, statement_at};
+ghost use Rattle.mysql_connection_rules.specs.Standing.{at_first, kept, logged_in, phase_size};
 ghost use Rattle.mysql_connection_rules.specs.Steps.{in_phase, step, turn};
 ghost use Rattle.mysql_connection_rules.specs.Streams.{is_client, number_in, numbered};
 ghost use Rattle.mysql_connection_state.specs.Reads.{IsCount, Reads, farewell_step};
@@ -17,6 +19,7 @@ use mysql_auth::AuthPlugin;
 use mysql_connection_rules::{Fault, Reason, Side};
 use mysql_connection_statements::Statements;
 use mysql_const::{Capabilities, CapabilityFlags, MariadbCapabilities};
+use mysql_executions::StatementParameters;
 use std::alloc::Global;
 use std::marker::Model;
 
@@ -121,6 +124,23 @@ impl State {
             answers: false,
             offered: no_capabilities(),
             capabilities: no_capabilities(),
+            plugin: None,
+            statements: Statements::new(alloc),
+        }
+    }
+
+    /// A connection behind a login that was made elsewhere: by these capabilities, which both sides
+    /// have, a command is due.
+    pub fn after_login(alloc: Global, capabilities: Capabilities) -> State
+        ensures { result.standing ≡ logged_in capabilities }
+    {
+        State {
+            alloc,
+            due: Due::Command,
+            number: 0,
+            answers: false,
+            offered: capabilities,
+            capabilities,
             plugin: None,
             statements: Statements::new(alloc),
         }
@@ -244,6 +264,13 @@ impl State {
         self.answers
     }
 
+    /// The capabilities that the server offers: none before its greeting.
+    pub fn offered(&self) -> Capabilities
+        ensures { result ≡ self.now.standing.offered }
+    {
+        self.offered
+    }
+
     /// The capabilities in force: none before the client's response.
     pub fn capabilities(&self) -> Capabilities
         ensures { result ≡ self.now.standing.capabilities }
@@ -263,6 +290,22 @@ impl State {
         ensures { result.now ≡ self.now.standing.statements }
     {
         &self.statements
+    }
+
+    /// What is in force of the parameters of the statement that an id stands for.
+    ///
+    /// 0xffffffff stands for the statement that was prepared last.
+    ///
+    /// MariaDB: Client/Server Protocol, "COM_STMT_EXECUTE".
+    pub fn parameters_for(&self, id: u32) -> Option<&StatementParameters>
+        ensures { option_copied result ≡ option_map (λ statement. statement.parameters)
+            (option_and_then (statement_at self.now.standing.statements)
+            (resolved self.now.standing.statements id)) }
+    {
+        match self.statements.get(self.statements.resolve(id)?) {
+            Some(statement) => Some(statement.parameters()),
+            None => None,
+        }
     }
 
     // What is kept for the reply that is due.

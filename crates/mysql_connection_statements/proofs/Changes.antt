@@ -1,5 +1,6 @@
 -- A statement that is changed in its place.
-use Rattle.std.proofs.Common.{◌≡◌, ℕ, ◌+◌, ◌-◌, Bool, true, false, if◌then◌else◌, List, [], ◌∷◌, Option, Some, nat_eq, refl, ap, ◌∙◌}
+use Rattle.std.proofs.Common.{◌≡◌, ℕ, ◌+◌, ◌-◌, Bool, true, false, if◌then◌else◌, List, [], ◌∷◌, Option, Some, nat_eq, refl, ap, sym, ◌∙◌, OnErr, Result, Ok, Err}
+use Rattle.std.proofs.lemmas.Map.Steps.{set_value_same}
 use Rattle.std.specs.Map.{lookup, set_value}
 use Rattle.indexmap.specs.IndexMap.{insert_entry}
 use Rattle.mysql_connection_statements.specs.Statements.{Statement, Statements, change_at, changed, statement_at, statement_size, stored_size}
@@ -23,13 +24,26 @@ in_place (e ∷ es) id old statement known =
 pub changed_in_place : (s : Statements) (id : ℕ) (change : Statement → Statement) (old statement : Statement) (es : List (ℕ × Statement)) (sum : ℕ)
     → Some old ≡ statement_at s id → statement ≡ change old
     → es ≡ set_value (nat_eq id) s.by_id statement
-    → sum ≡ s.stored - statement_size old + statement_size statement
+    → sum ≡ s.stored - statement_size old + statement_size (change old)
     → (let made : Statements = record { by_id = es; last = s.last; stored = sum } in made) ≡ change_at id change s
 changed_in_place s id change old statement es sum known is_changed entries is_sum =
     let by_id : es ≡ insert_entry nat_eq s.by_id id (change old) =
     entries ∙ in_place s.by_id id old statement known ∙ ap (λ (x : Statement). insert_entry nat_eq s.by_id id x) is_changed in
     let stored : sum ≡ s.stored - stored_size (statement_at s id) + statement_size (change old) =
-    is_sum ∙ ap (λ (x : Statement). s.stored - statement_size old + statement_size x) is_changed
-    ∙ ap (λ (x : Option Statement). s.stored - stored_size x + statement_size (change old)) known in
+    is_sum ∙ ap (λ (x : Option Statement). s.stored - stored_size x + statement_size (change old)) known in
     (λ i. record { by_id = by_id i; last = s.last; stored = stored i })
     ∙ ap (λ (x : Option Statement). changed change id x s) known
+
+on_err : {T E P : Type 0} (r : Result T E) → P → OnErr r P
+on_err (Ok x) p = tt
+on_err (Err e) p = p
+
+-- what stands where a statement stays as it was
+pub unchanged_in_place : {T E : Type 0} (r : Result T E) (s : Statements) (id : ℕ) (old statement : Statement) (es : List (ℕ × Statement))
+    → Some old ≡ statement_at s id → statement ≡ old → es ≡ set_value (nat_eq id) s.by_id statement
+    → OnErr r ((let made : Statements = record { by_id = es; last = s.last; stored = s.stored } in made) ≡ s)
+unchanged_in_place r s id old statement es known same entries =
+    let by_id : es ≡ s.by_id =
+    entries ∙ ap (λ (x : Statement). set_value (nat_eq id) s.by_id x) same
+    ∙ set_value_same (nat_eq id) s.by_id old (sym known) in
+    on_err r (λ i. record { by_id = by_id i; last = s.last; stored = s.stored })

@@ -147,13 +147,16 @@ is_reset statement = record {
 
 -- The columns of a result or of the statement came: these it has now, of so many bytes; of none the
 -- ones before count.
+abbrev pub described_behind : (size : ℕ) → Statement → ℕ
+described_behind size statement = if size == 0 then statement.described else size
+
 abbrev pub having_columns : Option (List ColumnDefinition) → (size : ℕ) → Statement → Statement
 having_columns columns size statement = record {
   text = statement.text;
   parameters = statement.parameters;
   columns = columns;
   prepared = statement.prepared;
-  described = if size == 0 then statement.described else size;
+  described = described_behind size statement;
   sent = statement.sent;
 }
 
@@ -197,3 +200,13 @@ more_before p (Some s) = bound p.before p.sent - bound s.parameters s.sent
 
 abbrev pub pending_size : Statements → Pending → ℕ
 pending_size s p = more_before p (statement_at s p.id)
+
+-- What is kept of a statement until an execution of it is answered.
+abbrev pub executing_size : Option Pending → Statement → ℕ
+executing_size None s = statement_size s
+executing_size (Some p) s = statement_size s + more_before p (Some s)
+
+-- What is kept beside all statements until an execution is answered.
+abbrev pub waiting_size : Statements → Option Pending → ℕ
+waiting_size s None = 0
+waiting_size s (Some p) = pending_size s p

@@ -7,6 +7,7 @@ pub mod pending;
 mod sizes;
 pub mod statement;
 pub mod statements;
+mod stored;
 
 pub use pending::Pending;
 pub use statement::Statement;

@@ -15,18 +15,24 @@ pub(crate) fn bound(parameters: &StatementParameters, sent: usize) -> u128
 }
 
 /// A sum of which one part changes.
+pub(crate) fn changed_sum(sum: usize, before: u128, after: u128) -> u128
+    requires { after < 2 ^ 68 }
+    ensures size { result ≡ sum - before + after }
+    ensures small { result < 2 ^ 69 }
+{
+    (sum as u128).saturating_sub(before) + after
+}
+
+/// A sum of which one part changes, where a usize holds it.
 ///
 /// # Errors
 /// - `AllocError` where the sum is too large.
 pub(crate) fn with_part(sum: usize, before: u128, after: u128) -> Result<usize, AllocError>
+    requires { after < 2 ^ 68 }
     ensures ok { IfOk result (λ made. made ≡ sum - before + after) }
     ensures err { IfErr result (λ _. 2 ^ 64 ≤ sum - before + after) }
 {
-    let rest = (sum as u128).saturating_sub(before);
-    let Some(made) = rest.checked_add(after) else {
-        return Err(AllocError);
-    };
-    match usize::try_from(made) {
+    match usize::try_from(changed_sum(sum, before, after)) {
         Ok(made) => Ok(made),
         Err(_) => Err(AllocError),
     }

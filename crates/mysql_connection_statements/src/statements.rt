@@ -1,8 +1,10 @@
 //! The prepared statements of a connection by their ids.
 
-ghost use Rattle.std.specs.Prelude.{◌≡◌, ◌≤◌, ◌^◌, IfOk, OnErr, OnOk, Some, None, nat_lt};
-ghost use Rattle.std.specs.Prelude.{if◌then◌else◌};
+ghost use Rattle.std.specs.Prelude.{◌≡◌, ℕ, ◌+◌, ◌<◌, ◌≤◌, ◌^◌, List, Option, IfErr, IfOk, OnErr, OnOk};
+ghost use Rattle.std.specs.Prelude.{if◌then◌else◌, Some, None, nat_lt};
 ghost use Rattle.std.specs.Option.{option_and_then, option_copied, option_map};
+ghost use Rattle.mysql_columns.specs.Columns.{ColumnDefinition};
+ghost use Rattle.mysql_executions.specs.declared.refused.Refused.{Refused as RefusedAs};
 ghost use Rattle.mysql_rows.specs.Views.{shared_columns};
 ghost use Rattle.mysql_connection_statements.specs.Statements.{after_close, after_prepared};
 ghost use Rattle.mysql_connection_statements.specs.Statements.{change_at, executed};
@@ -14,7 +16,7 @@ ghost use Rattle.mysql_connection_statements.specs.Statements.{unless_it as last
 ghost use Rattle.mysql_connection_statements.specs.Statements.{taken_back, with_long_data};
 
 use crate::pending::Pending;
-use crate::sizes::{bound, with_part};
+use crate::sizes::{changed_sum, with_part};
 use crate::statement::Statement;
 use indexmap::IndexMap;
 use mysql_columns::Column;
@@ -36,8 +38,7 @@ const LAST_PREPARED: u32 = 0xffff_ffff;
 /// (`Statements`). Follows "Prepared Statements" of the client/server protocol documentation, and
 /// "COM_STMT_EXECUTE" (statement id) of MariaDB's.
 ///
-/// Where a call answers an error for want of memory, or since a sum is too large, the statements
-/// may have changed.
+/// Where a call answers an error for want of memory, or since a sum is too large, nothing changes.
 #[derive(Drop)]
 pub struct Statements {
     alloc: Global,
@@ -96,8 +97,9 @@ impl Statements {
     }
 
     /// What is kept for the statement of this id.
-    fn size_at(&self, id: u32) -> u128
-        ensures { result ≡ stored_size (statement_at self.now id) }
+    pub(crate) fn size_at(&self, id: u32) -> u128
+        ensures size { result ≡ stored_size (statement_at self.now id) }
+        ensures small { result < 2 ^ 67 }
     {
         match self.by_id.get(&id) {
             Some(statement) => statement.size(),
@@ -124,8 +126,9 @@ impl Statements {
         count: u16,
         size: usize,
     ) -> Result<(), AllocError>
-        ensures { OnOk result (self.new ≡
+        ensures ok { OnOk result (self.new ≡
             after_prepared id (prepared_as text count size) self.old) }
+        ensures err { OnErr result (self.new ≡ self.old) }
     {
         let before = self.size_at(id);
         let statement = Statement::new(self.alloc, text, count, size);
@@ -170,15 +173,16 @@ impl Statements {
         ensures pending { IfOk result (λ pending. pending ≡
             option_and_then (pending_of id refused types.now) (statement_at self.old id)) }
         ensures ok { OnOk result (self.new ≡ change_at id (executed types.now) self.old) }
+        ensures err { OnErr result (self.new ≡ self.old) }
     {
         let alloc = self.alloc;
         let Some(statement) = self.by_id.get_mut(&id) else {
             return Ok(None);
         };
-        let before = statement.size();
+        let after = statement.size_executed(types);
+        let stored = with_part(self.stored, statement.size(), after)?;
         let pending = statement.execute(alloc, id, refused, types)?;
-        let after = statement.size();
-        self.stored = with_part(self.stored, before, after)?;
+        self.stored = stored;
         Ok(pending)
     }
 
@@ -193,17 +197,18 @@ impl Statements {
         bytes: &[u8],
         size: usize,
     ) -> Result<(), AllocError>
-        ensures { OnOk result (self.new ≡
+        ensures ok { OnOk result (self.new ≡
             change_at id (with_long_data place bytes.now size) self.old) }
+        ensures err { OnErr result (self.new ≡ self.old) }
     {
         let alloc = self.alloc;
         let Some(statement) = self.by_id.get_mut(&id) else {
             return Ok(());
         };
-        let before = statement.size();
+        let after = statement.size_with_long_data(place, size);
+        let stored = with_part(self.stored, statement.size(), after)?;
         statement.add_long_data(alloc, place, bytes, size)?;
-        let after = statement.size();
-        self.stored = with_part(self.stored, before, after)?;
+        self.stored = stored;
         Ok(())
     }
 
@@ -214,14 +219,14 @@ impl Statements {
     pub fn reset(&mut self, id: u32) -> Result<(), AllocError>
         ensures ok { OnOk result (self.new ≡ change_at id is_reset self.old) }
         ensures err { OnErr result (2 ^ 64 ≤ (change_at id is_reset self.old).stored) }
+        ensures unchanged { OnErr result (self.new ≡ self.old) }
     {
         let Some(statement) = self.by_id.get_mut(&id) else {
             return Ok(());
         };
-        let before = statement.size();
+        let stored = with_part(self.stored, statement.size(), statement.size_reset())?;
         statement.reset();
-        let after = statement.size();
-        self.stored = with_part(self.stored, before, after)?;
+        self.stored = stored;
         Ok(())
     }
 
@@ -234,15 +239,16 @@ impl Statements {
             change_at pending.id (taken_back code pending) self.old) }
         ensures err { OnErr result (2 ^ 64 ≤
             (change_at pending.id (taken_back code pending) self.old).stored) }
+        ensures unchanged { OnErr result (self.new ≡ self.old) }
     {
         let id = pending.id;
         let Some(statement) = self.by_id.get_mut(&id) else {
             return Ok(());
         };
-        let before = statement.size();
+        let after = statement.size_taken_back(code, &pending);
+        let stored = with_part(self.stored, statement.size(), after)?;
         statement.take_back(code, pending);
-        let after = statement.size();
-        self.stored = with_part(self.stored, before, after)?;
+        self.stored = stored;
         Ok(())
     }
 
@@ -260,14 +266,15 @@ impl Statements {
             change_at id (having_columns (option_map shared_columns columns) size) self.old) }
         ensures err { OnErr result (2 ^ 64 ≤ (change_at id
             (having_columns (option_map shared_columns columns) size) self.old).stored) }
+        ensures unchanged { OnErr result (self.new ≡ self.old) }
     {
         let Some(statement) = self.by_id.get_mut(&id) else {
             return Ok(());
         };
-        let before = statement.size();
+        let after = statement.size_with_columns(size);
+        let stored = with_part(self.stored, statement.size(), after)?;
         statement.set_columns(columns, size);
-        let after = statement.size();
-        self.stored = with_part(self.stored, before, after)?;
+        self.stored = stored;
         Ok(())
     }
 
@@ -276,11 +283,7 @@ impl Statements {
         ensures { result ≡ (let size = pending_size self.now pending.now in
             if nat_lt size (2 ^ 64) then Some size else None) }
     {
-        let more = match self.by_id.get(&pending.id) {
-            Some(statement) => statement.more_before(pending),
-            None => 0,
-        };
-        usize::try_from(more).ok()
+        usize::try_from(self.size_pending(pending)).ok()
     }
 }
 

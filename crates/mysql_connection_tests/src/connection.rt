@@ -9,14 +9,14 @@ use std::alloc::Global;
 use std::process::Abort;
 use tests_support::Assert;
 
-const LIMITS: Limits = Limits {
+pub const LIMITS: Limits = Limits {
     client: 1000,
     server: 1000,
     held: 4000,
 };
 
 // A login, a query, a prepare, an execution and a quit.
-const CLIENT: &[u8] = b"\x23\0\0\x01\0\x82\0\0\0\0\0\x01\x21\
+pub const CLIENT: &[u8] = b"\x23\0\0\x01\0\x82\0\0\0\0\0\x01\x21\
     \0\0\0\0\0\0\0\0\0\0\0\0\0\0\0\0\0\0\0\0\0\0\0u\0\0\
     \x09\0\0\0\x03SELECT 1\
     \x09\0\0\0\x16SELECT ?\
@@ -25,7 +25,7 @@ const CLIENT: &[u8] = b"\x23\0\0\x01\0\x82\0\0\0\0\0\x01\x21\
 
 // A greeting, an OK packet, a result of one row, the answer to the prepare (a statement with one
 // parameter), and an OK packet.
-const SERVER: &[u8] = b"\x33\0\0\0\x0a5.5.5\0\x01\0\0\x0012345678\0\0\x82\x21\x02\0\0\0\x15\
+pub const SERVER: &[u8] = b"\x33\0\0\0\x0a5.5.5\0\x01\0\0\x0012345678\0\0\x82\x21\x02\0\0\0\x15\
     \0\0\0\0\0\0\0\0\0\0123456789012\0\
     \x07\0\0\x02\0\0\0\x02\0\0\0\
     \x01\0\0\x01\x01\
@@ -92,8 +92,8 @@ fn take(connection: &mut Connection, lent: bool) -> Result<Counts, Fault> {
     }
 }
 
-// Feeds a piece, which has room; for want of memory once more.
-fn feed(connection: &mut Connection, side: Side, piece: &[u8]) -> Result<(), Fault> {
+/// Feeds a piece, which has room; for want of memory once more.
+pub fn feed(connection: &mut Connection, side: Side, piece: &[u8]) -> Result<(), Fault> {
     let fed = match connection.feed(side, piece) {
         Err(FeedRefusal::Memory) => connection.feed(side, piece),
         answer => answer,

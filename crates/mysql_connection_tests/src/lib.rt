@@ -6,3 +6,5 @@
 mod connection;
 #[cfg(test)]
 mod memory;
+#[cfg(test)]
+mod putting;

@@ -4,7 +4,8 @@ ghost use Rattle.std.specs.Prelude.{◌≡◌, true};
 
 use mysql_connection::{
     Capabilities, CapabilityFlags, Command, CommandRefusal, EventReader, MariadbCapabilities,
-    PutRefusal, ReplyEvent, ReplyFault, ReplyKind, StatementParameters, put_command, put_event,
+    ReplyEvent, ReplyFault, ReplyKind, ReplyPutRefusal, StatementParameters, put_command,
+    put_event,
 };
 use std::alloc::Global;
 use std::process::Abort;
@@ -104,6 +105,18 @@ fn is_last(event: &ReplyEvent) -> bool {
     matches!(event, ReplyEvent::RowsEnd(_))
 }
 
+// Puts an event, once more where memory ran out: the writer and what stands are as they were then.
+fn put_event_again(
+    writer: &mut EventReader,
+    event: &ReplyEvent,
+    out: &mut Vec<u8>,
+) -> Result<(), ReplyPutRefusal> {
+    match put_event(writer, event, out) {
+        Err(ReplyPutRefusal::Memory) => put_event(writer, event, out),
+        answer => answer,
+    }
+}
+
 // Reads all payloads, and puts each event again: whether the last one ends rows, and all are put as they were.
 fn reads_and_puts(alloc: Global, out: &mut Vec<u8>) -> Result<bool, ReplyFault> {
     let mut reader = EventReader::new(alloc, ReplyKind::Text, IN_FORCE, None);
@@ -112,10 +125,8 @@ fn reads_and_puts(alloc: Global, out: &mut Vec<u8>) -> Result<bool, ReplyFault> 
     for payload in REPLY {
         let event = reader.read(payload)?;
         ended = is_last(&event);
-        match put_event(&mut writer, &event, out) {
-            Ok(()) => {}
-            Err(PutRefusal::Memory) => return Err(ReplyFault::Memory),
-            Err(_) => return Ok(false),
+        if put_event_again(&mut writer, &event, out).is_err() {
+            return Ok(false);
         }
     }
     Ok(ended)

@@ -5,6 +5,7 @@ ghost use Rattle.std.specs.Prelude.{◌≤◌, length};
 use mysql_auth::AuthPlugin;
 use mysql_cells::Value;
 use mysql_connect_attributes::ConnectAttributes;
+use mysql_row_refs::ValueRef;
 use std::io;
 use std::io::Write;
 
@@ -67,23 +68,46 @@ pub(crate) fn write_bytes_if<W: Write>(
 /// `(d (year month day hour minute second microsecond))`, and
 /// `(t (negative days hours minutes seconds microseconds))`.
 pub(crate) fn write_value<W: Write>(output: &mut W, value: &Value) -> io::Result<()> {
+    write_value_ref(output, borrowed(value))
+}
+
+/// A value that borrows its bytes.
+fn borrowed(value: &Value) -> ValueRef<'_> {
     match value {
-        Value::NULL => output.write_all(b"-"),
-        Value::Bytes(bytes) => {
+        Value::NULL => ValueRef::NULL,
+        Value::Bytes(bytes) => ValueRef::Bytes(bytes.as_slice()),
+        Value::Int(number) => ValueRef::Int(*number),
+        Value::UInt(number) => ValueRef::UInt(*number),
+        Value::Float(bits) => ValueRef::Float(*bits),
+        Value::Double(bits) => ValueRef::Double(*bits),
+        Value::Date(year, month, day, hour, minute, second, micros) => {
+            ValueRef::Date(*year, *month, *day, *hour, *minute, *second, *micros)
+        }
+        Value::Time(negative, days, hours, minutes, seconds, micros) => {
+            ValueRef::Time(*negative, *days, *hours, *minutes, *seconds, *micros)
+        }
+    }
+}
+
+/// Writes a value that borrows its bytes, as [`write_value`] does.
+pub(crate) fn write_value_ref<W: Write>(output: &mut W, value: ValueRef<'_>) -> io::Result<()> {
+    match value {
+        ValueRef::NULL => output.write_all(b"-"),
+        ValueRef::Bytes(bytes) => {
             output.write_all(b"(b ")?;
-            write_hexadecimal(output, bytes.as_slice())?;
+            write_hexadecimal(output, bytes)?;
             output.write_all(b")")
         }
-        Value::Int(number) => write!(output, "(i {number})"),
-        Value::UInt(number) => write!(output, "(i {number})"),
-        Value::Float(number) => write!(output, "(f32 {:08x})", *number),
-        Value::Double(number) => write!(output, "(f64 {:016x})", *number),
-        Value::Date(year, month, day, hour, minute, second, micros) => write!(
+        ValueRef::Int(number) => write!(output, "(i {number})"),
+        ValueRef::UInt(number) => write!(output, "(i {number})"),
+        ValueRef::Float(bits) => write!(output, "(f32 {bits:08x})"),
+        ValueRef::Double(bits) => write!(output, "(f64 {bits:016x})"),
+        ValueRef::Date(year, month, day, hour, minute, second, micros) => write!(
             output,
             "(d ({year} {month} {day} {hour} {minute} {second} {micros}))"
         ),
-        Value::Time(negative, days, hours, minutes, seconds, micros) => {
-            let negative = u8::from(*negative);
+        ValueRef::Time(negative, days, hours, minutes, seconds, micros) => {
+            let negative = u8::from(negative);
             write!(
                 output,
                 "(t ({negative} {days} {hours} {minutes} {seconds} {micros}))"

@@ -15,4 +15,4 @@ pub use crate::commands::write_command;
 pub use crate::logins::{
     write_answer, write_authentication_event, write_greeting_event, write_response_event,
 };
-pub use crate::replies::{write_farewell, write_file_data, write_reply_event};
+pub use crate::replies::{write_farewell, write_file_data, write_reply_event, write_row_ref};

@@ -2,10 +2,12 @@
 
 use crate::fields::{
     write_bytes, write_bytes_if, write_flag, write_number, write_space, write_value,
+    write_value_ref,
 };
 use mysql_columns::{Column, ExtendedColumn};
 use mysql_ok_packets::OkPacket;
 use mysql_reply_events::ReplyEvent;
+use mysql_row_refs::RowRef;
 use mysql_rows::Row;
 use mysql_server_packets::{ProgressReport, ServerError, SqlState, StmtPacket};
 use std::io;
@@ -90,6 +92,22 @@ fn write_row<W: Write>(output: &mut W, row: &Row) -> io::Result<()> {
         write_space(output, place)?;
         match row.as_ref(place) {
             Some(value) => write_value(output, value)?,
+            None => output.write_all(b"-")?,
+        }
+    }
+    output.write_all(b")")
+}
+
+/// Writes a row that is lent, as [`write_reply_event`] writes it where it is kept.
+///
+/// # Errors
+/// - Those of the output.
+pub fn write_row_ref<W: Write>(output: &mut W, row: &RowRef<'_, '_>) -> io::Result<()> {
+    output.write_all(b"Row cells=(")?;
+    for place in 0..row.len() {
+        write_space(output, place)?;
+        match row.as_ref(place) {
+            Some(value) => write_value_ref(output, value)?,
             None => output.write_all(b"-")?,
         }
     }

@@ -1,6 +1,6 @@
 //! What a refusal leaves of types.
 
-ghost use Rattle.std.specs.Prelude.{◌≡◌, take};
+ghost use Rattle.std.specs.Prelude.{◌≡◌, length, take};
 ghost use Rattle.mysql_executions.specs.After.{drops_data as has_dropped_data, is_disputed as is_disputed_type};
 ghost use Rattle.mysql_executions.specs.After.{refused_types, undisputed as undisputed_of};
 
@@ -54,6 +54,15 @@ pub fn drop_disputed(carried: usize, types: &mut Vec<ParameterType>)
     if kept != carried {
         types.truncate(kept);
     }
+}
+
+/// How many types a refused command leaves, of which it carried so many first ones.
+pub fn count_left(carried: usize, types: &[ParameterType]) -> usize
+    ensures { result ≡ length (refused_types carried types.now) }
+{
+    let front = carried.min(types.len());
+    let kept = undisputed(&types[..front]);
+    if kept == carried { types.len() } else { kept }
 }
 
 /// Whether a server that refuses a bulk of these flags unread has dropped the long data.

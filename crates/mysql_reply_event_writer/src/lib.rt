@@ -10,5 +10,5 @@ mod put;
 pub mod refusal;
 mod same;
 
-pub use put::put_event;
-pub use refusal::PutRefusal;
+pub use put::{put_event, write_event};
+pub use refusal::ReplyPutRefusal;

@@ -17,7 +17,7 @@ ghost use Rattle.mysql_reply_event_writer.specs.Puts.{WritesPayload, memory_alon
 ghost use Rattle.mysql_reply_event_writer.specs.Written.{cells_bytes, count_bytes, event_payload, follow_byte};
 ghost use Rattle.mysql_reply_event_writer.specs.Written.{follow_told, form_cause, terminator_bytes, unless_cause};
 
-use crate::refusal::PutRefusal;
+use crate::refusal::ReplyPutRefusal;
 use bitflags::Flags;
 use mysql_buf::BufMutExt;
 use mysql_const::{CapabilityFlags, MariadbCapabilities};
@@ -246,7 +246,7 @@ fn write_prepared(
 }
 
 /// Appends a row.
-fn write_row(context: Context, row: &Row, out: &mut Vec<u8>) -> Result<(), PutRefusal>
+fn write_row(context: Context, row: &Row, out: &mut Vec<u8>) -> Result<(), ReplyPutRefusal>
     ensures { WritesPayload
         (unless_cause (form_cause context (row_view row.now)) (cells_bytes context (row_view row.now)))
         out.old.items out.new.items result }
@@ -258,18 +258,18 @@ fn write_row(context: Context, row: &Row, out: &mut Vec<u8>) -> Result<(), PutRe
     };
     match written {
         Ok(()) => Ok(()),
-        Err(RowRefusal::NoForm(_)) => Err(PutRefusal::BadEvent),
-        Err(RowRefusal::Memory) => Err(PutRefusal::Memory),
+        Err(RowRefusal::NoForm(_)) => Err(ReplyPutRefusal::BadEvent),
+        Err(RowRefusal::Memory) => Err(ReplyPutRefusal::Memory),
     }
 }
 
 // What was answered, where it is refused for want of memory alone.
-fn or_memory(written: Result<(), AllocError>) -> Result<(), PutRefusal>
+fn or_memory(written: Result<(), AllocError>) -> Result<(), ReplyPutRefusal>
     ensures { result ≡ memory_alone written }
 {
     match written {
         Ok(()) => Ok(()),
-        Err(_) => Err(PutRefusal::Memory),
+        Err(_) => Err(ReplyPutRefusal::Memory),
     }
 }
 
@@ -278,7 +278,7 @@ pub fn write_payload(
     context: Context,
     event: &ReplyEvent,
     out: &mut Vec<u8>,
-) -> Result<(), PutRefusal>
+) -> Result<(), ReplyPutRefusal>
     ensures { WritesPayload (event_payload context (event_view event.now)) out.old.items out.new.items result }
 {
     match event {

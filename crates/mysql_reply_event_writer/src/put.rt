@@ -2,12 +2,14 @@
 
 ghost use Rattle.std.specs.Prelude.{◌≡◌, None};
 ghost use Rattle.mysql_reply_events.specs.Views.{event_view};
-ghost use Rattle.mysql_reply_event_writer.specs.Puts.{IsTold, Puts, TakesTold, Tells, takes_payload};
+ghost use Rattle.mysql_reply_event_writer.specs.Puts.{GoesBehind, Puts, Tells, WritesEvent, takes_payload};
 
 use crate::payloads::write_payload;
-use crate::refusal::PutRefusal;
+use crate::refusal::ReplyPutRefusal;
 use crate::same::is_same;
+use mysql_reply_events::laws::events_lead_on;
 use mysql_reply_events::{EventReader, ReplyEvent, ReplyFault, Turn};
+use std::alloc::AllocError;
 
 // A payload of the server is due, and no fault was found.
 fn takes_payload(reader: &EventReader) -> bool
@@ -23,27 +25,74 @@ fn takes_payload(reader: &EventReader) -> bool
 }
 
 // Whether a payload is read as this event.
-fn tells(reader: &EventReader, event: &ReplyEvent, payload: &[u8]) -> Result<bool, PutRefusal>
+fn tells(reader: &EventReader, event: &ReplyEvent, payload: &[u8]) -> Result<bool, ReplyPutRefusal>
     requires { reader.now.fault ≡ None }
     ensures { Tells reader.now (event_view event.now) payload.now result }
 {
     match reader.peek(payload) {
         Ok(found) => Ok(is_same(&found, event)),
-        Err(ReplyFault::Memory) => Err(PutRefusal::Memory),
+        Err(ReplyFault::Memory) => Err(ReplyPutRefusal::Memory),
         Err(_) => Ok(false),
     }
 }
 
-// Reads a payload that is this event.
-fn take_told(reader: &mut EventReader, event: &ReplyEvent, payload: &[u8]) -> Result<(), PutRefusal>
-    requires going { reader.old.fault ≡ None }
-    requires told { IsTold reader.old (event_view event.now) payload.now }
-    ensures { TakesTold reader.old (event_view event.now) payload.now result reader.new }
+// Goes on behind an event that was written.
+fn go_behind(reader: &mut EventReader, event: &ReplyEvent) -> Result<(), AllocError>
+    requires { reader.old.fault ≡ None }
+    ensures { GoesBehind reader.old (event_view event.now) result reader.new }
 {
-    let _told = event;
-    match reader.read(payload) {
-        Ok(_) => Ok(()),
-        Err(_) => Err(PutRefusal::Memory),
+    match event {
+        ReplyEvent::Column(column) => match reader.pass_column(column) {
+            Ok(_) => Ok(()),
+            Err(refused) => Err(refused),
+        },
+        _ => {
+            reader.pass(event);
+            Ok(())
+        }
+    }
+}
+
+/// Appends the payload of an event, not framed, where it is read as this event. The reader stays.
+///
+/// It may then go on behind the event, by [`EventReader::pass`] or [`EventReader::pass_column`], as
+/// [`put_event`] lets it.
+///
+/// Promise: what was written is read as it was, and an event is refused by `BadEvent` exactly where
+/// no payload of its own is read as it there (`WritesEvent`, `event_payload`).
+///
+/// # Errors
+/// - Those of [`put_event`], in the same order.
+///
+/// `out` is as it was after an error.
+///
+/// MySQL: Client/Server Protocol, "COM_QUERY Response", "COM_STMT_PREPARE Response",
+/// "COM_STMT_FETCH Response", "COM_FIELD_LIST Response" and "COM_STATISTICS".
+pub fn write_event(
+    reader: &EventReader,
+    event: &ReplyEvent,
+    out: &mut Vec<u8>,
+) -> Result<(), ReplyPutRefusal>
+    ensures { WritesEvent reader.now (event_view event.now) result out.old.items out.new.items }
+{
+    if !takes_payload(reader) {
+        return Err(ReplyPutRefusal::NotDue);
+    }
+    let len = out.len();
+    write_payload(reader.context(), event, out)?;
+    match tells(reader, event, &out[len..]) {
+        Ok(true) => {
+            events_lead_on();
+            Ok(())
+        }
+        Ok(false) => {
+            out.truncate(len);
+            Err(ReplyPutRefusal::BadEvent)
+        }
+        Err(refusal) => {
+            out.truncate(len);
+            Err(refusal)
+        }
     }
 }
 
@@ -60,9 +109,9 @@ fn take_told(reader: &mut EventReader, event: &ReplyEvent, payload: &[u8]) -> Re
 /// - `BadEvent` where the event has no place there, or has no payload that is read as it: a count that
 ///   is 0, an OK packet with an empty info in place of none, a row under other columns than those
 ///   that stand or whose values aren't those that reading gives, and so on.
-/// - `Memory`. The reader may have failed then.
+/// - `Memory`.
 ///
-/// `out` is as it was after an error.
+/// The reader and `out` are as they were after an error.
 ///
 /// MySQL: Client/Server Protocol, "COM_QUERY Response", "COM_STMT_PREPARE Response",
 /// "COM_STMT_FETCH Response", "COM_FIELD_LIST Response" and "COM_STATISTICS".
@@ -70,30 +119,16 @@ pub fn put_event(
     reader: &mut EventReader,
     event: &ReplyEvent,
     out: &mut Vec<u8>,
-) -> Result<(), PutRefusal>
+) -> Result<(), ReplyPutRefusal>
     ensures { Puts reader.old (event_view event.now) result reader.new out.old.items out.new.items }
 {
-    if !takes_payload(reader) {
-        return Err(PutRefusal::NotDue);
-    }
     let len = out.len();
-    write_payload(reader.context(), event, out)?;
-    match tells(reader, event, &out[len..]) {
-        Ok(true) => {}
-        Ok(false) => {
-            out.truncate(len);
-            return Err(PutRefusal::BadEvent);
-        }
-        Err(refusal) => {
-            out.truncate(len);
-            return Err(refusal);
-        }
-    }
-    match take_told(reader, event, &out[len..]) {
+    write_event(reader, event, out)?;
+    match go_behind(reader, event) {
         Ok(()) => Ok(()),
-        Err(refusal) => {
+        Err(_) => {
             out.truncate(len);
-            Err(refusal)
+            Err(ReplyPutRefusal::Memory)
         }
     }
 }

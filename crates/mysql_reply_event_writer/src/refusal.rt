@@ -1,7 +1,7 @@
 //! Why an event is not written.
 
 ghost use Rattle.std.specs.Prelude.{◌≡◌};
-ghost use Rattle.mysql_reply_event_writer.specs.declared.refusal.PutRefusal.TheVariants as refusal;
+ghost use Rattle.mysql_reply_event_writer.specs.declared.refusal.ReplyPutRefusal.TheVariants as refusal;
 
 use std::alloc::AllocError;
 use thiserror::Error;
@@ -10,7 +10,7 @@ use thiserror::Error;
 ///
 /// MySQL: Client/Server Protocol, "COM_QUERY Response".
 #[derive(Clone, Copy, Debug, PartialEq, Eq, Error)]
-pub enum PutRefusal {
+pub enum ReplyPutRefusal {
     /// No payload of the server is due.
     #[error("no payload of the server is due")]
     NotDue,
@@ -22,10 +22,10 @@ pub enum PutRefusal {
     Memory,
 }
 
-impl From<AllocError> for PutRefusal {
+impl From<AllocError> for ReplyPutRefusal {
     ghost from_gives = { λ _ e. e ≡ refusal.Memory };
 
-    fn from(_e: AllocError) -> PutRefusal {
-        PutRefusal::Memory
+    fn from(_e: AllocError) -> ReplyPutRefusal {
+        ReplyPutRefusal::Memory
     }
 }

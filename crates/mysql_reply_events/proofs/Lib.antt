@@ -1,3 +1,5 @@
 mod BinaryRows
 mod RowsInPlace
 mod Peeking
+mod LeadingOn
+mod NextRows

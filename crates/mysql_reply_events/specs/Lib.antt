@@ -3,6 +3,8 @@ pub mod Readings
 pub mod Table
 pub mod Views
 pub mod Due
+pub mod Behind
 pub mod Standing
 pub mod States
 pub mod Reader
+pub mod NextRows

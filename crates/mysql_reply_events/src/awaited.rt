@@ -2,7 +2,7 @@
 
 ghost use Rattle.std.specs.Prelude.{◌≡◌};
 ghost use Rattle.mysql_reply_events.specs.Due.{bare};
-ghost use Rattle.mysql_reply_events.specs.Views.{awaited_view, due_view};
+ghost use Rattle.mysql_reply_events.specs.Views.{awaited_view, due_view, turn_of};
 
 use mysql_columns::Column;
 use std::alloc::Global;
@@ -103,6 +103,17 @@ impl Awaited {
             Awaited::Fields => Due::Fields,
             Awaited::FileData => Due::FileData,
             Awaited::Nothing => Due::Nothing,
+        }
+    }
+
+    /// Whose payload is due.
+    pub fn turn(&self) -> Turn
+        ensures { result ≡ turn_of (awaited_view self.now) }
+    {
+        match self {
+            Awaited::FileData => Turn::Client,
+            Awaited::Nothing => Turn::Nobody,
+            _ => Turn::Server,
         }
     }
 

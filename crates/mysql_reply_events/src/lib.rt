@@ -4,11 +4,13 @@
 #![tactic(auto)]
 
 mod awaited;
+mod behind;
 pub mod context;
 mod counts;
 pub mod event;
 pub mod fault;
 mod forms;
+pub mod laws;
 mod next;
 pub mod packets;
 mod reader;

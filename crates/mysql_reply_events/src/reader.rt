@@ -1,17 +1,22 @@
 //! The reader of a reply's payloads.
 
-ghost use Rattle.std.specs.Prelude.{◌≡◌, Err, IfSome, None, Some, OnErr, option_map, true};
+ghost use Rattle.std.specs.Prelude.{◌≡◌, Err, IfOk, IfSome, None, Some, OnErr, OnOk, false, option_map, true};
+ghost use Rattle.mysql_columns.specs.Views.{extended_view};
 ghost use Rattle.mysql_row_refs.specs.RowRefs.{row_ref_view};
 ghost use Rattle.mysql_rows.specs.Rows.{Row};
 ghost use Rattle.mysql_rows.specs.Views.{shared_columns};
-ghost use Rattle.mysql_reply_events.specs.Reader.{HasFailed, Peeks, ReadsInPlace, ReadsOn, TakesFileData, awaits_rows};
-ghost use Rattle.mysql_reply_events.specs.Reader.{fresh_reader, is_row_due};
+ghost use Rattle.mysql_reply_events.specs.Behind.{behind, is_column};
+ghost use Rattle.mysql_reply_events.specs.Events.Event.{ColumnEvent};
+ghost use Rattle.mysql_reply_events.specs.NextRows.{TakesRow, is_next_row};
+ghost use Rattle.mysql_reply_events.specs.Reader.{GoesOn, HasFailed, Peeks, ReadsInPlace, ReadsOn, TakesFileData};
+ghost use Rattle.mysql_reply_events.specs.Reader.{awaits_rows, fresh_reader, is_row_due};
 ghost use Rattle.mysql_reply_events.specs.Standing.{RowAt, columns_of, format_of};
 ghost use Rattle.mysql_reply_events.specs.States.{PeeksStep, Steps, bare_reply, so_far};
 ghost use Rattle.mysql_reply_events.specs.Table as table;
-ghost use Rattle.mysql_reply_events.specs.Views.{awaited_view, turn_of};
+ghost use Rattle.mysql_reply_events.specs.Views.{awaited_view, event_view, turn_of};
 
 use crate::awaited::{Awaited, Turn};
+use crate::behind::{pass, pass_column, turn_behind};
 use crate::context::{Context, ReplyKind};
 use crate::event::ReplyEvent;
 use crate::fault::ReplyFault;
@@ -21,10 +26,10 @@ use crate::rows::has_binary_rows;
 use crate::standing::StandingColumns;
 use crate::state::ReplyState;
 use crate::steps::place_step;
-use mysql_columns::Column;
+use mysql_columns::{Column, ExtendedColumn};
 use mysql_const::Capabilities;
 use mysql_row_refs::{RowFormat, RowRef, is_row};
-use std::alloc::Global;
+use std::alloc::{AllocError, Global};
 use std::marker::Model;
 use std::rc::RcSlice;
 
@@ -99,6 +104,16 @@ fn is_row_due(context: Context, state: &ReplyState, payload: &[u8]) -> bool
     awaits_rows(context, state)
         && !is_report_like(context, payload)
         && is_row(payload, deprecates_eof(context))
+}
+
+/// A row is due behind another one, and the payload begins as one.
+fn is_next_row(awaited: &Awaited, payload: &[u8]) -> bool
+    ensures { result ≡ is_next_row (awaited_view awaited.now) payload.now }
+{
+    match (awaited, payload) {
+        (Awaited::Rows { known: true }, [first, ..]) => *first < 254,
+        _ => false,
+    }
 }
 
 /// The format of rows, by the kind of the command.
@@ -259,6 +274,49 @@ impl EventReader {
         }
     }
 
+    /// Goes on behind an event that was put, without reading it: any but a column.
+    ///
+    /// A column goes to [`EventReader::pass_column`], since it is kept.
+    ///
+    /// Promise: what is awaited then is what follows from the event, and it is what reading a payload
+    /// of this event would leave (`behind`, `EventsLeadOn`).
+    ///
+    /// MySQL: Client/Server Protocol, "COM_QUERY Response" and "COM_STMT_PREPARE Response".
+    pub fn pass(&mut self, event: &ReplyEvent)
+        requires going { self.old.fault ≡ None }
+        requires other { is_column (event_view event.now) ≡ false }
+        ensures { self.new ≡ record self.old {
+          so_far = behind self.old.context self.old.so_far (event_view event.now);
+        } }
+    {
+        pass(self.alloc, self.context, &mut self.state, event);
+    }
+
+    /// Goes on behind a column that was put, without reading it. Answers the columns that stand then.
+    ///
+    /// They are shared: at the last column of a group, but for parameters, those of the group.
+    ///
+    /// Promise: what is awaited then is what follows from the column, and it is what reading it would
+    /// leave (`behind`, `EventsLeadOn`).
+    ///
+    /// # Errors
+    /// - `AllocError` for want of memory. Nothing has changed then.
+    ///
+    /// MySQL: Client/Server Protocol, "Column Definition".
+    pub fn pass_column(
+        &mut self,
+        column: &ExtendedColumn,
+    ) -> Result<Option<RcSlice<Column>>, AllocError>
+        requires going { self.old.fault ≡ None }
+        ensures behind { OnOk result (self.new.so_far ≡
+            behind self.old.context self.old.so_far (ColumnEvent (extended_view column.now))) }
+        ensures goes_on { GoesOn self.old self.new }
+        ensures columns { IfOk result (λ columns. columns_of columns ≡ self.new.so_far.columns) }
+        ensures unchanged { OnErr result (self.new ≡ self.old) }
+    {
+        pass_column(self.alloc, self.context, &mut self.state, column.column())
+    }
+
     // The payload has no place, or memory ran out.
     fn fail(&mut self, fault: ReplyFault) -> ReplyFault
         ensures fails { HasFailed self.old fault self.new }
@@ -310,6 +368,28 @@ impl EventReader {
         }
     }
 
+    /// Reads a row that is due behind another one where it lies, as most payloads of a long result
+    /// are. `false` says nothing of the payload: [`EventReader::read_in_place`] reads it then.
+    ///
+    /// Neither a first row is read here, for which memory is asked, nor a payload that begins as an
+    /// error or a terminator does.
+    ///
+    /// Promise: where it is `true`, the row is the one that `read` would answer, and
+    /// [`EventReader::row_ref`] gives it; else nothing has changed but what `row_ref` gives
+    /// (`TakesRow`).
+    ///
+    /// MySQL: Client/Server Protocol, "Text Resultset Row" and "Binary Protocol Resultset Row".
+    pub fn take_row(&mut self, payload: &[u8]) -> bool
+        requires { self.old.fault ≡ None }
+        ensures { TakesRow self.old payload.now result self.new }
+    {
+        if is_next_row(&self.state.awaited, payload) {
+            self.state.standing.take_row(payload)
+        } else {
+            false
+        }
+    }
+
     /// The row that [`EventReader::read_in_place`] read last, which borrows its payload.
     ///
     /// MySQL: Client/Server Protocol, "Text Resultset Row" and "Binary Protocol Resultset Row".
@@ -327,11 +407,19 @@ impl EventReader {
     pub fn turn(&self) -> Turn
         ensures { result ≡ turn_of self.now.so_far.awaited }
     {
-        match &self.state.awaited {
-            Awaited::FileData => Turn::Client,
-            Awaited::Nothing => Turn::Nobody,
-            _ => Turn::Server,
-        }
+        self.state.awaited.turn()
+    }
+
+    /// Whose payload is due behind an event that is put.
+    ///
+    /// Promise: whose it is once the reader goes on behind the event (`behind`).
+    ///
+    /// MySQL: Client/Server Protocol, "COM_QUERY Response" and "COM_STMT_PREPARE Response".
+    pub fn turn_behind(&self, event: &ReplyEvent) -> Turn
+        ensures { result ≡
+            turn_of (behind self.now.context self.now.so_far (event_view event.now)).awaited }
+    {
+        turn_behind(self.alloc, self.context, &self.state, event)
     }
 
     /// What the reply is read by.
@@ -357,6 +445,16 @@ impl EventReader {
             Some(columns) => Some(columns),
             None => None,
         }
+    }
+
+    /// The columns that stand, shared.
+    ///
+    /// # Errors
+    /// - `AllocError` for want of memory.
+    pub fn share_columns(&self) -> Result<Option<RcSlice<Column>>, AllocError>
+        ensures { IfOk result (λ columns. columns_of columns ≡ self.now.so_far.columns) }
+    {
+        self.state.standing.share_columns()
     }
 
     /// The columns that stand, for the statement's next reply.

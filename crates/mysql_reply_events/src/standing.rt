@@ -3,6 +3,7 @@
 ghost use Rattle.std.specs.Prelude.{◌≡◌, List, Some, None, IfOk, IsSome, OnOk};
 ghost use Rattle.mysql_columns.specs.Columns.{ColumnDefinition};
 ghost use Rattle.mysql_rows.specs.Views.{shared_columns};
+ghost use Rattle.mysql_reply_events.specs.NextRows.{TakesRowAt};
 ghost use Rattle.mysql_reply_events.specs.Standing.{ReadsAt, columns_of};
 ghost use Rattle.mysql_reply_events.specs.Table.{are_so_many};
 
@@ -124,11 +125,39 @@ impl StandingColumns {
         }
     }
 
+    /// Reads the places of the cells of the row that a payload is, where one was read before. No memory
+    /// is asked for.
+    pub fn take_row(&mut self, payload: &[u8]) -> bool
+        ensures rest { self.new ≡ record self.old { reader = self.new.reader } }
+        ensures row { TakesRowAt self.old payload.now result self.new.reader }
+    {
+        let Some(reader) = &mut self.reader else {
+            return false;
+        };
+        match reader.read(payload) {
+            Ok(()) => true,
+            Err(_) => false,
+        }
+    }
+
     /// What reads rows to be lent, once one was.
     pub fn reader(&self) -> &Option<RowReader>
         ensures { result.now ≡ self.now.reader }
     {
         &self.reader
+    }
+
+    /// The columns, shared.
+    ///
+    /// # Errors
+    /// - `AllocError` for want of memory.
+    pub fn share_columns(&self) -> Result<Option<RcSlice<Column>>, AllocError>
+        ensures { IfOk result (λ columns. columns_of columns ≡ self.now.columns) }
+    {
+        match &self.columns {
+            Some(columns) => Ok(Some(columns.clone()?)),
+            None => Ok(None),
+        }
     }
 
     /// The same columns, shared.
@@ -138,12 +167,8 @@ impl StandingColumns {
     pub fn share(&self) -> Result<StandingColumns, AllocError>
         ensures { IfOk result (λ same. same ≡ record self.now { reader = None }) }
     {
-        let columns = match &self.columns {
-            Some(columns) => Some(columns.clone()?),
-            None => None,
-        };
         Ok(StandingColumns {
-            columns,
+            columns: self.share_columns()?,
             format: self.format,
             reader: None,
         })

@@ -9,11 +9,13 @@
 //! MySQL: Client/Server Protocol, "COM_QUERY Response", "Text Resultset" and "COM_STMT_PREPARE
 //! Response".
 
-ghost use Rattle.std.specs.Prelude.{◌≡◌, ◌<◌, IsOkUnless, OnErr, OnOk};
+ghost use Rattle.std.specs.Prelude.{◌≡◌, IfOk, IsOkUnless, OnErr, OnOk};
 ghost use Rattle.mysql_columns.specs.Views.{column_view};
 ghost use Rattle.mysql_ok_packets.specs.Views.{ok_packet_view};
 ghost use Rattle.mysql_rows.specs.Views.{column_views};
 ghost use Rattle.mysql_reply_events.specs.declared.fault.ReplyFault.TheVariants.{Memory};
+ghost use Rattle.mysql_reply_events.specs.Behind as behind;
+ghost use Rattle.mysql_reply_events.specs.Standing.{columns_of};
 ghost use Rattle.mysql_reply_events.specs.Table as table;
 ghost use Rattle.mysql_reply_events.specs.Due.{column_due};
 ghost use Rattle.mysql_reply_events.specs.Views.{Gives, Tells, awaited_view, due_view, event_view, group_view};
@@ -38,7 +40,7 @@ use mysql_const::StatusFlags;
 use mysql_ok_packets::OkPacket;
 use mysql_ok_packets::ok_packet::has_more_results;
 use mysql_row_refs::starts_with;
-use std::alloc::Global;
+use std::alloc::{AllocError, Global};
 use std::mem;
 use std::rc::RcSlice;
 
@@ -53,7 +55,7 @@ fn has_results(kind: ReplyKind) -> bool
 }
 
 /// What is awaited behind a result.
-fn after_result(context: Context, ok: &OkPacket) -> Awaited
+pub fn after_result(context: Context, ok: &OkPacket) -> Awaited
     ensures { awaited_view result ≡ table.after_result context (ok_packet_view ok.now) }
 {
     if has_results(context.kind) && has_more_results(ok.status_flags()) {
@@ -118,7 +120,7 @@ fn after_group(alloc: Global, context: Context, group: ColumnGroup, known: bool)
 }
 
 /// What is awaited behind the last column of a group.
-fn after_columns(alloc: Global, context: Context, group: ColumnGroup, known: bool) -> Awaited
+pub fn after_columns(alloc: Global, context: Context, group: ColumnGroup, known: bool) -> Awaited
     ensures { awaited_view result ≡ table.after_columns context (group_view group) known }
 {
     if deprecates_eof(context) {
@@ -129,7 +131,7 @@ fn after_columns(alloc: Global, context: Context, group: ColumnGroup, known: boo
 }
 
 /// What is awaited behind the EOF of columns.
-fn after_columns_end(
+pub fn after_columns_end(
     alloc: Global,
     context: Context,
     group: ColumnGroup,
@@ -218,7 +220,29 @@ fn count_step(
     })
 }
 
-/// What is awaited behind a count of columns.
+/// What is awaited behind a count of columns that has its place.
+pub fn behind_count(
+    alloc: Global,
+    context: Context,
+    standing: &StandingColumns,
+    count: u16,
+    columns_follow: bool,
+) -> Awaited
+    ensures { awaited_view result ≡ behind.behind_count context standing.now.columns count columns_follow }
+{
+    if columns_follow {
+        Awaited::Columns {
+            group: ColumnGroup::ResultSet,
+            left: count.saturating_sub(1),
+            columns: Vec::new(alloc),
+        }
+    } else {
+        let known = is_execution(context.kind) && standing.are_so_many(count);
+        after_columns(alloc, context, ColumnGroup::ResultSet, known)
+    }
+}
+
+/// What is awaited behind a count of columns. It has no place where they neither follow nor stand.
 fn after_count(
     alloc: Global,
     context: Context,
@@ -226,19 +250,11 @@ fn after_count(
     count: u16,
     columns_follow: bool,
 ) -> Result<Awaited, ReplyFault>
-    requires { 0 < count }
     ensures { Tells awaited_view result (table.after_count context standing.now.columns (count, columns_follow)) }
 {
-    if columns_follow {
-        return Ok(Awaited::Columns {
-            group: ColumnGroup::ResultSet,
-            left: count - 1,
-            columns: Vec::new(alloc),
-        });
-    }
-    let known = is_execution(context.kind) && standing.are_so_many(count);
-    if known || has_optional_metadata(context) {
-        Ok(after_columns(alloc, context, ColumnGroup::ResultSet, known))
+    let stand = is_execution(context.kind) && standing.are_so_many(count);
+    if columns_follow || stand || has_optional_metadata(context) {
+        Ok(behind_count(alloc, context, standing, count, columns_follow))
     } else {
         Err(ReplyFault::BadCount)
     }
@@ -269,7 +285,7 @@ fn result_step(
 }
 
 /// What is awaited behind a statement packet.
-fn after_statement(
+pub fn after_statement(
     alloc: Global,
     context: Context,
     parameters: u16,
@@ -452,15 +468,15 @@ pub fn behind_column(alloc: Global, context: Context, group: ColumnGroup, left: 
 }
 
 /// Keeps a copy of a column of a group with those before it. Parameters aren't kept.
-fn keep_column(
+pub fn keep_column(
     alloc: Global,
     group: ColumnGroup,
     columns: &mut Vec<Column>,
     column: &Column,
-) -> Result<(), ReplyFault>
+) -> Result<(), AllocError>
     ensures kept { OnOk result (column_views columns.new.items ≡
         table.with_column (group_view group) (column_views columns.old.items) (column_view column.now)) }
-    ensures memory { IsOkUnless result Memory }
+    ensures unchanged { OnErr result (columns.new.items ≡ columns.old.items) }
 {
     match group {
         ColumnGroup::Parameters {
@@ -468,41 +484,36 @@ fn keep_column(
             follow: _,
         } => Ok(()),
         _ => {
-            let Ok(copy) = column.clone(alloc) else {
-                return Err(ReplyFault::Memory);
-            };
-            match columns.push(copy) {
-                Ok(()) => Ok(()),
-                Err(_) => Err(ReplyFault::Memory),
-            }
+            let copy = column.clone(alloc)?;
+            columns.push(copy)?;
+            Ok(())
         }
     }
 }
 
-/// The columns of a group stand, once it is whole, but for parameters.
-fn stand(
+/// The columns of a group stand, once it is whole, but for parameters. Answers those that stand.
+pub fn stand(
     group: ColumnGroup,
     standing: &mut StandingColumns,
     columns: Vec<Column>,
-) -> Result<(), ReplyFault>
+) -> Result<Option<RcSlice<Column>>, AllocError>
     ensures stand { OnOk result (standing.new.columns ≡
         table.standing (group_view group) (column_views columns.items) standing.old.columns) }
+    ensures shared { IfOk result (λ shared. columns_of shared ≡ standing.new.columns) }
     ensures format { standing.new.format ≡ standing.old.format }
-    ensures memory { IsOkUnless result Memory }
-    ensures kept { OnErr result (standing.new ≡ standing.old) }
+    ensures unchanged { OnErr result (standing.new ≡ standing.old) }
 {
     match group {
         ColumnGroup::Parameters {
             columns: _,
             follow: _,
-        } => Ok(()),
-        _ => match RcSlice::from_vec(columns) {
-            Ok(shared) => {
-                standing.replace(shared);
-                Ok(())
-            }
-            Err(_) => Err(ReplyFault::Memory),
-        },
+        } => standing.share_columns(),
+        _ => {
+            let columns = RcSlice::from_vec(columns)?;
+            let shared = columns.clone()?;
+            standing.replace(columns);
+            Ok(Some(shared))
+        }
     }
 }
 
@@ -529,7 +540,9 @@ fn column_came(
         };
         return Ok(());
     }
-    stand(group, &mut state.standing, columns)?;
+    if stand(group, &mut state.standing, columns).is_err() {
+        return Err(ReplyFault::Memory);
+    }
     state.awaited = after_columns(alloc, context, group, true);
     Ok(())
 }
@@ -550,7 +563,9 @@ fn column_step(
     ensures format { state.new.standing.format ≡ state.old.standing.format }
 {
     let column = column_packet(alloc, context, payload)?;
-    keep_column(alloc, group, &mut columns, column.column())?;
+    if keep_column(alloc, group, &mut columns, column.column()).is_err() {
+        return Err(ReplyFault::Memory);
+    }
     column_came(alloc, context, state, group, left, columns)?;
     Ok(ReplyEvent::Column(column))
 }

@@ -1,0 +1,165 @@
+//! A recording said again: a client and a server put its events, each reads the other's, and an
+//! auditor reads between them.
+
+use crate::calls::{close, feed, put_event};
+use crate::numbers::Numbers;
+use crate::readings::Task;
+use crate::troubles::Trouble;
+use mysql_connection_machine::{Connection, PutRefusal};
+use mysql_connection_rules::{Fault, Side};
+use mysql_connection_state::Event;
+use std::alloc::Global;
+
+/// Those who speak, and who reads what they say.
+#[derive(Drop)]
+struct Speakers {
+    alloc: Global,
+    client: Connection,
+    server: Connection,
+    auditor: Connection,
+}
+
+/// Puts an event, once more where memory is refused.
+fn put(connection: &mut Connection, event: &Event, out: &mut Vec<u8>) -> Result<(), Trouble> {
+    let put = match connection.put(event, out) {
+        Err(PutRefusal::Memory) => connection.put(event, out),
+        answer => answer,
+    };
+    match put {
+        Ok(()) => Ok(()),
+        Err(PutRefusal::Memory) => Err(Trouble::Memory),
+        Err(_) => Err(Trouble::Put),
+    }
+}
+
+/// Feeds all of a packet in pieces.
+fn feed_pieces(
+    connection: &mut Connection,
+    side: Side,
+    bytes: &[u8],
+    numbers: &mut Numbers,
+) -> Result<(), Trouble> {
+    let mut left = bytes;
+    for _ in 0..bytes.len() {
+        let count = numbers.below(left.len()).saturating_add(1);
+        let piece = left.get(..count).unwrap_or(left);
+        let fed = feed(connection, side, piece)?;
+        left = left.get(fed..).unwrap_or(&[]);
+    }
+    if left.is_empty() {
+        Ok(())
+    } else {
+        Err(Trouble::Feed)
+    }
+}
+
+/// Reads the next event, which has to be this line.
+fn hear(connection: &mut Connection, line: &[u8], heard: &mut Vec<u8>) -> Result<(), Trouble> {
+    heard.clear();
+    match connection.next_event() {
+        Ok(Some(event)) => put_event(&event, heard)?,
+        Ok(None) => return Err(Trouble::Late),
+        Err(_) => return Err(Trouble::Fault),
+    }
+    if heard.as_slice() == line {
+        Ok(())
+    } else {
+        Err(Trouble::Line)
+    }
+}
+
+/// Whether two connections stand alike, but for bytes that wait.
+fn stand_alike(one: &Connection, other: &Connection) -> bool {
+    one.turn() == other.turn()
+        && one.phase() == other.phase()
+        && one.capabilities() == other.capabilities()
+        && one.held() == other.held()
+}
+
+impl Speakers {
+    fn new(alloc: Global, task: &Task<'_>) -> Speakers {
+        Speakers {
+            alloc,
+            client: Connection::new(alloc, task.limits),
+            server: Connection::new(alloc, task.limits),
+            auditor: Connection::new(alloc, task.limits),
+        }
+    }
+
+    /// The client says no more.
+    fn end_client(&mut self) {
+        self.client.close(Side::Client);
+        self.server.close(Side::Client);
+        self.auditor.close(Side::Client);
+    }
+
+    /// Those who speak and who listen to an event of a side.
+    fn pair(&mut self, side: Side) -> (&mut Connection, &mut Connection) {
+        match side {
+            Side::Client => (&mut self.client, &mut self.server),
+            Side::Server => (&mut self.server, &mut self.client),
+        }
+    }
+
+    /// Says an event: its side puts it, and the others read it.
+    fn say(
+        &mut self,
+        event: &Event,
+        line: &[u8],
+        out: &mut Vec<u8>,
+        numbers: &mut Numbers,
+    ) -> Result<(), Trouble> {
+        let side = event.side();
+        if matches!(event, Event::Farewell(_)) && self.server.turn() == Some(Side::Client) {
+            self.end_client();
+        }
+        let mut heard = Vec::new(self.alloc);
+        out.clear();
+        let (speaker, listener) = self.pair(side);
+        put(speaker, event, out)?;
+        feed_pieces(listener, side, out.as_slice(), numbers)?;
+        hear(listener, line, &mut heard)?;
+        feed_pieces(&mut self.auditor, side, out.as_slice(), numbers)?;
+        hear(&mut self.auditor, line, &mut heard)?;
+        if stand_alike(&self.client, &self.server) && stand_alike(&self.client, &self.auditor) {
+            Ok(())
+        } else {
+            Err(Trouble::Turn)
+        }
+    }
+}
+
+/// Says all events of a recording, and returns how many.
+fn say_once(alloc: Global, task: &Task<'_>, seed: u64) -> Result<u64, Trouble> {
+    let mut source = Connection::new(alloc, task.limits);
+    feed(&mut source, Side::Client, task.client)?;
+    feed(&mut source, Side::Server, task.server)?;
+    close(&mut source)?;
+    let mut speakers = Speakers::new(alloc, task);
+    let mut numbers = Numbers::new(seed);
+    let mut line = Vec::new(alloc);
+    let mut out = Vec::new(alloc);
+    let mut said = 0u64;
+    for _ in 0..u64::MAX {
+        line.clear();
+        match source.next_event() {
+            Ok(Some(event)) => {
+                put_event(&event, &mut line)?;
+                speakers.say(&event, line.as_slice(), &mut out, &mut numbers)?;
+            }
+            Ok(None) => break,
+            Err(failure) if matches!(failure.fault, Fault::Memory) => return Err(Trouble::Memory),
+            Err(_) => break,
+        }
+        said = said.saturating_add(1);
+    }
+    Ok(said)
+}
+
+/// Says all events of a recording, once more where memory is refused.
+pub fn say(alloc: Global, task: &Task<'_>, seed: u64) -> Result<u64, Trouble> {
+    match say_once(alloc, task, seed) {
+        Err(Trouble::Memory) => say_once(alloc, task, seed),
+        answer => answer,
+    }
+}

@@ -1,0 +1,30 @@
+-- What is put, by what was written of it.
+use Rattle.std.proofs.Common.{◌≡◌, ◌<◌, ℕ, List, Option, Some, None, refl, subst, sym}
+use Rattle.mysql_connection_agreement.specs.Laws.{PutsAreRead}
+use Rattle.mysql_connection_agreement.specs.Machines.{Puts}
+use Rattle.mysql_connection_agreement.specs.Puts.{packets_for}
+use Rattle.mysql_connection_agreement.specs.Refusals.{IsUnsaid}
+use Rattle.mysql_connection_rules.specs.Events.{Event, side_of}
+use Rattle.mysql_connection_rules.specs.Streams.{World}
+use Rattle.mysql_connection_writer.specs.Writes.{IsUnread, Says}
+use Rattle.mysql_connection_machine.specs.Writing.{AppendsEvent, IsReadFrom}
+
+-- an event that isn't written says nothing there
+pub unread_unsaid : (w : World) (event : Event) (found : Option (List ℕ)) →
+    IsUnread (Says w.standing event) found → IsUnsaid w event found
+unread_unsaid w event None unread = tt
+unread_unsaid w event (Some payload) unread = λ after e. unread payload refl (after, e)
+
+-- what was appended is read, by the law
+pub read_from : PutsAreRead → (old new : World) (event : Event) (before behind : List ℕ) →
+    old.standing.number < 256 → AppendsEvent old event new before behind →
+    IsReadFrom old event before behind new
+read_from law old new event before behind byte appends =
+    let payload = appends.0 in
+    let written = appends.2 in
+    let bytes = packets_for event old.standing payload in (
+      bytes,
+      written.appended,
+      subst (λ (w : World). Puts old event (side_of event) bytes w) (sym written.goes)
+          (law old event payload written.after byte written.may),
+    )

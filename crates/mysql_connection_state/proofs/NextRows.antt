@@ -1,0 +1,103 @@
+-- A row that is read behind another one is the one of the table of steps.
+use Rattle.std.proofs.Common.{◌≡◌, ◌≤◌, ℕ, List, Bool, true, false, Some, Ok, Err, arith, inl, inr, refl, ap, subst, sym, ◌∙◌}
+use Rattle.mysql_const.specs.declared.capabilities.Capabilities.{Capabilities}
+use Rattle.mysql_connection_statements.specs.Statements.{Statements, counted}
+use Rattle.mysql_reply_events.specs.Events.{Awaited, ReplySoFar}
+use Rattle.mysql_reply_events.specs.Events.Awaited.{Rows}
+use Rattle.mysql_reply_events.specs.Events.Event.{RowEvent}
+use Rattle.mysql_reply_events.specs.NextRows.{TakesNoRow}
+use Rattle.mysql_reply_events.specs.Standing.{RowAt}
+use Rattle.mysql_reply_events.specs.Table.{event_at}
+use Rattle.mysql_reply_events.specs.declared.fault.ReplyFault.TheVariants.{BadRow}
+use Rattle.mysql_row_refs.specs.declared.reader.RowReader.{RowReader}
+use Rattle.mysql_rows.specs.Rows.{Row}
+use Rattle.std.specs.Prelude.{Option}
+use Rattle.mysql_connection_rules.specs.Events.Event.{Replied}
+use Rattle.mysql_connection_rules.specs.Standing.{About, InReply, Phase, Standing, about_size, kept, phase_size}
+use Rattle.mysql_connection_rules.specs.Standing.About.{Executing, Nothing, OfStatement, Preparing}
+use Rattle.mysql_connection_rules.specs.Standing.About.{Resetting, Streaming}
+use Rattle.mysql_connection_rules.specs.Standing.Phase.{Reply}
+use Rattle.mysql_connection_rules.specs.Steps.{about_after, by_turn, context_of, in_phase, in_turn, reply_after}
+use Rattle.mysql_connection_rules.specs.Steps.{reply_step, step, turn, turn_in_reply}
+use Rattle.mysql_connection_rules.specs.declared.fault.Fault.TheVariants.{BadReply}
+use Rattle.mysql_connection_state.specs.NextRows.{ReadsNoNextRow, TakesRow, TakesRowOfReply, awaits_next_row}
+use Rattle.mysql_connection_state.specs.Reads.{SaysRow}
+use Rattle.mysql_connection_state.specs.Views.{ConnectionState, ReadsBy, in_reply_view}
+use Rattle.mysql_connection_state.specs.declared.due.InReply.{InReply as HeldReply}
+use Rattle.mysql_connection_state.proofs.Parts.{row_said}
+
+-- behind a row no more is kept of what the reply is about
+about_keeps : (s : Statements) (about : About) (row : Row) →
+    about_size s (about_after about (RowEvent row)) ≤ about_size s about
+about_keeps s Nothing row = omega arith
+about_keeps s (Preparing text size) row = omega arith
+about_keeps s (OfStatement id) row = omega arith
+about_keeps s (Executing pending) row = omega arith
+about_keeps s Resetting row = omega arith
+about_keeps s (Streaming reason) row = omega arith
+
+keeps : (s : Standing) (r : InReply) (size : ℕ) (row : Row) (so_far : ReplySoFar) → s.phase ≡ Reply r →
+    kept (in_phase (Reply (reply_after r size (RowEvent row) so_far)) s) ≤ kept s
+keeps s r size row so_far phase =
+    omega (arith, about_keeps s.statements r.about row, ap (phase_size s.statements) phase)
+
+-- where rows are due, the step is that of the reply
+rows_step : (s : Standing) (r : InReply) (payload : List ℕ) → s.phase ≡ Reply r →
+    r.so_far.awaited ≡ Rows true → step s payload ≡ reply_step r s payload
+unfolding step
+rows_step s r payload phase awaited =
+    ap (λ (phase : Phase). in_turn phase s payload) phase ∙
+    ap (λ (awaited : Awaited). by_turn (turn_in_reply awaited) r s payload) awaited
+
+no_row : (old : ConnectionState) (reply : HeldReply) (payload : List ℕ) →
+    old.standing.phase ≡ Reply (in_reply_view reply) →
+    reply.reader.context.capabilities ≡ old.standing.capabilities → old.rows ≡ reply.reader.rows →
+    TakesNoRow reply.reader payload → ReadsNoNextRow old payload
+no_row old reply payload phase same rows (inl none) = inl (rows ∙ none)
+no_row old reply payload phase same rows (inr (inl other)) =
+    inr (inl (ap (λ (phase : Phase). awaits_next_row phase payload) phase ∙ other))
+no_row old reply payload phase same rows (inr (inr (awaited, bad))) =
+    let r = in_reply_view reply in
+    let event : event_at (context_of old.standing r) reply.reader.so_far payload ≡ Err BadRow = rw (← same) bad in
+    let stepped : reply_step r old.standing payload ≡ Err (BadReply BadRow) = rw event refl in
+    inr (inr (rows_step old.standing r payload phase awaited ∙ stepped))
+
+-- by what the reply answers
+pub taken : (old new : ConnectionState) (reply after : HeldReply) (payload : List ℕ) (took : Bool) →
+    old.standing.phase ≡ Reply (in_reply_view reply) →
+    reply.reader.context.capabilities ≡ old.standing.capabilities → old.rows ≡ reply.reader.rows →
+    new.standing ≡ in_phase (Reply (in_reply_view after)) old.standing → new.rows ≡ after.reader.rows →
+    TakesRowOfReply reply payload took after → TakesRow old payload took new
+taken old new reply after payload true phase same rows stands lends took =
+    let s = old.standing in
+    let r = in_reply_view reply in
+    let said : SaysRow reply s.statements payload after s.statements = took.1 s.statements in
+    let stepped = row_said reply after r s s.statements payload refl same said in
+    record {
+      turn = ap turn phase ∙ ap (λ (awaited : Awaited). Some (turn_in_reply awaited)) took.0;
+      row = said.read.row;
+      lies = subst (λ (rows : Option RowReader). RowAt rows payload said.read.row) (sym lends) said.read.lies;
+      step = rows_step s r payload phase took.0 ∙ stepped ∙
+          ap (λ (w : Standing). Ok (Replied (RowEvent said.read.row), w)) (sym stands);
+      kept = subst (λ (w : Standing). kept w ≤ kept s)
+          (ap (λ (r : InReply). in_phase (Reply r) s) (sym said.reply) ∙ sym stands)
+          (keeps s r (counted payload) said.read.row after.reader.so_far phase);
+    }
+taken old new reply after payload false phase same rows stands lends took = (
+  stands ∙ ap (λ (r : HeldReply). in_phase (Reply (in_reply_view r)) old.standing) took.0 ∙
+      ap (λ (phase : Phase). in_phase phase old.standing) (sym phase),
+  no_row old reply payload phase same rows took.1,
+)
+
+-- the reply's reader goes on
+pub still_fits : (reply after : HeldReply) (payload : List ℕ) (took : Bool) (s : Statements) (capabilities : Capabilities) →
+    TakesRowOfReply reply payload took after → ReadsBy capabilities reply → ReadsBy capabilities after
+still_fits reply after payload true s capabilities took fits =
+    let said : SaysRow reply s payload after s = took.1 s in
+    record {
+      fault = said.read.goes_on.fault;
+      context = rw said.read.goes_on.context fits.context;
+    }
+still_fits reply after payload false s capabilities took fits =
+    subst (λ (r : HeldReply). ReadsBy capabilities r) (sym took.0)
+    (record { fault = fits.fault; context = fits.context })

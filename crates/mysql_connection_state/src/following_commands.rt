@@ -1,0 +1,203 @@
+//! Commands that were put: what is kept behind each, and what changes.
+
+ghost use Rattle.std.specs.Prelude.{◌≡◌, ◌==◌, ◌||◌, ℕ, List, None, Some, false};
+ghost use Rattle.std.specs.Option.{option_and_then, option_map};
+ghost use Rattle.mysql_commands.specs.Views.{command_view};
+ghost use Rattle.mysql_connection_rules.specs.Standing as standing;
+ghost use Rattle.mysql_connection_rules.specs.Standing.{kept};
+ghost use Rattle.mysql_connection_rules.specs.Steps as steps;
+ghost use Rattle.mysql_connection_statements.specs.Statements.{Statement, counted, is_reset};
+ghost use Rattle.mysql_connection_statements.specs.Statements.{statement_at};
+ghost use Rattle.mysql_rows.specs.Views.{shared_columns};
+ghost use Rattle.mysql_connection_state.specs.Follows.{Goes};
+ghost use Rattle.mysql_reply_events.specs.declared.context.ReplyKind.TheVariants as kinds;
+
+use crate::due::About;
+use crate::executions::{carried_types, id_in_question, refused_as, shared_columns_of};
+use crate::following::{FollowRefusal, fit};
+use crate::state::State;
+use mysql_columns::Column;
+use mysql_commands::Command;
+use mysql_executions::{BoundType, Refused};
+use mysql_reply_events::ReplyKind;
+use std::rc::RcSlice;
+
+/// What a payload counts of which something is kept: no payload is so long that it doesn't fit.
+pub fn counted_size(payload: &[u8]) -> usize
+    ensures { result ≡ counted payload.now }
+{
+    4 + payload.len()
+}
+
+impl State {
+    // How much is kept for the statements behind long data.
+    fn size_with_data(&self, id: Option<u32>, payload: &[u8], command: &Command) -> u128
+        ensures { result ≡ (steps.after_data id payload.now (command_view command.now)
+            self.now.standing).statements.stored }
+    {
+        let Some(id) = id else {
+            return self.statements.stored() as u128;
+        };
+        match command {
+            Command::LongData {
+                stmt_id: _,
+                place,
+                bytes: _,
+            } => self
+                .statements
+                .size_with_long_data(id, *place, counted_size(payload)),
+            _ => self.statements.stored() as u128,
+        }
+    }
+
+    // How much is kept for the statements once one of them is closed.
+    fn size_closed(&self, id: Option<u32>) -> u128
+        ensures { result ≡ (steps.closing id self.now.standing).statements.stored }
+    {
+        match id {
+            Some(id) => self.statements.size_closed(id),
+            None => self.statements.stored() as u128,
+        }
+    }
+
+    // How much is kept for the statements once one of them is reset.
+    fn size_reset(&self, id: Option<u32>) -> u128
+        ensures { result ≡ (steps.changing is_reset id self.now.standing).statements.stored }
+    {
+        match id {
+            Some(id) => self.statements.size_reset(id),
+            None => self.statements.stored() as u128,
+        }
+    }
+
+    // How much is kept behind a command that is no execution, by its number.
+    fn size_behind(&self, number: u8, payload: &[u8], command: &Command) -> u128
+        requires { ((number == 0x17) || (number == 0xfa)) ≡ false }
+        ensures { (body : List ℕ) → result ≡ kept (steps.by_number number body
+            (steps.id_in_question self.now.standing.statements payload.now)
+            (steps.statement_in_question self.now.standing.statements payload.now)
+            payload.now (command_view command.now) self.now.standing) }
+    {
+        let id = id_in_question(&self.statements, payload);
+        let stored = self.statements.stored() as u128;
+        match number {
+            0x01 => stored,
+            0x11 => 0,
+            0x16 => stored + counted_size(payload) as u128,
+            0x18 => self.size_with_data(id, payload, command),
+            0x19 => self.size_closed(id),
+            0x1a => self.size_reset(id),
+            0x1c => stored,
+            _ => stored,
+        }
+    }
+
+    // Only a reply is due, behind an execution of a statement that isn't known.
+    fn pass_unknown(&mut self, room: u128) -> Result<(), FollowRefusal>
+        ensures { Goes self.old (steps.reply_due kinds.Binary None standing.Nothing
+            self.old.standing) room result self.new }
+    {
+        fit(self.statements.stored() as u128, room)?;
+        self.await_reply(ReplyKind::Binary, None, About::Nothing);
+        Ok(())
+    }
+
+    // An execution was put of the statement of this id, which is known and last had these columns.
+    #[tactic(auto, using(crate::proofs::Executing::kept_executing))]
+    fn pass_executing(
+        &mut self,
+        id: u32,
+        columns: Option<RcSlice<Column>>,
+        refused: Refused,
+        types: &[BoundType],
+        room: u128,
+    ) -> Result<(), FollowRefusal>
+        ensures { (statement : Statement) →
+            statement_at self.old.standing.statements id ≡ Some statement →
+            option_map shared_columns columns ≡ statement.columns →
+            Goes self.old (steps.after_executing id statement refused types.now self.old.standing)
+            room result self.new }
+    {
+        fit(self.statements.size_executing(id, types), room)?;
+        self.executing(id, columns, refused, types)?;
+        Ok(())
+    }
+
+    // An execution was put.
+    fn pass_execution(
+        &mut self,
+        number: u8,
+        body: &[u8],
+        id: Option<u32>,
+        room: u128,
+    ) -> Result<(), FollowRefusal>
+        ensures { Goes self.old (steps.execution_of number body.now id
+            (option_and_then (statement_at self.old.standing.statements) id) self.old.standing) room
+            result self.new }
+    {
+        let Some(id) = id else {
+            return self.pass_unknown(room);
+        };
+        let Some(statement) = self.statements.get(id) else {
+            return self.pass_unknown(room);
+        };
+        let count = statement.parameters().count();
+        let columns = shared_columns_of(Some(statement))?;
+        let types = carried_types(self.alloc, self.capabilities, number, count, body)?;
+        self.pass_executing(
+            id,
+            columns,
+            refused_as(number, body),
+            types.as_slice(),
+            room,
+        )
+    }
+
+    // A command was put, by its number.
+    fn pass_by_number(
+        &mut self,
+        number: u8,
+        body: &[u8],
+        payload: &[u8],
+        command: &Command,
+        room: u128,
+    ) -> Result<(), FollowRefusal>
+        ensures { Goes self.old (steps.by_number number body.now
+            (steps.id_in_question self.old.standing.statements payload.now)
+            (steps.statement_in_question self.old.standing.statements payload.now)
+            payload.now (command_view command.now) self.old.standing) room result self.new }
+    {
+        match number {
+            0x17 | 0xfa => {
+                let id = id_in_question(&self.statements, payload);
+                self.pass_execution(number, body, id, room)
+            }
+            _ => {
+                fit(self.size_behind(number, payload, command), room)?;
+                self.by_number(number, body, payload, command)?;
+                Ok(())
+            }
+        }
+    }
+
+    /// A command was put; an empty payload is one too.
+    pub(crate) fn pass_command(
+        &mut self,
+        command: &Command,
+        payload: &[u8],
+        room: u128,
+    ) -> Result<(), FollowRefusal>
+        ensures { Goes self.old
+            (steps.after_command self.old.standing payload.now (command_view command.now)) room
+            result self.new }
+    {
+        match payload {
+            [] => {
+                fit(self.statements.stored() as u128, room)?;
+                self.await_reply(ReplyKind::Plain, None, About::Nothing);
+                Ok(())
+            }
+            [number, body @ ..] => self.pass_by_number(*number, body, payload, command, room),
+        }
+    }
+}

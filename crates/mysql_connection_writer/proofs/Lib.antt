@@ -1,0 +1,8 @@
+pub mod Lifting
+pub mod InLogin
+pub mod Words
+pub mod PlainBytes
+pub mod Named
+pub mod Commands
+pub mod Replies
+pub mod OwnValues

@@ -1,0 +1,18 @@
+//! The payload of an event of a connection, written where the table of steps reads it as that event.
+//!
+//!     write_event(&state, &event, &mut payload)?;
+#![tactic(auto)]
+
+mod authentication;
+mod command;
+mod login;
+mod own;
+mod phases;
+mod plain;
+pub mod refusal;
+mod reply;
+mod same;
+mod writing;
+
+pub use refusal::{BadEvent, EventRefusal};
+pub use writing::write_event;
