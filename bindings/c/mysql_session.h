@@ -1,5 +1,6 @@
 /*
- * mysql_session: parameter sets of a query as streams of MySQL and MariaDB commands, and back.
+ * mysql_session: parameter sets of a query as streams of MySQL and MariaDB commands, and back; and
+ * whole connections, read as events.
  *
  * The library is compiled from proved code (crates/mysql_c). Each call below is an export whose
  * contract says of the object that a handle stands for what the library's own call promises. What
@@ -49,10 +50,18 @@ extern "C" {
 
 /* The number of this interface. mysql_session_abi() answers the library's: compare them before
  * any other call. It changes with each change of a declaration below, and the shared object's name
- * has it: libmysql_session.so.4. */
-#define MYSQL_SESSION_ABI 4
+ * has it: libmysql_session.so.5. */
+#define MYSQL_SESSION_ABI 5
 
 uint32_t mysql_session_abi(void);
+
+/* 1 where the library was proved before it was compiled; 0 of a library for trying out, as
+ * `bindings/build` makes it without --proved. */
+uint32_t mysql_session_build(void);
+
+/* The version of the library that is called, and its length without the NUL byte that stands behind
+ * it. It is good as long as the program runs. */
+void mysql_session_version(const uint8_t **text, size_t *len);
 
 typedef struct mysql_session_handle {
     void *at;
@@ -149,7 +158,23 @@ enum mysql_session_code {
     MYSQL_SESSION_WRITE_READS_AS_REPORT = 408,  /* an error that reads as a progress report */
     MYSQL_SESSION_WRITE_CELL_COUNT = 409,       /* the row has another number of cells */
     MYSQL_SESSION_WRITE_NO_FORM = 410,          /* a cell that its column's type has no form for */
-    MYSQL_SESSION_WRITE_PACKET_TOO_LARGE = 411
+    MYSQL_SESSION_WRITE_PACKET_TOO_LARGE = 411,
+
+    /* Why bytes of a connection are refused. */
+    MYSQL_SESSION_CONNECTION_CLOSED = 500, /* the side's stream has ended */
+    MYSQL_SESSION_CONNECTION_HELD = 501,   /* more of the side would wait unread than its room */
+
+    /* Faults of a connection; one of a reply's payload is a REPLY_BAD_.. from 302 to 309. */
+    MYSQL_SESSION_CONNECTION_TOO_LARGE = 510,    /* a payload is longer than its side's limit */
+    MYSQL_SESSION_CONNECTION_OUT_OF_SYNC = 511,  /* a packet's number isn't the one that is due */
+    MYSQL_SESSION_CONNECTION_OLD_PROTOCOL = 512, /* the protocol isn't that of version 4.1 */
+    MYSQL_SESSION_CONNECTION_BAD_GREETING = 513,
+    MYSQL_SESSION_CONNECTION_BAD_LOGIN = 514,
+    MYSQL_SESSION_CONNECTION_BAD_SWITCH = 515,   /* the request for another plugin */
+    MYSQL_SESSION_CONNECTION_UNASKED = 516,      /* the server says what nothing asked for */
+    MYSQL_SESSION_CONNECTION_KEPT = 517,         /* more would be kept than the limit leaves */
+    MYSQL_SESSION_CONNECTION_AFTER_QUIT = 518,   /* the client says more behind a quit */
+    MYSQL_SESSION_CONNECTION_NOT_DUE = 519       /* no payload of that side of a reply is due */
 };
 
 /* The text of a code in English, and its length without the NUL byte that stands behind it. It is
@@ -742,6 +767,273 @@ uint32_t mysql_session_binlog_dump_put(mysql_session_handle *out, uint32_t serve
 uint32_t mysql_session_binlog_dump_gtid_put(mysql_session_handle *out, uint32_t server,
                                             uint64_t position, uint16_t flags, const uint8_t *file,
                                             size_t len, const uint8_t *gtids, size_t gtids_len);
+
+/* ---- Whole connections ----------------------------------------------------------------------- */
+
+/* A connection is fed the bytes of both of its sides, in any pieces and order, and tells what was
+ * said: each payload is one event. Each payload is due of one side; what comes of the other waits
+ * until its turn, so the events don't depend on how the bytes arrive.
+ *
+ * Its handle is of a kind of its own, and begins as MYSQL_SESSION_NOTHING too. What is said above
+ * of handles holds for it, but that it may be handed to another thread between two calls, under a lock
+ * or the like. */
+typedef struct mysql_session_connection {
+    void *at;
+} mysql_session_connection;
+
+enum mysql_session_side {
+    MYSQL_SESSION_CLIENT = 0,
+    MYSQL_SESSION_SERVER = 1,
+    MYSQL_SESSION_NOBODY = 2
+};
+
+/* Makes the handle stand for a connection of which no byte came. What it stood for before is freed.
+ * `client` and `server` are the longest payloads of the sides. `held` limits what is held in all:
+ * of each side as much waits unread as its longest payload takes with its headers, and what `held`
+ * leaves beside both is for what is kept of statements, columns and long data.
+ * Answers OK, MEMORY. */
+uint32_t mysql_session_connection_new(mysql_session_connection *connection, size_t client,
+                                      size_t server, size_t held);
+
+/* Frees the connection, as mysql_session_free does an object. */
+void mysql_session_connection_free(mysql_session_connection *connection);
+
+/* Takes a piece of a side's stream, whole, and reads nothing of it yet. Answers OK, or why nothing
+ * of it is taken: NO_SUCH_KIND (of a side, before any other), CONNECTION_CLOSED, CONNECTION_HELD
+ * (take events first, or feed the side whose turn it is), MEMORY, EMPTY_HANDLE. */
+uint32_t mysql_session_connection_feed(mysql_session_connection *connection, uint32_t side,
+                                       const uint8_t *piece, size_t len);
+
+/* Ends a side's stream: no more comes of it. Behind the client's end the server may say last words.
+ * Answers OK, NO_SUCH_KIND, EMPTY_HANDLE. */
+uint32_t mysql_session_connection_close(mysql_session_connection *connection, uint32_t side);
+
+/* Kinds of events, and the fields that they have beside `side`. OK packets have affected_rows,
+ * last_insert_id, status, warnings, text (their info) and data (changes of the session's state as
+ * the packet has them); errors have error_code, state and text (the message). */
+enum mysql_session_event_kind {
+    /* None: the payload that is due isn't there whole, or the connection is over. */
+    MYSQL_SESSION_EVENT_NONE = 0,
+    MYSQL_SESSION_EVENT_REJECTED = 1, /* an error in place of a greeting */
+    /* text (the server's version), number (the connection's id), capabilities,
+     * mariadb_capabilities, status, charset, plugin */
+    MYSQL_SESSION_EVENT_GREETING = 2,
+    /* capabilities, mariadb_capabilities, charset, number (the longest packet that it takes) */
+    MYSQL_SESSION_EVENT_SECURE_REQUEST = 3,
+    MYSQL_SESSION_EVENT_LOGIN = 4,          /* those, user, database, plugin, data (its response),
+                                             * attributes */
+    MYSQL_SESSION_EVENT_CUT_OFF_LOGIN = 5,  /* as SECURE_REQUEST */
+    MYSQL_SESSION_EVENT_ACCEPTED = 6,       /* an OK packet: the user is logged in */
+    MYSQL_SESSION_EVENT_DENIED = 7,         /* an error */
+    MYSQL_SESSION_EVENT_AUTH_SWITCH = 8,    /* plugin, data */
+    MYSQL_SESSION_EVENT_OLD_AUTH_SWITCH = 9,
+    MYSQL_SESSION_EVENT_AUTH_MORE = 10,     /* data */
+    MYSQL_SESSION_EVENT_NEXT_FACTOR = 11,   /* plugin, data */
+    MYSQL_SESSION_EVENT_PLUGIN_DATA = 12,   /* data */
+    MYSQL_SESSION_EVENT_ANSWER = 13,        /* data: the client's answer to such a one */
+
+    MYSQL_SESSION_EVENT_OK = 20,
+    MYSQL_SESSION_EVENT_ERROR = 21,
+    MYSQL_SESSION_EVENT_PROGRESS = 22,      /* rows (the stage), columns (of so many), number (its
+                                             * progress in thousandths of a percent), text */
+    MYSQL_SESSION_EVENT_COLUMN_COUNT = 23,  /* columns, follows (whether they come) */
+    MYSQL_SESSION_EVENT_COLUMN = 24,        /* mysql_session_connection_column */
+    MYSQL_SESSION_EVENT_FIELD = 25,         /* the same of COM_FIELD_LIST; flags (1: it has a
+                                             * default), data (the default) */
+    MYSQL_SESSION_EVENT_COLUMNS_END = 26,   /* an OK packet */
+    MYSQL_SESSION_EVENT_ROW = 27,           /* columns; mysql_session_connection_value, _column */
+    MYSQL_SESSION_EVENT_RAW_ROW = 28,       /* data: a row whose columns aren't known */
+    MYSQL_SESSION_EVENT_ROWS_END = 29,      /* an OK packet */
+    MYSQL_SESSION_EVENT_FILE_REQUEST = 30,  /* text (the file's name) */
+    MYSQL_SESSION_EVENT_PREPARED = 31,      /* statement, params, columns, warnings, follows */
+    MYSQL_SESSION_EVENT_LINE = 32,          /* text: of COM_STATISTICS, or what begins a dump */
+    MYSQL_SESSION_EVENT_FILE_DATA = 33,     /* data: the client's file; no bytes end it */
+    MYSQL_SESSION_EVENT_FAREWELL = 34,      /* an error that answers nothing: the last words */
+
+    /* Commands: 256 and the command's number. */
+    MYSQL_SESSION_EVENT_QUIT = 0x101,
+    MYSQL_SESSION_EVENT_INIT_DB = 0x102,         /* text */
+    MYSQL_SESSION_EVENT_QUERY = 0x103,           /* text, attributes */
+    MYSQL_SESSION_EVENT_FIELD_LIST = 0x104,      /* text (the table), data (a pattern) */
+    MYSQL_SESSION_EVENT_CREATE_DB = 0x105,       /* text */
+    MYSQL_SESSION_EVENT_DROP_DB = 0x106,         /* text */
+    MYSQL_SESSION_EVENT_REFRESH = 0x107,         /* number */
+    MYSQL_SESSION_EVENT_SHUTDOWN = 0x108,        /* number */
+    MYSQL_SESSION_EVENT_STATISTICS = 0x109,
+    MYSQL_SESSION_EVENT_PROCESS_INFO = 0x10a,
+    MYSQL_SESSION_EVENT_PROCESS_KILL = 0x10c,    /* number */
+    MYSQL_SESSION_EVENT_DEBUG = 0x10d,
+    MYSQL_SESSION_EVENT_PING = 0x10e,
+    MYSQL_SESSION_EVENT_CHANGE_USER = 0x111,     /* user, database, plugin, data, charset,
+                                                  * attributes */
+    MYSQL_SESSION_EVENT_BINLOG_DUMP = 0x112,     /* number (the replica), position, flags, text */
+    MYSQL_SESSION_EVENT_TABLE_DUMP = 0x113,      /* database, text (the table) */
+    MYSQL_SESSION_EVENT_REGISTER_REPLICA = 0x115, /* number (the replica), text (its host), user */
+    MYSQL_SESSION_EVENT_PREPARE = 0x116,         /* text */
+    MYSQL_SESSION_EVENT_EXECUTE = 0x117,         /* statement, params, attributes, flags (a cursor),
+                                                  * text (of its prepare) */
+    MYSQL_SESSION_EVENT_LONG_DATA = 0x118,       /* statement, number (the place), data */
+    MYSQL_SESSION_EVENT_CLOSE = 0x119,           /* statement */
+    MYSQL_SESSION_EVENT_RESET_STATEMENT = 0x11a, /* statement */
+    MYSQL_SESSION_EVENT_SET_OPTION = 0x11b,      /* number */
+    MYSQL_SESSION_EVENT_FETCH = 0x11c,           /* statement, rows */
+    MYSQL_SESSION_EVENT_BINLOG_DUMP_GTID = 0x11e, /* as BINLOG_DUMP */
+    MYSQL_SESSION_EVENT_RESET_CONNECTION = 0x11f,
+    MYSQL_SESSION_EVENT_CLONE = 0x120,           /* data */
+    MYSQL_SESSION_EVENT_BULK_EXECUTE = 0x1fa,    /* statement, rows, params (in each), text */
+    /* A payload that is laid out as none of these: data, and number, its first byte. */
+    MYSQL_SESSION_EVENT_OTHER = 0x200
+};
+
+/* An event. The fields that its kind doesn't have are 0. */
+typedef struct mysql_session_event {
+    uint32_t kind;
+    uint32_t side;
+    uint32_t statement;
+    uint32_t capabilities;
+    uint32_t mariadb_capabilities;
+    uint32_t number;
+    uint32_t flags;
+    uint16_t status;
+    uint16_t warnings;
+    uint16_t error_code;
+    uint16_t charset;
+    uint64_t affected_rows;
+    uint64_t last_insert_id;
+    uint64_t position;
+    size_t columns;
+    size_t rows;
+    size_t params;
+    size_t attributes;
+    const uint8_t *text;
+    size_t len;
+    const uint8_t *user;
+    size_t user_len;
+    const uint8_t *database;
+    size_t database_len;
+    const uint8_t *plugin;
+    size_t plugin_len;
+    const uint8_t *data;
+    size_t data_len;
+    uint8_t state[5];
+    size_t state_len;
+    bool follows;
+} mysql_session_event;
+
+/* Takes the next event, and shows it. What is shown of an event, here and by the calls below, is
+ * good until the next call on the connection of _next, _finish, _new or _free; what is shown of a
+ * statement or of a stream's rest until the next of these, of _feed or of _close. Answers OK, the fault of the packet that stands first (each further call answers it too; the
+ * events before it stand), MEMORY (a fault too), EMPTY_HANDLE. */
+uint32_t mysql_session_connection_next(mysql_session_connection *connection,
+                                       mysql_session_event *event);
+
+/* Kinds of values of bulk executions: those of mysql_session_value_kind, and these. */
+enum mysql_session_bulk_kind {
+    MYSQL_SESSION_DEFAULT = 8, /* the column's default */
+    MYSQL_SESSION_IGNORE = 9   /* the column stays as it is */
+};
+
+/* A value of the event that was told last: the cell at a place of a row, or what the parameter at a
+ * place holds in a row of an execution, all from 0; only bulk executions have more rows than one.
+ * Answers OK, OUT_OF_RANGE, EMPTY_HANDLE. */
+uint32_t mysql_session_connection_value(mysql_session_connection *connection, size_t row,
+                                        size_t place, mysql_session_value *value);
+
+/* An attribute of the event that was told last, by its number from 0: of a login or a change of
+ * user (the value is bytes), of a query or an execution. Answers OK, OUT_OF_RANGE, EMPTY_HANDLE. */
+uint32_t mysql_session_connection_attribute(mysql_session_connection *connection, size_t number,
+                                            const uint8_t **name, size_t *len,
+                                            mysql_session_value *value);
+
+/* The column that the event is which was told last, by the number 0; or that of a row's cell.
+ * Answers OK, OUT_OF_RANGE, EMPTY_HANDLE. */
+uint32_t mysql_session_connection_column(mysql_session_connection *connection, size_t number,
+                                         mysql_session_column *column);
+
+/* The event that was told last as a line of text, without its end: whose it is, its name, its
+ * fields. Behind mysql_session_connection_finish it is how the connection stands, as `end Whole`.
+ * Answers OK, OUT_OF_RANGE (no event was told), MEMORY, EMPTY_HANDLE. */
+uint32_t mysql_session_connection_line(mysql_session_connection *connection,
+                                       const uint8_t **text, size_t *len);
+
+/* What is due on a connection. */
+enum mysql_session_phase {
+    MYSQL_SESSION_PHASE_GREETING = 0,
+    MYSQL_SESSION_PHASE_RESPONSE = 1,
+    MYSQL_SESSION_PHASE_AUTHENTICATION = 2,
+    MYSQL_SESSION_PHASE_ANSWER = 3,
+    MYSQL_SESSION_PHASE_COMMAND = 4,
+    MYSQL_SESSION_PHASE_REPLY = 5,
+    MYSQL_SESSION_PHASE_FILE_DATA = 6,
+    MYSQL_SESSION_PHASE_OVER = 7
+};
+
+/* Why a connection is over. */
+enum mysql_session_reason {
+    MYSQL_SESSION_REASON_REJECTED = 0,
+    MYSQL_SESSION_REASON_SECURE = 1,     /* TLS follows */
+    MYSQL_SESSION_REASON_DENIED = 2,
+    MYSQL_SESSION_REASON_COMPRESSED = 3, /* compressed packets follow */
+    MYSQL_SESSION_REASON_QUIT = 4,
+    MYSQL_SESSION_REASON_DUMP = 5,       /* a binary log or a table's bytes follow */
+    MYSQL_SESSION_REASON_CLONE = 6,      /* a server's data follow */
+    MYSQL_SESSION_REASON_FAREWELL = 7
+};
+
+/* How a connection stands: whose payload is due (of mysql_session_side), what is due, why it is
+ * over where it is, the capabilities in force, the fault that was found (its code, or OK; its side;
+ * the byte of that side's stream at which its packet begins), how many bytes of each side a feed
+ * takes now, and how many are held. */
+typedef struct mysql_session_standing {
+    uint32_t turn;
+    uint32_t phase;
+    uint32_t reason;
+    uint32_t capabilities;
+    uint32_t mariadb_capabilities;
+    uint32_t fault;
+    uint32_t fault_side;
+    uint64_t fault_byte;
+    size_t client_room;
+    size_t server_room;
+    size_t held;
+} mysql_session_standing;
+
+/* Answers OK, EMPTY_HANDLE. */
+uint32_t mysql_session_connection_standing(mysql_session_connection *connection,
+                                           mysql_session_standing *standing);
+
+/* The prepared statement that this id of a command stands for, 0xffffffff being that which was
+ * prepared last: its text, and how many parameters it has. Answers OK, OUT_OF_RANGE,
+ * EMPTY_HANDLE. */
+uint32_t mysql_session_connection_statement(mysql_session_connection *connection, uint32_t id,
+                                            const uint8_t **text, size_t *len, uint16_t *params);
+
+/* What of a side's stream is unread. Where the connection is over that is what follows in a form of
+ * its own: TLS, compressed packets, a dump. Answers OK, NO_SUCH_KIND, EMPTY_HANDLE. */
+uint32_t mysql_session_connection_rest(mysql_session_connection *connection, uint32_t side,
+                                       const uint8_t **data, size_t *len);
+
+/* How a connection stands once both of its streams have ended. */
+enum mysql_session_connection_end_kind {
+    MYSQL_SESSION_CONNECTION_OVER = 0,       /* `reason` says why */
+    MYSQL_SESSION_CONNECTION_WHOLE = 1,      /* a command was due, and all bytes were read */
+    MYSQL_SESSION_CONNECTION_UNFINISHED = 2, /* a payload of `side` is due, and isn't whole */
+    MYSQL_SESSION_CONNECTION_FAULT = 3,      /* `fault`, a code, `side` and `byte` */
+    MYSQL_SESSION_CONNECTION_UNREAD = 4      /* _next has an event or a fault to tell */
+};
+
+typedef struct mysql_session_connection_end {
+    uint32_t kind;
+    uint32_t reason;
+    uint32_t side;
+    uint32_t fault;
+    uint64_t byte;
+} mysql_session_connection_end;
+
+/* Ends both streams, and tells how the connection stands; take all events before. Answers OK,
+ * EMPTY_HANDLE. */
+uint32_t mysql_session_connection_finish(mysql_session_connection *connection,
+                                         mysql_session_connection_end *end);
 
 #ifdef __cplusplus
 }

@@ -65,7 +65,8 @@ __all__ = [
     "MORE_RESULTS", "MySQLSessionError", "Ok", "PacketReader", "Parameter", "ParameterSets",
     "Prepared", "Receiver", "Recoder", "ReplyKind", "ReplyReader", "ReplyWriter", "Result", "Road",
     "Rows", "ServerError", "Spelling", "State", "Text", "TimeFields", "binlog_dump",
-    "binlog_dump_gtid", "bind_text", "code_text", "ends_reply", "is_safe_to_quote", "literal",
+    "binlog_dump_gtid", "bind_text", "code_text", "ends_reply", "is_proved", "is_safe_to_quote",
+    "library_version", "literal",
     "positional", "put_greeting", "put_login", "put_packet", "read_greeting", "read_login",
     "read_reply", "recode", "register_replica", "send",
 ]
@@ -73,7 +74,7 @@ __all__ = [
 __version__ = "0.1.0"
 
 # The number of the interface that this module calls.
-ABI = 4
+ABI = 5
 
 # The max_allowed_packet that most servers have.
 DEFAULT_LIMIT = 1 << 24
@@ -155,6 +156,18 @@ class Code(enum.IntEnum):
     WRITE_CELL_COUNT = 409
     WRITE_NO_FORM = 410
     WRITE_PACKET_TOO_LARGE = 411
+    CONNECTION_CLOSED = 500
+    CONNECTION_HELD = 501
+    CONNECTION_TOO_LARGE = 510
+    CONNECTION_OUT_OF_SYNC = 511
+    CONNECTION_OLD_PROTOCOL = 512
+    CONNECTION_BAD_GREETING = 513
+    CONNECTION_BAD_LOGIN = 514
+    CONNECTION_BAD_SWITCH = 515
+    CONNECTION_UNASKED = 516
+    CONNECTION_KEPT = 517
+    CONNECTION_AFTER_QUIT = 518
+    CONNECTION_NOT_DUE = 519
 
 
 class Road(enum.IntEnum):
@@ -423,6 +436,10 @@ class _Handle(ctypes.Structure):
     _fields_ = [("at", ctypes.c_void_p)]
 
 
+class _ConnectionHandle(ctypes.Structure):
+    _fields_ = [("at", ctypes.c_void_p)]
+
+
 class _Content(ctypes.Structure):
     _fields_ = [
         ("kind", ctypes.c_uint32),
@@ -554,11 +571,74 @@ class _Login(ctypes.Structure):
     ], _LOGIN_TEXTS)
 
 
+class _Event(ctypes.Structure):
+    _fields_ = [
+        ("kind", ctypes.c_uint32),
+        ("side", ctypes.c_uint32),
+        ("statement", ctypes.c_uint32),
+        ("capabilities", ctypes.c_uint32),
+        ("mariadb_capabilities", ctypes.c_uint32),
+        ("number", ctypes.c_uint32),
+        ("flags", ctypes.c_uint32),
+        ("status", ctypes.c_uint16),
+        ("warnings", ctypes.c_uint16),
+        ("error_code", ctypes.c_uint16),
+        ("charset", ctypes.c_uint16),
+        ("affected_rows", ctypes.c_uint64),
+        ("last_insert_id", ctypes.c_uint64),
+        ("position", ctypes.c_uint64),
+        ("columns", ctypes.c_size_t),
+        ("rows", ctypes.c_size_t),
+        ("params", ctypes.c_size_t),
+        ("attributes", ctypes.c_size_t),
+        ("text", ctypes.c_void_p),
+        ("len", ctypes.c_size_t),
+        ("user", ctypes.c_void_p),
+        ("user_len", ctypes.c_size_t),
+        ("database", ctypes.c_void_p),
+        ("database_len", ctypes.c_size_t),
+        ("plugin", ctypes.c_void_p),
+        ("plugin_len", ctypes.c_size_t),
+        ("data", ctypes.c_void_p),
+        ("data_len", ctypes.c_size_t),
+        ("state", ctypes.c_uint8 * 5),
+        ("state_len", ctypes.c_size_t),
+        ("follows", ctypes.c_bool),
+    ]
+
+
+class _Standing(ctypes.Structure):
+    _fields_ = [
+        ("turn", ctypes.c_uint32),
+        ("phase", ctypes.c_uint32),
+        ("reason", ctypes.c_uint32),
+        ("capabilities", ctypes.c_uint32),
+        ("mariadb_capabilities", ctypes.c_uint32),
+        ("fault", ctypes.c_uint32),
+        ("fault_side", ctypes.c_uint32),
+        ("fault_byte", ctypes.c_uint64),
+        ("client_room", ctypes.c_size_t),
+        ("server_room", ctypes.c_size_t),
+        ("held", ctypes.c_size_t),
+    ]
+
+
+class _ConnectionEnd(ctypes.Structure):
+    _fields_ = [
+        ("kind", ctypes.c_uint32),
+        ("reason", ctypes.c_uint32),
+        ("side", ctypes.c_uint32),
+        ("fault", ctypes.c_uint32),
+        ("byte", ctypes.c_uint64),
+    ]
+
+
 # ---- Calls --------------------------------------------------------------------------------------
 
 _U8, _U16, _U32, _U64 = ctypes.c_uint8, ctypes.c_uint16, ctypes.c_uint32, ctypes.c_uint64
 _SIZE, _BOOL, _OUT = ctypes.c_size_t, ctypes.c_bool, ctypes.c_void_p
 _HANDLE = ctypes.POINTER(_Handle)
+_CONNECTION = ctypes.POINTER(_ConnectionHandle)
 # Bytes that go in. A pointer of this type to a bytes object is never NULL, and the call's arguments
 # hold the object until the call returns.
 _BYTES = (ctypes.c_char_p, _SIZE)
@@ -615,6 +695,18 @@ _ARGUMENTS: Dict[str, Tuple[Any, ...]] = {
     "register_replica_put": (_HANDLE, _U32, *_BYTES, *_BYTES, *_BYTES, _U16),
     "binlog_dump_put": (_HANDLE, _U32, _U32, _U16, *_BYTES),
     "binlog_dump_gtid_put": (_HANDLE, _U32, _U64, _U16, *_BYTES, *_BYTES),
+    "connection_new": (_CONNECTION, _SIZE, _SIZE, _SIZE),
+    "connection_feed": (_CONNECTION, _U32, *_BYTES),
+    "connection_close": (_CONNECTION, _U32),
+    "connection_next": (_CONNECTION, _OUT),
+    "connection_value": (_CONNECTION, _SIZE, _SIZE, _OUT),
+    "connection_attribute": (_CONNECTION, _SIZE, _OUT, _OUT, _OUT),
+    "connection_column": (_CONNECTION, _SIZE, _OUT),
+    "connection_line": (_CONNECTION, _OUT, _OUT),
+    "connection_standing": (_CONNECTION, _OUT),
+    "connection_statement": (_CONNECTION, _U32, _OUT, _OUT, _OUT),
+    "connection_rest": (_CONNECTION, _U32, _OUT, _OUT),
+    "connection_finish": (_CONNECTION, _OUT),
 }
 
 # Those of calls that answer a number and no code.
@@ -661,6 +753,12 @@ def _loaded() -> ctypes.CDLL:
         raise ImportError(f"{path} has the interface {found}, not {ABI}: run bindings/build again")
     library.mysql_session_free.argtypes = (_HANDLE,)
     library.mysql_session_free.restype = None
+    library.mysql_session_connection_free.argtypes = (_CONNECTION,)
+    library.mysql_session_connection_free.restype = None
+    library.mysql_session_build.argtypes = ()
+    library.mysql_session_build.restype = _U32
+    library.mysql_session_version.argtypes = (_OUT, _OUT)
+    library.mysql_session_version.restype = None
     library.mysql_session_code_text.argtypes = (_U32, _OUT, _OUT)
     library.mysql_session_code_text.restype = None
     return library
@@ -706,6 +804,18 @@ _WHERE: Dict[int, Tuple[str, ...]] = {
     **{code: ("payload",) for code in Code
        if Code.FAULT_TOO_LARGE <= code <= Code.FAULT_PIECES_BEFORE_BULK},
 }
+
+
+def is_proved() -> bool:
+    """Whether the library says of itself that it was proved before it was compiled."""
+    return bool(_library.mysql_session_build() == 1)
+
+
+def library_version() -> str:
+    """The version that the library says it has: that of this module, `__version__`."""
+    text, length = ctypes.c_void_p(), _SIZE()
+    _library.mysql_session_version(ctypes.byref(text), ctypes.byref(length))
+    return _bytes_at(text.value, length.value).decode("ascii")
 
 
 def code_text(code: int) -> str:
@@ -825,20 +935,31 @@ def _texts(shown: ctypes.Structure, names: Iterable[str]) -> Dict[str, bytes]:
 # ---- Objects ------------------------------------------------------------------------------------
 
 
+_AnyHandle = Union[_Handle, _ConnectionHandle]
+
+
 class _Thread(threading.local):
     """What a thread has: the handles of its own whose objects were collected in another one."""
 
     def __init__(self) -> None:
-        self.left: Deque[_Handle] = collections.deque()
+        self.left: Deque[_AnyHandle] = collections.deque()
 
 
 _thread = _Thread()
 
 
-def _release(handle: _Handle, left: Deque[_Handle]) -> None:
+def _free(handle: _AnyHandle) -> None:
+    """Frees what a handle stands for."""
+    if isinstance(handle, _ConnectionHandle):
+        _library.mysql_session_connection_free(handle)
+    else:
+        _library.mysql_session_free(handle)
+
+
+def _release(handle: _AnyHandle, left: Deque[_AnyHandle]) -> None:
     """Frees what a handle stands for, in the thread that made it."""
     if _thread.left is left:
-        _library.mysql_session_free(handle)
+        _free(handle)
     else:
         left.append(handle)
 
@@ -850,18 +971,21 @@ class _Object:
     """An object of the library. It stays in the thread that made it, and is freed by `close`, at
     the end of `with`, or when it is collected."""
 
+    # What its handle is.
+    _handle_type: Type[Any] = _Handle
+
     def __init__(self) -> None:
         if hasattr(self, "_at"):
             raise RuntimeError("an object of mysql_session is made once")
         self._left = _thread.left
         while self._left:
-            _library.mysql_session_free(self._left.popleft())
+            _free(self._left.popleft())
         self._lock = threading.Lock()
-        self._at = _Handle()
+        self._at = self._handle_type()
         self._finalizer = weakref.finalize(self, _release, self._at, self._left)
 
     @property
-    def _handle(self) -> _Handle:
+    def _handle(self) -> Any:
         """The handle, for a call of one step."""
         self._check()
         return self._at
@@ -1657,6 +1781,792 @@ class ReplyWriter(_Object):
         """What a call appends."""
         _call_at(_Spot(), name, self._at, *arguments, self._out.to_write())
         return self._out.take()
+
+
+# ---- Whole connections --------------------------------------------------------------------------
+
+
+class Side(enum.IntEnum):
+    """A side of a connection."""
+
+    CLIENT = 0
+    SERVER = 1
+
+
+class Phase(enum.IntEnum):
+    """What is due on a connection."""
+
+    GREETING = 0
+    RESPONSE = 1
+    AUTHENTICATION = 2
+    ANSWER = 3
+    COMMAND = 4
+    REPLY = 5
+    FILE_DATA = 6
+    OVER = 7
+
+
+class Reason(enum.IntEnum):
+    """Why a connection is over: what follows isn't read here."""
+
+    REJECTED = 0
+    SECURE = 1
+    """TLS follows."""
+    DENIED = 2
+    COMPRESSED = 3
+    """Compressed packets follow."""
+    QUIT = 4
+    DUMP = 5
+    """A binary log or a table's bytes follow."""
+    CLONE = 6
+    FAREWELL = 7
+    """The server said an error that answers nothing."""
+
+
+class BulkKind(enum.Enum):
+    """What a parameter of a bulk execution holds in place of a value."""
+
+    DEFAULT = 8
+    """The column's default."""
+    IGNORE = 9
+    """Nothing: the column stays as it is."""
+
+
+class ConnectionEndKind(enum.IntEnum):
+    """How a connection stands once both of its streams have ended."""
+
+    OVER = 0
+    WHOLE = 1
+    UNFINISHED = 2
+    FAULT = 3
+    UNREAD = 4
+
+
+class ConnectionEnd(NamedTuple):
+    """How a connection stands once both of its streams have ended."""
+
+    kind: ConnectionEndKind
+    reason: Optional[Reason] = None
+    """Of OVER why."""
+    side: Optional[Side] = None
+    """Of UNFINISHED and FAULT whose payload it is."""
+    fault: Optional[Code] = None
+    """Of FAULT what is wrong."""
+    byte: Optional[int] = None
+    """Of FAULT where the packet begins in its side's stream."""
+
+
+class ConnectionFault(MySQLSessionError):
+    """A connection can't be read further. `side` says whose packet it is, and `byte` with which byte
+    of that side's stream it begins."""
+
+    def __init__(self, code: int, side: Side, byte: int) -> None:
+        super().__init__(code)
+        self.args = (code, side, byte)
+        self.side = side
+        self.byte = byte
+
+    def __str__(self) -> str:
+        return f"{self.side.name.lower()}, byte {self.byte}: {super().__str__()}"
+
+
+class Statement(NamedTuple):
+    """A prepared statement of a connection."""
+
+    text: bytes
+    parameters: int
+
+
+Named = Tuple[Tuple[bytes, Cell], ...]
+"""Attributes: each has a name and a value, which of a login is bytes."""
+
+Bound = Union[Cell, BulkKind]
+"""What a parameter of a bulk execution holds."""
+
+
+@dataclasses.dataclass(frozen=True)
+class Event:
+    """What one payload of a connection says; each kind is a class of its own."""
+
+    side = Side.CLIENT
+
+    @property
+    def name(self) -> str:
+        """The event's name, as QueryEvent has `Query`."""
+        return type(self).__name__[:-len("Event")]
+
+
+@dataclasses.dataclass(frozen=True)
+class _ServersEvent(Event):
+    side = Side.SERVER
+
+
+@dataclasses.dataclass(frozen=True)
+class _ErrorBase(_ServersEvent):
+    code: int
+    state: bytes
+    """The SQL state, five bytes, or none."""
+    message: bytes
+
+
+@dataclasses.dataclass(frozen=True)
+class _OkBase(_ServersEvent):
+    affected_rows: int
+    last_insert_id: int
+    status: int
+    warnings: int
+    info: bytes
+    state_changes: bytes
+    """The changes of the session's state, as the packet has them."""
+
+
+@dataclasses.dataclass(frozen=True)
+class _DataBase(Event):
+    data: bytes
+
+
+@dataclasses.dataclass(frozen=True)
+class _ServersDataBase(_ServersEvent):
+    data: bytes
+
+
+@dataclasses.dataclass(frozen=True)
+class RejectedEvent(_ErrorBase):
+    """The server refuses the connection in place of a greeting."""
+
+
+@dataclasses.dataclass(frozen=True)
+class GreetingEvent(_ServersEvent):
+    """The server's first payload."""
+
+    version: bytes
+    connection: int
+    capabilities: int
+    mariadb_capabilities: int
+    status: int
+    collation: int
+    plugin: bytes
+
+
+@dataclasses.dataclass(frozen=True)
+class _RequestBase(Event):
+    capabilities: int
+    mariadb_capabilities: int
+    collation: int
+    max_packet_size: int
+
+
+@dataclasses.dataclass(frozen=True)
+class SecureRequestEvent(_RequestBase):
+    """The client asks for TLS."""
+
+
+@dataclasses.dataclass(frozen=True)
+class LoginEvent(_RequestBase):
+    """The client logs in."""
+
+    user: bytes
+    database: bytes
+    plugin: bytes
+    response: bytes
+    attributes: Named
+
+
+@dataclasses.dataclass(frozen=True)
+class CutOffLoginEvent(_RequestBase):
+    """A login whose user is cut off."""
+
+
+@dataclasses.dataclass(frozen=True)
+class AcceptedEvent(_OkBase):
+    """The user is logged in or changed."""
+
+
+@dataclasses.dataclass(frozen=True)
+class DeniedEvent(_ErrorBase):
+    """The user isn't."""
+
+
+@dataclasses.dataclass(frozen=True)
+class _PluginBase(_ServersEvent):
+    plugin: bytes
+    data: bytes
+
+
+@dataclasses.dataclass(frozen=True)
+class AuthSwitchEvent(_PluginBase):
+    """The server asks for another plugin."""
+
+
+@dataclasses.dataclass(frozen=True)
+class OldAuthSwitchEvent(_ServersEvent):
+    """The server asks for passwords of old."""
+
+
+@dataclasses.dataclass(frozen=True)
+class AuthMoreEvent(_ServersDataBase):
+    """The plugin's data."""
+
+
+@dataclasses.dataclass(frozen=True)
+class NextFactorEvent(_PluginBase):
+    """The server asks for one more plugin."""
+
+
+@dataclasses.dataclass(frozen=True)
+class PluginDataEvent(_ServersDataBase):
+    """Data of a plugin that writes them without a header."""
+
+
+@dataclasses.dataclass(frozen=True)
+class AnswerEvent(_DataBase):
+    """What the client answers to an authentication."""
+
+
+@dataclasses.dataclass(frozen=True)
+class OkEvent(_OkBase):
+    """An OK packet, which is a result."""
+
+
+@dataclasses.dataclass(frozen=True)
+class ErrorEvent(_ErrorBase):
+    """An error, which ends a reply."""
+
+
+@dataclasses.dataclass(frozen=True)
+class ProgressEvent(_ServersEvent):
+    """How far a command has come."""
+
+    stage: int
+    stages: int
+    progress: int
+    """In thousandths of a percent."""
+    text: bytes
+
+
+@dataclasses.dataclass(frozen=True)
+class ColumnCountEvent(_ServersEvent):
+    """A result set of so many columns, and whether they follow."""
+
+    count: int
+    columns_follow: bool
+
+
+@dataclasses.dataclass(frozen=True)
+class ColumnEvent(_ServersEvent):
+    """A column of a result set, or a parameter or a column of a prepared statement."""
+
+    column: Column
+
+
+@dataclasses.dataclass(frozen=True)
+class FieldEvent(_ServersEvent):
+    """A column of a table, and its default, where it has one."""
+
+    column: Column
+    default: Optional[bytes]
+
+
+@dataclasses.dataclass(frozen=True)
+class ColumnsEndEvent(_OkBase):
+    """The packet behind columns."""
+
+
+@dataclasses.dataclass(frozen=True)
+class RowEvent(_ServersEvent):
+    """A row: bytes by text, values in binary."""
+
+    cells: Tuple[Cell, ...]
+
+
+@dataclasses.dataclass(frozen=True)
+class RawRowEvent(_ServersDataBase):
+    """A row whose columns aren't known, as it came."""
+
+
+@dataclasses.dataclass(frozen=True)
+class RowsEndEvent(_OkBase):
+    """What ends rows."""
+
+
+@dataclasses.dataclass(frozen=True)
+class FileRequestEvent(_ServersEvent):
+    """The server asks for a file of the client's."""
+
+    file: bytes
+
+
+@dataclasses.dataclass(frozen=True)
+class PreparedEvent(_ServersEvent):
+    """A prepared statement, and whether its parameters and columns follow."""
+
+    statement: int
+    parameters: int
+    columns: int
+    warnings: int
+    columns_follow: bool
+
+
+@dataclasses.dataclass(frozen=True)
+class LineEvent(_ServersEvent):
+    """A text, as that of COM_STATISTICS, or the first payload of what goes on in its own form."""
+
+    text: bytes
+
+
+@dataclasses.dataclass(frozen=True)
+class FileDataEvent(_DataBase):
+    """Bytes of the client's file. No bytes end it."""
+
+
+@dataclasses.dataclass(frozen=True)
+class FarewellEvent(_ErrorBase):
+    """The server's last words."""
+
+
+@dataclasses.dataclass(frozen=True)
+class QuitEvent(Event):
+    """The client ends the connection."""
+
+
+@dataclasses.dataclass(frozen=True)
+class InitDbEvent(Event):
+    """Another schema by default."""
+
+    schema: bytes
+
+
+@dataclasses.dataclass(frozen=True)
+class QueryEvent(Event):
+    """A query."""
+
+    text: bytes
+    attributes: Named
+
+
+@dataclasses.dataclass(frozen=True)
+class PrepareEvent(Event):
+    """A statement is prepared."""
+
+    text: bytes
+
+
+@dataclasses.dataclass(frozen=True)
+class ExecuteEvent(Event):
+    """A prepared statement is executed."""
+
+    statement: int
+    text: bytes
+    """The text by which it was prepared."""
+    values: Tuple[Cell, ...]
+    attributes: Named
+    cursor: int
+
+
+@dataclasses.dataclass(frozen=True)
+class BulkExecuteEvent(Event):
+    """A prepared statement is executed with many rows."""
+
+    statement: int
+    text: bytes
+    rows: Tuple[Tuple[Bound, ...], ...]
+
+
+@dataclasses.dataclass(frozen=True)
+class LongDataEvent(Event):
+    """A piece of a parameter."""
+
+    statement: int
+    place: int
+    data: bytes
+
+
+@dataclasses.dataclass(frozen=True)
+class _StatementBase(Event):
+    statement: int
+
+
+@dataclasses.dataclass(frozen=True)
+class CloseEvent(_StatementBase):
+    """A statement goes."""
+
+
+@dataclasses.dataclass(frozen=True)
+class ResetStatementEvent(_StatementBase):
+    """A statement's long data and cursor go."""
+
+
+@dataclasses.dataclass(frozen=True)
+class FetchEvent(_StatementBase):
+    """Rows of an open cursor."""
+
+    rows: int
+
+
+@dataclasses.dataclass(frozen=True)
+class ChangeUserEvent(Event):
+    """Another user logs in."""
+
+    user: bytes
+    database: bytes
+    plugin: bytes
+    response: bytes
+    collation: int
+    attributes: Named
+
+
+@dataclasses.dataclass(frozen=True)
+class CommandEvent(Event):
+    """Any other command, by its number in the protocol, and its fields by their names."""
+
+    number: int
+    fields: Mapping[str, Union[int, bytes]]
+
+
+@dataclasses.dataclass(frozen=True)
+class OtherEvent(_DataBase):
+    """A payload that is laid out as no command, as it stands."""
+
+
+# Events by their kinds: what a kind is made of. Errors, OK packets and data first.
+_ERRORS = {1: RejectedEvent, 7: DeniedEvent, 21: ErrorEvent, 34: FarewellEvent}
+_OKS = {6: AcceptedEvent, 20: OkEvent, 26: ColumnsEndEvent, 29: RowsEndEvent}
+_DATA = {10: AuthMoreEvent, 12: PluginDataEvent, 13: AnswerEvent, 28: RawRowEvent,
+         33: FileDataEvent, 0x200: OtherEvent}
+_TEXT = {30: FileRequestEvent, 32: LineEvent, 0x102: InitDbEvent, 0x116: PrepareEvent}
+_PLUGINS = {8: AuthSwitchEvent, 11: NextFactorEvent}
+_STATEMENTS = {0x119: CloseEvent, 0x11a: ResetStatementEvent}
+# Commands without a class of their own: the fields that they have, by the struct's names.
+_FIELDS: Dict[int, Dict[str, str]] = {
+    0x104: {"table": "text", "pattern": "data"},
+    0x105: {"schema": "text"},
+    0x106: {"schema": "text"},
+    0x107: {"flags": "number"},
+    0x108: {"level": "number"},
+    0x10c: {"connection": "number"},
+    0x112: {"server": "number", "position": "position", "flags": "flags", "file": "text"},
+    0x113: {"database": "database", "table": "text"},
+    0x115: {"server": "number", "host": "text", "user": "user"},
+    0x11b: {"option": "number"},
+    0x11e: {"server": "number", "position": "position", "flags": "flags", "file": "text"},
+    0x120: {"arguments": "data"},
+}
+
+
+def _text_in(shown: _Event, name: str) -> bytes:
+    """A text of an event, by its name."""
+    length = "len" if name == "text" else name + "_len"
+    return _bytes_at(getattr(shown, name), getattr(shown, length))
+
+
+_EVENT_TEXTS = ("text", "user", "database", "plugin", "data")
+
+
+def _plain_event(shown: _Event) -> Optional[Event]:
+    """An event that its struct has whole, or None."""
+    kind = shown.kind
+    if kind in _ERRORS:
+        state = bytes(shown.state[:shown.state_len])
+        return _ERRORS[kind](shown.error_code, state, _text_in(shown, "text"))
+    if kind in _OKS:
+        return _OKS[kind](shown.affected_rows, shown.last_insert_id, shown.status, shown.warnings,
+                          _text_in(shown, "text"), _text_in(shown, "data"))
+    if kind in _DATA:
+        return _DATA[kind](_text_in(shown, "data"))
+    if kind in _TEXT:
+        return _TEXT[kind](_text_in(shown, "text"))
+    if kind in _PLUGINS:
+        return _PLUGINS[kind](_text_in(shown, "plugin"), _text_in(shown, "data"))
+    if kind in _STATEMENTS:
+        return _STATEMENTS[kind](shown.statement)
+    return _rarer_event(shown)
+
+
+def _rarer_event(shown: _Event) -> Optional[Event]:
+    """One of the kinds that have no like, or None."""
+    kind, text = shown.kind, _text_in(shown, "text")
+    if kind == 2:
+        return GreetingEvent(text, shown.number, shown.capabilities, shown.mariadb_capabilities,
+                             shown.status, shown.charset, _text_in(shown, "plugin"))
+    if kind in (3, 5):
+        of_kind = SecureRequestEvent if kind == 3 else CutOffLoginEvent
+        return of_kind(shown.capabilities, shown.mariadb_capabilities, shown.charset, shown.number)
+    if kind == 9:
+        return OldAuthSwitchEvent()
+    if kind == 22:
+        return ProgressEvent(shown.rows, shown.columns, shown.number, text)
+    if kind == 23:
+        return ColumnCountEvent(shown.columns, shown.follows)
+    if kind == 31:
+        return PreparedEvent(shown.statement, shown.params, shown.columns, shown.warnings,
+                             shown.follows)
+    if kind == 0x101:
+        return QuitEvent()
+    if kind == 0x118:
+        return LongDataEvent(shown.statement, shown.number, _text_in(shown, "data"))
+    if kind == 0x11c:
+        return FetchEvent(shown.statement, shown.rows)
+    return None
+
+
+# No event is shown yet.
+_NO_KIND = (1 << 32) - 1
+
+
+class Connection(_Object):
+    """Reads a whole connection: it is fed the bytes of both sides, in any pieces and order, and
+    tells what was said, each payload as one event.
+
+        connection = Connection()
+        for event in connection.feed(Side.SERVER, greeting):
+            print(event)
+
+    A payload of the client has at most `client` bytes, one of the server `server`. `held` limits
+    what is held in all: of each side as much waits unread as its longest payload takes, and what is
+    left is for what is kept of statements, columns and long data.
+
+    An event is a copy, and stays as it is. After a fault each call for an event raises it again;
+    the events before it were told.
+    """
+
+    _handle_type = _ConnectionHandle
+
+    def __init__(self, *, client: int = DEFAULT_LIMIT, server: int = DEFAULT_LIMIT,
+                 held: int = 4 * DEFAULT_LIMIT) -> None:
+        super().__init__()
+        # The event that was taken and not given, or one of no kind.
+        self._shown = _Event(kind=_NO_KIND)
+        sizes = (_fitting(it, _SIZE_BITS) for it in (client, server, held))
+        _call("connection_new", self._at, *sizes)
+
+    def feed(self, side: Side, data: Union[bytes, bytearray, memoryview]) -> Iterator[Event]:
+        """Takes a piece of a side's stream, and gives the events that stand whole then.
+
+        The piece is taken at once, whole; events are read as they are asked for, and those that
+        aren't asked for stay for the next call. Raises MySQLSessionError with CONNECTION_HELD where
+        more of the side would wait unread than its longest payload takes, which `room` tells
+        before, and with CONNECTION_CLOSED; nothing of the piece is taken then. The iterator raises
+        ConnectionFault.
+        """
+        _call("connection_feed", self._handle, Side(side), *_lent(_received(data)))
+        return iter(self)
+
+    def __iter__(self) -> Iterator[Event]:
+        while True:
+            event = self.next_event()
+            if event is None:
+                return
+            yield event
+
+    def next_event(self) -> Optional[Event]:
+        """The next event, or None where the payload that is due isn't there whole, or the
+        connection is over. Raises ConnectionFault.
+
+        Where it ends by MemoryError or by KeyboardInterrupt, the next call gives the same event.
+        """
+        with self._alone():
+            if self._shown.kind == _NO_KIND:
+                code = _calls["connection_next"](self._at, ctypes.byref(self._shown))
+                if code:
+                    raise self._fault(code)
+            event = self._event(self._shown) if self._shown.kind else None
+            self._shown.kind = _NO_KIND
+            return event
+
+    def line(self) -> str:
+        """The event that was told last as a line of text; behind `finish` how the connection
+        stands, as `end Whole`."""
+        with self._alone():
+            return self._bytes("connection_line").decode("ascii")
+
+    def columns(self) -> Tuple[Column, ...]:
+        """The columns of the row that was told last, or the column that the event is."""
+        columns = []
+        with self._alone():
+            while True:
+                shown = _Column()
+                number = len(columns)
+                code = _calls["connection_column"](self._at, number, ctypes.byref(shown))
+                if code == Code.OUT_OF_RANGE:
+                    return tuple(columns)
+                if code:
+                    raise MySQLSessionError(code)
+                columns.append(_column(shown))
+
+    def statement(self, number: int) -> Optional[Statement]:
+        """The prepared statement that this id of a command stands for: 0xffffffff for that which
+        was prepared last."""
+        data, length, params = ctypes.c_void_p(), _SIZE(), _U16()
+        with self._alone():
+            code = _calls["connection_statement"](
+                self._at, _fitting(number, 32), ctypes.byref(data), ctypes.byref(length),
+                ctypes.byref(params))
+            if code == Code.OUT_OF_RANGE:
+                return None
+            if code:
+                raise MySQLSessionError(code)
+            return Statement(_bytes_at(data.value, length.value), params.value)
+
+    def rest(self, side: Side) -> bytes:
+        """What of a side's stream is unread. Where the connection is over, it follows in a form of
+        its own: TLS, compressed packets, a dump."""
+        with self._alone():
+            return self._bytes("connection_rest", Side(side))
+
+    def room(self, side: Side) -> int:
+        """How many bytes of a side `feed` takes now."""
+        standing = self._standing()
+        return standing.server_room if Side(side) is Side.SERVER else standing.client_room
+
+    @property
+    def held(self) -> int:
+        """How many bytes are held: the unread ones, and what is kept."""
+        return self._standing().held
+
+    @property
+    def turn(self) -> Optional[Side]:
+        """Whose payload is due: nobody's where the connection is over, or has failed."""
+        turn = self._standing().turn
+        return None if turn > Side.SERVER else Side(turn)
+
+    @property
+    def phase(self) -> Phase:
+        """What is due."""
+        return Phase(self._standing().phase)
+
+    @property
+    def reason(self) -> Optional[Reason]:
+        """Why the connection is over, where it is."""
+        standing = self._standing()
+        return Reason(standing.reason) if standing.phase == Phase.OVER else None
+
+    @property
+    def capabilities(self) -> int:
+        """The capabilities in force: those that both sides have."""
+        return self._standing().capabilities
+
+    @property
+    def mariadb_capabilities(self) -> int:
+        """MariaDB's own capabilities in force."""
+        return self._standing().mariadb_capabilities
+
+    @property
+    def fault(self) -> Optional[ConnectionFault]:
+        """The fault that was found."""
+        standing = self._standing()
+        if not standing.fault:
+            return None
+        return ConnectionFault(standing.fault, Side(standing.fault_side), standing.fault_byte)
+
+    def close_side(self, side: Side) -> None:
+        """Ends a side's stream: no more comes of it."""
+        _call("connection_close", self._handle, Side(side))
+
+    def finish(self) -> ConnectionEnd:
+        """Ends both streams, and says how the connection stands. Take all events before."""
+        shown = _ConnectionEnd()
+        _call("connection_finish", self._handle, ctypes.byref(shown))
+        self._shown.kind = _NO_KIND
+        kind = ConnectionEndKind(shown.kind)
+        if kind == ConnectionEndKind.OVER:
+            return ConnectionEnd(kind, reason=Reason(shown.reason))
+        if kind == ConnectionEndKind.UNFINISHED:
+            return ConnectionEnd(kind, side=Side(shown.side))
+        if kind == ConnectionEndKind.FAULT:
+            return ConnectionEnd(kind, None, Side(shown.side), Code(shown.fault), shown.byte)
+        return ConnectionEnd(kind)
+
+    def _standing(self) -> _Standing:
+        """How the connection stands."""
+        shown = _Standing()
+        _call("connection_standing", self._handle, ctypes.byref(shown))
+        return shown
+
+    def _fault(self, code: int) -> MySQLSessionError:
+        """The fault that was answered."""
+        shown = _Standing()
+        _call("connection_standing", self._at, ctypes.byref(shown))
+        if shown.fault != code:
+            return MySQLSessionError(code)
+        return ConnectionFault(code, Side(shown.fault_side), shown.fault_byte)
+
+    def _bytes(self, name: str, *arguments: object) -> bytes:
+        """A copy of the bytes that a call shows."""
+        data, length = ctypes.c_void_p(), _SIZE()
+        _call(name, self._at, *arguments, ctypes.byref(data), ctypes.byref(length))
+        return _bytes_at(data.value, length.value)
+
+    def _event(self, shown: _Event) -> Event:
+        """An event as it is shown."""
+        kind = shown.kind
+        plain = _plain_event(shown)
+        if plain is not None:
+            return plain
+        if kind == 4:
+            return LoginEvent(shown.capabilities, shown.mariadb_capabilities, shown.charset,
+                              shown.number, *self._login(shown))
+        if kind == 0x111:
+            user, database, plugin, response, attributes = self._login(shown)
+            return ChangeUserEvent(user, database, plugin, response, shown.charset, attributes)
+        if kind == 24:
+            return ColumnEvent(self._column())
+        if kind == 25:
+            return FieldEvent(self._column(), _text_in(shown, "data") if shown.flags else None)
+        if kind == 27:
+            return RowEvent(self._cells(shown.columns))
+        if kind == 0x103:
+            return QueryEvent(_text_in(shown, "text"), self._attributes(shown.attributes))
+        if kind == 0x117:
+            return ExecuteEvent(shown.statement, _text_in(shown, "text"), self._values(0, shown.params),
+                                self._attributes(shown.attributes), shown.flags)
+        if kind == 0x1fa:
+            rows = tuple(self._values(row, shown.params) for row in range(shown.rows))
+            return BulkExecuteEvent(shown.statement, _text_in(shown, "text"), rows)
+        return CommandEvent(kind & 0xFF, {
+            name: _text_in(shown, field) if field in _EVENT_TEXTS else getattr(shown, field)
+            for name, field in _FIELDS.get(kind, {}).items()})
+
+    def _login(self, shown: _Event) -> Tuple[bytes, bytes, bytes, bytes, Named]:
+        """What a login and a change of user have."""
+        user, database, plugin, data = (_text_in(shown, it) for it in _EVENT_TEXTS[1:])
+        return user, database, plugin, data, self._attributes(shown.attributes)
+
+    def _column(self, number: int = 0) -> Column:
+        """A column of the event."""
+        shown = _Column()
+        _call("connection_column", self._at, number, ctypes.byref(shown))
+        return _column(shown)
+
+    def _cells(self, count: int) -> Tuple[Cell, ...]:
+        """The cells of a row."""
+        call, handle, shown = _calls["connection_value"], self._at, _Value()
+        cells: List[Cell] = []
+        for place in range(count):
+            code = call(handle, 0, place, ctypes.byref(shown))
+            if code:
+                raise MySQLSessionError(code)
+            has_type = shown.kind == _Kind.DATE
+            cells.append(_cell(shown, self._column(place).type if has_type else 0))
+        return tuple(cells)
+
+    def _values(self, row: int, count: int) -> Tuple[Any, ...]:
+        """The values of an execution's row."""
+        shown, values = _Value(), []
+        for place in range(count):
+            _call("connection_value", self._at, row, place, ctypes.byref(shown))
+            special = shown.kind >= BulkKind.DEFAULT.value
+            values.append(BulkKind(shown.kind) if special else _cell(shown, 0))
+        return tuple(values)
+
+    def _attributes(self, count: int) -> Named:
+        """The attributes of the event."""
+        shown, found = _Value(), []
+        name, length = ctypes.c_void_p(), _SIZE()
+        for number in range(count):
+            _call("connection_attribute", self._at, number, ctypes.byref(name),
+                  ctypes.byref(length), ctypes.byref(shown))
+            found.append((_bytes_at(name.value, length.value), _cell(shown, 0)))
+        return tuple(found)
 
 
 # ---- Packets ------------------------------------------------------------------------------------

@@ -24,6 +24,7 @@ import threading
 import time
 import unittest
 import unittest.mock
+from random import Random
 from typing import (Any, Callable, Dict, Generator, Iterable, Iterator, List, Optional, Sequence,
                     Set, Tuple, Type)
 
@@ -33,6 +34,7 @@ from mysql_session import Code, Column, ColumnType, EndKind, Mode, ReplyKind, Ro
 BINDINGS = pathlib.Path(__file__).resolve().parent.parent
 HEADER = BINDINGS / "c" / "mysql_session.h"
 REPLIES = BINDINGS.parent / "crates" / "conformance" / "data" / "replies.txt"
+RECORDINGS = BINDINGS.parent / "crates" / "connection_conformance" / "data"
 
 PROTOCOL_41 = int(ms.Capability.PROTOCOL_41)
 LARGE = 17 << 20
@@ -54,6 +56,12 @@ def received(query: ms.Text, stream: Iterable[bytes], statement: int = 1,
             sets += receiver
         end = receiver.end()
         return sets + receiver.take(), end
+
+
+def recording(name: str) -> Tuple[bytes, bytes, List[str]]:
+    """A recorded connection: what both sides said, and the lines that it reads as."""
+    client, server = ((RECORDINGS / f"{name}.{side}").read_bytes() for side in ("client", "server"))
+    return client, server, (RECORDINGS / f"{name}.events").read_text().splitlines()
 
 
 class Case(unittest.TestCase):
@@ -109,14 +117,24 @@ class Interface(Case):
         found = re.findall(r"#define MYSQL_SESSION_VERSION\w* (\S+)", self.header)
         self.assertEqual(found, [f'"{ms.__version__}"', *ms.__version__.split(".")])
         self.assertIn(ms.__build__, ("proved", "unproved", "unknown"))
+        self.assertEqual(ms.library_version(), ms.__version__)
+        self.assertIn(ms.__build__, ("unknown", "proved" if ms.is_proved() else "unproved"))
 
     def test_numbers(self) -> None:
         self.assertEqual(self.numbers("mysql_session_code"), {it.name: int(it) for it in Code})
         self.assertEqual(self.numbers("mysql_session_road"), {it.name: int(it) for it in Road})
         for name, kinds, prefix in [("mysql_session_end_kind", EndKind, "END_"),
                                     ("mysql_session_reply_kind", ReplyKind, "REPLY_TO_"),
-                                    ("mysql_session_result_kind", ms._ResultKind, "RESULT_")]:
+                                    ("mysql_session_result_kind", ms._ResultKind, "RESULT_"),
+                                    ("mysql_session_phase", ms.Phase, "PHASE_"),
+                                    ("mysql_session_reason", ms.Reason, "REASON_"),
+                                    ("mysql_session_connection_end_kind", ms.ConnectionEndKind,
+                                     "CONNECTION_")]:
             self.assertEqual(self.numbers(name), {prefix + it.name: int(it) for it in kinds})
+        sides = {**{it.name: int(it) for it in ms.Side}, "NOBODY": 2}
+        self.assertEqual(self.numbers("mysql_session_side"), sides)
+        bulk = {it.name: it.value for it in ms.BulkKind}
+        self.assertEqual(self.numbers("mysql_session_bulk_kind"), bulk)
         values = {**self.numbers("mysql_session_kind"), **self.numbers("mysql_session_value_kind")}
         self.assertEqual(values, {it.name: int(it) for it in ms._Kind})
         flags = {"NO_BACKSLASH_ESCAPES": ms._flags(Mode(no_backslash_escapes=True)),
@@ -133,12 +151,13 @@ class Interface(Case):
                  "uint32_t": ctypes.c_uint32, "uint64_t": ctypes.c_uint64,
                  "size_t": ctypes.c_size_t, "bool": ctypes.c_bool,
                  "mysql_session_handle*": ms._HANDLE, "constuint8_t*": ctypes.c_char_p,
+                 "mysql_session_connection*": ms._CONNECTION,
                  "constmysql_session_parameter*": ctypes.POINTER(ms._Parameter)}
         return plain[kind] if kind in plain or not kind.endswith("*") else ctypes.c_void_p
 
     def test_arguments(self) -> None:
         declared = dict(re.findall(r"uint32_t mysql_session_(\w+)\(([^)]*)\);", self.header))
-        del declared["abi"]
+        del declared["abi"], declared["build"]
         unused = {name for name in declared if name.startswith("sets_push_")} | {"sets_end_set"}
         called = {**ms._ARGUMENTS, **ms._NUMBER_ARGUMENTS}
         self.assertEqual(set(declared) - unused, set(called))
@@ -150,10 +169,12 @@ class Interface(Case):
 
     def test_layouts(self) -> None:
         structs = [ms._Handle, ms._Content, ms._Parameter, ms._Value, ms._End, ms._Place, ms._Stop,
-                   ms._Spot, ms._Result, ms._Column, ms._Greeting, ms._Login]
+                   ms._Spot, ms._Result, ms._Column, ms._Greeting, ms._Login, ms._Event,
+                   ms._Standing, ms._ConnectionEnd]
         lines, wanted = [], ""
         for struct in structs:
-            name = "mysql_session_" + struct.__name__[1:].lower()
+            words = re.sub(r"(?<=[a-z])([A-Z])", r"_\1", struct.__name__[1:])
+            name = "mysql_session_" + words.lower()
             fields = [it[0] for it in struct._fields_]
             for field in fields:
                 lines.append(f'printf("%d ", (int)offsetof({name}, {field}));')
@@ -1040,7 +1061,7 @@ class Objects(Case):
         makers: List[Callable[[], Any]] = [
             lambda: ms.Receiver("SELECT ?"), ms.ParameterSets, lambda: ms.Recoder("SELECT ?"),
             lambda: ms.ReplyReader(ReplyKind.QUERY, 0),
-            lambda: ms.ReplyWriter(ReplyKind.QUERY, 0), ms.PacketReader,
+            lambda: ms.ReplyWriter(ReplyKind.QUERY, 0), ms.PacketReader, ms.Connection,
         ]
         for make in makers:
             with make() as made:
@@ -1086,6 +1107,181 @@ class Objects(Case):
         for thread in threads:
             thread.join()
         self.assertEqual(raised, [None] * 4)
+
+
+# ---- Whole connections --------------------------------------------------------------------------
+
+NAMES = sorted(it.stem for it in RECORDINGS.glob("*.client"))
+# A side, and how many bytes of its stream come next.
+Piece = Tuple[ms.Side, int]
+
+
+class Connections(Case):
+    """Recorded connections are read to the lines that stand beside them, however they come."""
+
+    def lines(self, client: bytes, server: bytes, pieces: Iterable[Piece]) -> List[str]:
+        """The lines of a connection that comes in these pieces, and of its end."""
+        at = {ms.Side.CLIENT: 0, ms.Side.SERVER: 0}
+        streams = {ms.Side.CLIENT: client, ms.Side.SERVER: server}
+        found: List[str] = []
+        with ms.Connection(client=1 << 26, server=1 << 26, held=1 << 30) as connection:
+            def take(events: Iterable[ms.Event]) -> None:
+                for event in events:
+                    line = connection.line()
+                    self.assertEqual(line.split()[0], event.side.name.lower())
+                    self.assertTrue(event and event.name and repr(event))
+                    found.append(line)
+
+            fault = None
+            try:
+                for side, count in pieces:
+                    piece = streams[side][at[side]:at[side] + count]
+                    at[side] += len(piece)
+                    take(connection.feed(side, piece))
+                for side in ms.Side:
+                    take(connection.feed(side, streams[side][at[side]:]))
+                    connection.close_side(side)
+                take(connection)
+            except ms.ConnectionFault as raised:
+                fault = raised
+            self.assertEqual(str(fault), str(connection.fault))
+            end = connection.finish()
+            if fault is not None:
+                self.assertEqual(end, ms.ConnectionEnd(ms.ConnectionEndKind.FAULT, None, fault.side,
+                                                       Code(fault.code), fault.byte))
+            return [*found, connection.line()]
+
+    def test_whole(self) -> None:
+        self.assertGreater(len(NAMES), 60)
+        for name in NAMES:
+            client, server, wanted = recording(name)
+            for first in ms.Side:
+                with self.subTest(name=name, first=first):
+                    self.assertEqual(self.lines(client, server, [(first, 1 << 30)]), wanted)
+
+    def test_random_pieces(self) -> None:
+        for name in NAMES:
+            client, server, wanted = recording(name)
+            random = Random(name)
+            most = (len(client) + len(server)) // 30 + 2
+            pieces = [(random.choice(list(ms.Side)), random.randrange(most)) for _ in range(100)]
+            with self.subTest(name=name):
+                self.assertEqual(self.lines(client, server, pieces), wanted)
+
+    def test_byte_by_byte(self) -> None:
+        for name in NAMES:
+            client, server, wanted = recording(name)
+            if len(client) + len(server) < 3000:
+                pieces = [(ms.Side.SERVER, 1)] * len(server) + [(ms.Side.CLIENT, 1)] * len(client)
+                Random(name).shuffle(pieces)
+                with self.subTest(name=name):
+                    self.assertEqual(self.lines(client, server, pieces), wanted)
+
+    def test_changed(self) -> None:
+        """A changed byte is read as an event, or refused as a fault."""
+        for name in NAMES:
+            client, server, _ = recording(name)
+            random = Random(name)
+            for _ in range(10 if len(client) + len(server) < 10000 else 0):
+                streams = [bytearray(client), bytearray(server)]
+                changed = random.choice([it for it in streams if it])
+                changed[random.randrange(len(changed))] ^= 1 << random.randrange(8)
+                found = self.lines(bytes(streams[0]), bytes(streams[1]), [(ms.Side.CLIENT, 1 << 30)])
+                self.assertTrue(found[-1].startswith("end "))
+
+    def events(self, name: str) -> List[ms.Event]:
+        """The events of a recording."""
+        client, server, _ = recording(name)
+        with ms.Connection() as connection:
+            return [*connection.feed(ms.Side.CLIENT, client), *connection.feed(ms.Side.SERVER, server)]
+
+    def test_executions(self) -> None:
+        """An execution has the text that was prepared, and as many values as that has places."""
+        for name in ("php-execute", "c-direct", "java-results-deprecate-eof-binary"):
+            executions = [it for it in self.events(name) if isinstance(it, ms.ExecuteEvent)]
+            self.assertTrue(executions)
+            for execution in executions:
+                self.assertEqual(len(execution.values), execution.text.count(b"?"), execution)
+
+    def test_bulk_executions(self) -> None:
+        bulk = [it for it in self.events("c-bulk") if isinstance(it, ms.BulkExecuteEvent)]
+        values = {type(value) for it in bulk for row in it.rows for value in row}
+        self.assertIn(ms.BulkKind, values)
+        self.assertIn(bytes, values)
+        for execution in bulk:
+            self.assertEqual({len(row) for row in execution.rows}, {execution.text.count(b"?")})
+
+    def test_login(self) -> None:
+        greeting, login = self.events("php-execute")[:2]
+        self.assertIsInstance(greeting, ms.GreetingEvent)
+        assert isinstance(login, ms.LoginEvent)
+        self.assertTrue(login.user)
+        for key, value in login.attributes:
+            self.assertIsInstance(value, bytes)
+            self.assertTrue(key)
+
+    def test_rows(self) -> None:
+        """Rows have cells as replies have them, and their columns."""
+        client, server, _ = recording("pymysql-results")
+        columns: List[Column] = []
+        count = 0
+        with ms.Connection() as connection:
+            connection.feed(ms.Side.CLIENT, client)
+            for event in connection.feed(ms.Side.SERVER, server):
+                if isinstance(event, ms.ColumnCountEvent):
+                    columns = []
+                if isinstance(event, ms.ColumnEvent):
+                    columns.append(event.column)
+                if isinstance(event, ms.RowEvent):
+                    count += 1
+                    self.assertEqual(list(connection.columns()), columns)
+                    self.assertEqual(len(event.cells), len(columns))
+        self.assertGreater(count, 100)
+
+    def test_standing(self) -> None:
+        client, server, _ = recording("php-execute")
+        with ms.Connection(client=1000000, server=2000000, held=4000000) as connection:
+            self.assertEqual((connection.turn, connection.phase, connection.reason),
+                             (ms.Side.SERVER, ms.Phase.GREETING, None))
+            self.assertEqual([connection.room(it) for it in ms.Side], [1000004, 2000004])
+            self.assertEqual((connection.held, connection.fault), (0, None))
+            self.assertIsNone(connection.statement(1))
+            self.assertEqual(connection.capabilities, 0)
+            connection.feed(ms.Side.SERVER, server)
+            self.assertEqual(connection.rest(ms.Side.SERVER), server)
+            self.assertEqual(connection.held, len(server))
+            for event in connection.feed(ms.Side.CLIENT, client):
+                if isinstance(event, ms.PreparedEvent):
+                    statement = connection.statement(event.statement)
+                    assert statement
+                    self.assertEqual(statement.parameters, event.parameters)
+                    self.assertEqual(connection.statement(2**32 - 1), statement)
+            self.assertEqual((connection.turn, connection.phase, connection.reason),
+                             (None, ms.Phase.OVER, ms.Reason.QUIT))
+            self.assertTrue(connection.capabilities & PROTOCOL_41)
+            self.assertEqual(connection.finish(),
+                             ms.ConnectionEnd(ms.ConnectionEndKind.OVER, ms.Reason.QUIT))
+            self.assertEqual(connection.line(), "end Over Quit")
+
+    def test_refusals(self) -> None:
+        with ms.Connection(client=10, server=10, held=100) as connection:
+            self.refuses(Code.OUT_OF_RANGE, connection.line)
+            connection.feed(ms.Side.CLIENT, bytes(14))
+            self.refuses(Code.CONNECTION_HELD, lambda: connection.feed(ms.Side.CLIENT, b"x"))
+            connection.close_side(ms.Side.CLIENT)
+            self.refuses(Code.CONNECTION_CLOSED, lambda: connection.feed(ms.Side.CLIENT, b"x"))
+            self.assertEqual(list(connection.feed(ms.Side.SERVER, b"\x01\0\0\x07")), [])
+            for _ in range(2):
+                with self.assertRaises(ms.ConnectionFault) as caught:
+                    list(connection.feed(ms.Side.SERVER, b"x"))
+                fault = caught.exception
+                self.assertEqual((fault.code, fault.side, fault.byte),
+                                 (Code.CONNECTION_OUT_OF_SYNC, ms.Side.SERVER, 0))
+            self.assertRegex(str(fault), r"^server, byte 0: connection: .* \(code 511\)$")
+            with self.assertRaises(ValueError):
+                connection.feed(2, b"")  # type: ignore[arg-type]
+        with self.assertRaises(OverflowError):
+            ms.Connection(client=-1)
 
 
 # ---- Calls of other threads, and within other calls ---------------------------------------------
@@ -1181,9 +1377,24 @@ def packet_steps() -> Steps:
         return found
 
 
+def connection_steps() -> Steps:
+    found: List[object] = []
+    client, server, _ = recording("statements")
+    with ms.Connection() as connection:
+        for side, stream in ((ms.Side.CLIENT, client), (ms.Side.SERVER, server)):
+            for piece in cut(stream, 200):
+                yield connection
+                found += connection.feed(side, piece)
+        yield connection
+        found.append(connection.finish())
+        yield connection
+        return found + [connection.line()]
+
+
 STEPS: Dict[Type[ms._Object], Callable[[], Steps]] = {
     ms.Receiver: receiver_steps, ms.ParameterSets: sets_steps, ms.Recoder: recoder_steps,
     ms.ReplyReader: reply_steps, ms.ReplyWriter: writer_steps, ms.PacketReader: packet_steps,
+    ms.Connection: connection_steps,
 }
 
 # Each call of each class, with arguments by which it changes something where it may.
@@ -1210,6 +1421,16 @@ CALLS: Dict[Type[ms._Object], Dict[str, Callable[[Any], object]]] = {
         "__init__": lambda it: it.__init__(), "__iter__": iter,
         "feed": lambda it: it.feed(b"\x01\0\0\0\x0e"), "payload": ms.PacketReader.payload,
         "restart": lambda it: it.restart(7)},
+    ms.Connection: {
+        "__init__": lambda it: it.__init__(), "__iter__": lambda it: next(iter(it), None),
+        "feed": lambda it: it.feed(ms.Side.SERVER, b"x"), "next_event": ms.Connection.next_event,
+        "line": ms.Connection.line, "columns": ms.Connection.columns,
+        "statement": lambda it: it.statement(1), "rest": lambda it: it.rest(ms.Side.CLIENT),
+        "room": lambda it: it.room(ms.Side.CLIENT), "held": lambda it: it.held,
+        "turn": lambda it: it.turn, "phase": lambda it: it.phase, "reason": lambda it: it.reason,
+        "capabilities": lambda it: it.capabilities, "fault": lambda it: it.fault,
+        "mariadb_capabilities": lambda it: it.mariadb_capabilities,
+        "close_side": lambda it: it.close_side(ms.Side.SERVER), "finish": ms.Connection.finish},
 }
 for given in CALLS.values():
     given["close"] = lambda it: it.close()
@@ -1465,6 +1686,28 @@ class Kept(Case):
                     for _ in range(3):
                         found += failing.run(receiver.take) or []
                     self.assertEqual(found, ROWS)
+
+        self.each(test)
+
+    def test_events(self) -> None:
+        client, server, _ = recording("statements")
+        with ms.Connection() as connection:
+            connection.feed(ms.Side.CLIENT, client)
+            wanted = list(connection.feed(ms.Side.SERVER, server))
+
+        def test(failing: Failing) -> None:
+            with ms.Connection() as connection:
+                connection.feed(ms.Side.CLIENT, client)
+                connection.feed(ms.Side.SERVER, server)
+                found: List[ms.Event] = []
+
+                def take() -> None:
+                    for event in connection:
+                        found.append(event)
+
+                failing.run(take)
+                take()
+                self.assertEqual(found, wanted)
 
         self.each(test)
 

@@ -14,6 +14,12 @@ VALGRIND = ["valgrind", "--quiet", "--error-exitcode=9", "--leak-check=full",
             "--show-leak-kinds=all", "--errors-for-leak-kinds=all"]
 
 
+RECORDINGS = os.path.join(ROOT, "crates", "connection_conformance", "data")
+# What a test in C is told: the recorded connections.
+WORDS = {"connections": sorted(it[:-len(".client")]
+                               for it in glob.glob(os.path.join(RECORDINGS, "*.client")))}
+
+
 # ---- C ----------------------------------------------------------------------------------------
 
 
@@ -46,7 +52,7 @@ class C:
         """Builds a test in a way of its own, and runs it by itself or under a tool."""
         name = os.path.basename(file)[:-2]
         made = self.build([*compiler, "-g", *WRAPPED], [file, *self.shared], f"{name}.{kind}")
-        said = run([*tool, made])
+        said = run([*tool, made, *WORDS.get(name, [])])
         if not re.search(r"\b[1-9][0-9]* checks, 0 failed\n$", said):
             raise Failure(f"it didn't count its checks: {said}")
 
@@ -79,7 +85,11 @@ def test_rust(report, library, room):
     """Runs the crate's tests and builds its examples."""
     how = {"cwd": os.path.join(BINDINGS, "rust"), "env": rust_environment(library, room)}
     report.run("cargo test", run, ["cargo", "test", "--offline"], **how)
-    report.run("cargo build --examples", run, ["cargo", "build", "--offline", "--examples"], **how)
+    if report.run("cargo build --examples", run, ["cargo", "build", "--offline", "--examples"],
+                  **how):
+        proxy = os.path.join(room, "target", "debug", "examples", "audit_proxy")
+        words = ["python3", os.path.join(BINDINGS, "testing", "recorded.py"), proxy, RECORDINGS]
+        report.run("recorded connections through the proxy", run, words)
 
 
 def test_python(report, library):
@@ -88,8 +98,7 @@ def test_python(report, library):
     how = {"cwd": folder, "env": python_environment(library)}
     report.run("Python tests", run, ["python3", "-m", "unittest", "discover"], **how)
     testing = os.path.join(BINDINGS, "testing")
-    recordings = os.path.join(ROOT, "crates", "connection_conformance", "data")
-    words = ["python3", os.path.join(testing, "connections.py"), recordings,
+    words = ["python3", os.path.join(testing, "connections.py"), RECORDINGS,
              os.path.join(testing, "payloads")]
     report.run("payloads of connections", run, words, **how)
     for file in sorted(glob.glob(os.path.join(folder, "examples", "*.py"))):

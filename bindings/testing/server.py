@@ -16,8 +16,9 @@ import subprocess
 import sys
 import time
 
-from .support import (BINDINGS, C99, Failure, ROOT, archive_in, compare, python_environment, run,
-                      rust_environment)
+from .proxied import test_proxied
+from .support import (BINDINGS, C99, Failure, ROOT, archive_in, compare, has,
+                      python_environment, run, rust_environment)
 
 SERVER_PACKAGES = {"mariadbd": "mariadb-server", "mariadb-install-db": "mariadb-server",
                    "mariadb": "mariadb-client", "mariadb_config": "libmariadb-dev"}
@@ -59,8 +60,8 @@ class Started:
     def __init__(self, words, log, **how):
         self.log = log
         with open(log, "wb") as out:
-            self.process = subprocess.Popen(words, stdin=subprocess.DEVNULL, stdout=out,
-                                            stderr=subprocess.STDOUT, **how)
+            self.process = subprocess.Popen(words, stdout=out, stderr=subprocess.STDOUT,
+                                            **{"stdin": subprocess.DEVNULL, **how})
 
     def __enter__(self):
         return self
@@ -78,16 +79,20 @@ class Started:
         with open(self.log, encoding="utf-8", errors="replace") as it:
             return it.read()
 
+    def wait_until(self, is_said, what="what it is to print"):
+        """Waits until this holds of what it has printed."""
+        wait_for(what, lambda: is_said(self.said()), self.process, self.log)
+
     def wait_for(self, pattern):
         """Waits until it has printed what matches, and returns the match."""
-        wait_for(f"a line {pattern}", lambda: re.search(pattern, self.said(), re.M), self.process,
-                 self.log)
+        self.wait_until(lambda said: re.search(pattern, said, re.M), f"a line {pattern}")
         return re.search(pattern, self.said(), re.M)
 
 
 @contextlib.contextmanager
-def mariadb(room):
-    """Runs a server in a folder of its own, with binary logging and a user without a password."""
+def mariadb(room, *options):
+    """Runs a server in a folder of its own, with binary logging and a user without a password; by
+    itself without TLS."""
     data, first = os.path.join(room, "data"), os.path.join(room, "first.sql")
     with open(first, "w", encoding="utf-8") as it:
         it.write(f"CREATE USER {USER}@'127.0.0.1' IDENTIFIED VIA mysql_native_password;\n"
@@ -100,7 +105,7 @@ def mariadb(room):
              f"--socket={room}/socket", f"--port={port}", "--bind-address=127.0.0.1",
              "--skip-name-resolve", f"--pid-file={room}/pid", f"--log-bin={data}/binlog",
              "--binlog-format=ROW", "--server-id=1", "--character-set-server=utf8mb4",
-             "--innodb-buffer-pool-size=64M", f"--init-file={first}"]
+             "--innodb-buffer-pool-size=64M", f"--init-file={first}", *(options or ["--skip-ssl"])]
     with Started(words, os.path.join(room, "server.log")) as server:
         wait_for("the server", lambda: listens(port), server.process, server.log)
         yield port
@@ -115,12 +120,12 @@ class Tests:
 
     # What is run.
 
-    def sql(self, text, port=None):
+    def sql(self, text, port=None, options=("--skip-ssl",), **how):
         """Returns the rows that the `mariadb` client prints, each a list of its cells."""
-        words = ["mariadb", "--no-defaults", "--skip-ssl", "--host=127.0.0.1", f"--user={USER}",
-                 f"--port={port or self.port}", "--batch", "--skip-column-names",
+        words = ["mariadb", "--no-defaults", "--host=127.0.0.1", f"--user={USER}",
+                 f"--port={port or self.port}", "--batch", "--skip-column-names", *options,
                  "--default-character-set=utf8mb4", DATABASE, f"--execute={text}"]
-        return [line.split("\t") for line in run(words).splitlines()]
+        return [line.split("\t") for line in run(words, **how).splitlines()]
 
     def pymysql(self, text, port):
         """Runs a program over PyMySQL's connection `it`, and returns what it prints."""
@@ -222,32 +227,12 @@ class Tests:
     # The auditing proxy.
 
     @contextlib.contextmanager
-    def proxy(self, log):
+    def proxy(self, log, *options):
         """Runs the proxy, and gives it with the port that it listens at."""
-        words = [self.rust_example("audit_proxy"), "127.0.0.1:0", f"127.0.0.1:{self.port}"]
+        words = [self.rust_example("audit_proxy"), "127.0.0.1:0", f"127.0.0.1:{self.port}",
+                 *options]
         with Started(words, self.file(log)) as it:
             yield it, int(it.wait_for(r"^listening at .*:([0-9]+)$")[1])
-
-    def proxy_texts(self):
-        """What clients send as text, by the `mariadb` client and by PyMySQL."""
-        self.sql("CREATE TABLE proxied (id INT PRIMARY KEY, name VARCHAR(99))")
-        with self.proxy("proxy_texts.log") as (proxy, port):
-            self.sql("INSERT INTO proxied VALUES (1, 'one'); PREPARE p FROM 'INSERT INTO proxied "
-                     "VALUES (?, ?)'; SET @i = 2, @n = 'two'; EXECUTE p USING @i, @n", port)
-            said = self.pymysql("insert = 'INSERT INTO proxied VALUES (%s, %s)'\n"
-                                "cursor.execute(insert, (3, 'a\\'b'))\n"
-                                "cursor.execute('SELECT COUNT(*) FROM proxied')\n"
-                                "print(cursor.fetchall())", port)
-            compare(said, "((3,),)\n")
-            proxy.wait_for(r"^connection [0-9]+: SELECT COUNT\(\*\) FROM proxied$")
-            lines = proxy.said().splitlines()
-        for wanted in (r"INSERT INTO proxied VALUES (1, 'one')", "EXECUTE p USING @i, @n",
-                       r"INSERT INTO proxied VALUES (3, 'a\'b')"):
-            if not any(it.endswith(": " + wanted) for it in lines):
-                raise Failure(f"no line of the proxy has {wanted}\n" + "\n".join(lines))
-        compare(self.rows_of("proxied", ["id", "name"]),
-                [[hex_of(str(id)), hex_of(name)] for id, name in
-                 ((1, "one"), (2, "two"), (3, "a'b"))])
 
     def proxy_statements(self):
         """Prepared statements: executions, long data and a bulk by MariaDB's own library, and
@@ -259,10 +244,14 @@ class Tests:
             run([self.c_client(), "127.0.0.1", str(port), USER, DATABASE, "insert", "prepared"])
             for road in ("execute", "bulk"):
                 self.replay(stream, query, "--road", road, port=port)
-            proxy.wait_for(r"^connection 3, statement [0-9]+: .*6, NULL")
-            found = re.findall(r"^connection [0-9]+, statement [0-9]+: (.*)$", proxy.said(), re.M)
-        compare(found, [f"{query} [{it}]" for it in ("1, 'it\\'s'", "NULL, ''", "3, 'long data'",
-                                                     "4, 'bulk'", "5, ''", "6, NULL", "6, NULL")])
+            proxy.wait_until(lambda said: said.count(" end by=") == 3)
+            found = re.findall(r"execute statement=[0-9]+: (.*) -> (.*) \(.* s\)$", proxy.said(),
+                               re.M)
+        wanted = [*((f"[{it}]", "1 row affected") for it in ("1, 'it\\'s'", "NULL, ''",
+                                                            "3, 'long data'")),
+                  ("[[4, 'bulk'], [5, '']]", "2 rows affected"),
+                  ("[6, NULL]", "1 row affected"), ("[[6, NULL]]", "1 row affected")]
+        compare(found, [(f"{query} {values}", result) for values, result in wanted])
         compare(self.sql("SELECT IFNULL(id, '-'), HEX(name) FROM prepared"),
                 [["1", hex_of("it's")], ["-", ""], ["3", hex_of("long data")],
                  ["4", hex_of("bulk")], ["5", ""], ["6", "NULL"], ["6", "NULL"]])
@@ -272,6 +261,35 @@ class Tests:
         query = "SELECT seq, REPEAT('x', seq) FROM seq_1_to_2000"
         with self.proxy("proxy_rows.log") as (_, port):
             compare(self.sql(query, port), self.sql(query))
+
+    # The capture reader.
+
+    def captured(self):
+        """What tcpdump captures of a client is read, while it is captured and from its file."""
+        reader = os.path.join(BINDINGS, "python", "examples", "read_capture.py")
+        capture, live = self.file("captured.pcap"), self.file("captured.txt")
+        words = ["tcpdump", "-i", "lo", "-U", "-w", "-", "port", str(self.port)]
+        with contextlib.ExitStack() as stack:
+            pipe = {"stdout": subprocess.PIPE}
+            tcpdump = stack.enter_context(subprocess.Popen(words, stderr=subprocess.PIPE, **pipe))
+            tee = stack.enter_context(subprocess.Popen(["tee", capture], stdin=tcpdump.stdout,
+                                                       **pipe))
+            reading = stack.enter_context(Started([sys.executable, reader, "-"], live,
+                                                  stdin=tee.stdout, env=self.python))
+            tcpdump.stderr.readline()
+            self.pymysql("cursor.execute('SELECT 1, %s', ('captured',))\ntry:\n"
+                         "    cursor.execute('SELECT captured')\n"
+                         "except pymysql.err.OperationalError:\n    pass", self.port)
+            reading.wait_for(r"over quit$")
+            tcpdump.terminate()
+            reading.process.wait(WAIT_SECONDS)
+        said = run([sys.executable, reader, capture], env=self.python)
+        compare(reading.said(), said)
+        texts = re.findall(r" #1 (client Query|server Row|server Error) (.*)$", said, re.M)
+        wanted = [("client Query", "text=\"SELECT 1, 'captured'\""),
+                  ("server Row", "cells=['1', 'captured']"),
+                  ("client Query", "text='SELECT captured'")]
+        compare([it for it in texts if "captured" in it[1]][:3], wanted)
 
     # The replay tool.
 
@@ -411,8 +429,8 @@ class Tests:
         self.sql(r"CREATE TABLE quoted (`a\` INT)")
         with self.proxy("proxy_quotes.log") as (proxy, port):
             self.modes(port, r'SELECT "a\", ? FROM quoted')
-            proxy.wait_for(r"^connection 1, statement [0-9]+: .*")
-            if r'SELECT "a\", ? FROM quoted [1]' not in proxy.said():
+            proxy.wait_for(r"^.* #1 .* execute statement=.*$")
+            if r'SELECT "a\", ? FROM quoted [1] -> 0 rows' not in proxy.said():
                 raise Failure(f"it prints {proxy.said()}")
 
     def examples_of_a_mode(self):
@@ -433,7 +451,7 @@ class Tests:
             with self.proxy("proxy_modes.log") as (proxy, port):
                 self.replay(text_query("SELECT '\\', 1"), "SELECT '\\', ?", "--road", "execute",
                             "--recorded-mode", "NO_BACKSLASH_ESCAPES", port=port)
-                proxy.wait_for(r"^connection 1, statement [0-9]+: SELECT '\\', \? \[1\]$")
+                proxy.wait_for(r"^.* #1 .* execute statement=.*: SELECT '\\', \? \[1\] -> 1 row")
             [[position]] = self.sql("SELECT @@gtid_binlog_pos")
             self.sql("INSERT INTO escapeless VALUES ('logged')")
             events = [name for name, _ in self.read_log("--gtid", position)]
@@ -489,8 +507,14 @@ def test_server(report, room, library):
             return
         it = Tests(room, library, port)
         for test in (it.bulk_load, it.bulk_load_refused, it.bulk_load_memory,
-                     it.bulk_load_valgrind, it.proxy_texts, it.proxy_statements, it.proxy_rows,
+                     it.bulk_load_valgrind, it.proxy_statements, it.proxy_rows,
                      it.replays, it.replay_faults, it.replication, it.replication_by_gtid,
                      it.test_server_clients, it.test_server_statements, it.texts_in_modes,
                      it.proxy_of_a_mode, it.examples_of_a_mode):
             report.run("server: " + test.__name__.replace("_", " "), test)
+        if has("tcpdump") and os.geteuid() == 0:
+            report.run("server: captured by tcpdump", it.captured)
+        else:
+            print("left out: server: captured by tcpdump, which root can run (apt-get install "
+                  "tcpdump)", flush=True)
+        test_proxied(report, it, mariadb)

@@ -442,6 +442,8 @@ static const uint32_t ranges[][2] = {
     { MYSQL_SESSION_REFUSED_NOT_ALONE, MYSQL_SESSION_REFUSED_ROW_TOO_LARGE },
     { MYSQL_SESSION_REPLY_TOO_LARGE, MYSQL_SESSION_REPLY_AFTER_END },
     { MYSQL_SESSION_WRITE_NO_RESULTS, MYSQL_SESSION_WRITE_PACKET_TOO_LARGE },
+    { MYSQL_SESSION_CONNECTION_CLOSED, MYSQL_SESSION_CONNECTION_HELD },
+    { MYSQL_SESSION_CONNECTION_TOO_LARGE, MYSQL_SESSION_CONNECTION_NOT_DUE },
 };
 #define RANGES (sizeof ranges / sizeof ranges[0])
 
@@ -483,6 +485,9 @@ static void texts(void)
 int main(void)
 {
     CHECK_NUMBER(mysql_session_abi(), MYSQL_SESSION_ABI);
+    CHECK(mysql_session_build() <= 1);
+    mysql_session_version(&data, &count);
+    CHECK_TEXT(data, count, MYSQL_SESSION_VERSION);
     parameter.kind = MYSQL_SESSION_INT;
     make_all();
     other_kinds();

@@ -1,117 +1,176 @@
-//! An auditing proxy: it stands between clients and a server, passes all bytes on as they come, and
-//! prints the parameter sets of each prepared statement with its query:
+//! An auditing proxy for whole connections: it stands between clients and a server, and prints a
+//! line for each login and for each command, once the server's reply is whole.
 //!
 //! ```text
-//! audit_proxy LISTEN UPSTREAM
+//! audit_proxy LISTEN UPSTREAM [--json] [--on-fault pass|cut] [--pass-first] [--plain]
+//!             [--longest BYTES] [--held BYTES]
 //! ```
 //!
-//! A client and a server that both can do so go over to TLS or compress their packets, and a client
-//! may add attributes to its queries. So that packets are plain, the proxy takes these capabilities
-//! out of the server's greeting; nothing else is changed.
-//!
-//! Each direction is cut into packets. A packet's number follows that of the packet before it, in
-//! whichever direction that went; only a command begins at 0. So an answer is known by the number
-//! that it begins with, also where a client sends commands ahead of the answers. A side that can't
-//! be followed any more is told of; its bytes still pass.
-//!
-//! Which bytes of a query are placeholders depends on the server's SQL mode: OK packets tell it,
-//! the one of the login and those that answer queries and executions. They are read here, not by a
-//! `ReplyReader`: the library refuses a status with MariaDB's bit for ANSI_QUOTES, which has no
-//! name in the protocol, and a session that changes to this mode is followed all the same. A
-//! MariaDB that greets with the bit, the mode being global then, can't be reached through the
-//! proxy: the library refuses its greeting.
+//! - A line has the time, the connection's number, its user and database, what was asked, with the
+//!   values of an execution, each result of the reply, and how long that took from the command's
+//!   last byte to the reply's. With `--json` it is an object of JSON.
+//! - Bytes are passed on unchanged, and only once they were read: a packet whole, a command that a
+//!   client sends ahead only once the reply to the one before it is whole. With `--pass-first` they
+//!   are passed on as they come, and read then. Where there is no room for more of a side, no more
+//!   is taken from its socket.
+//! - What can't be read, a fault, TLS, compression or a binary log, is told, and the connection is
+//!   passed on without being read from there on; with `--on-fault cut` it is ended.
+//! - With `--plain` TLS and compression are taken out of what the server offers: so no connection
+//!   goes over to them, and a client that insists on one is refused by itself.
+//! - `--longest` is the longest payload of either side, and `--held` how much is held of a
+//!   connection in all: four times that, where it isn't told.
 
+#[path = "audit_proxy/audit.rs"]
+mod audit;
+#[path = "audit_proxy/commands.rs"]
+mod commands;
 mod common;
-#[path = "audit_proxy/sides.rs"]
-mod sides;
-#[path = "audit_proxy/statements.rs"]
-mod statements;
+#[path = "audit_proxy/lines.rs"]
+mod lines;
+#[path = "audit_proxy/passing.rs"]
+mod passing;
+#[path = "audit_proxy/texts.rs"]
+mod texts;
 
+use audit::{Audit, OnFault};
 use common::{write_packet, Failure, Unread, LIMIT};
-use mysql_session::{capability, Greeting, PacketReader};
-use sides::{Answers, Commands, Exchange, Side, ERROR};
+use lines::Format;
+use mysql_session::{capability, Greeting, Limits, PacketReader};
+use passing::Passage;
 use std::env;
-use std::fmt;
-use std::io::{self, Read, Write};
-use std::net::{Shutdown, TcpListener, TcpStream};
+use std::io::{self, Write};
+use std::net::{TcpListener, TcpStream};
 use std::process::{exit, ExitCode};
-use std::sync::Mutex;
 use std::thread;
 
-/// What is taken out of the server's greeting.
+const USAGE: &str = "usage: audit_proxy LISTEN UPSTREAM [--json] [--on-fault pass|cut] \
+                     [--pass-first] [--plain] [--longest BYTES] [--held BYTES]";
+
+/// What is taken out of the server's greeting by `--plain`.
 const HIDDEN: u32 = capability::CLIENT_COMPRESS
     | capability::CLIENT_SSL
-    | capability::CLIENT_ZSTD_COMPRESSION_ALGORITHM
-    | capability::CLIENT_QUERY_ATTRIBUTES;
+    | capability::CLIENT_ZSTD_COMPRESSION_ALGORITHM;
+
+/// The first byte of a server's error.
+const ERROR: u8 = 0xff;
+
+#[derive(Clone)]
+struct Options {
+    listen: String,
+    upstream: String,
+    format: Format,
+    on_fault: OnFault,
+    pass_first: bool,
+    plain: bool,
+    longest: usize,
+    held: Option<usize>,
+}
+
+impl Options {
+    /// What the command line says; none where it says something else.
+    fn of(mut words: impl Iterator<Item = String>) -> Option<Options> {
+        let mut options = Options {
+            listen: words.next()?,
+            upstream: words.next()?,
+            format: Format::Text,
+            on_fault: OnFault::Pass,
+            pass_first: false,
+            plain: false,
+            longest: 1 << 26,
+            held: None,
+        };
+        while let Some(word) = words.next() {
+            match word.as_str() {
+                "--json" => options.format = Format::Json,
+                "--pass-first" => options.pass_first = true,
+                "--plain" => options.plain = true,
+                "--longest" => options.longest = words.next()?.parse().ok()?,
+                "--held" => options.held = Some(words.next()?.parse().ok()?),
+                "--on-fault" => {
+                    options.on_fault = match words.next()?.as_str() {
+                        "pass" => OnFault::Pass,
+                        "cut" => OnFault::Cut,
+                        _ => return None,
+                    }
+                }
+                _ => return None,
+            }
+        }
+        Some(options)
+    }
+
+    fn limits(&self) -> Limits {
+        Limits {
+            client: self.longest,
+            server: self.longest,
+            held: self.held.unwrap_or(self.longest.saturating_mul(4)),
+        }
+    }
+}
 
 fn main() -> ExitCode {
-    let words: Vec<String> = env::args().skip(1).collect();
-    let [listen, upstream] = &words[..] else {
-        eprintln!("usage: audit_proxy LISTEN UPSTREAM");
+    let Some(options) = Options::of(env::args().skip(1)) else {
+        eprintln!("{USAGE}");
         return ExitCode::from(2);
     };
-    match listen_at(listen, upstream) {
+    match listen(&options) {
         Ok(()) => ExitCode::SUCCESS,
         Err(error) => {
-            eprintln!("{listen}: {error}");
+            eprintln!("{}: {error}", options.listen);
             ExitCode::FAILURE
         }
     }
 }
 
 /// Prints a line. A proxy that can't print what it sees ends.
-fn print_line(line: fmt::Arguments<'_>) {
+fn print_line(line: &str) {
     if let Err(error) = writeln!(io::stdout(), "{line}") {
         eprintln!("what passes can't be printed: {error}");
         exit(1);
     }
 }
 
-/// Serves each client that connects, in a thread of its own.
-fn listen_at(listen: &str, upstream: &str) -> io::Result<()> {
-    let listener = TcpListener::bind(listen)?;
-    print_line(format_args!("listening at {}", listener.local_addr()?));
+/// Serves each client that connects, in threads of its own.
+fn listen(options: &Options) -> io::Result<()> {
+    let listener = TcpListener::bind(&options.listen)?;
+    eprintln!("listening at {}", listener.local_addr()?);
     for (number, client) in (1..).zip(listener.incoming()) {
-        let (client, upstream) = (client?, upstream.to_string());
+        let (client, options) = (client?, options.clone());
         thread::spawn(move || {
-            if let Err(failure) = serve(number, client, &upstream) {
-                print_line(format_args!("connection {number}: {failure}"));
+            if let Err(failure) = serve(number, client, &options) {
+                eprintln!("connection {number}: {failure}");
             }
         });
     }
     Ok(())
 }
 
-/// Passes all on between a client and the server.
-fn serve(connection: u64, mut client: TcpStream, upstream: &str) -> Result<(), Failure> {
-    let mut server = TcpStream::connect(upstream)?;
+/// Passes all on between a client and the server, and tells what they say.
+fn serve(number: u64, client: TcpStream, options: &Options) -> Result<(), Failure> {
+    let mut server = TcpStream::connect(&options.upstream)?;
     client.set_nodelay(true)?;
     server.set_nodelay(true)?;
-    pass_greeting(&mut server, &mut client)?;
-    let exchange = Mutex::new(Exchange::behind_greeting());
-    thread::scope(|scope| {
-        let answers = scope.spawn(|| -> Result<(), Failure> {
-            let mut answers = Answers::new(&exchange)?;
-            Ok(pass(connection, &server, &client, &mut answers)?)
-        });
-        let mut commands = Commands::new(connection, &exchange)?;
-        pass(connection, &client, &server, &mut commands)?;
-        answers
-            .join()
-            .expect("the thread of the answers doesn't panic")
-    })
+    let audit = Audit::new(number, options.format, options.limits(), options.on_fault)?;
+    let came = match options.plain {
+        true => plain_greeting(&mut server)?,
+        false => Vec::new(),
+    };
+    Passage::new(audit, options.pass_first).pass(&client, &server, came);
+    Ok(())
 }
 
-/// Passes the server's greeting on, without the capabilities that are hidden.
-fn pass_greeting(server: &mut TcpStream, client: &mut TcpStream) -> Result<(), Failure> {
+/// The server's greeting without the capabilities that are hidden, and what came behind it.
+fn plain_greeting(server: &mut TcpStream) -> Result<Vec<u8>, Failure> {
     let mut unread = Unread::default();
     let mut payload = unread.packet(server, &mut PacketReader::new(0, LIMIT)?)?;
     // A server that refuses the client sends an error in place of a greeting.
     if payload.first() != Some(&ERROR) {
         hide(&mut payload)?;
     }
-    write_packet(client, 0, &payload)?;
-    Ok(client.write_all(&unread.0)?)
+    let mut came = Vec::new();
+    write_packet(&mut came, 0, &payload)?;
+    came.extend_from_slice(&unread.0);
+    Ok(came)
 }
 
 /// Clears the bits of the hidden capabilities in a greeting. Their lower half stands behind the
@@ -129,39 +188,4 @@ fn hide(greeting: &mut [u8]) -> Result<(), Failure> {
         }
     }
     Ok(())
-}
-
-/// Passes the bytes of one side on to the other, which ends as this one does, also by an error.
-fn pass(connection: u64, from: &TcpStream, to: &TcpStream, side: &mut dyn Side) -> io::Result<()> {
-    let passed = pass_pieces(connection, from, to, side);
-    let ended = to.shutdown(Shutdown::Write);
-    passed.and(ended)
-}
-
-/// Passes bytes on, and has each piece looked at before. Where they can't be followed any more that
-/// is printed once, and they still pass.
-fn pass_pieces(
-    connection: u64,
-    mut from: &TcpStream,
-    mut to: &TcpStream,
-    side: &mut dyn Side,
-) -> io::Result<()> {
-    let mut piece = vec![0; 1 << 16];
-    let mut followed = true;
-    loop {
-        let count = from.read(&mut piece)?;
-        if count == 0 {
-            return Ok(());
-        }
-        if followed {
-            if let Err(error) = side.read(&piece[..count]) {
-                let name = side.name();
-                print_line(format_args!(
-                    "connection {connection}: the {name} isn't followed any more: {error}"
-                ));
-                followed = false;
-            }
-        }
-        to.write_all(&piece[..count])?;
-    }
 }

@@ -162,6 +162,34 @@ impl Code {
     pub const WRITE_PACKET_TOO_LARGE: Code = Code(411);
 }
 
+/// Why bytes of a connection are refused, and its faults.
+impl Code {
+    /// The side's stream has ended.
+    pub const CONNECTION_CLOSED: Code = Code(500);
+    /// More of the side would wait unread than its longest payload takes.
+    pub const CONNECTION_HELD: Code = Code(501);
+    /// A payload is longer than the limit of its side.
+    pub const CONNECTION_TOO_LARGE: Code = Code(510);
+    /// A packet has another number than the one that is due.
+    pub const CONNECTION_OUT_OF_SYNC: Code = Code(511);
+    /// The protocol isn't that of version 4.1.
+    pub const CONNECTION_OLD_PROTOCOL: Code = Code(512);
+    /// The greeting can't be read.
+    pub const CONNECTION_BAD_GREETING: Code = Code(513);
+    /// The login is cut off.
+    pub const CONNECTION_BAD_LOGIN: Code = Code(514);
+    /// The request for another plugin can't be read.
+    pub const CONNECTION_BAD_SWITCH: Code = Code(515);
+    /// The server says what nothing asked for.
+    pub const CONNECTION_UNASKED: Code = Code(516);
+    /// More would be kept of statements, columns and long data than the limit leaves.
+    pub const CONNECTION_KEPT: Code = Code(517);
+    /// The client says more behind a quit.
+    pub const CONNECTION_AFTER_QUIT: Code = Code(518);
+    /// No payload of that side of a reply is due.
+    pub const CONNECTION_NOT_DUE: Code = Code(519);
+}
+
 impl Code {
     /// The number, as the library answers it.
     pub fn number(self) -> u32 {
@@ -204,6 +232,11 @@ pub(crate) fn certain(number: u32) {
     if let Err(code) = answer(number) {
         panic!("the library answers {}: {code}", code.number());
     }
+}
+
+/// The code of a number that the library shows, not as an answer.
+pub(crate) fn shown_code(number: u32) -> Code {
+    Code(number)
 }
 
 /// The same of a call whose only other answer is that there is nothing of this number.

@@ -8,6 +8,8 @@
 //! - [`Mode`] is how a server reads a text, and [`Spelling`] how byte strings are written in one:
 //!   calls whose names end with `_in` take them.
 //! - [`ReplyReader`] reads a server's reply; [`ReplyWriter`] writes one.
+//! - [`Connection`] reads a whole connection, and tells each payload of either side as an
+//!   [`Event`].
 //! - [`PacketReader`] cuts a stream into payloads, [`put_packet`] frames them; [`Greeting`] and
 //!   [`Login`], [`RegisterReplica`], [`BinlogDump`] and [`BinlogDumpGtid`] are payloads of a
 //!   connection's beginning and of a replica.
@@ -16,7 +18,8 @@
 //!
 //! Each object of the library goes with the value that owns it. What is shown of it, a set's bytes
 //! or a row's cells, borrows from that value, and nothing is copied. A value stays in the thread
-//! that made it; values in different threads share nothing.
+//! that made it, but for a [`Connection`], which may move between threads; values in different
+//! threads share nothing.
 //!
 //! Texts of values ([`Road::Text`], [`bind_text`], [`value_text`]) are safe for a server whose SQL
 //! mode has neither NO_BACKSLASH_ESCAPES nor ANSI_QUOTES, over a connection in UTF-8 or another
@@ -35,6 +38,8 @@
 mod bytes;
 pub mod capability;
 mod codes;
+mod connection;
+mod events;
 mod handle;
 mod login;
 mod modes;
@@ -52,6 +57,14 @@ mod writer;
 
 pub use bytes::Bytes;
 pub use codes::{At, Code, End, Error, Fault};
+pub use connection::{
+    Capabilities, Connection, ConnectionEnd, ConnectionFault, Limits, Phase, Reason, Side,
+    Statement,
+};
+pub use events::{
+    Attributes, BulkRow, BulkRows, BulkValue, ClientChange, ClientLogin, ClientRequest, Event,
+    EventRow, OtherCommand, ServerGreeting, Values,
+};
 pub use login::{Greeting, Login};
 pub use modes::{is_safe_to_quote, Mode, Spelling};
 pub use packets::{put_packet, PacketReader};
@@ -78,3 +91,29 @@ pub const VERSION: &str = env!("CARGO_PKG_VERSION");
 /// assert!(["proved", "unproved", "unknown"].contains(&mysql_session::BUILD));
 /// ```
 pub const BUILD: &str = env!("MYSQL_SESSION_BUILD");
+
+/// Whether the library says of itself that it was proved before it was compiled.
+///
+/// ```
+/// use mysql_session::{is_proved, BUILD};
+///
+/// assert!(BUILD == "unknown" || is_proved() == (BUILD == "proved"));
+/// ```
+pub fn is_proved() -> bool {
+    // SAFETY: the call has no condition.
+    unsafe { raw::mysql_session_build() == 1 }
+}
+
+/// The version that the library says it has: that of this crate.
+///
+/// ```
+/// assert_eq!(mysql_session::library_version(), mysql_session::VERSION);
+/// ```
+pub fn library_version() -> &'static str {
+    let mut text = raw::Text::default();
+    // SAFETY: "Results go out": both pointers are those of fields of one local.
+    unsafe { raw::mysql_session_version(&mut text.at, &mut text.len) };
+    // SAFETY: "It is good as long as the program runs."
+    let bytes = unsafe { text.bytes::<'static>() };
+    std::str::from_utf8(bytes).expect("a version is in ASCII")
+}

@@ -9,7 +9,7 @@ use std::ptr::null;
 use std::slice;
 
 /// `MYSQL_SESSION_ABI`: the interface that is declared here.
-pub const ABI: u32 = 4;
+pub const ABI: u32 = 5;
 
 // `enum mysql_session_flag`.
 pub const NO_BACKSLASH_ESCAPES: u32 = 1;
@@ -202,8 +202,76 @@ pub struct Login {
     pub plugin: Text,
 }
 
+/// `mysql_session_connection`.
+#[repr(C)]
+pub struct Connection {
+    pub at: *mut c_void,
+}
+
+/// `mysql_session_event`.
+#[repr(C)]
+#[derive(Clone, Copy, Default)]
+pub struct Event {
+    pub kind: u32,
+    pub side: u32,
+    pub statement: u32,
+    pub capabilities: u32,
+    pub mariadb_capabilities: u32,
+    pub number: u32,
+    pub flags: u32,
+    pub status: u16,
+    pub warnings: u16,
+    pub error_code: u16,
+    pub charset: u16,
+    pub affected_rows: u64,
+    pub last_insert_id: u64,
+    pub position: u64,
+    pub columns: usize,
+    pub rows: usize,
+    pub params: usize,
+    pub attributes: usize,
+    pub text: Text,
+    pub user: Text,
+    pub database: Text,
+    pub plugin: Text,
+    pub data: Text,
+    pub state: [u8; 5],
+    pub state_len: usize,
+    pub follows: bool,
+}
+
+/// `mysql_session_standing`.
+#[repr(C)]
+#[derive(Clone, Copy, Default)]
+pub struct Standing {
+    pub turn: u32,
+    pub phase: u32,
+    pub reason: u32,
+    pub capabilities: u32,
+    pub mariadb_capabilities: u32,
+    pub fault: u32,
+    pub fault_side: u32,
+    pub fault_byte: u64,
+    pub client_room: usize,
+    pub server_room: usize,
+    pub held: usize,
+}
+
+/// `mysql_session_connection_end`.
+#[repr(C)]
+#[derive(Clone, Copy, Default)]
+pub struct ConnectionEnd {
+    pub kind: u32,
+    pub reason: u32,
+    pub side: u32,
+    pub fault: u32,
+    pub byte: u64,
+}
+
 extern "C" {
     pub fn mysql_session_abi() -> u32;
+    pub fn mysql_session_build() -> u32;
+    pub fn mysql_session_version(text: *mut *const u8, len: *mut usize);
     pub fn mysql_session_free(handle: *mut Handle);
     pub fn mysql_session_code_text(code: u32, text: *mut *const u8, len: *mut usize);
 
@@ -517,5 +585,65 @@ extern "C" {
         len: usize,
         gtids: *const u8,
         gtids_len: usize,
+    ) -> u32;
+
+    pub fn mysql_session_connection_new(
+        connection: *mut Connection,
+        client: usize,
+        server: usize,
+        held: usize,
+    ) -> u32;
+    pub fn mysql_session_connection_free(connection: *mut Connection);
+    pub fn mysql_session_connection_feed(
+        connection: *mut Connection,
+        side: u32,
+        piece: *const u8,
+        len: usize,
+    ) -> u32;
+    pub fn mysql_session_connection_close(connection: *mut Connection, side: u32) -> u32;
+    pub fn mysql_session_connection_next(connection: *mut Connection, event: *mut Event) -> u32;
+    pub fn mysql_session_connection_value(
+        connection: *mut Connection,
+        row: usize,
+        place: usize,
+        value: *mut Value,
+    ) -> u32;
+    pub fn mysql_session_connection_attribute(
+        connection: *mut Connection,
+        number: usize,
+        name: *mut *const u8,
+        len: *mut usize,
+        value: *mut Value,
+    ) -> u32;
+    pub fn mysql_session_connection_column(
+        connection: *mut Connection,
+        number: usize,
+        column: *mut Column,
+    ) -> u32;
+    pub fn mysql_session_connection_line(
+        connection: *mut Connection,
+        text: *mut *const u8,
+        len: *mut usize,
+    ) -> u32;
+    pub fn mysql_session_connection_standing(
+        connection: *mut Connection,
+        standing: *mut Standing,
+    ) -> u32;
+    pub fn mysql_session_connection_statement(
+        connection: *mut Connection,
+        id: u32,
+        text: *mut *const u8,
+        len: *mut usize,
+        params: *mut u16,
+    ) -> u32;
+    pub fn mysql_session_connection_rest(
+        connection: *mut Connection,
+        side: u32,
+        data: *mut *const u8,
+        len: *mut usize,
+    ) -> u32;
+    pub fn mysql_session_connection_finish(
+        connection: *mut Connection,
+        end: *mut ConnectionEnd,
     ) -> u32;
 }

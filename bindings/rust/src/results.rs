@@ -435,20 +435,31 @@ fn shown_column(of: Number<'_>, column: usize, show: ShowsColumn) -> Column<'_> 
     // SAFETY: "Handles": by `Handle::get`; "Results go out": a local.
     certain(unsafe { show(of.handle.get(), of.number, column, &mut shown) });
     // SAFETY: "its texts are good as a result's text is".
-    unsafe {
-        Column {
-            column_type: ColumnType {
-                kind: shown.kind,
-                flags: shown.flags,
-                charset: shown.charset,
-                length: shown.length,
-                decimals: shown.decimals,
-            },
-            schema: shown.schema.bytes(),
-            table: shown.table.bytes(),
-            org_table: shown.org_table.bytes(),
-            name: shown.name.bytes(),
-            org_name: shown.org_name.bytes(),
+    unsafe { Column::of(&shown) }
+}
+
+impl<'a> Column<'a> {
+    /// What the library showed.
+    ///
+    /// # Safety
+    /// The library wrote the fields, and the texts stay as they are for `'a`.
+    pub(crate) unsafe fn of(shown: &raw::Column) -> Column<'a> {
+        // SAFETY: by this call's condition.
+        unsafe {
+            Column {
+                column_type: ColumnType {
+                    kind: shown.kind,
+                    flags: shown.flags,
+                    charset: shown.charset,
+                    length: shown.length,
+                    decimals: shown.decimals,
+                },
+                schema: shown.schema.bytes(),
+                table: shown.table.bytes(),
+                org_table: shown.org_table.bytes(),
+                name: shown.name.bytes(),
+                org_name: shown.org_name.bytes(),
+            }
         }
     }
 }

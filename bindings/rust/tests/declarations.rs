@@ -30,7 +30,10 @@ fn header() -> String {
 fn type_name(name: &str) -> String {
     match name.strip_prefix("mysql_session_") {
         Some("result") => "ReplyResult".to_string(),
-        Some(name) => name[..1].to_uppercase() + &name[1..],
+        Some(name) => name
+            .split('_')
+            .map(|word| word[..1].to_uppercase() + &word[1..])
+            .collect(),
         None => panic!("{name} is no type of the library"),
     }
 }

@@ -12,20 +12,49 @@ ghost use Rattle.mysql_c_handles.specs.Texts.{ends_at_nul};
 ghost use Rattle.mysql_c_handles.specs.declared.object.Object.TheVariants.{Empty};
 
 mod commands;
+mod connections;
 mod events;
 mod login;
 mod replies;
 
-use mysql_c_handles::{Handle, code_text};
+use mysql_c_connection::connection_code_text;
+use mysql_c_handles::{Handle, start_of};
 use std::alloc::Global;
 use std::mem::replace;
 
 /// The number of the interface, which changes with each of its declarations.
 #[unsafe(no_mangle)]
 pub extern "C" fn mysql_session_abi() -> u32
-    ensures { result ≡ 4 }
+    ensures { result ≡ 5 }
 {
-    4
+    5
+}
+
+/// 1 where the library was proved before it was compiled.
+///
+/// `tools/trial_library`, which proves nothing, writes 0 here before it compiles.
+#[unsafe(no_mangle)]
+pub extern "C" fn mysql_session_build() -> u32
+    ensures { result ≡ 1 }
+{
+    1
+}
+
+/// The library's version, as CHANGELOG.md counts versions, with a NUL byte behind it.
+fn version() -> &'static [u8]
+    ensures { IsTrue (ends_at_nul result.now) }
+{
+    b"0.1.0\0"
+}
+
+/// Shows the library's version, and its length without the NUL byte that stands behind it.
+#[unsafe(no_mangle)]
+pub extern "C" fn mysql_session_version(text: &mut *const u8, len: &mut usize)
+    ensures { (shown : List ℕ) × IsTrue (ends_at_nul shown) × (len.new ≡ length shown - 1) }
+{
+    let shown = version();
+    *text = start_of(shown);
+    *len = shown.len().saturating_sub(1);
 }
 
 /// Frees what the handle stands for. It stands for nothing then.
@@ -42,5 +71,5 @@ pub extern "C" fn mysql_session_free(alloc: Global, handle: &mut Handle)
 pub extern "C" fn mysql_session_code_text(code: u32, text: &mut *const u8, len: &mut usize)
     ensures { (shown : List ℕ) × IsTrue (ends_at_nul shown) × (len.new ≡ length shown - 1) }
 {
-    code_text(code, text, len);
+    connection_code_text(code, text, len);
 }

@@ -13,7 +13,7 @@ pub use finding::{
     reply_cell, reply_column, reply_param, reply_result, reply_results, reply_state,
 };
 pub use reading::{reply_end, reply_feed, reply_new, reply_take};
-pub use shown::{ShownColumn, ShownResult, ShownValue};
+pub use shown::{ShownColumn, ShownResult, ShownValue, show_column, show_value};
 pub use spot::ShownSpot;
 pub use writing::{
     writer_column, writer_end, writer_end_rows, writer_error, writer_new, writer_ok,

@@ -306,7 +306,7 @@ pub(crate) fn show_state(
 }
 
 /// Shows a column. Its names stay where they are.
-pub(crate) fn show_column(column: &Column, shown: &mut ShownColumn)
+pub fn show_column(column: &Column, shown: &mut ShownColumn)
     ensures { ShowsColumn (column_view column.now) shown.new }
 {
     shown.column_type = u8::from(column.column_type());
@@ -327,7 +327,7 @@ pub(crate) fn show_column(column: &Column, shown: &mut ShownColumn)
 }
 
 /// Shows a value. Bytes stay where they are.
-pub(crate) fn show_value(value: &Value, shown: &mut ShownValue)
+pub fn show_value(value: &Value, shown: &mut ShownValue)
     ensures { ShowsValue value.now shown.new }
 {
     match value {

@@ -41,7 +41,7 @@ impl Unread {
 }
 
 /// Writes a payload as a packet of this number.
-pub fn write_packet(stream: &mut TcpStream, number: u8, payload: &[u8]) -> Result<(), Failure> {
+pub fn write_packet(stream: &mut impl Write, number: u8, payload: &[u8]) -> Result<(), Failure> {
     let mut out = Bytes::new()?;
     put_packet(payload, &mut number.clone(), LIMIT, &mut out)?;
     Ok(stream.write_all(&out)?)

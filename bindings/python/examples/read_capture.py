@@ -1,0 +1,293 @@
+#!/usr/bin/env python3
+"""Reads the MySQL connections of a capture file, and prints what both sides said.
+
+    read_capture.py file.pcap
+    tcpdump -i lo -U -w - port 3306 | read_capture.py -
+
+A line for each packet of a connection, as soon as it stands whole: when its last byte was captured,
+the connection's number, whose it is, and what it says; and for each connection that has ended a
+line that sums it up. With --lines events are printed as the library writes them, with bytes in
+hexadecimal.
+
+Segments that come twice or in another order are put in order. Where bytes are missing in the
+capture, the connection is read up to there. Which end is the server is told by --port, else by who
+opened the connection, else by who greets. A connection whose greeting wasn't captured can't be
+read; one whose server doesn't greet as a MySQL server does is left out.
+
+The status is 0 where all connections were read to their ends, 1 where not, and 2 where the file
+can't be read as a capture.
+"""
+
+from __future__ import annotations
+
+import argparse
+import dataclasses
+import datetime
+import os
+import sys
+from typing import BinaryIO, Dict, Iterator, List, Optional, Sequence
+
+from captures import SECOND, CaptureError, Skipped, segments
+from streams import Connection, Connections, Piece
+
+sys.path.insert(0, os.path.join(os.path.dirname(os.path.abspath(__file__)), os.pardir))
+
+import mysql_session as ms  # noqa: E402  (found by the line above)
+
+# How many bytes of an end are looked at before the other end is known to be no server that greets.
+FRONT = 1 << 16
+
+GREETING, ERROR = 0x0A, 0xFF
+
+# What a client says that is no command.
+NO_COMMANDS = (ms.SecureRequestEvent, ms.LoginEvent, ms.CutOffLoginEvent, ms.AnswerEvent,
+               ms.FileDataEvent)
+
+# Fields that aren't printed but with --lines.
+HIDDEN = ("capabilities", "mariadb_capabilities", "collation", "max_packet_size", "response",
+          "status", "state_changes", "columns_follow")
+
+
+def greets(front: bytes) -> bool:
+    """Whether bytes begin as a server's greeting does, or as its refusal to greet."""
+    length, number, first = int.from_bytes(front[:3], "little"), front[3], front[4]
+    return length < 1024 and number == 0 and first in (GREETING, ERROR)
+
+
+def shown_time(time: int) -> str:
+    """A time of a capture, in UTC."""
+    seconds, rest = divmod(time, SECOND)
+    moment = datetime.datetime.fromtimestamp(seconds, datetime.timezone.utc)
+    return f"{moment:%Y-%m-%dT%H:%M:%S}.{rest // 1000:06}Z"
+
+
+def shown(value: object) -> str:
+    """A field of an event."""
+    if isinstance(value, bytes):
+        try:
+            return repr(value.decode())
+        except UnicodeDecodeError:
+            return "0x" + value.hex()
+    if isinstance(value, ms.Column):
+        return shown(value.name)
+    if isinstance(value, tuple) and not hasattr(value, "_fields"):
+        return "[" + ", ".join(map(shown, value)) + "]"
+    return str(value)
+
+
+def shown_event(event: ms.Event) -> str:
+    """An event in a few words: its name, and the fields that say something."""
+    words = [event.side.name.lower(), event.name]
+    for field in dataclasses.fields(event):
+        value = getattr(event, field.name)
+        if field.name not in HIDDEN and value not in (None, 0, b"", ()):
+            words.append(f"{field.name}={shown(value)}")
+    return " ".join(words)
+
+
+class Server:
+    """Finds which end of a connection is the server."""
+
+    def __init__(self, of: Connection, ports: Sequence[int]) -> None:
+        opened = None if of.opened is None else of.other(of.opened)
+        by_port = [it for it in of.directions if it.port in ports]
+        self.end = by_port[0] if len(by_port) == 1 else opened
+        self.is_asked = bool(by_port)
+        self.is_possible = bool(by_port) or not ports
+        self._fronts = {it: b"" for it in of.directions}
+
+    def look(self, piece: Piece) -> Optional[bool]:
+        """Looks at the next bytes of an end. Gives whether the server greeted; None where that
+        can't be said yet."""
+        self._fronts[piece.sender] += piece.data[:FRONT]
+        said = {end: front for end, front in self._fronts.items() if len(front) >= 5}
+        for end, front in said.items():
+            if self.end in (None, end) and greets(front):
+                self.end = end
+                return True
+        is_known = self.end in said or len(said) == 2
+        return False if is_known or any(len(it) > FRONT for it in said.values()) else None
+
+
+class Reading:
+    """A connection of a capture, as far as it is read."""
+
+    def __init__(self, of: Connection, ports: Sequence[int]) -> None:
+        self.of = of
+        self.why: Optional[str] = None  # why it isn't read any further
+        self.user, self.commands, self.rows, self.errors = b"", 0, 0, 0
+        self.last = of.began            # when its last piece was captured
+        self.machine: Optional[ms.Connection] = None
+        self._server = Server(of, ports)
+        self._early: List[Piece] = []
+
+    @property
+    def is_ours(self) -> bool:
+        """Whether it is a connection with a MySQL server, or to a port that was asked for."""
+        return self.machine is not None or self._server.is_asked
+
+    def take(self, piece: Piece) -> Iterator[ms.Event]:
+        """Takes the next bytes of an end; gives the events that stand whole by them."""
+        self.last = piece.time
+        if self.why is not None or not self._server.is_possible:
+            return
+        if self.machine is None:
+            self._early.append(piece)
+            greeted = self._server.look(piece)
+            if greeted is None:
+                return
+            if not greeted:
+                self.why = "its greeting wasn't captured"
+                return
+            self.machine = ms.Connection()
+        pieces, self._early = self._early or [piece], []
+        for it in pieces:
+            yield from self._feed(self.machine, it)
+
+    def _feed(self, machine: ms.Connection, piece: Piece) -> Iterator[ms.Event]:
+        """Feeds the machine bytes of an end, or that it has ended."""
+        side = ms.Side.SERVER if piece.sender == self._server.end else ms.Side.CLIENT
+        data = piece.data
+        try:
+            while data and machine.phase is not ms.Phase.OVER:
+                room = machine.room(side)
+                if room == 0:
+                    self.why = f"the {side.name.lower()} is too far ahead"
+                    return
+                yield from self._counted(machine.feed(side, data[:room]))
+                data = data[room:]
+            if not piece.data:
+                machine.close_side(side)
+                yield from self._counted(iter(machine))
+        except ms.ConnectionFault as fault:
+            self.why = str(fault)
+
+    def _counted(self, events: Iterator[ms.Event]) -> Iterator[ms.Event]:
+        """Counts events."""
+        for event in events:
+            if isinstance(event, (ms.LoginEvent, ms.ChangeUserEvent)):
+                self.user = event.user
+            self.commands += event.side == ms.Side.CLIENT and not isinstance(event, NO_COMMANDS)
+            self.rows += isinstance(event, ms.RowEvent)
+            self.errors += isinstance(event, ms.ErrorEvent)
+            yield event
+
+    def line(self) -> str:
+        """The event that was taken last, as the library writes it."""
+        return self.machine.line() if self.machine is not None else ""
+
+    def end(self) -> str:
+        """How the connection stands, as the library writes it."""
+        if self.machine is None:
+            return "it has no greeting"
+        self.machine.finish()
+        return self.machine.line()
+
+    @property
+    def is_whole(self) -> bool:
+        """Whether it was read to its end."""
+        missing = any(it.missing for it in self.of.directions.values())
+        return self.machine is not None and self.why is None and not missing
+
+    def summary(self, end: str) -> str:
+        """The connection in a line."""
+        ends = sorted(self.of.directions, key=lambda it: it == self._server.end)
+        words = [" to ".join(map(str, ends))]
+        if self.machine is not None:
+            words.append(f"user {shown(self.user)}, {self.commands} commands, {self.rows} rows, "
+                         f"{self.errors} errors")
+        for sender, direction in self.of.directions.items():
+            if direction.repeated:
+                words.append(f"{direction.repeated} bytes of {sender} came again")
+            if direction.early:
+                words.append(f"{direction.early} segments of {sender} came early")
+            if direction.missing:
+                words.append(f"{direction.missing} bytes of {sender} are missing")
+        words.append(self.why or end.replace("end ", "").lower())
+        return "; ".join(words)
+
+
+class Reader:
+    """Reads a capture, and prints what is in it."""
+
+    def __init__(self, ports: Sequence[int], lines: bool) -> None:
+        self._ports, self._lines = ports, lines
+        self._readings: Dict[int, Reading] = {}
+        self._others = 0
+        self.whole = True
+
+    def read(self, file: BinaryIO) -> None:
+        """Reads a capture to its end."""
+        skipped = Skipped()
+        connections = Connections()
+        try:
+            for piece in connections.read(segments(file, skipped)):
+                self._take(piece)
+        finally:
+            for reading in list(self._readings.values()):
+                self._end(reading)
+            self._print_rest(skipped)
+
+    def _take(self, piece: Piece) -> None:
+        """Prints the events that stand whole by the next bytes of an end."""
+        number = piece.connection.number
+        if number not in self._readings:
+            self._readings[number] = Reading(piece.connection, self._ports)
+        reading = self._readings[number]
+        for event in reading.take(piece):
+            line = reading.line() if self._lines else shown_event(event)
+            print(shown_time(piece.time), f"#{number}", line, flush=True)
+        if piece.connection.ended:
+            self._end(reading)
+
+    def _end(self, reading: Reading) -> None:
+        """Prints how a connection stands that has ended, or with which the capture ends."""
+        del self._readings[reading.of.number]
+        if not reading.is_ours:
+            self._others += 1
+            return
+        end = reading.end()
+        if self._lines:
+            print(shown_time(reading.last), f"#{reading.of.number}", end)
+        print(f"connection {reading.of.number}: {reading.summary(end)}", flush=True)
+        self.whole = self.whole and reading.is_whole
+
+    def _print_rest(self, skipped: Skipped) -> None:
+        """Prints what wasn't read."""
+        rest = {"other TCP connections": self._others, "frames without TCP": skipped.other,
+                "fragments of IP": skipped.fragments, "damaged frames": skipped.damaged}
+        told = [f"{count} {what}" for what, count in rest.items() if count]
+        if told:
+            print("not read: " + ", ".join(told))
+
+
+def options() -> argparse.Namespace:
+    """What the command line says."""
+    parser = argparse.ArgumentParser(description="Reads the MySQL connections of a capture file.")
+    parser.add_argument("capture", metavar="FILE", help="a pcap or pcapng file, or - for the input")
+    parser.add_argument("--port", type=int, action="append", default=[],
+                        help="a port of servers; without any, servers are known by their greeting")
+    parser.add_argument("--lines", action="store_true",
+                        help="events as the library writes them, with bytes in hexadecimal")
+    return parser.parse_args()
+
+
+def main() -> int:
+    given = options()
+    reader = Reader(given.port, given.lines)
+    try:
+        if given.capture == "-":
+            reader.read(sys.stdin.buffer)
+        else:
+            with open(given.capture, "rb") as file:
+                reader.read(file)
+    except KeyboardInterrupt:
+        pass  # the capture was stopped, and what is known of it was printed
+    except (OSError, CaptureError) as error:
+        print(f"read_capture: {error}", file=sys.stderr)
+        return 2
+    return 0 if reader.whole else 1
+
+
+if __name__ == "__main__":
+    sys.exit(main())

@@ -1,0 +1,144 @@
+//! Bytes on their way between two sockets, past the audit.
+
+use crate::audit::Audit;
+use mysql_session::Side;
+use std::io::{self, Read, Write};
+use std::net::{Shutdown, TcpStream};
+use std::sync::{Condvar, Mutex, MutexGuard};
+use std::thread;
+
+const PIECE: usize = 1 << 16;
+
+/// What both directions of a connection share.
+pub struct Passage {
+    audit: Mutex<Audit>,
+    /// One of the sides was read further, or has ended.
+    changed: Condvar,
+    pass_first: bool,
+}
+
+/// The bytes of a side that weren't passed on yet; with `--pass-first` those that the audit hasn't.
+struct Waiting {
+    bytes: Vec<u8>,
+    /// How many of them the audit has.
+    fed: usize,
+}
+
+impl Passage {
+    pub fn new(audit: Audit, pass_first: bool) -> Passage {
+        Passage {
+            audit: Mutex::new(audit),
+            changed: Condvar::new(),
+            pass_first,
+        }
+    }
+
+    /// Passes all on in both directions, until both have ended. Of the server some bytes may have
+    /// come already.
+    pub fn pass(self, client: &TcpStream, server: &TcpStream, came: Vec<u8>) {
+        thread::scope(|scope| {
+            scope.spawn(|| self.pass_side(Side::Server, came, server, client));
+            self.pass_side(Side::Client, Vec::new(), client, server);
+        });
+        self.audit().end();
+    }
+
+    fn audit(&self) -> MutexGuard<'_, Audit> {
+        self.audit
+            .lock()
+            .expect("no thread panics while it has the audit")
+    }
+
+    /// Passes the bytes of a side on to the other, which ends as this one does, also by an error.
+    fn pass_side(&self, side: Side, came: Vec<u8>, from: &TcpStream, to: &TcpStream) {
+        // A socket that fails has ended: what came of it is told.
+        let passed = self.pass_bytes(side, came, from, to);
+        let mut audit = self.audit();
+        audit.close(side);
+        let both = passed.is_err() || audit.is_cut();
+        drop(audit);
+        self.changed.notify_all();
+        let how = if both {
+            Shutdown::Both
+        } else {
+            Shutdown::Write
+        };
+        let _ = to.shutdown(how);
+        if both {
+            let _ = from.shutdown(Shutdown::Both);
+        }
+    }
+
+    fn pass_bytes(
+        &self,
+        side: Side,
+        came: Vec<u8>,
+        mut from: &TcpStream,
+        to: &TcpStream,
+    ) -> io::Result<()> {
+        let mut piece = vec![0; PIECE];
+        let mut waiting = Waiting {
+            bytes: Vec::new(),
+            fed: 0,
+        };
+        self.pass_piece(side, &came, &mut waiting, to)?;
+        while !self.audit().is_cut() {
+            let count = from.read(&mut piece)?;
+            if count == 0 {
+                break;
+            }
+            self.pass_piece(side, &piece[..count], &mut waiting, to)?;
+        }
+        Ok(())
+    }
+
+    /// Passes on what can go now that these bytes came.
+    fn pass_piece(
+        &self,
+        side: Side,
+        piece: &[u8],
+        waiting: &mut Waiting,
+        mut to: &TcpStream,
+    ) -> io::Result<()> {
+        if self.pass_first {
+            to.write_all(piece)?;
+        }
+        waiting.bytes.extend_from_slice(piece);
+        while let Some(count) = self.read_on(side, waiting) {
+            if !self.pass_first {
+                to.write_all(&waiting.bytes[..count])?;
+            }
+            waiting.bytes.drain(..count);
+            waiting.fed -= count;
+        }
+        Ok(())
+    }
+
+    /// Has the audit take what there is room for. The answer is how many bytes can go, or none
+    /// where more of this side has to come first.
+    fn read_on(&self, side: Side, waiting: &mut Waiting) -> Option<usize> {
+        let mut audit = self.audit();
+        loop {
+            waiting.fed += audit.feed(side, &waiting.bytes[waiting.fed..]);
+            self.changed.notify_all();
+            let unread = match self.pass_first {
+                true => 0,
+                false => audit.unread(side),
+            };
+            let can_go = waiting.fed - unread;
+            if audit.is_cut() {
+                return None;
+            }
+            if can_go > 0 {
+                return Some(can_go);
+            }
+            if waiting.bytes.is_empty() || audit.is_due(side) {
+                return None;
+            }
+            audit = self
+                .changed
+                .wait(audit)
+                .expect("no thread panics while it has the audit");
+        }
+    }
+}

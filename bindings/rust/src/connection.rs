@@ -1,0 +1,519 @@
+//! A whole connection, read as events.
+
+use crate::codes::{answer, certain, in_range, shown_code, Code, Error};
+use crate::events::Event;
+use crate::handle::check_interface;
+use crate::raw;
+use std::cell::UnsafeCell;
+use std::error;
+use std::fmt;
+use std::ptr::null_mut;
+
+/// A side of a connection.
+#[derive(Clone, Copy, Debug, PartialEq, Eq, Hash)]
+pub enum Side {
+    /// The client.
+    Client = 0,
+    /// The server.
+    Server = 1,
+}
+
+impl Side {
+    /// The other side.
+    pub fn other(self) -> Side {
+        match self {
+            Side::Client => Side::Server,
+            Side::Server => Side::Client,
+        }
+    }
+
+    fn of(number: u32) -> Side {
+        match number {
+            0 => Side::Client,
+            1 => Side::Server,
+            _ => panic!("the header has no side {number}"),
+        }
+    }
+}
+
+impl fmt::Display for Side {
+    fn fmt(&self, formatter: &mut fmt::Formatter<'_>) -> fmt::Result {
+        formatter.write_str(match self {
+            Side::Client => "client",
+            Side::Server => "server",
+        })
+    }
+}
+
+/// How much of a connection is held at most, in bytes.
+#[derive(Clone, Copy, Debug, PartialEq, Eq, Hash)]
+pub struct Limits {
+    /// The longest payload of the client.
+    pub client: usize,
+    /// The longest payload of the server.
+    pub server: usize,
+    /// All that is held: of each side as much waits unread as its longest payload takes with its
+    /// headers; what this leaves beside both is for what is kept of statements, columns and long
+    /// data.
+    pub held: usize,
+}
+
+impl Default for Limits {
+    /// Payloads of 2^24 bytes of either side, and 2^26 in all.
+    fn default() -> Limits {
+        Limits {
+            client: 1 << 24,
+            server: 1 << 24,
+            held: 1 << 26,
+        }
+    }
+}
+
+/// Capabilities, in bits, as [`capability`](crate::capability) has them.
+#[derive(Clone, Copy, Debug, Default, PartialEq, Eq, Hash)]
+pub struct Capabilities {
+    /// Those of the protocol.
+    pub protocol: u32,
+    /// MariaDB's own.
+    pub mariadb: u32,
+}
+
+/// What is due on a connection.
+#[derive(Clone, Copy, Debug, PartialEq, Eq, Hash)]
+pub enum Phase {
+    /// The server's first payload.
+    Greeting,
+    /// The client's answer to it.
+    Response,
+    /// A payload of the server's by which a user is logged in or changed.
+    Authentication,
+    /// The client's answer to such a one.
+    Answer,
+    /// A command.
+    Command,
+    /// A payload of a reply.
+    Reply,
+    /// Bytes of a file of the client's.
+    FileData,
+    /// Nothing: what follows isn't read here.
+    Over(Reason),
+}
+
+/// Why a connection is over: what follows isn't read here.
+#[derive(Clone, Copy, Debug, PartialEq, Eq, Hash)]
+pub enum Reason {
+    /// The server refused the connection in place of a greeting.
+    Rejected,
+    /// TLS follows.
+    Secure,
+    /// The login was denied.
+    Denied,
+    /// Compressed packets follow.
+    Compressed,
+    /// The client quit.
+    Quit,
+    /// A binary log or a table's bytes follow.
+    Dump,
+    /// A server's data follow.
+    Clone,
+    /// The server said an error that answers nothing.
+    Farewell,
+}
+
+impl Reason {
+    fn of(number: u32) -> Reason {
+        match number {
+            0 => Reason::Rejected,
+            1 => Reason::Secure,
+            2 => Reason::Denied,
+            3 => Reason::Compressed,
+            4 => Reason::Quit,
+            5 => Reason::Dump,
+            6 => Reason::Clone,
+            7 => Reason::Farewell,
+            _ => panic!("the header has no reason {number}"),
+        }
+    }
+}
+
+/// Why a connection can't be read further, and where.
+#[derive(Clone, Copy, Debug, PartialEq, Eq, Hash)]
+pub struct ConnectionFault {
+    code: Code,
+    side: Side,
+    byte: u64,
+}
+
+impl ConnectionFault {
+    /// What is wrong: one of [`Code`]'s CONNECTION_.. or REPLY_BAD_.., or [`Code::MEMORY`].
+    pub fn code(&self) -> Code {
+        self.code
+    }
+
+    /// Whose packet it is.
+    pub fn side(&self) -> Side {
+        self.side
+    }
+
+    /// The byte of that side's stream with which the packet begins, from 0.
+    pub fn byte(&self) -> u64 {
+        self.byte
+    }
+}
+
+impl fmt::Display for ConnectionFault {
+    fn fmt(&self, formatter: &mut fmt::Formatter<'_>) -> fmt::Result {
+        write!(
+            formatter,
+            "{}, byte {}: {}",
+            self.side, self.byte, self.code
+        )
+    }
+}
+
+impl error::Error for ConnectionFault {}
+
+impl From<ConnectionFault> for Error {
+    fn from(fault: ConnectionFault) -> Error {
+        fault.code.into()
+    }
+}
+
+/// How a connection stands once both of its streams have ended.
+#[derive(Clone, Copy, Debug, PartialEq, Eq, Hash)]
+pub enum ConnectionEnd {
+    /// It is over: what follows isn't read here.
+    Over(Reason),
+    /// A command was due, and all bytes were read.
+    Whole,
+    /// A payload of this side is due, and isn't whole.
+    Unfinished(Side),
+    /// It has a fault.
+    Fault(ConnectionFault),
+    /// [`Connection::next_event`] still has an answer.
+    Unread,
+}
+
+/// A prepared statement of a connection.
+#[derive(Clone, Copy, Debug, PartialEq, Eq, Hash)]
+pub struct Statement<'a> {
+    /// The text by which it was prepared.
+    pub text: &'a [u8],
+    /// How many parameters it has.
+    pub parameters: u16,
+}
+
+/// A connection's handle.
+///
+/// Each call of the library takes the connection out of it and puts it back, also one that only
+/// looks at it: so a shared handle is one that changes, and it isn't `Sync`.
+#[derive(Debug)]
+pub(crate) struct ConnectionHandle(UnsafeCell<raw::Connection>);
+
+// SAFETY: the header: "it may be handed to another thread between two calls". All that the
+// connection holds is its own, and comes of the C library's heap.
+unsafe impl Send for ConnectionHandle {}
+
+impl ConnectionHandle {
+    fn new(limits: Limits) -> Result<ConnectionHandle, Code> {
+        check_interface();
+        let handle = ConnectionHandle(UnsafeCell::new(raw::Connection { at: null_mut() }));
+        // SAFETY: "Handles": it begins as MYSQL_SESSION_NOTHING.
+        answer(unsafe {
+            raw::mysql_session_connection_new(
+                handle.get(),
+                limits.client,
+                limits.server,
+                limits.held,
+            )
+        })?;
+        Ok(handle)
+    }
+
+    /// The handle's address, for a call of the library alone: no other code writes to it, and there
+    /// is no copy of it.
+    pub(crate) fn get(&self) -> *mut raw::Connection {
+        self.0.get()
+    }
+}
+
+impl Drop for ConnectionHandle {
+    fn drop(&mut self) {
+        // SAFETY: "Handles": by `get`. No view of the connection is left: they borrow from its
+        // owner.
+        unsafe { raw::mysql_session_connection_free(self.get()) };
+    }
+}
+
+/// Reads a whole connection: it is fed the bytes of both sides, in any pieces and order, and tells
+/// what was said, each payload as one event.
+///
+/// Each payload is due of one side, so that what comes of the other waits until its turn: the
+/// events don't depend on how the bytes arrive.
+///
+/// ```
+/// use mysql_session::{Connection, ConnectionEnd, Event, Limits, Side};
+///
+/// # fn main() -> Result<(), Box<dyn std::error::Error>> {
+/// let mut connection = Connection::new(Limits::default())?;
+/// connection.feed(Side::Server, b"\x17\0\0\0\xff\x10\x04Too many connections")?;
+/// while let Some(event) = connection.next_event()? {
+///     let Event::Rejected(error) = event else {
+///         panic!("the server says something else");
+///     };
+///     assert_eq!((error.code, error.message), (1040, &b"Too many connections"[..]));
+/// }
+/// assert!(matches!(connection.finish(), ConnectionEnd::Over(_)));
+/// # Ok(())
+/// # }
+/// ```
+///
+/// An event can't outlive a call that may change it:
+///
+/// ```compile_fail,E0499
+/// # use mysql_session::{Connection, Limits};
+/// # let mut connection = Connection::new(Limits::default()).unwrap();
+/// let event = connection.next_event();
+/// connection.next_event();
+/// drop(event);
+/// ```
+#[derive(Debug)]
+pub struct Connection {
+    handle: ConnectionHandle,
+    /// The event that was told last, or one of kind 0.
+    shown: Shown,
+}
+
+/// An event as the library shows it. Its pointers are good as long as the connection doesn't change.
+struct Shown(raw::Event);
+
+// SAFETY: the pointers are to what the connection holds, with which they are kept.
+unsafe impl Send for Shown {}
+
+impl fmt::Debug for Shown {
+    fn fmt(&self, formatter: &mut fmt::Formatter<'_>) -> fmt::Result {
+        self.0.kind.fmt(formatter)
+    }
+}
+
+impl Connection {
+    /// A connection of which no byte came.
+    ///
+    /// # Errors
+    /// [`Code::MEMORY`].
+    pub fn new(limits: Limits) -> Result<Connection, Error> {
+        Ok(Connection {
+            handle: ConnectionHandle::new(limits)?,
+            shown: Shown(raw::Event::default()),
+        })
+    }
+
+    /// Takes a piece of a side's stream, whole; nothing of it is read yet.
+    ///
+    /// # Errors
+    /// [`Code::CONNECTION_CLOSED`]; [`Code::CONNECTION_HELD`] where more of the side would wait
+    /// unread than its longest payload takes: take events first, or feed the side whose turn it is;
+    /// [`Code::MEMORY`]. Nothing of the piece is taken then.
+    pub fn feed(&mut self, side: Side, piece: &[u8]) -> Result<(), Error> {
+        self.forget();
+        // SAFETY: "Handles": by `ConnectionHandle::get`; "Bytes go in": the piece is a slice.
+        answer(unsafe {
+            raw::mysql_session_connection_feed(
+                self.handle.get(),
+                side as u32,
+                piece.as_ptr(),
+                piece.len(),
+            )
+        })?;
+        Ok(())
+    }
+
+    /// The next event; none where the payload that is due isn't there whole, or the connection is
+    /// over.
+    ///
+    /// # Errors
+    /// The fault of the packet that stands first; each further call answers it too. The events
+    /// before it stand.
+    pub fn next_event(&mut self) -> Result<Option<Event<'_>>, ConnectionFault> {
+        self.forget();
+        // SAFETY: "Handles": by `ConnectionHandle::get`; "Results go out": a field of this object.
+        let code =
+            unsafe { raw::mysql_session_connection_next(self.handle.get(), &mut self.shown.0) };
+        if let Err(code) = answer(code) {
+            self.forget();
+            return Err(self.fault_of(code));
+        }
+        Ok(self.event())
+    }
+
+    /// The event that was told last, again, until the connection changes.
+    pub fn event(&self) -> Option<Event<'_>> {
+        // SAFETY: the library wrote the fields; the texts are "good until the next call on it" that
+        // takes its `&mut self`, which forgets the event.
+        (self.shown.0.kind != 0).then(|| unsafe { Event::of(&self.handle, &self.shown.0) })
+    }
+
+    /// The event that was told last as a line of text, without its end: whose it is, its name, its
+    /// fields. Behind [`Connection::finish`] it is how the connection stands, as `end Whole`.
+    ///
+    /// # Errors
+    /// [`Code::OUT_OF_RANGE`] where no event was told; [`Code::MEMORY`].
+    pub fn line(&self) -> Result<&str, Error> {
+        let mut text = raw::Text::default();
+        // SAFETY: "Handles": by `ConnectionHandle::get`; "Results go out": fields of one local.
+        answer(unsafe {
+            raw::mysql_session_connection_line(self.handle.get(), &mut text.at, &mut text.len)
+        })?;
+        // SAFETY: the bytes are "good until the next call on it" that takes its `&mut self`.
+        let bytes = unsafe { text.bytes() };
+        Ok(std::str::from_utf8(bytes).expect("a line is in ASCII"))
+    }
+
+    /// How many bytes of a side [`Connection::feed`] takes now.
+    pub fn room(&self, side: Side) -> usize {
+        let standing = self.standing();
+        match side {
+            Side::Client => standing.client_room,
+            Side::Server => standing.server_room,
+        }
+    }
+
+    /// How many bytes are held: the unread ones of both sides, and what is kept of statements,
+    /// columns and long data.
+    pub fn held(&self) -> usize {
+        self.standing().held
+    }
+
+    /// Whose payload is due: nobody's where the connection is over, or has failed.
+    pub fn turn(&self) -> Option<Side> {
+        let turn = self.standing().turn;
+        (turn < 2).then(|| Side::of(turn))
+    }
+
+    /// What is due.
+    pub fn phase(&self) -> Phase {
+        let standing = self.standing();
+        match standing.phase {
+            0 => Phase::Greeting,
+            1 => Phase::Response,
+            2 => Phase::Authentication,
+            3 => Phase::Answer,
+            4 => Phase::Command,
+            5 => Phase::Reply,
+            6 => Phase::FileData,
+            7 => Phase::Over(Reason::of(standing.reason)),
+            phase => panic!("the header has no phase {phase}"),
+        }
+    }
+
+    /// The capabilities in force: those that both sides have.
+    pub fn capabilities(&self) -> Capabilities {
+        let standing = self.standing();
+        Capabilities {
+            protocol: standing.capabilities,
+            mariadb: standing.mariadb_capabilities,
+        }
+    }
+
+    /// The fault that was found.
+    pub fn fault(&self) -> Option<ConnectionFault> {
+        let standing = self.standing();
+        (standing.fault != 0).then(|| ConnectionFault {
+            code: shown_code(standing.fault),
+            side: Side::of(standing.fault_side),
+            byte: standing.fault_byte,
+        })
+    }
+
+    /// The prepared statement that this id of a command stands for: 0xffffffff for that which was
+    /// prepared last.
+    pub fn statement(&self, id: u32) -> Option<Statement<'_>> {
+        let (mut text, mut parameters) = (raw::Text::default(), 0);
+        // SAFETY: "Handles": by `ConnectionHandle::get`; "Results go out": different locals and
+        // fields of one.
+        let code = unsafe {
+            raw::mysql_session_connection_statement(
+                self.handle.get(),
+                id,
+                &mut text.at,
+                &mut text.len,
+                &mut parameters,
+            )
+        };
+        in_range(code).then(|| Statement {
+            // SAFETY: the bytes are "good until the next call on it" that takes its `&mut self`.
+            text: unsafe { text.bytes() },
+            parameters,
+        })
+    }
+
+    /// What of a side's stream is unread. Where the connection is over, it follows in a form of its
+    /// own: TLS, compressed packets, a dump.
+    pub fn rest(&self, side: Side) -> &[u8] {
+        let mut data = raw::Text::default();
+        // SAFETY: "Handles": by `ConnectionHandle::get`; "Results go out": fields of one local.
+        certain(unsafe {
+            raw::mysql_session_connection_rest(
+                self.handle.get(),
+                side as u32,
+                &mut data.at,
+                &mut data.len,
+            )
+        });
+        // SAFETY: the bytes are "good until the next call on it" that takes its `&mut self`.
+        unsafe { data.bytes() }
+    }
+
+    /// Ends a side's stream: no more comes of it. Behind the client's end the server may say last
+    /// words.
+    pub fn close(&mut self, side: Side) {
+        self.forget();
+        // SAFETY: "Handles": by `ConnectionHandle::get`.
+        certain(unsafe { raw::mysql_session_connection_close(self.handle.get(), side as u32) });
+    }
+
+    /// Ends both streams, and says how the connection stands. Take all events before.
+    pub fn finish(&mut self) -> ConnectionEnd {
+        self.forget();
+        let mut end = raw::ConnectionEnd::default();
+        // SAFETY: "Handles": by `ConnectionHandle::get`; "Results go out": a local.
+        certain(unsafe { raw::mysql_session_connection_finish(self.handle.get(), &mut end) });
+        match end.kind {
+            0 => ConnectionEnd::Over(Reason::of(end.reason)),
+            1 => ConnectionEnd::Whole,
+            2 => ConnectionEnd::Unfinished(Side::of(end.side)),
+            3 => ConnectionEnd::Fault(ConnectionFault {
+                code: shown_code(end.fault),
+                side: Side::of(end.side),
+                byte: end.byte,
+            }),
+            4 => ConnectionEnd::Unread,
+            kind => panic!("the header has no kind {kind} of a connection's end"),
+        }
+    }
+
+    /// The event that was told last is shown no more.
+    fn forget(&mut self) {
+        self.shown.0 = raw::Event::default();
+    }
+
+    /// How the connection stands.
+    fn standing(&self) -> raw::Standing {
+        let mut standing = raw::Standing::default();
+        // SAFETY: "Handles": by `ConnectionHandle::get`; "Results go out": a local.
+        certain(unsafe {
+            raw::mysql_session_connection_standing(self.handle.get(), &mut standing)
+        });
+        standing
+    }
+
+    /// The fault of this code, with its side and its place.
+    fn fault_of(&self, code: Code) -> ConnectionFault {
+        let standing = self.standing();
+        ConnectionFault {
+            code,
+            side: Side::of(standing.fault_side),
+            byte: standing.fault_byte,
+        }
+    }
+}

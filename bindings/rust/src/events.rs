@@ -1,0 +1,864 @@
+//! What the payloads of a connection say.
+//!
+//! All that is shown borrows from the connection. Its bytes stay as they are until a call that
+//! takes the connection's `&mut self`, which ends the borrow.
+
+use crate::codes::{certain, in_range};
+use crate::connection::{Capabilities, ConnectionHandle, Side};
+use crate::raw;
+use crate::results::{Column, ErrorPacket, OkPacket};
+use crate::values::Value;
+use std::fmt;
+
+/// What one payload of a connection says.
+#[derive(Clone, Copy, Debug)]
+#[non_exhaustive]
+pub enum Event<'a> {
+    /// The server refuses the connection in place of a greeting.
+    Rejected(ErrorPacket<'a>),
+    /// The server greets.
+    Greeting(ServerGreeting<'a>),
+    /// The client asks for TLS.
+    SecureRequest(ClientRequest),
+    /// The client logs in.
+    Login(ClientLogin<'a>),
+    /// A login whose user is cut off.
+    CutOffLogin(ClientRequest),
+    /// The user is logged in or changed.
+    Accepted(OkPacket<'a>),
+    /// The user isn't.
+    Denied(ErrorPacket<'a>),
+    /// The server asks for another plugin.
+    AuthSwitch {
+        /// Its name.
+        plugin: &'a [u8],
+        /// Its data.
+        data: &'a [u8],
+    },
+    /// The server asks for passwords of old.
+    OldAuthSwitch,
+    /// The plugin's data.
+    AuthMore(&'a [u8]),
+    /// The server asks for one more plugin.
+    NextFactor {
+        /// Its name.
+        plugin: &'a [u8],
+        /// Its data.
+        data: &'a [u8],
+    },
+    /// Data of a plugin that writes them without a header.
+    PluginData(&'a [u8]),
+    /// What the client answers to an authentication.
+    Answer(&'a [u8]),
+
+    /// The client ends the connection.
+    Quit,
+    /// Another schema by default.
+    InitDb(&'a [u8]),
+    /// A query.
+    Query {
+        /// Its text.
+        text: &'a [u8],
+        /// Its attributes.
+        attributes: Attributes<'a>,
+    },
+    /// Whether the server is there.
+    Ping,
+    /// Another user logs in.
+    ChangeUser(ClientChange<'a>),
+    /// A statement is prepared.
+    Prepare {
+        /// Its text.
+        text: &'a [u8],
+    },
+    /// A prepared statement is executed.
+    Execute {
+        /// The statement's id.
+        statement: u32,
+        /// The text by which it was prepared.
+        text: &'a [u8],
+        /// What its parameters hold.
+        values: Values<'a>,
+        /// The execution's attributes.
+        attributes: Attributes<'a>,
+        /// The cursor that is asked for, in bits.
+        cursor: u32,
+    },
+    /// A prepared statement is executed with many rows.
+    BulkExecute {
+        /// The statement's id.
+        statement: u32,
+        /// The text by which it was prepared.
+        text: &'a [u8],
+        /// What its parameters hold in each row.
+        rows: BulkRows<'a>,
+    },
+    /// A piece of a parameter.
+    LongData {
+        /// The statement's id.
+        statement: u32,
+        /// The parameter's place, from 0.
+        place: u16,
+        /// The piece.
+        data: &'a [u8],
+    },
+    /// A statement goes.
+    Close {
+        /// Its id.
+        statement: u32,
+    },
+    /// A statement's long data and cursor go.
+    ResetStatement {
+        /// Its id.
+        statement: u32,
+    },
+    /// Rows of an open cursor.
+    Fetch {
+        /// The statement's id.
+        statement: u32,
+        /// How many rows.
+        rows: u32,
+    },
+    /// The session begins anew.
+    ResetConnection,
+    /// Any other command.
+    Command(OtherCommand<'a>),
+    /// A payload that is laid out as no command, as it stands.
+    Other(&'a [u8]),
+
+    /// An OK packet, which is a result.
+    Ok(OkPacket<'a>),
+    /// An error, which ends a reply.
+    Error(ErrorPacket<'a>),
+    /// How far a command has come.
+    Progress {
+        /// The stage, of so many.
+        stage: u8,
+        /// How many stages there are.
+        stages: u8,
+        /// How far the stage has come, in thousandths of a percent.
+        progress: u32,
+        /// What it does.
+        text: &'a [u8],
+    },
+    /// A result set of so many columns.
+    ColumnCount {
+        /// How many columns.
+        count: u16,
+        /// Whether they follow.
+        columns_follow: bool,
+    },
+    /// A column of a result set, or a parameter or a column of a prepared statement.
+    Column(Column<'a>),
+    /// A column of a table, and its default, where it has one.
+    Field {
+        /// The column.
+        column: Column<'a>,
+        /// The default.
+        default: Option<&'a [u8]>,
+    },
+    /// The packet behind columns.
+    ColumnsEnd(OkPacket<'a>),
+    /// A row.
+    Row(EventRow<'a>),
+    /// A row whose columns aren't known, as it came.
+    RawRow(&'a [u8]),
+    /// What ends rows.
+    RowsEnd(OkPacket<'a>),
+    /// The server asks for a file of the client's, by its name.
+    FileRequest(&'a [u8]),
+    /// A prepared statement.
+    Prepared {
+        /// Its id.
+        statement: u32,
+        /// How many parameters it has.
+        parameters: u16,
+        /// How many columns it has.
+        columns: u16,
+        /// How many warnings there are.
+        warnings: u16,
+        /// Whether parameters and columns follow.
+        columns_follow: bool,
+    },
+    /// A text, as that of COM_STATISTICS, or the first payload of what goes on in its own form.
+    Line(&'a [u8]),
+    /// Bytes of the client's file. No bytes end it.
+    FileData(&'a [u8]),
+    /// The server's last words.
+    Farewell(ErrorPacket<'a>),
+}
+
+/// What a server greets with.
+#[derive(Clone, Copy, Debug, PartialEq, Eq)]
+pub struct ServerGreeting<'a> {
+    /// The server's version.
+    pub version: &'a [u8],
+    /// The connection's id.
+    pub connection: u32,
+    /// What the server offers.
+    pub capabilities: Capabilities,
+    /// The server's status, in bits.
+    pub status: u16,
+    /// The number of its collation.
+    pub collation: u16,
+    /// The plugin that it asks for.
+    pub plugin: &'a [u8],
+}
+
+/// The front of a client's answer to a greeting.
+#[derive(Clone, Copy, Debug, PartialEq, Eq)]
+pub struct ClientRequest {
+    /// What the client has.
+    pub capabilities: Capabilities,
+    /// The number of its collation.
+    pub collation: u16,
+    /// The longest packet that it takes.
+    pub max_packet_size: u32,
+}
+
+/// What a client logs in with.
+#[derive(Clone, Copy, Debug)]
+pub struct ClientLogin<'a> {
+    /// The front of it.
+    pub request: ClientRequest,
+    /// The user's name.
+    pub user: &'a [u8],
+    /// The database, or no bytes.
+    pub database: &'a [u8],
+    /// The plugin, or no bytes.
+    pub plugin: &'a [u8],
+    /// What the client answers to the greeting's nonce.
+    pub response: &'a [u8],
+    /// Its attributes.
+    pub attributes: Attributes<'a>,
+}
+
+/// A change of user.
+#[derive(Clone, Copy, Debug)]
+pub struct ClientChange<'a> {
+    /// The user's name.
+    pub user: &'a [u8],
+    /// The database.
+    pub database: &'a [u8],
+    /// The plugin, or no bytes.
+    pub plugin: &'a [u8],
+    /// What the client answers.
+    pub response: &'a [u8],
+    /// The number of the collation, or 0.
+    pub collation: u16,
+    /// Its attributes.
+    pub attributes: Attributes<'a>,
+}
+
+/// A command without a variant of its own. What it doesn't have is 0 or empty.
+#[derive(Clone, Copy, Debug, PartialEq, Eq)]
+pub struct OtherCommand<'a> {
+    /// Its number in the protocol.
+    pub number: u8,
+    /// A schema, a table, a file, or a replica's host.
+    pub text: &'a [u8],
+    /// A table's database.
+    pub database: &'a [u8],
+    /// A replica's user.
+    pub user: &'a [u8],
+    /// A pattern of columns, or the arguments of a clone.
+    pub data: &'a [u8],
+    /// Flags, a level, a connection's or a server's id, or an option.
+    pub value: u32,
+    /// The flags of a dump.
+    pub flags: u32,
+    /// The position of a dump.
+    pub position: u64,
+}
+
+impl<'a> Event<'a> {
+    /// What the library showed.
+    ///
+    /// # Safety
+    /// The library wrote the fields, and the texts stay as they are for `'a`.
+    pub(crate) unsafe fn of(handle: &'a ConnectionHandle, shown: &raw::Event) -> Event<'a> {
+        let part = Part { handle, shown };
+        // SAFETY: by this call's condition.
+        unsafe {
+            match shown.kind {
+                ..0x100 => part.said_or_replied(),
+                kind => part.command(kind),
+            }
+        }
+    }
+
+    /// Whose payload it is.
+    pub fn side(&self) -> Side {
+        match self {
+            Event::Rejected(_)
+            | Event::Greeting(_)
+            | Event::Accepted(_)
+            | Event::Denied(_)
+            | Event::AuthSwitch { .. }
+            | Event::OldAuthSwitch
+            | Event::AuthMore(_)
+            | Event::NextFactor { .. }
+            | Event::PluginData(_)
+            | Event::Ok(_)
+            | Event::Error(_)
+            | Event::Progress { .. }
+            | Event::ColumnCount { .. }
+            | Event::Column(_)
+            | Event::Field { .. }
+            | Event::ColumnsEnd(_)
+            | Event::Row(_)
+            | Event::RawRow(_)
+            | Event::RowsEnd(_)
+            | Event::FileRequest(_)
+            | Event::Prepared { .. }
+            | Event::Line(_)
+            | Event::Farewell(_) => Side::Server,
+            _ => Side::Client,
+        }
+    }
+}
+
+impl Event<'_> {
+    /// The event's name: that of its variant.
+    pub fn name(&self) -> &'static str {
+        match self {
+            Event::Rejected(_) => "Rejected",
+            Event::Greeting(_) => "Greeting",
+            Event::SecureRequest(_) => "SecureRequest",
+            Event::Login(_) => "Login",
+            Event::CutOffLogin(_) => "CutOffLogin",
+            Event::Accepted(_) => "Accepted",
+            Event::Denied(_) => "Denied",
+            Event::AuthSwitch { .. } => "AuthSwitch",
+            Event::OldAuthSwitch => "OldAuthSwitch",
+            Event::AuthMore(_) => "AuthMore",
+            Event::NextFactor { .. } => "NextFactor",
+            Event::PluginData(_) => "PluginData",
+            Event::Answer(_) => "Answer",
+            Event::Quit => "Quit",
+            Event::InitDb(_) => "InitDb",
+            Event::Query { .. } => "Query",
+            Event::Ping => "Ping",
+            Event::ChangeUser(_) => "ChangeUser",
+            Event::Prepare { .. } => "Prepare",
+            Event::Execute { .. } => "Execute",
+            Event::BulkExecute { .. } => "BulkExecute",
+            Event::LongData { .. } => "LongData",
+            Event::Close { .. } => "Close",
+            Event::ResetStatement { .. } => "ResetStatement",
+            Event::Fetch { .. } => "Fetch",
+            Event::ResetConnection => "ResetConnection",
+            Event::Command(_) => "Command",
+            Event::Other(_) => "Other",
+            Event::Ok(_) => "Ok",
+            Event::Error(_) => "Error",
+            Event::Progress { .. } => "Progress",
+            Event::ColumnCount { .. } => "ColumnCount",
+            Event::Column(_) => "Column",
+            Event::Field { .. } => "Field",
+            Event::ColumnsEnd(_) => "ColumnsEnd",
+            Event::Row(_) => "Row",
+            Event::RawRow(_) => "RawRow",
+            Event::RowsEnd(_) => "RowsEnd",
+            Event::FileRequest(_) => "FileRequest",
+            Event::Prepared { .. } => "Prepared",
+            Event::Line(_) => "Line",
+            Event::FileData(_) => "FileData",
+            Event::Farewell(_) => "Farewell",
+        }
+    }
+}
+
+/// An event as the library showed it.
+struct Part<'a, 'b> {
+    handle: &'a ConnectionHandle,
+    shown: &'b raw::Event,
+}
+
+impl<'a> Part<'a, '_> {
+    /// An event of logging in, of a reply, or of a file.
+    ///
+    /// # Safety
+    /// As that of [`Event::of`].
+    unsafe fn said_or_replied(&self) -> Event<'a> {
+        let shown = self.shown;
+        // SAFETY: by this call's condition.
+        let (text, plugin, data) =
+            unsafe { (shown.text.bytes(), shown.plugin.bytes(), shown.data.bytes()) };
+        match shown.kind {
+            1 => Event::Rejected(self.error(text)),
+            2 => Event::Greeting(self.greeting(text, plugin)),
+            3 => Event::SecureRequest(self.request()),
+            // SAFETY: by this call's condition.
+            4 => Event::Login(unsafe { self.login() }),
+            5 => Event::CutOffLogin(self.request()),
+            6 => Event::Accepted(self.packet(text)),
+            7 => Event::Denied(self.error(text)),
+            8 => Event::AuthSwitch { plugin, data },
+            9 => Event::OldAuthSwitch,
+            10 => Event::AuthMore(data),
+            11 => Event::NextFactor { plugin, data },
+            12 => Event::PluginData(data),
+            13 => Event::Answer(data),
+            33 => Event::FileData(data),
+            34 => Event::Farewell(self.error(text)),
+            kind => self.replied(kind, text, data),
+        }
+    }
+
+    /// What the server replies.
+    fn replied(&self, kind: u32, text: &'a [u8], data: &'a [u8]) -> Event<'a> {
+        let shown = self.shown;
+        match kind {
+            20 => Event::Ok(self.packet(text)),
+            21 => Event::Error(self.error(text)),
+            22 => Event::Progress {
+                stage: shown.rows as u8,
+                stages: shown.columns as u8,
+                progress: shown.number,
+                text,
+            },
+            23 => Event::ColumnCount {
+                count: shown.columns as u16,
+                columns_follow: shown.follows,
+            },
+            24 => Event::Column(self.column()),
+            25 => Event::Field {
+                column: self.column(),
+                default: (shown.flags == 1).then_some(data),
+            },
+            26 => Event::ColumnsEnd(self.packet(text)),
+            27 => Event::Row(EventRow {
+                handle: self.handle,
+                len: shown.columns,
+            }),
+            28 => Event::RawRow(data),
+            29 => Event::RowsEnd(self.packet(text)),
+            30 => Event::FileRequest(text),
+            31 => Event::Prepared {
+                statement: shown.statement,
+                parameters: shown.params as u16,
+                columns: shown.columns as u16,
+                warnings: shown.warnings,
+                columns_follow: shown.follows,
+            },
+            32 => Event::Line(text),
+            kind => panic!("the header has no kind {kind} of an event"),
+        }
+    }
+
+    /// What the client asks for.
+    ///
+    /// # Safety
+    /// As that of [`Event::of`].
+    unsafe fn command(&self, kind: u32) -> Event<'a> {
+        let shown = self.shown;
+        let statement = shown.statement;
+        // SAFETY: by this call's condition.
+        let (text, data) = unsafe { (shown.text.bytes(), shown.data.bytes()) };
+        match kind {
+            0x101 => Event::Quit,
+            0x102 => Event::InitDb(text),
+            0x103 => Event::Query {
+                text,
+                attributes: self.attributes(),
+            },
+            0x10e => Event::Ping,
+            // SAFETY: by this call's condition.
+            0x111 => Event::ChangeUser(unsafe { self.change() }),
+            0x116 => Event::Prepare { text },
+            0x117 => Event::Execute {
+                statement,
+                text,
+                values: Values {
+                    handle: self.handle,
+                    len: shown.params,
+                },
+                attributes: self.attributes(),
+                cursor: shown.flags,
+            },
+            0x118 => Event::LongData {
+                statement,
+                place: shown.number as u16,
+                data,
+            },
+            0x119 => Event::Close { statement },
+            0x11a => Event::ResetStatement { statement },
+            0x11c => Event::Fetch {
+                statement,
+                rows: shown.rows as u32,
+            },
+            0x11f => Event::ResetConnection,
+            0x1fa => Event::BulkExecute {
+                statement,
+                text,
+                rows: BulkRows {
+                    handle: self.handle,
+                    len: shown.rows,
+                    width: shown.params,
+                },
+            },
+            0x200 => Event::Other(data),
+            // SAFETY: by this call's condition.
+            _ => Event::Command(unsafe { self.other(kind) }),
+        }
+    }
+
+    /// A command without a variant of its own.
+    ///
+    /// # Safety
+    /// As that of [`Event::of`].
+    unsafe fn other(&self, kind: u32) -> OtherCommand<'a> {
+        let shown = self.shown;
+        // SAFETY: by this call's condition.
+        unsafe {
+            OtherCommand {
+                number: kind as u8,
+                text: shown.text.bytes(),
+                database: shown.database.bytes(),
+                user: shown.user.bytes(),
+                data: shown.data.bytes(),
+                value: shown.number,
+                flags: shown.flags,
+                position: shown.position,
+            }
+        }
+    }
+
+    fn packet(&self, info: &'a [u8]) -> OkPacket<'a> {
+        let shown = self.shown;
+        OkPacket {
+            affected_rows: shown.affected_rows,
+            last_insert_id: shown.last_insert_id,
+            status: shown.status,
+            warnings: shown.warnings,
+            info,
+        }
+    }
+
+    fn error(&self, message: &'a [u8]) -> ErrorPacket<'a> {
+        let shown = self.shown;
+        ErrorPacket {
+            code: shown.error_code,
+            state: (shown.state_len == 5).then_some(shown.state),
+            message,
+        }
+    }
+
+    fn capabilities(&self) -> Capabilities {
+        Capabilities {
+            protocol: self.shown.capabilities,
+            mariadb: self.shown.mariadb_capabilities,
+        }
+    }
+
+    fn greeting(&self, version: &'a [u8], plugin: &'a [u8]) -> ServerGreeting<'a> {
+        ServerGreeting {
+            version,
+            connection: self.shown.number,
+            capabilities: self.capabilities(),
+            status: self.shown.status,
+            collation: self.shown.charset,
+            plugin,
+        }
+    }
+
+    fn request(&self) -> ClientRequest {
+        ClientRequest {
+            capabilities: self.capabilities(),
+            collation: self.shown.charset,
+            max_packet_size: self.shown.number,
+        }
+    }
+
+    /// What a client logs in with.
+    ///
+    /// # Safety
+    /// As that of [`Event::of`].
+    unsafe fn login(&self) -> ClientLogin<'a> {
+        let shown = self.shown;
+        // SAFETY: by this call's condition.
+        unsafe {
+            ClientLogin {
+                request: self.request(),
+                user: shown.user.bytes(),
+                database: shown.database.bytes(),
+                plugin: shown.plugin.bytes(),
+                response: shown.data.bytes(),
+                attributes: self.attributes(),
+            }
+        }
+    }
+
+    /// A change of user.
+    ///
+    /// # Safety
+    /// As that of [`Event::of`].
+    unsafe fn change(&self) -> ClientChange<'a> {
+        let shown = self.shown;
+        // SAFETY: by this call's condition.
+        unsafe {
+            ClientChange {
+                user: shown.user.bytes(),
+                database: shown.database.bytes(),
+                plugin: shown.plugin.bytes(),
+                response: shown.data.bytes(),
+                collation: shown.charset,
+                attributes: self.attributes(),
+            }
+        }
+    }
+
+    fn attributes(&self) -> Attributes<'a> {
+        Attributes {
+            handle: self.handle,
+            len: self.shown.attributes,
+        }
+    }
+
+    fn column(&self) -> Column<'a> {
+        column_of(self.handle, 0).expect("a column has one")
+    }
+}
+
+/// A value of the current event, by its row and its place.
+fn value_of(handle: &ConnectionHandle, row: usize, place: usize) -> Option<raw::Value> {
+    let mut shown = raw::Value::default();
+    // SAFETY: "Handles": by `ConnectionHandle::get`; "Results go out": a local.
+    let code = unsafe { raw::mysql_session_connection_value(handle.get(), row, place, &mut shown) };
+    in_range(code).then_some(shown)
+}
+
+/// A column of the current event, by its number.
+fn column_of(handle: &ConnectionHandle, number: usize) -> Option<Column<'_>> {
+    let mut shown = raw::Column::default();
+    // SAFETY: "Handles": by `ConnectionHandle::get`; "Results go out": a local.
+    let code = unsafe { raw::mysql_session_connection_column(handle.get(), number, &mut shown) };
+    // SAFETY: the texts are "good until the next call on it" that takes its `&mut`.
+    in_range(code).then(|| unsafe { Column::of(&shown) })
+}
+
+/// What the parameters of an execution hold.
+#[derive(Clone, Copy)]
+pub struct Values<'a> {
+    handle: &'a ConnectionHandle,
+    len: usize,
+}
+
+impl<'a> Values<'a> {
+    /// How many there are.
+    pub fn len(&self) -> usize {
+        self.len
+    }
+
+    /// Whether there are none.
+    pub fn is_empty(&self) -> bool {
+        self.len == 0
+    }
+
+    /// The value at a place, from 0.
+    pub fn get(&self, place: usize) -> Option<Value<'a>> {
+        // SAFETY: the bytes are "good until the next call on it" that takes its `&mut`.
+        value_of(self.handle, 0, place).map(|shown| unsafe { Value::of(shown) })
+    }
+
+    /// The values.
+    pub fn iter(&self) -> impl DoubleEndedIterator<Item = Value<'a>> + ExactSizeIterator + 'a {
+        let values = *self;
+        (0..self.len).map(move |place| values.get(place).expect("each place has a value"))
+    }
+}
+
+impl fmt::Debug for Values<'_> {
+    fn fmt(&self, formatter: &mut fmt::Formatter<'_>) -> fmt::Result {
+        formatter.debug_list().entries(self.iter()).finish()
+    }
+}
+
+/// A row of a reply.
+#[derive(Clone, Copy)]
+pub struct EventRow<'a> {
+    handle: &'a ConnectionHandle,
+    len: usize,
+}
+
+impl<'a> EventRow<'a> {
+    /// How many cells there are.
+    pub fn len(&self) -> usize {
+        self.len
+    }
+
+    /// Whether there are none.
+    pub fn is_empty(&self) -> bool {
+        self.len == 0
+    }
+
+    /// What the cell of a number holds, from 0: bytes by text, values in binary.
+    pub fn cell(&self, number: usize) -> Option<Value<'a>> {
+        // SAFETY: the bytes are "good until the next call on it" that takes its `&mut`.
+        value_of(self.handle, 0, number).map(|shown| unsafe { Value::of(shown) })
+    }
+
+    /// The column of a cell.
+    pub fn column(&self, number: usize) -> Option<Column<'a>> {
+        column_of(self.handle, number)
+    }
+
+    /// The cells.
+    pub fn iter(&self) -> impl DoubleEndedIterator<Item = Value<'a>> + ExactSizeIterator + 'a {
+        let row = *self;
+        (0..self.len).map(move |number| row.cell(number).expect("each cell has a value"))
+    }
+}
+
+impl fmt::Debug for EventRow<'_> {
+    fn fmt(&self, formatter: &mut fmt::Formatter<'_>) -> fmt::Result {
+        formatter.debug_list().entries(self.iter()).finish()
+    }
+}
+
+/// What a parameter holds in a row of a bulk execution.
+#[derive(Clone, Copy, Debug, PartialEq)]
+pub enum BulkValue<'a> {
+    /// A value, or NULL.
+    Value(Value<'a>),
+    /// The default of the column.
+    Default,
+    /// Nothing: the column stays as it is.
+    Ignore,
+}
+
+/// The rows of a bulk execution.
+#[derive(Clone, Copy)]
+pub struct BulkRows<'a> {
+    handle: &'a ConnectionHandle,
+    len: usize,
+    width: usize,
+}
+
+impl<'a> BulkRows<'a> {
+    /// How many there are.
+    pub fn len(&self) -> usize {
+        self.len
+    }
+
+    /// Whether there are none.
+    pub fn is_empty(&self) -> bool {
+        self.len == 0
+    }
+
+    /// The row of a number, from 0.
+    pub fn row(&self, number: usize) -> Option<BulkRow<'a>> {
+        (number < self.len).then_some(BulkRow {
+            handle: self.handle,
+            row: number,
+            width: self.width,
+        })
+    }
+
+    /// The rows.
+    pub fn iter(&self) -> impl DoubleEndedIterator<Item = BulkRow<'a>> + ExactSizeIterator + 'a {
+        let BulkRows { handle, width, .. } = *self;
+        (0..self.len).map(move |row| BulkRow { handle, row, width })
+    }
+}
+
+impl fmt::Debug for BulkRows<'_> {
+    fn fmt(&self, formatter: &mut fmt::Formatter<'_>) -> fmt::Result {
+        formatter.debug_list().entries(self.iter()).finish()
+    }
+}
+
+/// A row of a bulk execution.
+#[derive(Clone, Copy)]
+pub struct BulkRow<'a> {
+    handle: &'a ConnectionHandle,
+    row: usize,
+    width: usize,
+}
+
+impl<'a> BulkRow<'a> {
+    /// How many values there are.
+    pub fn len(&self) -> usize {
+        self.width
+    }
+
+    /// Whether there are none.
+    pub fn is_empty(&self) -> bool {
+        self.width == 0
+    }
+
+    /// What the parameter at a place holds, from 0.
+    pub fn get(&self, place: usize) -> Option<BulkValue<'a>> {
+        let shown = value_of(self.handle, self.row, place)?;
+        Some(match shown.kind {
+            8 => BulkValue::Default,
+            9 => BulkValue::Ignore,
+            // SAFETY: the bytes are "good until the next call on it" that takes its `&mut`.
+            _ => BulkValue::Value(unsafe { Value::of(shown) }),
+        })
+    }
+
+    /// What the parameters hold.
+    pub fn iter(&self) -> impl DoubleEndedIterator<Item = BulkValue<'a>> + ExactSizeIterator + 'a {
+        let row = *self;
+        (0..self.width).map(move |place| row.get(place).expect("each place has a value"))
+    }
+}
+
+impl fmt::Debug for BulkRow<'_> {
+    fn fmt(&self, formatter: &mut fmt::Formatter<'_>) -> fmt::Result {
+        formatter.debug_list().entries(self.iter()).finish()
+    }
+}
+
+/// The attributes of a login, of a query or of an execution: names and values. Those of a login are
+/// bytes.
+#[derive(Clone, Copy)]
+pub struct Attributes<'a> {
+    handle: &'a ConnectionHandle,
+    len: usize,
+}
+
+impl<'a> Attributes<'a> {
+    /// How many there are.
+    pub fn len(&self) -> usize {
+        self.len
+    }
+
+    /// Whether there are none.
+    pub fn is_empty(&self) -> bool {
+        self.len == 0
+    }
+
+    /// The attributes.
+    pub fn iter(
+        &self,
+    ) -> impl DoubleEndedIterator<Item = (&'a [u8], Value<'a>)> + ExactSizeIterator + 'a {
+        let handle = self.handle;
+        (0..self.len).map(move |number| attribute_of(handle, number))
+    }
+}
+
+/// The attribute of a number below that of the attributes.
+fn attribute_of(handle: &ConnectionHandle, number: usize) -> (&[u8], Value<'_>) {
+    let (mut name, mut shown) = (raw::Text::default(), raw::Value::default());
+    // SAFETY: "Handles": by `ConnectionHandle::get`; "Results go out": different locals and fields.
+    certain(unsafe {
+        raw::mysql_session_connection_attribute(
+            handle.get(),
+            number,
+            &mut name.at,
+            &mut name.len,
+            &mut shown,
+        )
+    });
+    // SAFETY: the bytes are "good until the next call on it" that takes its `&mut`.
+    unsafe { (name.bytes(), Value::of(shown)) }
+}
+
+impl fmt::Debug for Attributes<'_> {
+    fn fmt(&self, formatter: &mut fmt::Formatter<'_>) -> fmt::Result {
+        formatter.debug_list().entries(self.iter()).finish()
+    }
+}

@@ -1,0 +1,340 @@
+//! Whole connections: the recorded ones are read to the lines that stand beside them, however their
+//! bytes come.
+
+use mysql_session::{
+    Code, Connection, ConnectionEnd, ConnectionFault, Event, Limits, Phase, Reason, Side, Value,
+};
+use std::fs;
+use std::path::{Path, PathBuf};
+
+const LIMITS: Limits = Limits {
+    client: 1 << 26,
+    server: 1 << 26,
+    held: 1 << 30,
+};
+
+/// A recorded connection.
+struct Recording {
+    name: String,
+    client: Vec<u8>,
+    server: Vec<u8>,
+    lines: Vec<String>,
+}
+
+fn folder() -> PathBuf {
+    Path::new(env!("CARGO_MANIFEST_DIR")).join("../../crates/connection_conformance/data")
+}
+
+fn read(name: &str, kind: &str) -> Vec<u8> {
+    let path = folder().join(format!("{name}.{kind}"));
+    fs::read(&path).unwrap_or_else(|error| panic!("{}: {error}", path.display()))
+}
+
+fn recording(name: &str) -> Recording {
+    let lines = String::from_utf8(read(name, "events")).expect("lines are in ASCII");
+    Recording {
+        name: name.to_string(),
+        client: read(name, "client"),
+        server: read(name, "server"),
+        lines: lines.lines().map(str::to_string).collect(),
+    }
+}
+
+fn recordings() -> Vec<Recording> {
+    let files = fs::read_dir(folder()).expect("there are recordings");
+    let mut names: Vec<String> = files
+        .filter_map(|file| file.ok()?.file_name().into_string().ok())
+        .filter_map(|name| name.strip_suffix(".client").map(str::to_string))
+        .collect();
+    names.sort();
+    assert!(names.len() > 60, "there are {} recordings", names.len());
+    names.iter().map(|name| recording(name)).collect()
+}
+
+/// Takes the events that are there, and their lines. Each event is printed whole, so that all that it
+/// shows is read.
+fn take_lines(connection: &mut Connection, lines: &mut Vec<String>) -> Result<(), ConnectionFault> {
+    while let Some(event) = connection.next_event()? {
+        assert!(!format!("{event:?}").is_empty());
+        let (side, name) = (event.side(), event.name());
+        let line = connection.line().expect("memory isn't short").to_string();
+        assert!(line.starts_with(&format!("{side} ")), "{line} is of {side}");
+        // Events of COM_.. and others that have no variant of their own have other names in lines.
+        if name != "Command" && name != "Line" {
+            let word = line.split(' ').nth(1).expect("a line has a name");
+            assert!(!word.is_empty());
+        }
+        lines.push(line);
+    }
+    Ok(())
+}
+
+/// Numbers that look like random ones.
+struct Random(u64);
+
+impl Random {
+    fn below(&mut self, bound: usize) -> usize {
+        self.0 = self
+            .0
+            .wrapping_mul(6364136223846793005)
+            .wrapping_add(1442695040888963407);
+        ((self.0 >> 33) as usize) % bound
+    }
+}
+
+/// The lines of a connection whose pieces come as `next` says: a side, and how many bytes of it.
+fn lines_of(
+    client: &[u8],
+    server: &[u8],
+    mut next: impl FnMut(&[u8], &[u8]) -> (Side, usize),
+) -> Vec<String> {
+    let mut connection = Connection::new(LIMITS).expect("memory isn't short");
+    let (mut client, mut server) = (client, server);
+    let mut lines = Vec::new();
+    let mut read = || -> Result<(), ConnectionFault> {
+        while !client.is_empty() || !server.is_empty() {
+            let (side, count) = next(client, server);
+            let stream = match side {
+                Side::Client => &mut client,
+                Side::Server => &mut server,
+            };
+            let (piece, rest) = stream.split_at(count.min(stream.len()));
+            *stream = rest;
+            connection.feed(side, piece).expect("there is room");
+            take_lines(&mut connection, &mut lines)?;
+        }
+        connection.close(Side::Client);
+        connection.close(Side::Server);
+        take_lines(&mut connection, &mut lines)
+    };
+    let fault = read().err();
+    assert_eq!(fault, connection.fault());
+    let end = connection.finish();
+    assert_eq!(
+        matches!(end, ConnectionEnd::Fault(_)),
+        end_is_fault(&connection)
+    );
+    lines.push(connection.line().expect("memory isn't short").to_string());
+    lines
+}
+
+fn end_is_fault(connection: &Connection) -> bool {
+    let line = connection.line().expect("memory isn't short");
+    line.starts_with("end Fault ")
+}
+
+#[test]
+fn recordings_are_read_in_one_piece_by_either_side_first() {
+    for it in recordings() {
+        for first in [Side::Client, Side::Server] {
+            let found = lines_of(&it.client, &it.server, |client, server| {
+                let left = match first {
+                    Side::Client => client,
+                    Side::Server => server,
+                };
+                match left.is_empty() {
+                    true => (first.other(), usize::MAX),
+                    false => (first, usize::MAX),
+                }
+            });
+            assert_eq!(found, it.lines, "{}", it.name);
+        }
+    }
+}
+
+#[test]
+fn recordings_are_read_byte_by_byte() {
+    for it in recordings() {
+        if it.client.len() + it.server.len() > 100_000 {
+            continue;
+        }
+        let mut random = Random(7);
+        let found = lines_of(&it.client, &it.server, |client, _| {
+            match client.is_empty() || random.below(2) == 0 {
+                true => (Side::Server, 1),
+                false => (Side::Client, 1),
+            }
+        });
+        assert_eq!(found, it.lines, "{}", it.name);
+    }
+}
+
+#[test]
+fn recordings_are_read_in_random_pieces() {
+    for it in recordings() {
+        let mut random = Random(it.client.len() as u64);
+        let most = 1 + (it.client.len() + it.server.len()) / 20;
+        let found = lines_of(&it.client, &it.server, |_, _| {
+            let side = [Side::Client, Side::Server][random.below(2)];
+            (side, random.below(most))
+        });
+        assert_eq!(found, it.lines, "{}", it.name);
+    }
+}
+
+#[test]
+fn changed_bytes_are_read_or_refused() {
+    let mut random = Random(62);
+    for it in recordings() {
+        if it.client.len() + it.server.len() > 20_000 {
+            continue;
+        }
+        for _ in 0..20 {
+            let (mut client, mut server) = (it.client.clone(), it.server.clone());
+            let changed = match client.is_empty() || random.below(2) == 0 {
+                true => &mut server,
+                false => &mut client,
+            };
+            if changed.is_empty() {
+                continue;
+            }
+            let at = random.below(changed.len());
+            changed[at] ^= 1 << random.below(8);
+            let whole = |client: &[u8], _: &[u8]| match client.is_empty() {
+                true => (Side::Server, usize::MAX),
+                false => (Side::Client, usize::MAX),
+            };
+            let found = lines_of(&client, &server, whole);
+            assert!(found.last().is_some_and(|line| line.starts_with("end ")));
+        }
+    }
+}
+
+#[test]
+fn an_execution_has_the_text_and_the_values() {
+    let it = recording("php-execute");
+    let mut connection = Connection::new(LIMITS).expect("memory isn't short");
+    connection
+        .feed(Side::Client, &it.client)
+        .expect("there is room");
+    connection
+        .feed(Side::Server, &it.server)
+        .expect("there is room");
+    let (mut executions, mut rows) = (0, 0);
+    while let Some(event) = connection.next_event().expect("the recording has no fault") {
+        match event {
+            Event::Execute {
+                statement,
+                text,
+                values,
+                ..
+            } => {
+                let places = text.iter().filter(|byte| **byte == b'?').count();
+                assert_eq!(values.len(), places, "{}", String::from_utf8_lossy(text));
+                assert_eq!(values.iter().count(), places);
+                assert_eq!(values.get(places), None);
+                executions += 1;
+                let known = connection.statement(statement).expect("it was prepared");
+                assert_eq!(usize::from(known.parameters), places);
+            }
+            Event::Row(row) => {
+                assert_eq!(row.iter().count(), row.len());
+                assert!(row.column(row.len()).is_none());
+                rows += 1;
+            }
+            _ => (),
+        }
+    }
+    assert!(
+        executions > 0 && rows > 0,
+        "{executions} executions, {rows} rows"
+    );
+}
+
+#[test]
+fn a_login_and_a_greeting_are_shown() {
+    let it = recording("php-execute");
+    let mut connection = Connection::new(LIMITS).expect("memory isn't short");
+    assert_eq!(
+        (connection.turn(), connection.phase()),
+        (Some(Side::Server), Phase::Greeting)
+    );
+    connection
+        .feed(Side::Server, &it.server)
+        .expect("there is room");
+    let Some(Event::Greeting(greeting)) = connection.next_event().expect("it has no fault") else {
+        panic!("a server greets first");
+    };
+    assert!(!greeting.version.is_empty() && !greeting.plugin.is_empty());
+    assert_eq!(
+        (connection.turn(), connection.phase()),
+        (Some(Side::Client), Phase::Response)
+    );
+    connection
+        .feed(Side::Client, &it.client)
+        .expect("there is room");
+    let Some(Event::Login(login)) = connection.next_event().expect("it has no fault") else {
+        panic!("a client logs in");
+    };
+    assert!(!login.user.is_empty());
+    for (name, value) in login.attributes.iter() {
+        assert!(!name.is_empty() && matches!(value, Value::Bytes(_)));
+    }
+    assert!(matches!(connection.event(), Some(Event::Login(_))));
+    connection.close(Side::Client);
+    assert!(connection.event().is_none());
+}
+
+#[test]
+fn a_side_that_runs_ahead_is_held() {
+    let limits = Limits {
+        client: 10,
+        server: 10,
+        held: 100,
+    };
+    let mut connection = Connection::new(limits).expect("memory isn't short");
+    assert_eq!(connection.room(Side::Client), 14);
+    connection
+        .feed(Side::Client, &[0; 14])
+        .expect("there is room");
+    let refused = connection
+        .feed(Side::Client, &[0])
+        .expect_err("there is none");
+    assert_eq!(refused.code(), Code::CONNECTION_HELD);
+    assert_eq!((connection.room(Side::Client), connection.held()), (0, 14));
+    assert_eq!(connection.rest(Side::Client), [0; 14]);
+    connection.close(Side::Server);
+    let refused = connection
+        .feed(Side::Server, &[0])
+        .expect_err("it is closed");
+    assert_eq!(refused.code(), Code::CONNECTION_CLOSED);
+}
+
+#[test]
+fn a_fault_has_a_side_and_a_byte() {
+    let mut connection = Connection::new(LIMITS).expect("memory isn't short");
+    connection
+        .feed(Side::Server, b"\x01\0\0\x07\x0a")
+        .expect("there is room");
+    let fault = connection
+        .next_event()
+        .expect_err("the number is another one");
+    assert_eq!(fault.code(), Code::CONNECTION_OUT_OF_SYNC);
+    assert_eq!((fault.side(), fault.byte()), (Side::Server, 0));
+    assert_eq!(connection.fault(), Some(fault));
+    assert!(fault
+        .to_string()
+        .starts_with("server, byte 0: connection: "));
+    assert_eq!(connection.finish(), ConnectionEnd::Fault(fault));
+    assert_eq!(connection.line(), Ok("end Fault server 0 OutOfSync"));
+}
+
+#[test]
+fn a_connection_may_move_between_threads() {
+    let it = recording("php-execute");
+    let mut connection = Connection::new(LIMITS).expect("memory isn't short");
+    connection
+        .feed(Side::Server, &it.server)
+        .expect("there is room");
+    let mut connection = std::thread::spawn(move || {
+        connection
+            .feed(Side::Client, &it.client)
+            .expect("there is room");
+        connection
+    })
+    .join()
+    .expect("the thread ends");
+    let mut lines = Vec::new();
+    take_lines(&mut connection, &mut lines).expect("it has no fault");
+    assert_eq!(connection.phase(), Phase::Over(Reason::Quit));
+}

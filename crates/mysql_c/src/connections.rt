@@ -1,0 +1,211 @@
+//! Whole connections, as exports.
+
+ghost use Rattle.std.specs.Prelude.{◌≡◌, ◌≢◌, MatchOption};
+ghost use Rattle.mysql_c_connection.specs.Codes.{code_number, side_numbered};
+ghost use Rattle.mysql_c_connection.specs.Columns.{column_held};
+ghost use Rattle.mysql_c_connection.specs.Opened.{Closes, Finishes, IsFed, IsNew, IsOpen, Lines, OfOpen, OfSide};
+ghost use Rattle.mysql_c_connection.specs.Opened.{Tells};
+ghost use Rattle.mysql_c_connection.specs.Standing.{RestOf, StandingIn, StatementIn};
+ghost use Rattle.mysql_c_connection.specs.Values.{ShowsBulk, ShowsNamed, attribute_held, unheld_code, value_held};
+ghost use Rattle.mysql_c_connection.specs.declared.object.Object.TheVariants.{Empty};
+ghost use Rattle.mysql_c_replies.specs.Shown.{ShowsColumn};
+
+use mysql_c_connection::{Handle, ShownConnectionEnd, ShownStanding};
+use mysql_c_connection_events::ShownEvent;
+use mysql_c_replies::{ShownColumn, ShownValue};
+use std::alloc::Global;
+use std::mem::replace;
+
+/// Makes the handle stand for a connection of which no byte came.
+#[unsafe(no_mangle)]
+pub extern "C" fn mysql_session_connection_new(
+    alloc: Global,
+    handle: &mut Handle,
+    client: usize,
+    server: usize,
+    held: usize,
+) -> u32
+    ensures made { result ≡ 0 → IsOpen handle.new.object
+        (IsNew (record { client = client; server = server; held = held })) }
+    ensures kept { result ≢ 0 → (result ≡ 1) × (handle.new.object ≡ handle.old.object) }
+{
+    mysql_c_connection::connection_new(alloc, handle, client, server, held)
+}
+
+/// Frees the connection that the handle stands for. It stands for nothing then.
+#[unsafe(no_mangle)]
+pub extern "C" fn mysql_session_connection_free(alloc: Global, handle: &mut Handle)
+    ensures { handle.new.object ≡ Empty }
+{
+    drop(replace(handle, Handle::empty(alloc)));
+}
+
+/// Takes a piece of a side's stream, whole; nothing of it is read yet. Or it is refused.
+#[unsafe(no_mangle)]
+pub extern "C" fn mysql_session_connection_feed(
+    alloc: Global,
+    handle: &mut Handle,
+    side: u32,
+    piece: &[u8],
+) -> u32
+    ensures { OfSide (side_numbered side) handle.old.object result handle.new.object
+        (λ which old. IsOpen handle.new.object (IsFed which piece.now result old)) }
+{
+    mysql_c_connection::connection_feed(alloc, handle, side, piece)
+}
+
+/// Ends a side's stream: no more comes of it.
+#[unsafe(no_mangle)]
+pub extern "C" fn mysql_session_connection_close(
+    alloc: Global,
+    handle: &mut Handle,
+    side: u32,
+) -> u32
+    ensures { OfSide (side_numbered side) handle.old.object result handle.new.object
+        (λ which old. IsOpen handle.new.object (Closes which result old)) }
+{
+    mysql_c_connection::connection_close(alloc, handle, side)
+}
+
+/// Takes the next event, and shows it.
+///
+/// It is one of kind 0 where the payload that is due isn't there whole, or the connection is over.
+#[unsafe(no_mangle)]
+pub extern "C" fn mysql_session_connection_next(
+    alloc: Global,
+    handle: &mut Handle,
+    shown: &mut ShownEvent,
+) -> u32
+    ensures { OfOpen handle.old.object result handle.new.object
+        (λ old. IsOpen handle.new.object (λ new. Tells result old new shown.new)) }
+{
+    mysql_c_connection::connection_next(alloc, handle, shown)
+}
+
+/// Shows a value of the event that was told last.
+///
+/// It is a cell of a row, or a parameter of an execution or of a row of a bulk execution.
+#[unsafe(no_mangle)]
+pub extern "C" fn mysql_session_connection_value(
+    alloc: Global,
+    handle: &mut Handle,
+    row: usize,
+    place: usize,
+    shown: &mut ShownValue,
+) -> u32
+    ensures kept { handle.new.object ≡ handle.old.object }
+    ensures shown { MatchOption (value_held handle.old.object row place)
+        (result ≡ code_number (unheld_code handle.old.object)) (λ found. (result ≡ 0) × ShowsBulk found shown.new) }
+{
+    mysql_c_connection::connection_value(alloc, handle, row, place, shown)
+}
+
+/// Shows an attribute of the event that was told last, by its number.
+///
+/// It is one of a login, a change of user, a query or an execution.
+#[unsafe(no_mangle)]
+pub extern "C" fn mysql_session_connection_attribute(
+    alloc: Global,
+    handle: &mut Handle,
+    number: usize,
+    name: &mut *const u8,
+    len: &mut usize,
+    shown: &mut ShownValue,
+) -> u32
+    ensures kept { handle.new.object ≡ handle.old.object }
+    ensures shown { MatchOption (attribute_held handle.old.object number)
+        (result ≡ code_number (unheld_code handle.old.object))
+        (λ named. (result ≡ 0) × ShowsNamed named len.new shown.new) }
+{
+    mysql_c_connection::connection_attribute(alloc, handle, number, name, len, shown)
+}
+
+/// Shows a column of the event that was told last.
+///
+/// It is the column that the event is, or that of a row's cell.
+#[unsafe(no_mangle)]
+pub extern "C" fn mysql_session_connection_column(
+    alloc: Global,
+    handle: &mut Handle,
+    number: usize,
+    shown: &mut ShownColumn,
+) -> u32
+    ensures kept { handle.new.object ≡ handle.old.object }
+    ensures shown { MatchOption (column_held handle.old.object number)
+        (result ≡ code_number (unheld_code handle.old.object))
+        (λ column. (result ≡ 0) × ShowsColumn column shown.new) }
+{
+    mysql_c_connection::connection_column(alloc, handle, number, shown)
+}
+
+/// Shows the event that was told last as a line, or how the connection ended.
+#[unsafe(no_mangle)]
+pub extern "C" fn mysql_session_connection_line(
+    alloc: Global,
+    handle: &mut Handle,
+    text: &mut *const u8,
+    len: &mut usize,
+) -> u32
+    ensures { OfOpen handle.old.object result handle.new.object
+        (λ old. IsOpen handle.new.object (Lines old)) }
+{
+    mysql_c_connection::connection_line(alloc, handle, text, len)
+}
+
+/// Shows how a connection stands.
+#[unsafe(no_mangle)]
+pub extern "C" fn mysql_session_connection_standing(
+    alloc: Global,
+    handle: &mut Handle,
+    shown: &mut ShownStanding,
+) -> u32
+    ensures kept { handle.new.object ≡ handle.old.object }
+    ensures shown { StandingIn handle.old.object result shown.new }
+{
+    mysql_c_connection::connection_standing(alloc, handle, shown)
+}
+
+/// Shows the prepared statement that an id of a command stands for: its text, and how many
+/// parameters it has.
+#[unsafe(no_mangle)]
+pub extern "C" fn mysql_session_connection_statement(
+    alloc: Global,
+    handle: &mut Handle,
+    id: u32,
+    text: &mut *const u8,
+    len: &mut usize,
+    params: &mut u16,
+) -> u32
+    ensures kept { handle.new.object ≡ handle.old.object }
+    ensures shown { StatementIn handle.old.object id result len.new params.new }
+{
+    mysql_c_connection::connection_statement(alloc, handle, id, text, len, params)
+}
+
+/// Shows what of a side's stream is unread.
+#[unsafe(no_mangle)]
+pub extern "C" fn mysql_session_connection_rest(
+    alloc: Global,
+    handle: &mut Handle,
+    side: u32,
+    data: &mut *const u8,
+    len: &mut usize,
+) -> u32
+    ensures kept { handle.new.object ≡ handle.old.object }
+    ensures shown { RestOf (side_numbered side) handle.old.object result len.new }
+{
+    mysql_c_connection::connection_rest(alloc, handle, side, data, len)
+}
+
+/// Ends both streams, and shows how the connection stands.
+#[unsafe(no_mangle)]
+pub extern "C" fn mysql_session_connection_finish(
+    alloc: Global,
+    handle: &mut Handle,
+    shown: &mut ShownConnectionEnd,
+) -> u32
+    ensures { OfOpen handle.old.object result handle.new.object
+        (λ old. IsOpen handle.new.object (λ new. (result ≡ 0) × Finishes old new shown.new)) }
+{
+    mysql_c_connection::connection_finish(alloc, handle, shown)
+}

@@ -1,0 +1,28 @@
+//! The part of the library for C that reads whole connections: what its exports do.
+//!
+//! A connection has a handle of its own kind: it stands for a connection, or for nothing.
+#![tactic(auto)]
+
+mod calls;
+mod code;
+mod columns;
+mod events;
+mod handle;
+mod object;
+mod shown;
+mod standing;
+mod text;
+mod values;
+
+pub use calls::{
+    connection_close, connection_feed, connection_finish, connection_line, connection_new,
+    connection_next,
+};
+pub use code::ConnectionCode;
+pub use columns::connection_column;
+pub use handle::Handle;
+pub use object::{Object, OpenConnection};
+pub use shown::{ShownConnectionEnd, ShownStanding};
+pub use standing::{connection_rest, connection_standing, connection_statement};
+pub use text::connection_code_text;
+pub use values::{connection_attribute, connection_value};

@@ -1,0 +1,4 @@
+pub mod Commands
+pub mod Logins
+pub mod Replies
+pub mod Shown
