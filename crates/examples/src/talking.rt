@@ -76,13 +76,23 @@ fn script(alloc: Global) -> anyhow::Result<VecDeque<Event>> {
     Ok(script)
 }
 
+/// Reads what the other side said, of which only the turn matters here.
+fn read_on(connection: &mut Connection) -> anyhow::Result<()> {
+    for _ in 0..u64::MAX {
+        let Some(_event) = connection.next_event()? else {
+            break;
+        };
+    }
+    Ok(())
+}
+
 /// A client: it reads what was answered, and says what comes next of its script.
 fn ask(
     connection: &mut Connection,
     script: &mut VecDeque<Event>,
     to_server: &mut Vec<u8>,
 ) -> anyhow::Result<()> {
-    while let Some(_answer) = connection.next_event()? {}
+    read_on(connection)?;
     if connection.turn() == Some(Side::Client) {
         if let Some(event) = script.pop_front() {
             connection.put(&event, to_server)?;
@@ -97,7 +107,7 @@ fn answer(
     connection: &mut Connection,
     to_client: &mut Vec<u8>,
 ) -> anyhow::Result<()> {
-    while let Some(_asked) = connection.next_event()? {}
+    read_on(connection)?;
     let event = match connection.phase() {
         Phase::Greeting => Event::greeting(alloc, GreetingEvent::Greeting(greeting()))?,
         Phase::Authentication => {
