@@ -1,13 +1,14 @@
 //! Short programs over the public calls, one in each file: they audit a captured stream, send a
-//! query, load rows in bulk, read a reply, log in, sort what a client sends, look on at what passes
-//! between a client and a server, answer in a server's place, let rows go that were looked at,
-//! keep a query, by which sets go to a connection, print what a client sends, watch a whole
-//! connection, and let a client and a server talk by a proxy.
+//! query, load rows in bulk, read a reply, make a struct of each row, log in, sort what a client
+//! sends, look on at what passes between a client and a server, answer in a server's place, let
+//! rows go that were looked at, keep a query, by which sets go to a connection, print what a client
+//! sends, watch a whole connection, and let a client and a server talk by a proxy.
 #![tactic(auto)]
 
 mod answering;
 mod auditing;
 mod cents;
+mod converting;
 mod keeping;
 mod loading;
 mod looking;
@@ -32,6 +33,8 @@ fn main(rt: HostRuntime) -> anyhow::Result<()> {
     loading::load(alloc, &mut out)?;
     let mut reply = File::open(&rt, "reply.bin")?;
     reading::read(alloc, &mut reply, &mut out)?;
+    let mut reply = File::open(&rt, "reply.bin")?;
+    converting::convert(alloc, &mut reply, &mut out)?;
     answering::answer(alloc, &mut out)?;
     sorting::sort(alloc, &mut out)?;
     let (mut client, mut server) = (proxying::CLIENT, proxying::SERVER);

@@ -5,19 +5,20 @@ use mysql_connection::{
     Attribute, AuthenticationEvent, BadEvent, BoundType, BulkExecution, BulkValue, Capabilities,
     CapabilityFlags, Command, CommandRefusal, Connection, ConnectionFault, Context, End, Event,
     EventReader, Execution, ExtendedColumn, Fault, FeedRefusal, GreetingEvent, LentEvent, Limits,
-    ListedColumn, LoginFault, LoginRefusal, LoginResponse, MariadbCapabilities, ParameterType,
-    Phase, PutRefusal, Reason, Refused, Reply, ReplyEvent, ReplyFault, ReplyKind, ReplyPutRefusal,
-    ResponseEvent, Side, Statement, StatementParameters, Statements, Turn, capabilities_in_force,
-    put_authentication, put_command, put_event, put_greeting, put_response, read_authentication,
-    read_bulk_types, read_execution_types, read_greeting, read_response,
-    write_authentication_event, write_command, write_end, write_event, write_greeting_event,
-    write_lent_row, write_reply_event, write_response_event, write_row_ref,
+    ListedColumn, LoginFault, LoginRefusal, LoginResponse, MariadbCapabilities, PacketsRefusal,
+    ParameterType, PayloadRefusal, Phase, PutRefusal, Reason, RecodingRefusal, Refused, Reply,
+    ReplyEvent, ReplyFault, ReplyKind, ReplyPutRefusal, ResponseEvent, Side, Statement,
+    StatementIds, StatementParameters, Statements, Turn, capabilities_in_force, put_authentication,
+    put_command, put_event, put_greeting, put_response, read_authentication, read_bulk_types,
+    read_execution_types, read_greeting, read_response, write_authentication_event, write_command,
+    write_end, write_event, write_greeting_event, write_lent_row, write_reply_event,
+    write_response_event, write_row_ref,
 };
 
 mod laws {
     use mysql_connection::laws::{
-        connection_executions_are_received, events_lead_on, read_commands_are_put,
-        read_events_are_put, stored_is_the_sum,
+        connection_executions_are_received, events_lead_on, payloads_are_in_turn,
+        read_commands_are_put, read_events_are_put, stored_is_the_sum,
     };
 
     mod agreement {
@@ -30,6 +31,13 @@ mod laws {
     mod contents {
         use mysql_connection::laws::contents::{
             prepared_statements_agree, received_commands_are_read, received_executions_are_read,
+        };
+    }
+
+    mod deliveries {
+        use mysql_connection::laws::deliveries::{
+            delivered_sets_are_said, events_are_spoken, machines_hear, machines_hear_what_they_put,
+            put_payloads_are_read, put_sets_are_read,
         };
     }
 
@@ -54,6 +62,10 @@ mod laws {
             refused_responses_read_otherwise, responses_are_put, responses_read_again,
             responses_read_back,
         };
+    }
+
+    mod recoding {
+        use mysql_connection::laws::recoding::{recoded_commands_say_the_same, types_count_there};
     }
 
     mod runs {

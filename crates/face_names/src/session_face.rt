@@ -3,15 +3,17 @@
 
 use mysql_session::{
     Audit, BindError, ByteString, CapabilityFlags, ChunkHeader, Column, ColumnIndex, Content, End,
-    Flags, FromValue, FromValueError, FromValueRef, Intermediate, IntoParams, LentRow,
-    LocalInfilePacket, MissingNamedParameterError, Mode, OkPacket, PacketCodecError, PacketReader,
-    Params, ParamsConfusionError, ParamsError, ParseIr, ProgressReport, Query, Receiver,
-    ReceiverError, RecodeError, Recoder, Refusal, Reply, ReplyEnd, ReplyFault, ReplyKind,
-    ReplyReader, ReplyRefusal, ReplyResult, ReplyWriter, Road, Row, RowError, RowExt, RowFormat,
-    RowLender, RowReader, RowRef, RowRefExt, SendToError, ServerError, SetError, Spelling,
-    SqlState, StatusFlags, StmtPacket, StoredRows, StreamFault, ToValue, ToValueError, Value,
-    ValueRef, from_value, from_value_opt, is_safe_to_quote, packet_to_chunks, read_reply, receive,
-    receive_in, recode, recode_in, send, send_contents, send_contents_in, send_values, write_reply,
+    Flags, FromRow, FromRowError, FromRowRef, FromValue, FromValueError, FromValueRef,
+    Intermediate, IntoParams, LentRow, LocalInfilePacket, MissingNamedParameterError, Mode,
+    OkPacket, PacketCodecError, PacketReader, Params, ParamsConfusionError, ParamsError, ParseIr,
+    ProgressReport, Query, Receiver, ReceiverError, RecodeError, Recoder, Refusal, Reply, ReplyEnd,
+    ReplyFault, ReplyKind, ReplyReader, ReplyRefusal, ReplyResult, ReplyWriter, Road, Row,
+    RowConversionError, RowError, RowExt, RowFormat, RowLender, RowReader, RowRef, RowRefExt,
+    SendToError, ServerError, SetError, SingleValue, SingleValueRef, Spelling, SqlState,
+    StatusFlags, StmtPacket, StoredRows, StreamFault, ToValue, ToValueError, Value, ValueRef,
+    from_cell, from_cell_ref, from_row, from_row_opt, from_row_ref, from_value, from_value_opt,
+    is_safe_to_quote, packet_to_chunks, read_reply, receive, receive_in, recode, recode_in, send,
+    send_contents, send_contents_in, send_values, write_reply,
 };
 
 mod laws {

@@ -12,6 +12,7 @@ mod frames;
 mod kept;
 mod lent;
 mod objects;
+mod putting;
 mod queries;
 mod replies;
 mod sending;

@@ -116,7 +116,7 @@ pub extern "C" fn mysql_bench_read_reply_taken(
     }
 }
 
-/// Reads a reply with its rows in binary, and writes its results so many times.
+/// Reads a reply with its rows in binary or as text, and writes its results so many times.
 ///
 /// The rows are written in binary or as text, into a buffer that is emptied before each. Answers
 /// the bytes of one time.
@@ -124,10 +124,11 @@ pub extern "C" fn mysql_bench_read_reply_taken(
 pub extern "C" fn mysql_bench_write_reply(
     alloc: Global,
     stream: &[u8],
+    read_binary: bool,
     binary: bool,
     times: usize,
 ) -> usize {
-    let reply = reply_of(alloc, stream, 65536, true);
+    let reply = reply_of(alloc, stream, 65536, read_binary);
     let kind = if binary {
         ReplyKind::Binary
     } else {

@@ -3,15 +3,20 @@
 ghost use Rattle.std.specs.Prelude.{◌≡◌, ◌≢◌, MatchOption};
 ghost use Rattle.mysql_c_connection.specs.Codes.{code_number, side_numbered};
 ghost use Rattle.mysql_c_connection.specs.Columns.{column_held};
-ghost use Rattle.mysql_c_connection.specs.Opened.{Closes, Finishes, IsFed, IsNew, IsOpen, Lines, OfOpen, OfSide};
+ghost use Rattle.mysql_connection_rules.specs.Streams.{from_login};
+ghost use Rattle.mysql_c_connection.specs.Opened.{Closes, Finishes, IsFed, IsNew, IsNewFrom, IsOpen, Lines};
+ghost use Rattle.mysql_c_connection.specs.Opened.{OfOpen, OfSide};
+ghost use Rattle.mysql_c_connection.specs.Putting.{ArePutIn, IsPutIn, OfSideAndBytes};
 ghost use Rattle.mysql_c_connection.specs.Opened.{Tells};
 ghost use Rattle.mysql_c_connection.specs.Standing.{RestOf, StandingIn, StatementIn};
 ghost use Rattle.mysql_c_connection.specs.Values.{ShowsBulk, ShowsNamed, attribute_held, unheld_code, value_held};
 ghost use Rattle.mysql_c_connection.specs.declared.object.Object.TheVariants.{Empty};
 ghost use Rattle.mysql_c_replies.specs.Shown.{ShowsColumn};
 
+use crate::events::both_words;
 use mysql_c_connection::{Handle, ShownConnectionEnd, ShownStanding};
 use mysql_c_connection_events::ShownEvent;
+use mysql_c_handles::Handle as BytesHandle;
 use mysql_c_replies::{ShownColumn, ShownValue};
 use std::alloc::Global;
 use std::mem::replace;
@@ -30,6 +35,26 @@ pub extern "C" fn mysql_session_connection_new(
     ensures kept { result ≢ 0 → (result ≡ 1) × (handle.new.object ≡ handle.old.object) }
 {
     mysql_c_connection::connection_new(alloc, handle, client, server, held)
+}
+
+/// Makes the handle stand for a connection behind a login that was made elsewhere.
+#[unsafe(no_mangle)]
+pub extern "C" fn mysql_session_connection_after_login(
+    alloc: Global,
+    handle: &mut Handle,
+    capabilities: u32,
+    mariadb: u32,
+    client: usize,
+    server: usize,
+    held: usize,
+) -> u32
+    ensures made { result ≡ 0 → IsOpen handle.new.object (IsNewFrom (from_login
+        (record { client = client; server = server; held = held })
+        (record { protocol = record { 0 = capabilities }; mariadb = record { 0 = mariadb } }))) }
+    ensures kept { result ≢ 0 → (result ≡ 1) × (handle.new.object ≡ handle.old.object) }
+{
+    let capabilities = both_words(capabilities, mariadb);
+    mysql_c_connection::connection_after_login(alloc, handle, capabilities, client, server, held)
 }
 
 /// Frees the connection that the handle stands for. It stands for nothing then.
@@ -80,6 +105,42 @@ pub extern "C" fn mysql_session_connection_next(
         (λ old. IsOpen handle.new.object (λ new. Tells result old new shown.new)) }
 {
     mysql_c_connection::connection_next(alloc, handle, shown)
+}
+
+/// Puts a payload of a side, where it is due.
+///
+/// Its packets are appended to the bytes that a handle stands for, and the event that it says is shown.
+#[unsafe(no_mangle)]
+pub extern "C" fn mysql_session_connection_put(
+    alloc: Global,
+    handle: &mut Handle,
+    side: u32,
+    payload: &[u8],
+    out: &mut BytesHandle,
+    shown: &mut ShownEvent,
+) -> u32
+    ensures { OfSideAndBytes (side_numbered side) handle.old.object out.old.object result
+        handle.new.object out.new.object
+        (λ which. IsPutIn which payload.now result handle.new.object out.new.object shown.new) }
+{
+    mysql_c_connection::connection_put(alloc, handle, side, payload, out, shown)
+}
+
+/// Puts the payloads of packets of a side, one after another, as long as they are due.
+#[unsafe(no_mangle)]
+pub extern "C" fn mysql_session_connection_put_packets(
+    alloc: Global,
+    handle: &mut Handle,
+    side: u32,
+    packets: &[u8],
+    out: &mut BytesHandle,
+    used: &mut usize,
+) -> u32
+    ensures { OfSideAndBytes (side_numbered side) handle.old.object out.old.object result
+        handle.new.object out.new.object
+        (λ which. ArePutIn which packets.now result handle.new.object out.new.object used.new) }
+{
+    mysql_c_connection::connection_put_packets(alloc, handle, side, packets, out, used)
 }
 
 /// Shows a value of the event that was told last.

@@ -15,7 +15,7 @@ use mysql_const::{Capabilities, CapabilityFlags, MariadbCapabilities};
 use std::alloc::Global;
 
 /// The capabilities of these two words.
-fn both_words(capabilities: u32, mariadb: u32) -> Capabilities
+pub(crate) fn both_words(capabilities: u32, mariadb: u32) -> Capabilities
     ensures { result ≡ record { protocol = record { 0 = capabilities }; mariadb = record { 0 = mariadb } } }
 {
     Capabilities {

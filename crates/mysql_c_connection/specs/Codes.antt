@@ -1,5 +1,7 @@
 -- The numbers of what calls about a connection answer, and of sides and reasons.
 use Rattle.std.specs.Prelude.{ℕ, ◌==◌, Option, Some, None, if◌then◌else◌}
+use Rattle.mysql_connection_machine.specs.declared.payload_refusal.PayloadRefusal.{PayloadRefusal}
+use Rattle.mysql_connection_machine.specs.declared.payload_refusal.PayloadRefusal.TheVariants as payload
 use Rattle.mysql_connection_rules.specs.declared.fault.Fault.{Fault}
 use Rattle.mysql_connection_rules.specs.declared.fault.Fault.TheVariants as fault
 use Rattle.mysql_connection_rules.specs.declared.reason.Reason.{Reason}
@@ -43,11 +45,21 @@ abbrev pub code_number : ConnectionCode → ℕ
 code_number code.Done = 0
 code_number code.Memory = 1
 code_number code.EmptyHandle = 2
+code_number code.OtherKind = 3
 code_number code.OutOfRange = 4
 code_number code.NoSuchSide = 8
 code_number code.Closed = 500
 code_number code.Held = 501
+code_number code.NotDue = 520
 code_number (code.Fault why) = fault_number why
+
+-- the number of why a payload isn't put: where it would be a fault of what comes, that fault's
+abbrev pub payload_refusal_number : PayloadRefusal → ℕ
+payload_refusal_number payload.NotDue = code_number code.NotDue
+payload_refusal_number payload.TooLarge = fault_number fault.TooLarge
+payload_refusal_number (payload.BadPayload why) = fault_number why
+payload_refusal_number payload.Held = fault_number fault.Held
+payload_refusal_number payload.Memory = code_number code.Memory
 
 -- the number of a side
 abbrev pub side_number : Side → ℕ

@@ -11,7 +11,7 @@ use Rattle.mysql_connection_machine.specs.declared.fault.FeedRefusal.{FeedRefusa
 use Rattle.mysql_connection_machine.specs.declared.fault.FeedRefusal.TheVariants as refusal
 use Rattle.mysql_connection_rules.specs.declared.limits.Limits.{Limits}
 use Rattle.mysql_connection_rules.specs.declared.side.Side.{Side}
-use Rattle.mysql_connection_rules.specs.Streams.{from_greeting}
+use Rattle.mysql_connection_rules.specs.Streams.{Beginning, from_greeting}
 use Rattle.mysql_connection_state.specs.Views.{event_view}
 use Rattle.mysql_connection_state.specs.declared.event.Event.{Event}
 use Rattle.mysql_c_connection.specs.declared.code.ConnectionCode.TheVariants as code
@@ -39,9 +39,13 @@ abbrev pub OfSide : Option Side → Object → ℕ → Object → (Side → Open
 OfSide None old number new Says = (number ≡ code_number code.NoSuchSide) × (new ≡ old)
 OfSide (Some side) old number new Says = OfOpen old number new (Says side)
 
+-- a connection that begins so, of which no byte came, and no event
+abbrev pub IsNewFrom : Beginning → OpenConnection → Type 0
+IsNewFrom begun c = (c.connection ≡ new_machine begun) × (c.event ≡ None) × (c.end ≡ None)
+
 -- a connection of which no byte came, and no event
 abbrev pub IsNew : Limits → OpenConnection → Type 0
-IsNew limits c = (c.connection ≡ new_machine (from_greeting limits)) × (c.event ≡ None) × (c.end ≡ None)
+IsNew limits c = IsNewFrom (from_greeting limits) c
 
 -- what a feed answers, as its number
 abbrev pub refusal_number : FeedRefusal → ℕ

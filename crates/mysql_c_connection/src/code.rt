@@ -16,6 +16,8 @@ pub enum ConnectionCode {
     Memory,
     /// The handle stands for nothing.
     EmptyHandle,
+    /// The handle stands for an object of another kind.
+    OtherKind,
     /// There is no event, value, attribute, column or statement of this number.
     OutOfRange,
     /// There is no side of this number.
@@ -24,7 +26,9 @@ pub enum ConnectionCode {
     Closed,
     /// More of the side would wait unread than its longest payload takes.
     Held,
-    /// The connection can't be read further, for this.
+    /// It isn't the turn of this side's payload.
+    NotDue,
+    /// The connection can't be read further, for this; or a payload isn't put.
     Fault(Fault),
 }
 
@@ -37,10 +41,12 @@ impl ConnectionCode {
             ConnectionCode::Done => 0,
             ConnectionCode::Memory => 1,
             ConnectionCode::EmptyHandle => 2,
+            ConnectionCode::OtherKind => 3,
             ConnectionCode::OutOfRange => 4,
             ConnectionCode::NoSuchSide => 8,
             ConnectionCode::Closed => 500,
             ConnectionCode::Held => 501,
+            ConnectionCode::NotDue => 520,
             ConnectionCode::Fault(fault) => number_of_fault(fault),
         }
     }

@@ -36,6 +36,7 @@ fn text_of(number: u32) -> &'static [u8]
         517 => b"connection: more would be kept than the limit leaves\0",
         518 => b"connection: the client says more behind a quit\0",
         519 => b"connection: no payload of that side of a reply is due\0",
+        520 => b"connection: it is not the turn of this side's payload\0",
         _ => b"no such code\0",
     }
 }

@@ -1,4 +1,4 @@
-//! Whole connections, read: both streams in, events out. And the payloads of a connection, each by
+//! Whole connections, read and put: both streams in, events out, and back. And the payloads of a connection, each by
 //! itself: logging in, commands and replies, read and put by the capabilities in force.
 //!
 //!     connection.feed(Side::Client, piece)?;
@@ -24,8 +24,10 @@ pub use mysql_commands::{
 };
 pub use mysql_connection_lines::{write_end, write_event, write_lent_row};
 pub use mysql_connection_machine::{
-    Connection, ConnectionFault, End, FeedRefusal, LentEvent, PutRefusal,
+    Connection, ConnectionFault, End, FeedRefusal, LentEvent, PacketsRefusal, PayloadRefusal,
+    PutRefusal,
 };
+pub use mysql_connection_recoding::{RecodingRefusal, StatementIds};
 pub use mysql_connection_rules::{Fault, Limits, Reason, Side};
 pub use mysql_connection_state::{Event, Phase};
 pub use mysql_connection_statements::{Statement, Statements};

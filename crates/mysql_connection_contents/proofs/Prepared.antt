@@ -14,11 +14,11 @@ use Rattle.mysql_reply_events.specs.Events.{Event as ReplySaid, ReplySoFar}
 use Rattle.mysql_reply_events.specs.Events.Event.{PreparedEvent}
 use Rattle.mysql_reply_events.specs.Table.{event_at, file_data_at}
 use Rattle.mysql_server_packets.specs.Packets.{PrepareOk}
-use Rattle.mysql_connection_contents.specs.Contents.{IdsStayOwn, IdsBeginOwn, IsPreparing, PreparedStatementsStand, PreparesAs, PreparesIn, Stands}
+use Rattle.mysql_connection_contents.specs.Contents.{BothBeginWithNone, IdsStayOwn, IdsBeginOwn, IsPreparing, PreparedStatementsStand, PreparesAs, PreparesIn, Stands}
 use Rattle.mysql_connection_contents.proofs.Commands.{Goes, either}
 use Rattle.mysql_connection_contents.proofs.Ids.{no_ids, says_is, step_ids}
 use Rattle.mysql_connection_contents.proofs.Replies.{columns_leave, phase_logged_in}
-use Rattle.mysql_connection_contents.proofs.Statements.{put_own}
+use Rattle.mysql_connection_contents.proofs.Statements.{OwnIds, put_own}
 
 module _ (id count : ℕ) where
   abbrev pub Made : Standing → Standing → Type 0
@@ -69,8 +69,11 @@ module _ (id count : ℕ) where
 pub prepared_statements_stand : PreparedStatementsStand
 prepared_statements_stand s mid payload event id count h prepares = (prepared_goes id count s payload event mid h prepares).stands
 
+pub both_begin_with_none : BothBeginWithNone
+both_begin_with_none limits = (refl, λ capabilities. refl)
+
 pub ids_begin_own : IdsBeginOwn
-ids_begin_own = no_ids
+ids_begin_own begun begins = subst OwnIds (sym begins) no_ids
 
 pub ids_stay_own : IdsStayOwn
 ids_stay_own s mid payload event h own = step_ids s payload event mid own h

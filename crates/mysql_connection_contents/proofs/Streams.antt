@@ -1,7 +1,7 @@
--- A connection from its first byte on.
+-- A connection from its beginning on.
 use Rattle.std.proofs.Common.{◌≡◌, List, [], ◌∷◌, ◌++◌, Ok, sym, ap, subst, ◌∙◌}
 use Rattle.mysql_connection_rules.specs.Steps.{step}
-use Rattle.mysql_connection_rules.specs.Streams.{World, from_greeting, moved, numbered, start}
+use Rattle.mysql_connection_rules.specs.Streams.{World, moved, numbered, start}
 use Rattle.mysql_executions.specs.After.{freshly_prepared}
 use Rattle.mysql_executions.specs.Types.{has_bulk_operations, has_query_attributes}
 use Rattle.mysql_execution_contents.specs.Agreement.{EachIsRead, PreparedAgree}
@@ -9,8 +9,8 @@ use Rattle.mysql_receive.specs.InForce as receive
 use Rattle.mysql_receive.specs.Query.{place_count}
 use Rattle.mysql_connection_contents.specs.Contents.{Heard, IdsAreOwn, IsSettled, Spoke, Spoken, StreamsAreReceived}
 use Rattle.mysql_connection_contents.proofs.Connections.{connection_executions_are_received}
-use Rattle.mysql_connection_contents.proofs.Ids.{no_ids, step_ids}
-use Rattle.mysql_connection_contents.proofs.Prepared.{prepared_goes}
+use Rattle.mysql_connection_contents.proofs.Ids.{step_ids}
+use Rattle.mysql_connection_contents.proofs.Prepared.{ids_begin_own, prepared_goes}
 use Rattle.mysql_connection_contents.proofs.Runs.{heard_spoken}
 
 -- what was heard from a payload on, where each statement has an id of its own
@@ -20,8 +20,8 @@ heard_from (x ∷ before) answer xs w last own h =
     heard_from before answer xs (moved w x.side x.number h.1.1 h.1.0) last (step_ids w.standing x.payload x.event h.1.0 own h.1.4) h.1.5
 
 pub streams_are_received : EachIsRead → PreparedAgree → StreamsAreReceived
-streams_are_received each agree limits streams before answer xs last id statement first reads heard prepares none bulks leave read =
-    let from = heard_from before answer xs (start (from_greeting limits) streams) last no_ids heard in
+streams_are_received each agree begun streams before answer xs last id statement first reads begins heard prepares none bulks leave read =
+    let from = heard_from before answer xs (start begun streams) last (ids_begin_own begun begins) heard in
     let v = from.0 in
     let spoke : Spoke v.standing (answer ∷ xs) last.standing = heard_spoken (answer ∷ xs) v last from.2 in
     let same : answer.standing ≡ v.standing = spoke.0 in

@@ -11,13 +11,16 @@ use Rattle.mysql_connection_rules.specs.declared.side.Side.{Side}
 use Rattle.mysql_connection_rules.specs.Events.{Event}
 use Rattle.mysql_connection_rules.specs.Events as events
 use Rattle.mysql_connection_rules.specs.Runs.{Runs}
-use Rattle.mysql_connection_rules.specs.Standing.{About, InReply, Phase, Standing, at_first}
+use Rattle.mysql_connection_rules.specs.Standing.{About, InReply, Phase, Standing}
 use Rattle.mysql_connection_rules.specs.Standing.About.{Executing, Preparing, Resetting}
 use Rattle.mysql_connection_rules.specs.Standing as phases
 use Rattle.mysql_connection_rules.specs.Steps.{id_in_question, step, turn}
-use Rattle.mysql_connection_rules.specs.Streams.{Says, World, limit_of, moved, next, numbered}
-use Rattle.mysql_connection_rules.specs.Streams.{Streams, from_greeting, start, stream_of}
-use Rattle.mysql_connection_statements.specs.Statements.{Statement, Statements, statement_at}
+use Rattle.mysql_connection_rules.specs.Streams.{Beginning, Says, Streams, World, from_greeting}
+use Rattle.mysql_connection_rules.specs.Streams.{from_login, limit_of, moved, next, numbered}
+use Rattle.mysql_connection_rules.specs.Streams.{start, stream_of}
+use Rattle.mysql_connection_statements.specs.Statements.{Statement, Statements, no_statements}
+use Rattle.mysql_connection_statements.specs.Statements.{statement_at}
+use Rattle.mysql_const.specs.declared.capabilities.Capabilities.{Capabilities}
 use Rattle.mysql_execution_contents.specs.Agreement.{Agree, BulksInForce, all_there}
 use Rattle.mysql_execution_contents.specs.Agreement.{is_about_parameters, sets_of}
 use Rattle.mysql_executions.specs.After.{freshly_prepared, is_disputed, malformed_packet}
@@ -166,12 +169,21 @@ ConnectionExecutionsAreReceived =
     AllByRecursion (Leaves id) xs → Reads statement state first (payloads_about id xs) reads →
     sets_about id xs ≡ all_there reads
 
+-- It begins where no statement is prepared: at the greeting, and behind a login.
+abbrev pub BeginsWithNone : Beginning → Type 0
+BeginsWithNone begun = begun.first.statements ≡ no_statements
+
+abbrev pub BothBeginWithNone : Type 0
+BothBeginWithNone = (limits : Limits) →
+    BeginsWithNone (from_greeting limits) ×
+    ((capabilities : Capabilities) → BeginsWithNone (from_login limits capabilities))
+
 -- Each statement has an id of its own at first, and whatever is said.
 abbrev pub IdsAreOwn : Standing → Type 0
 IdsAreOwn s = IsDistinct nat_eq (keys_of s.statements.by_id)
 
 abbrev pub IdsBeginOwn : Type 0
-IdsBeginOwn = IdsAreOwn at_first
+IdsBeginOwn = (begun : Beginning) → BeginsWithNone begun → IdsAreOwn begun.first
 
 abbrev pub IdsStayOwn : Type 0
 IdsStayOwn = (s mid : Standing) (payload : List ℕ) (event : Event) →
@@ -212,14 +224,14 @@ abbrev pub HeardIsSpoken : Type 0
 HeardIsSpoken = (w last : World) (xs : List Spoken) → Heard w xs last →
     Spoke w.standing xs last.standing
 
--- On a connection, from its first byte on: behind the answer to a prepare, by which a query's
+-- On a connection, from its beginning on: behind the answer to a prepare, by which a query's
 -- statement has this id, what `receive` reads of the commands about it the events say.
 abbrev pub StreamsAreReceived : Type 0
 StreamsAreReceived =
-    (limits : Limits) (streams : Streams) (before : List Spoken) (answer : Spoken)
+    (begun : Beginning) (streams : Streams) (before : List Spoken) (answer : Spoken)
     (xs : List Spoken) (last : World) (id : ℕ) (statement : ReceivedStatement) (first : ℕ)
-    (reads : List (List Set)) →
-    Heard (start (from_greeting limits) streams) (before ++ answer ∷ xs) last →
+    (reads : List (List Set)) → BeginsWithNone begun →
+    Heard (start begun streams) (before ++ answer ∷ xs) last →
     PreparesIn id (place_count statement.query) answer.standing.phase answer.event →
     has_query_attributes answer.standing.capabilities ≡ false →
     BulksInForce answer.standing.capabilities (payloads_about id xs) →

@@ -1,6 +1,7 @@
 //! What a connection's events say of one prepared statement. The functions change nothing: their
 //! contracts are the laws.
 
+ghost use Rattle.mysql_connection_contents.specs.Contents.{BothBeginWithNone};
 ghost use Rattle.mysql_connection_contents.specs.Contents.{ConnectionExecutionsAreReceived};
 ghost use Rattle.mysql_connection_contents.specs.Contents.{HeardIsSpoken, IdsBeginOwn, IdsStayOwn};
 ghost use Rattle.mysql_connection_contents.specs.Contents.{PreparedStatementsStand, RunsAreHeard};
@@ -41,7 +42,10 @@ pub fn prepared_statements_stand()
 {}
 
 /// Each statement of a connection has an id of its own, at first and whatever is said.
+///
+/// At the greeting, and behind a login, there is none.
 pub fn statements_keep_own_ids()
+    ensures none { BothBeginWithNone }
     ensures begins { IdsBeginOwn }
     ensures stays { IdsStayOwn }
 {}
@@ -57,12 +61,13 @@ pub fn runs_are_heard()
     last_words_are_last();
 }
 
-/// From a connection's first byte on, what `receive` reads of commands about a prepared statement,
-/// the events say.
+/// From a connection's beginning on, what `receive` reads of commands about a prepared statement, the
+/// events say.
 ///
-/// They have the same contents, in the same order, and nothing between. The statement has the id that
-/// the server's answer to its prepare gave, and as many parameters as the query has places. As for
-/// the rest it is as `connection_executions_are_received` has it.
+/// It begins at the greeting, or behind a login. They have the same contents, in the same order, and
+/// nothing between. The statement has the id that the server's answer to its prepare gave, and as
+/// many parameters as the query has places. As for the rest it is as
+/// `connection_executions_are_received` has it.
 ///
 /// MySQL: Client/Server Protocol, "Connection Lifecycle" and "Prepared Statements".
 pub fn streams_are_received()

@@ -1,5 +1,8 @@
 pub mod Limits
 pub mod PutEvents
+pub mod PutPackets
+pub mod PutPayloads
 pub mod Reading
 pub mod Waiting
 pub mod Words
+pub mod InPlace

@@ -1,9 +1,9 @@
 -- What is put, by what was written of it.
-use Rattle.std.proofs.Common.{◌≡◌, ◌<◌, ℕ, List, Option, Some, None, refl, subst, sym}
+use Rattle.std.proofs.Common.{◌<◌, ℕ, List, Option, Some, None, refl, subst, sym}
 use Rattle.mysql_connection_agreement.specs.Laws.{PutsAreRead}
 use Rattle.mysql_connection_agreement.specs.Machines.{Puts}
 use Rattle.mysql_connection_agreement.specs.Puts.{packets_for}
-use Rattle.mysql_connection_agreement.specs.Refusals.{IsUnsaid}
+use Rattle.mysql_connection_agreement.specs.Refusals.{IsUnsaid, Written}
 use Rattle.mysql_connection_rules.specs.Events.{Event, side_of}
 use Rattle.mysql_connection_rules.specs.Streams.{World}
 use Rattle.mysql_connection_writer.specs.Writes.{IsUnread, Says}
@@ -15,16 +15,21 @@ pub unread_unsaid : (w : World) (event : Event) (found : Option (List ℕ)) →
 unread_unsaid w event None unread = tt
 unread_unsaid w event (Some payload) unread = λ after e. unread payload refl (after, e)
 
--- what was appended is read, by the law
-pub read_from : PutsAreRead → (old new : World) (event : Event) (before behind : List ℕ) →
-    old.standing.number < 256 → AppendsEvent old event new before behind →
+-- what was written is read, by the law
+pub read_written : PutsAreRead → (old new : World) (event : Event) (payload before behind : List ℕ) →
+    old.standing.number < 256 → Written old event payload new before behind →
     IsReadFrom old event before behind new
-read_from law old new event before behind byte appends =
-    let payload = appends.0 in
-    let written = appends.2 in
+read_written law old new event payload before behind byte written =
     let bytes = packets_for event old.standing payload in (
       bytes,
       written.appended,
       subst (λ (w : World). Puts old event (side_of event) bytes w) (sym written.goes)
           (law old event payload written.after byte written.may),
     )
+
+-- so is what was appended
+pub read_from : PutsAreRead → (old new : World) (event : Event) (before behind : List ℕ) →
+    old.standing.number < 256 → AppendsEvent old event new before behind →
+    IsReadFrom old event before behind new
+read_from law old new event before behind byte appends =
+    read_written law old new event appends.0 before behind byte appends.2

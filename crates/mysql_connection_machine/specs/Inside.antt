@@ -6,6 +6,8 @@ use Rattle.mysql_connection_machine.specs.Machines.{LendingWorld, Machine, failu
 use Rattle.mysql_connection_machine.specs.declared.connection.Connection as connection
 use Rattle.mysql_connection_machine.specs.declared.stream_buffer.StreamBuffer as stream
 use Rattle.mysql_connection_machine.specs.declared.streams_reader.StreamsReader as reader
+use Rattle.mysql_connection_rules.specs.Standing.{Standing}
+use Rattle.mysql_connection_writer.specs.NextRows.{IsAmongRows}
 use Rattle.mysql_reply_events.specs.Standing.{RowAt}
 use Rattle.mysql_row_refs.specs.RowRefs.{row_held}
 use Rattle.mysql_row_refs.specs.declared.reader.RowReader.{RowReader}
@@ -28,6 +30,14 @@ row_lent has reader payload = None
 abbrev pub IsLent : Bool → Option RowReader → List ℕ → Type 0
 IsLent true rows payload = (row : Row) × RowAt rows payload row
 IsLent false rows payload = Unit {0}
+
+-- Where rows are put, another one changes nothing of what stands.
+abbrev pub AreRowsPut : Bool → Standing → Type 0
+AreRowsPut true standing = IsAmongRows standing
+AreRowsPut false standing = Unit {0}
+
+abbrev pub IsReaderSound : reader.TheInside.Inside → Type 0
+IsReaderSound r = IsLent r.lends r.state.rows r.server.lent × AreRowsPut r.puts_rows r.state.standing
 
 abbrev pub lending_inside : reader.TheInside.Inside → LendingWorld
 lending_inside r = record {

@@ -5,3 +5,6 @@ pub mod Takes
 pub mod Endings
 pub mod Writing
 pub mod NextRows
+pub mod PuttingPayloads
+pub mod PuttingPackets
+pub mod PuttingRows

@@ -1,8 +1,8 @@
 -- What a call that puts an event on a connection answers.
 -- MySQL: Client/Server Protocol, "Connection Lifecycle" and "MySQL Packets".
-use Rattle.std.specs.Prelude.{◌≡◌, ◌≤◌, ◌<◌, ℕ, true, false, List, ◌++◌, length, Option, Some, None, Result, Ok, Err}
+use Rattle.std.specs.Prelude.{◌≡◌, ◌+◌, ◌≤◌, ◌<◌, ℕ, List, ◌∷◌, ◌++◌, drop, length, take, Some, None, Result, Ok, Err}
 use Rattle.mysql_connection_agreement.specs.Machines.{Puts}
-use Rattle.mysql_connection_agreement.specs.Puts.{is_due, packets_for, passed, put_on, step_for}
+use Rattle.mysql_connection_agreement.specs.Puts.{packets_for, passed, put_on, step_for}
 use Rattle.mysql_connection_agreement.specs.Refusals as refusals
 use Rattle.mysql_connection_agreement.specs.Refusals.{Refuses, Written}
 use Rattle.mysql_connection_rules.specs.Events.{Event, side_of}
@@ -10,6 +10,9 @@ use Rattle.mysql_connection_rules.specs.Standing.{Standing, kept}
 use Rattle.mysql_connection_rules.specs.Streams.{World, numbered, room_to_keep, stream_of, with_stream}
 use Rattle.mysql_connection_rules.specs.declared.side.Side.{Side}
 use Rattle.mysql_connection_writer.specs.Payloads.{cause_of, payload_of}
+use Rattle.mysql_connection_writer.specs.Writes.{Says}
+use Rattle.mysql_connection_writer.specs.declared.refusal.EventRefusal.{EventRefusal}
+use Rattle.mysql_connection_writer.specs.declared.refusal.EventRefusal.TheVariants as writing
 use Rattle.mysql_connection_machine.specs.Machines.{LendingWorld, Machine, lending_none}
 use Rattle.mysql_connection_machine.specs.declared.put_refusal.PutRefusal.{PutRefusal}
 use Rattle.mysql_connection_machine.specs.declared.put_refusal.PutRefusal.TheVariants.{BadEvent, Held, Memory, NotDue}
@@ -66,6 +69,15 @@ PutsPayload old event payload before (Err Held) new behind =
 PutsPayload old event payload before (Err Memory) new behind = (new ≡ old) × (behind ≡ before)
 PutsPayload old event payload before (Err cause) new behind = ⊥
 
+-- The same of a payload that stands in a buffer behind room for a header at this place. After a
+-- refusal the buffer begins as it did.
+abbrev pub PutsBehind : LendingWorld → Event → ℕ → List ℕ → Result (Unit {0}) PutRefusal →
+    LendingWorld → List ℕ → Type 0
+PutsBehind old event start held (Ok done) new behind =
+    PutsPayload old event (drop (start + 4) held) (take start held) (Ok done) new behind
+PutsBehind old event start held (Err cause) new behind =
+    PutsPayload old event (drop (start + 4) held) (take start held) (Err cause) new (take start behind)
+
 -- When each refusal of an event comes, by its payload: the first that holds. Want of memory may stand in place of any.
 abbrev pub RefusesEvent : World → Event → PutRefusal → Type 0
 RefusesEvent w event NotDue = Refuses w event (payload_of w.standing event) refusals.NotDue
@@ -74,6 +86,19 @@ RefusesEvent w event (BadEvent cause) =
 RefusesEvent w event TooLarge = Refuses w event (payload_of w.standing event) refusals.TooLarge
 RefusesEvent w event Held = Refuses w event (payload_of w.standing event) refusals.Held
 RefusesEvent w event Memory = Unit {0}
+
+-- What a writer's refusal is here.
+abbrev pub refused_as : EventRefusal → PutRefusal
+refused_as (writing.BadEvent cause) = BadEvent cause
+refused_as writing.Memory = Memory
+
+-- The payload of an event that is due was appended behind room for a header; or it was refused, and
+-- the buffer begins as it did.
+abbrev pub WritesBehindRoom : World → Event → List ℕ → Result (Unit {0}) PutRefusal → List ℕ → Type 0
+WritesBehindRoom w event before (Ok done) behind = (payload : List ℕ) × (payload_of w.standing event ≡ Some payload) ×
+    Says w.standing event payload × (behind ≡ before ++ (0 ∷ 0 ∷ 0 ∷ 0 ∷ payload))
+WritesBehindRoom w event before (Err cause) behind =
+    RefusesEvent w event cause × (take (length before) behind ≡ before)
 
 -- The event's payload was appended in its packets, and the connection goes on behind it.
 abbrev pub AppendsEvent : World → Event → World → List ℕ → List ℕ → Type 0
@@ -87,6 +112,12 @@ PutsEvent old event before (Ok done) new behind =
     AppendsEvent old.world event new.world before behind × (new.row ≡ None)
 PutsEvent old event before (Err cause) new behind =
     (new ≡ old) × (behind ≡ before) × RefusesEvent old.world event cause
+
+-- The same of an event that is due, but that after a refusal the buffer may hold more than it did.
+abbrev pub PutsDue : LendingWorld → Event → List ℕ → Result (Unit {0}) PutRefusal → LendingWorld → List ℕ → Type 0
+PutsDue old event before (Ok done) new behind = PutsEvent old event before (Ok done) new behind
+PutsDue old event before (Err cause) new behind =
+    (new ≡ old) × (take (length before) behind ≡ before) × RefusesEvent old.world event cause
 
 -- The same of a machine that has found no fault, and finds none.
 abbrev pub PutsOn : Machine → Event → List ℕ → Result (Unit {0}) PutRefusal → Machine → List ℕ → Type 0

@@ -1,23 +1,29 @@
-//! A connection, read: bytes of both sides in, events out.
+//! A connection, read and put: bytes of both sides in, events out, and back.
 
-ghost use Rattle.std.specs.Prelude.{◌≡◌, Err, IfSome, None, OnOk, min, option_copied, option_map};
+ghost use Rattle.std.specs.Prelude.{◌≡◌, Err, IfOk, IfSome, None, OnOk, min, option_copied, option_map};
 ghost use Rattle.mysql_connection_machine.specs.Endings.{end_view, ending_of};
 ghost use Rattle.mysql_connection_machine.specs.Machines.{Answers, AnswersFault, AnswersLent, Feeds};
 ghost use Rattle.mysql_connection_machine.specs.Machines.{HoldsAtMost, TakesBytes, both_ended};
 ghost use Rattle.mysql_connection_machine.specs.Machines.{ended};
 ghost use Rattle.mysql_connection_machine.specs.Machines.{failure_in, failure_view, new_machine};
 ghost use Rattle.mysql_connection_machine.specs.Machines.{room_left, statement_meant, stream_in, turn_in};
+ghost use Rattle.mysql_connection_machine.specs.PuttingPayloads.{PutsPayloadOn, is_due_of};
+ghost use Rattle.mysql_connection_machine.specs.PuttingRows.{PutsRowOn};
 ghost use Rattle.mysql_connection_machine.specs.Writing.{IsReadFrom, PutsOn};
+ghost use Rattle.mysql_connection_machine.specs.declared.payload_refusal.PayloadRefusal.TheVariants as refusals;
 ghost use Rattle.mysql_connection_machine.specs.declared.put_refusal.PutRefusal.TheVariants.{NotDue};
-ghost use Rattle.mysql_connection_rules.specs.Streams.{from_greeting, from_login, held};
+ghost use Rattle.mysql_connection_rules.specs.Streams.{from_greeting, from_login, held, limit_of};
 ghost use Rattle.mysql_connection_state.specs.Views.{event_view, plain_phase};
+ghost use Rattle.mysql_connection_writer.specs.NextRows.{row_said};
 ghost use Rattle.mysql_row_refs.specs.RowRefs.{row_ref_view};
+ghost use Rattle.mysql_rows.specs.Views.{row_view};
 
 use crate::end::End;
 use crate::fault::{ConnectionFault, FeedRefusal};
 use crate::lent_event::LentEvent;
+use crate::payload_refusal::PayloadRefusal;
 use crate::put_refusal::PutRefusal;
-use crate::room::room;
+use crate::room::{limit_of, room};
 use crate::streams_reader::StreamsReader;
 use mysql_connection_agreement::laws::puts_are_read;
 use mysql_connection_rules::laws::{events_take_bytes, held_stays};
@@ -26,6 +32,7 @@ use mysql_connection_state::{Event, Phase, State};
 use mysql_connection_statements::Statement;
 use mysql_const::Capabilities;
 use mysql_row_refs::RowRef;
+use mysql_rows::Row;
 use std::alloc::Global;
 use std::marker::Model;
 
@@ -276,7 +283,117 @@ impl Connection {
         }
         // A byte, which the law wants to know.
         let _number = self.reader.state().number();
+        if self.reader.put_among_rows(event, out) {
+            return Ok(());
+        }
         self.reader.put(event, out)
+    }
+
+    /// Puts a row under the columns of the reply that is due, whatever columns it has itself.
+    ///
+    /// As [`Connection::put`] of the event that its cells are under these columns, where they are as
+    /// many; else under its own. A row behind another one is written where it goes: no event is made
+    /// of it, and its columns aren't compared.
+    ///
+    ///     for row in &rows {
+    ///         connection.put_row(row, &mut output)?;
+    ///     }
+    ///
+    /// Promise: exactly what `put` of that event does (`PutsRowOn`, `row_due`).
+    ///
+    /// # Errors
+    /// - Those of [`Connection::put`], in the same order.
+    ///
+    /// MySQL: Client/Server Protocol, "Text Resultset Row" and "Binary Protocol Resultset Row".
+    #[tactic(auto, using(crate::proofs::PutEvents::read_from))]
+    pub fn put_row(&mut self, row: &Row, out: &mut Vec<u8>) -> Result<(), PutRefusal>
+        ensures failed { IfSome self.old.failure (λ failure. (result ≡ Err NotDue) ×
+            (self.new ≡ self.old) × (out.new.items ≡ out.old.items)) }
+        ensures puts { self.old.failure ≡ None → PutsRowOn self.old (row_view row.now)
+            out.old.items result self.new out.new.items }
+        ensures read { OnOk result (IsReadFrom self.old.world
+            (row_said self.old.world.standing (row_view row.now)) out.old.items out.new.items
+            self.new.world) }
+    {
+        puts_are_read();
+        held_stays();
+        if self.fault.is_some() {
+            return Err(PutRefusal::NotDue);
+        }
+        // A byte, which the law wants to know.
+        let _number = self.reader.state().number();
+        self.reader.put_row(row, out)
+    }
+
+    /// Whether a payload of a side is due to be put.
+    ///
+    /// It is where it is the side's turn, its stream is open, nothing of it waits unread, and the
+    /// connection hasn't failed.
+    ///
+    /// MySQL: Client/Server Protocol, "Connection Lifecycle".
+    pub fn is_due(&self, side: Side) -> bool
+        ensures { result ≡ is_due_of self.now side }
+    {
+        match self.fault {
+            None => self.reader.awaits_payload(side),
+            Some(_) => false,
+        }
+    }
+
+    /// Appends the packets of this very payload, where one of its side is due, and goes on behind it.
+    /// Answers the event that it says.
+    ///
+    /// The connection stands then as if they had come. For who has payloads by packet writers of
+    /// their own, or passes on what another connection said. Last words are put by [`Connection::put`]
+    /// alone: an error that stands in place of an answer says what it says there.
+    ///
+    ///     let event = connection.put_payload(Side::Client, payload, &mut output)?;
+    ///     socket.write_all(&output)?;
+    ///
+    /// Promise: exactly this payload's packets are appended, numbered as it is due, and they are read
+    /// here as the event that is answered, by this connection and by any other that has seen the
+    /// same (`AppendsPayload`, `Puts`); or it is refused for the first cause that there is, and nothing
+    /// has changed (`RefusesPayload`).
+    ///
+    /// # Errors
+    /// - `NotDue` where it isn't the turn of the side, where bytes of it wait unread or its stream has
+    ///   ended, and where the connection has failed.
+    /// - `TooLarge` where the payload is longer than the limit of its side.
+    /// - `BadPayload` where it can't be read here, with the fault.
+    /// - `Held` where more would be kept behind it than the limit leaves.
+    /// - `Memory`.
+    ///
+    /// MySQL: Client/Server Protocol, "Connection Phase", "Command Phase", "MySQL Packets" and "Sequence
+    /// ID".
+    #[tactic(auto, using(crate::proofs::PutPayloads::read_payload))]
+    pub fn put_payload(
+        &mut self,
+        side: Side,
+        payload: &[u8],
+        out: &mut Vec<u8>,
+    ) -> Result<Event, PayloadRefusal>
+        ensures failed { IfSome self.old.failure (λ failure. (result ≡ Err refusals.NotDue) ×
+            (self.new ≡ self.old) × (out.new.items ≡ out.old.items)) }
+        ensures puts { self.old.failure ≡ None → PutsPayloadOn self.old side payload.now
+            out.old.items result self.new out.new.items }
+        ensures read { IfOk result (λ event. IsReadFrom self.old.world (event_view event)
+            out.old.items out.new.items self.new.world) }
+    {
+        puts_are_read();
+        held_stays();
+        if self.fault.is_some() {
+            return Err(PayloadRefusal::NotDue);
+        }
+        // A byte, which the law wants to know.
+        let _number = self.reader.state().number();
+        self.reader.put_due_payload(side, payload, out)
+    }
+
+    // The longest payload of a side.
+    pub(crate) fn limit_of(&self, side: Side) -> usize
+        ensures { result ≡ limit_of side self.now.world.limits }
+    {
+        limit_of(side, self.reader.limits())
     }
 
     /// How many bytes of a side [`Connection::feed`] takes now: none where its stream has ended.

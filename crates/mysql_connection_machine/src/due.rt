@@ -12,8 +12,8 @@ use mysql_connection_packets::is_short;
 use mysql_connection_rules::Side;
 use mysql_connection_state::Event;
 
-// The stream is open, and nothing of it waits unread.
-fn is_free(stream: &StreamBuffer) -> bool
+/// The stream is open, and nothing of it waits unread.
+pub fn is_free(stream: &StreamBuffer) -> bool
     ensures { result ≡ is_free stream.now.stream }
 {
     !stream.is_closed() && stream.is_empty()

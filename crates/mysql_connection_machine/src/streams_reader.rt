@@ -43,6 +43,8 @@ pub struct StreamsReader {
     pub(crate) server: StreamBuffer,
     // A row lies in the payload that the server's buffer lends.
     pub(crate) lends: bool,
+    // Rows of a reply are due behind others, where the one before was put.
+    pub(crate) puts_rows: bool,
 }
 
 impl Model for StreamsReader {
@@ -50,11 +52,11 @@ impl Model for StreamsReader {
 
     ghost Value = { LendingWorld };
 
-    ghost use Rattle.mysql_connection_machine.specs.Inside.{IsLent, lending_inside};
+    ghost use Rattle.mysql_connection_machine.specs.Inside.{IsReaderSound, lending_inside};
 
     ghost view = { lending_inside };
 
-    ghost invariant = { λ r. IsLent r.lends r.state.rows r.server.lent };
+    ghost invariant = { IsReaderSound };
 }
 
 impl StreamsReader {
@@ -70,6 +72,7 @@ impl StreamsReader {
             client: StreamBuffer::new(alloc),
             server: StreamBuffer::new(alloc),
             lends: false,
+            puts_rows: false,
         }
     }
 
@@ -104,6 +107,7 @@ impl StreamsReader {
         ensures err { OnErr result (self.new ≡ lending_none self.old.world) }
     {
         self.lends = false;
+        self.puts_rows = false;
         match side {
             Side::Client => self.client.extend(piece),
             Side::Server => self.server.extend(piece),
@@ -115,6 +119,7 @@ impl StreamsReader {
         ensures { self.new ≡ lending_none (come side Ended self.old.world) }
     {
         self.lends = false;
+        self.puts_rows = false;
         match side {
             Side::Client => self.client.close(),
             Side::Server => self.server.close(),
@@ -144,6 +149,7 @@ impl StreamsReader {
         ensures row { self.new.row ≡ None }
     {
         self.lends = false;
+        self.puts_rows = false;
         let number = self.state.number();
         if !has_number(number, self.server.as_slice()) {
             return Ok(None);
@@ -163,6 +169,7 @@ impl StreamsReader {
         ensures row { self.new.row ≡ None }
     {
         self.lends = false;
+        self.puts_rows = false;
         let alloc = self.alloc;
         let limits = self.limits;
         match take_packet(
@@ -186,6 +193,7 @@ impl StreamsReader {
         ensures row { self.new.row ≡ None }
     {
         self.lends = false;
+        self.puts_rows = false;
         let alloc = self.alloc;
         let limits = self.limits;
         let bytes = self.server.as_slice();
@@ -213,6 +221,7 @@ impl StreamsReader {
         ensures row { self.new.row ≡ None }
     {
         self.lends = false;
+        self.puts_rows = false;
         match self.state.turn() {
             None => Ok(None),
             Some(Side::Client) => self.next_of_client(),
@@ -241,6 +250,7 @@ impl StreamsReader {
         let alloc = self.alloc;
         let limits = self.limits;
         self.lends = false;
+        self.puts_rows = false;
         match take_lent(
             alloc,
             limits,
@@ -263,6 +273,7 @@ impl StreamsReader {
         ensures { LendsRow self.old.world result self.new }
     {
         self.lends = false;
+        self.puts_rows = false;
         let limits = self.limits;
         if take_row(limits, &mut self.state, &mut self.server) {
             self.lends = true;

@@ -7,4 +7,6 @@ mod connection;
 #[cfg(test)]
 mod memory;
 #[cfg(test)]
+mod payloads;
+#[cfg(test)]
 mod putting;

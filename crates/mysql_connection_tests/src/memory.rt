@@ -24,7 +24,7 @@ impl<R: Abort> Assert for Asserting<'_, R> {
 }
 
 // Those of a login with query attributes, EOF packets deprecated, and MariaDB's bulk executions.
-const IN_FORCE: Capabilities = Capabilities {
+pub const IN_FORCE: Capabilities = Capabilities {
     protocol: CapabilityFlags(0x09000200),
     mariadb: MariadbCapabilities(0x4),
 };

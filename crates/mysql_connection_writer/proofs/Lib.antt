@@ -6,3 +6,4 @@ pub mod Named
 pub mod Commands
 pub mod Replies
 pub mod OwnValues
+mod NextRows

@@ -58,6 +58,18 @@ said_of event after (Ok x) told s e = (
 )
 said_of event after (Err fault) told s e = absurd cc
 
+-- and what it leads to comes of that too
+pub led_to : {X : Type 0} (event : X → Event) (after : X → Standing) (r : Result X Fault)
+    (told : Event) (s : Standing) → says event after r ≡ Ok (told, s) →
+    (x : X) × (r ≡ Ok x) × (event x ≡ told) × (after x ≡ s)
+led_to event after (Ok x) told s e = (
+  x,
+  refl,
+  ap (λ (q : Event × Standing). q.0) (ok_same (event x, after x) (told, s) e),
+  ap (λ (q : Event × Standing). q.1) (ok_same (event x, after x) (told, s) e),
+)
+led_to event after (Err fault) told s e = absurd cc
+
 pub of_login_ok : {X : Type 0} (r : Result X LoginFault) (x : X) → of_login r ≡ Ok x → r ≡ Ok x
 of_login_ok (Ok y) x e = ap (λ y. Ok y) (ok_same y x e)
 of_login_ok (Err fault) x e = absurd cc

@@ -13,12 +13,12 @@ use Rattle.mysql_connection_rules.specs.Events.{Event}
 use Rattle.mysql_connection_rules.specs.Events as events
 use Rattle.mysql_connection_rules.specs.Standing.{InReply, Phase, Standing}
 use Rattle.mysql_connection_rules.specs.Standing as phases
-use Rattle.mysql_connection_rules.specs.Steps.{after_event, context_of, file_step, in_phase, of_reply}
+use Rattle.mysql_connection_rules.specs.Steps.{after_event, context_of, file_step, in_phase, in_turn, of_reply}
 use Rattle.mysql_connection_rules.specs.Steps.{reply_step, step}
 use Rattle.mysql_connection_statements.specs.Statements.{counted}
 use Rattle.mysql_connection_state.specs.Follows.{IsReplyReader, ReadsReply}
 use Rattle.mysql_connection_state.specs.Reads.{IsInReply}
-use Rattle.mysql_connection_writer.proofs.Lifting.{ok_same, said_of, unwritten}
+use Rattle.mysql_connection_writer.proofs.Lifting.{led_to, ok_same, said_of, unwritten}
 use Rattle.mysql_connection_writer.proofs.InLogin.{SaysIn, WritesIn}
 use Rattle.mysql_connection_writer.proofs.PlainBytes.{by_client, by_server}
 use Rattle.mysql_connection_writer.specs.Phases.{is_file}
@@ -85,6 +85,32 @@ said_event s r event p h = go (is_file r.so_far.awaited) refl where
         x.0.1,
         of_reply_ok (event_at (context_of s r) r.so_far p) (event, x.0.1)
             (x.1 ∙ ap (λ (q : ReplySaid). Ok (q, x.0.1)) same),
+      )
+
+-- and that is what stands behind it
+pub said_after : (s : Standing) (r : InReply) (event : ReplySaid) (after : Standing) (p : Payload) →
+    in_turn (phases.Reply r) s p ≡ Ok (events.Replied event, after) →
+    (next : ReplySoFar) × (event_at (context_of s r) r.so_far p ≡ Ok (event, next)) ×
+    (after ≡ after_event r (counted p) event next s)
+said_after s r event after p h = go (is_file r.so_far.awaited) refl where
+  go : (file : Bool) → is_file r.so_far.awaited ≡ file →
+      (next : ReplySoFar) × (event_at (context_of s r) r.so_far p ≡ Ok (event, next)) ×
+      (after ≡ after_event r (counted p) event next s)
+  go true is =
+      let told : file_step r s p ≡ Ok (events.Replied event, after) = sym (by_client r s p is) ∙ h in
+      let x = said_of (λ so_far. events.FileData p)
+      (λ so_far. in_phase (phases.Reply (record r { so_far = so_far })) s)
+      (of_reply (file_data_at r.so_far r.so_far.awaited p)) (events.Replied event) after told in
+      let differs : events.FileData p ≡ events.Replied event = x.2 in absurd cc
+  go false is =
+      let told : reply_step r s p ≡ Ok (events.Replied event, after) = sym (by_server r s p is) ∙ h in
+      let x = led_to (λ (x : ReplySaid × ReplySoFar). events.Replied x.0) (λ x. after_event r (counted p) x.0 x.1 s)
+      (of_reply (event_at (context_of s r) r.so_far p)) (events.Replied event) after told in
+      let same : x.0.0 ≡ event = same_replied x.0.0 event x.2 in (
+        x.0.1,
+        of_reply_ok (event_at (context_of s r) r.so_far p) (event, x.0.1)
+            (x.1 ∙ ap (λ (q : ReplySaid). Ok (q, x.0.1)) same),
+        sym x.3 ∙ ap (λ (q : ReplySaid). after_event r (counted p) q x.0.1 s) same,
       )
 
 -- WHAT A REPLY'S WRITER PUTS

@@ -1,6 +1,7 @@
 pub mod Commands
 pub mod Exchanges
 pub mod Fits
+pub mod NextRows
 pub mod Payloads
 pub mod Phases
 pub mod Refusals

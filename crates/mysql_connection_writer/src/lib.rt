@@ -5,7 +5,9 @@
 
 mod authentication;
 mod command;
+pub mod laws;
 mod login;
+mod next_rows;
 mod own;
 mod phases;
 mod plain;
@@ -14,5 +16,6 @@ mod reply;
 mod same;
 mod writing;
 
+pub use next_rows::{has_columns_due, write_next_row};
 pub use refusal::{BadEvent, EventRefusal};
 pub use writing::write_event;

@@ -145,6 +145,17 @@ fn put_body(
     put_attributes(&e.attributes, out)
 }
 
+// About as many bytes as the body takes, so that it seldom grows: nothing rests on it.
+fn likely_size(e: &Execution) -> usize {
+    let mut size: usize = 32;
+    for value in &e.parameters {
+        size = size
+            .saturating_add(4)
+            .saturating_add(value.bin_len() as usize);
+    }
+    size
+}
+
 /// Appends the body of an execution, behind the command's first byte, by what is in force.
 ///
 /// Promise: exactly where it can be (`can_be_put`), and the bytes are read as the execution
@@ -175,7 +186,7 @@ pub fn put_execution(
     if !can_put(capabilities, parameters, execution) {
         return Err(PutRefusal::Unreadable);
     }
-    let mut body = Vec::new(alloc);
+    let mut body = Vec::with_capacity(alloc, likely_size(execution))?;
     put_body(capabilities, parameters, execution, &mut body)?;
     out.extend_from_slice(&body)?;
     Ok(())

@@ -3,44 +3,104 @@
 //! bulk. Values and the wire are passed on with it.
 #![tactic(auto)]
 
-pub use mysql_bulk::{
-    BulkExecuteRequestError, ComStmtBulkExecuteHeader, ComStmtBulkExecuteRequest,
-    InvalidComStmtBulkExecuteHeader, StmtBulkExecuteParamType, StmtBulkExecuteParamValue,
-    StmtBulkExecuteParamValues, read_bulk_row,
-};
-pub use mysql_bulk_builder::{
-    BulkExecuteRequestBuilderError, BulkRequests, ComStmtBulkExecuteRequestBuilder,
-};
-pub use mysql_columns::{
-    Catalog, Column, ColumnDefinitionCatalog, ExtendedColumn, FixedLengthFieldsLen, InvalidCatalog,
-    InvalidFixedLengthFieldsLen, ListedColumn,
-};
+pub use mysql_bulk::BulkExecuteRequestError;
+pub use mysql_bulk::ComStmtBulkExecuteHeader;
+pub use mysql_bulk::ComStmtBulkExecuteRequest;
+pub use mysql_bulk::InvalidComStmtBulkExecuteHeader;
+pub use mysql_bulk::StmtBulkExecuteParamType;
+pub use mysql_bulk::StmtBulkExecuteParamValue;
+pub use mysql_bulk::StmtBulkExecuteParamValues;
+pub use mysql_bulk::read_bulk_row;
+pub use mysql_bulk_builder::BulkExecuteRequestBuilderError;
+pub use mysql_bulk_builder::BulkRequests;
+pub use mysql_bulk_builder::ComStmtBulkExecuteRequestBuilder;
+pub use mysql_columns::Catalog;
+pub use mysql_columns::Column;
+pub use mysql_columns::ColumnDefinitionCatalog;
+pub use mysql_columns::ExtendedColumn;
+pub use mysql_columns::FixedLengthFieldsLen;
+pub use mysql_columns::InvalidCatalog;
+pub use mysql_columns::InvalidFixedLengthFieldsLen;
+pub use mysql_columns::ListedColumn;
 pub use mysql_convert;
-pub use mysql_field_lists::{BitmapBytes, NullBitmap, NullBits};
-pub use mysql_ok_packets::{
-    CommonOkPacket, InvalidOkPacketHeader, NetworkStreamTerminator, OkPacket, OkPacketBody,
-    OkPacketDeserializer, OkPacketKind, OldEofPacket, ResultSetTerminator, has_mysql_status,
-    has_named_status,
-};
-pub use mysql_row_conversions::{RowExt, RowRefExt};
-pub use mysql_rows::{
-    ColumnIndex, Row, RowDeserializer, RowRefusal, new_row, new_row_raw, write_binary_row,
-    write_text_row,
-};
-pub use mysql_server_packets::{
-    ErrPacket, ErrPacketHeader, InvalidErrPacketHeader, InvalidLocalInfileHeader,
-    InvalidSqlStateMarker, InvalidStmtPacketStatus, LocalInfileHeader, LocalInfilePacket,
-    ProgressReport, ServerError, SqlState, SqlStateMarker, StmtPacket, StmtPacketStatus,
-    err_packet, headers, laws, local_infile, progress_report, server_error, statement,
-};
-pub use mysql_session_states::{
-    Gtids, Schema, SessionStateChange, SessionStateInfo, SystemVariable,
-    TransactionCharacteristics, TransactionState, Unsupported, put_states,
-};
-pub use mysql_stmt::{
-    ComStmtClose, ComStmtCloseHeader, ComStmtExecuteHeader, ComStmtExecuteRequest,
-    ComStmtExecuteRequestBuilder, ComStmtReset, ComStmtResetHeader, ComStmtSendLongData,
-    ComStmtSendLongDataHeader, InvalidComStmtCloseHeader, InvalidComStmtExecuteHeader,
-    InvalidComStmtResetHeader, InvalidComStmtSendLongDataHeader, InvalidIterationCount,
-    IterationCount, StatementAlone,
-};
+pub use mysql_field_lists::BitmapBytes;
+pub use mysql_field_lists::NullBitmap;
+pub use mysql_field_lists::NullBits;
+pub use mysql_from_row::FromRow;
+pub use mysql_from_row::FromRowError;
+pub use mysql_from_row::FromRowRef;
+pub use mysql_from_row::RowConversionError;
+pub use mysql_from_row::SingleValue;
+pub use mysql_from_row::SingleValueRef;
+pub use mysql_from_row::from_cell;
+pub use mysql_from_row::from_cell_ref;
+pub use mysql_from_row::from_row;
+pub use mysql_from_row::from_row_opt;
+pub use mysql_from_row::from_row_ref;
+pub use mysql_ok_packets::CommonOkPacket;
+pub use mysql_ok_packets::InvalidOkPacketHeader;
+pub use mysql_ok_packets::NetworkStreamTerminator;
+pub use mysql_ok_packets::OkPacket;
+pub use mysql_ok_packets::OkPacketBody;
+pub use mysql_ok_packets::OkPacketDeserializer;
+pub use mysql_ok_packets::OkPacketKind;
+pub use mysql_ok_packets::OldEofPacket;
+pub use mysql_ok_packets::ResultSetTerminator;
+pub use mysql_ok_packets::has_mysql_status;
+pub use mysql_ok_packets::has_named_status;
+pub use mysql_row_conversions::RowExt;
+pub use mysql_row_conversions::RowRefExt;
+pub use mysql_rows::ColumnIndex;
+pub use mysql_rows::Row;
+pub use mysql_rows::RowDeserializer;
+pub use mysql_rows::RowRefusal;
+pub use mysql_rows::new_row;
+pub use mysql_rows::new_row_raw;
+pub use mysql_rows::write_binary_row;
+pub use mysql_rows::write_text_row;
+pub use mysql_server_packets::ErrPacket;
+pub use mysql_server_packets::ErrPacketHeader;
+pub use mysql_server_packets::InvalidErrPacketHeader;
+pub use mysql_server_packets::InvalidLocalInfileHeader;
+pub use mysql_server_packets::InvalidSqlStateMarker;
+pub use mysql_server_packets::InvalidStmtPacketStatus;
+pub use mysql_server_packets::LocalInfileHeader;
+pub use mysql_server_packets::LocalInfilePacket;
+pub use mysql_server_packets::ProgressReport;
+pub use mysql_server_packets::ServerError;
+pub use mysql_server_packets::SqlState;
+pub use mysql_server_packets::SqlStateMarker;
+pub use mysql_server_packets::StmtPacket;
+pub use mysql_server_packets::StmtPacketStatus;
+pub use mysql_server_packets::err_packet;
+pub use mysql_server_packets::headers;
+pub use mysql_server_packets::laws;
+pub use mysql_server_packets::local_infile;
+pub use mysql_server_packets::progress_report;
+pub use mysql_server_packets::server_error;
+pub use mysql_server_packets::statement;
+pub use mysql_session_states::Gtids;
+pub use mysql_session_states::Schema;
+pub use mysql_session_states::SessionStateChange;
+pub use mysql_session_states::SessionStateInfo;
+pub use mysql_session_states::SystemVariable;
+pub use mysql_session_states::TransactionCharacteristics;
+pub use mysql_session_states::TransactionState;
+pub use mysql_session_states::Unsupported;
+pub use mysql_session_states::put_states;
+pub use mysql_stmt::ComStmtClose;
+pub use mysql_stmt::ComStmtCloseHeader;
+pub use mysql_stmt::ComStmtExecuteHeader;
+pub use mysql_stmt::ComStmtExecuteRequest;
+pub use mysql_stmt::ComStmtExecuteRequestBuilder;
+pub use mysql_stmt::ComStmtReset;
+pub use mysql_stmt::ComStmtResetHeader;
+pub use mysql_stmt::ComStmtSendLongData;
+pub use mysql_stmt::ComStmtSendLongDataHeader;
+pub use mysql_stmt::InvalidComStmtCloseHeader;
+pub use mysql_stmt::InvalidComStmtExecuteHeader;
+pub use mysql_stmt::InvalidComStmtResetHeader;
+pub use mysql_stmt::InvalidComStmtSendLongDataHeader;
+pub use mysql_stmt::InvalidIterationCount;
+pub use mysql_stmt::IterationCount;
+pub use mysql_stmt::StatementAlone;

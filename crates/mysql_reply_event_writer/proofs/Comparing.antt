@@ -83,6 +83,9 @@ column_decides a b =
     (Decides-and _ _ (Decides-eqb a.column_length b.column_length) (Decides-and _ _ (type_decides a.column_type b.column_type)
     (Decides-and _ _ (flags_decide a.flags b.flags) (Decides-eqb a.decimals b.decimals))))))))))
 
+pub columns_decide : (a b : List Column) → Decides (pointwise columns.TheImpl.eq-value.it a b) (map column_view a ≡ map column_view b)
+columns_decide a b = pointwise_by columns.TheImpl.eq-value.it column_view column_decides a b
+
 cell_decides : (a b : Option Value) → Decides (option_eq values.TheImpl.eq-value.it a b) (a ≡ b)
 cell_decides (Some a) (Some b) = Decides-like _ (λ h. ap (λ v. let cell : Option Value = Some v in cell) h) (λ h. cc) (value_decides a b)
 cell_decides (Some a) None = (λ h. absurd cc, λ h. absurd cc)
@@ -94,6 +97,6 @@ pub row_decides : (a b : Row) (r : Bool) →
     Decides r (row_view a ≡ row_view b)
 row_decides a b r is =
     let cells = slice_eq-Decides cell_decides a.cells.items b.cells.items _ refl in
-    let columns = pointwise_by columns.TheImpl.eq-value.it column_view column_decides (rc_slice_items a.columns) (rc_slice_items b.columns) in
+    let columns = columns_decide (rc_slice_items a.columns) (rc_slice_items b.columns) in
     let both = Decides-and _ _ cells columns in
     Decides-like r (λ h. cc) (λ h. (ap (λ (v : RowOf). v.cells) h, ap (λ (v : RowOf). v.columns) h)) (Decides-at r _ is both)

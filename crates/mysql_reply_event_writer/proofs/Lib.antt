@@ -5,3 +5,4 @@ pub mod PacketsRead
 pub mod RowsRead
 pub mod Terminators
 pub mod ReadEvents
+mod NextRows

@@ -504,7 +504,7 @@ statement_put c s payload event next small h = go (begins_with 0 payload) h wher
 
 -- ROWS
 
-same_values : (values : List Value) → values_of (map Some values) ≡ values
+pub same_values : (values : List Value) → values_of (map Some values) ≡ values
 same_values [] = refl
 same_values (value ∷ values) = ap (λ (others : List Value). value ∷ others) (same_values values)
 
@@ -516,7 +516,7 @@ below_limit : (deprecated : Bool) → terminator_limit deprecated ≤ 16777215
 below_limit true = omega arith
 below_limit false = omega arith
 
-text_begins_row : (bytes : List ℕ) → ((b : ℕ) (others : List ℕ) → bytes ≡ b ∷ others → (b ≢ 255) × (b ≡ 254 → 2 ^ 24 ≤ length bytes)) →
+pub text_begins_row : (bytes : List ℕ) → ((b : ℕ) (others : List ℕ) → bytes ≡ b ∷ others → (b ≢ 255) × (b ≡ 254 → 2 ^ 24 ≤ length bytes)) →
     BeginsRow bytes
 text_begins_row [] begins = (refl, λ deprecated. refl)
 text_begins_row (b ∷ others) begins =
@@ -564,7 +564,7 @@ RowEventPut c known columns event = (written : Payload) × (event_payload c even
     (begins_with 255 written ≡ false) × (begins_terminator c written ≡ false) × (row_event c known columns written ≡ Ok event)
 
 -- the payload of a row of these values
-row_payload : (c : Context) (columns : List ColumnDefinition) (values : List Value) →
+pub row_payload : (c : Context) (columns : List ColumnDefinition) (values : List Value) →
     (if is_binary c.kind then binary_cause columns (map Some values) else text_cause (map Some values)) ≡ None →
     event_payload c (RowEvent (whole_row columns values)) ≡
     Some (if is_binary c.kind then binary_row columns values else text_row values)
@@ -665,7 +665,7 @@ other_front : (payload : Payload) → begins_with 255 payload ≡ false → byte
 other_front [] h = refl
 other_front (b ∷ others) h = rw h refl
 
-no_report : (c : Context) (payload : Payload) → begins_with 255 payload ≡ false → has_report_form c payload ≡ false
+pub no_report : (c : Context) (payload : Payload) → begins_with 255 payload ≡ false → has_report_form c payload ≡ false
 no_report c payload h =
     neither (has_reports c.kind) (reports_progress c) (bytes_eq (take 3 payload) (255 ∷ 255 ∷ 255 ∷ [])) (other_front payload h)
 

@@ -42,12 +42,16 @@ pub record IsWritten (reader : ReaderState) (event : Event) (before after : List
 abbrev pub takes_payload : ReaderState → Bool
 takes_payload reader = is_none reader.fault && is_due reader.so_far.awaited
 
+-- When each refusal of an event comes. Want of memory may stand in place of any.
+abbrev pub RefusesEvent : ReaderState → Event → ReplyPutRefusal → Type 0
+RefusesEvent reader event NotDue = takes_payload reader ≡ false
+RefusesEvent reader event BadEvent = (takes_payload reader ≡ true) × ¬ (CanBePut reader event)
+RefusesEvent reader event Memory = Unit {0}
+
 -- What a call that writes an event does, by a reader that stays as it is. A refusal leaves the buffer as it was.
 abbrev pub WritesEvent : ReaderState → Event → Result (Unit {0}) ReplyPutRefusal → List ℕ → List ℕ → Type 0
 WritesEvent reader event (Ok _) before after = IsWritten reader event before after
-WritesEvent reader event (Err NotDue) before after = (takes_payload reader ≡ false) × (after ≡ before)
-WritesEvent reader event (Err BadEvent) before after = ¬ (CanBePut reader event) × (after ≡ before)
-WritesEvent reader event (Err Memory) before after = after ≡ before
+WritesEvent reader event (Err refusal) before after = RefusesEvent reader event refusal × (after ≡ before)
 
 -- The event's payload was appended, and the reader is behind it.
 pub record IsPut (old : ReaderState) (event : Event) (new : ReaderState) (before after : List ℕ) : Type 0 where
@@ -60,9 +64,7 @@ pub record IsPut (old : ReaderState) (event : Event) (new : ReaderState) (before
 -- What a call that puts an event does. A refusal leaves the reader and the buffer as they were.
 abbrev pub Puts : ReaderState → Event → Result (Unit {0}) ReplyPutRefusal → ReaderState → List ℕ → List ℕ → Type 0
 Puts old event (Ok _) new before after = IsPut old event new before after
-Puts old event (Err NotDue) new before after = (takes_payload old ≡ false) × (new ≡ old) × (after ≡ before)
-Puts old event (Err BadEvent) new before after = ¬ (CanBePut old event) × (new ≡ old) × (after ≡ before)
-Puts old event (Err Memory) new before after = (new ≡ old) × (after ≡ before)
+Puts old event (Err refusal) new before after = RefusesEvent old event refusal × (new ≡ old) × (after ≡ before)
 
 -- A payload is read as an event.
 abbrev pub IsTold : ReaderState → Event → Payload → Type 0

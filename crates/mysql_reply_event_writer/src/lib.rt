@@ -5,10 +5,13 @@
 #![tactic(auto)]
 
 pub mod laws;
+mod next_rows;
 mod payloads;
 mod put;
 pub mod refusal;
 mod same;
 
+pub use next_rows::write_next_row;
 pub use put::{put_event, write_event};
 pub use refusal::ReplyPutRefusal;
+pub use same::has_columns;

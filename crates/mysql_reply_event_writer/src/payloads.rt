@@ -63,7 +63,7 @@ fn has_cached_metadata(context: Context) -> bool
 }
 
 /// Rows are binary.
-fn has_binary_rows(kind: ReplyKind) -> bool
+pub fn has_binary_rows(kind: ReplyKind) -> bool
     ensures { result ≡ readings.is_binary kind }
 {
     match kind {

@@ -4,7 +4,7 @@ ghost use Rattle.std.specs.Prelude.{◌≡◌, option_map};
 ghost use Rattle.std.specs.Bool.{Decides};
 ghost use Rattle.mysql_columns.specs.Views.{column_view, extended_view, listed_view};
 ghost use Rattle.mysql_ok_packets.specs.Views.{ok_packet_view};
-ghost use Rattle.mysql_rows.specs.Views.{row_view};
+ghost use Rattle.mysql_rows.specs.Views.{column_views, row_view};
 ghost use Rattle.mysql_server_packets.specs.Views.{local_infile_view, prepare_ok_view, progress_report_view};
 ghost use Rattle.mysql_server_packets.specs.Views.{server_error_view};
 ghost use Rattle.mysql_reply_events.specs.Views.{event_view};
@@ -99,6 +99,15 @@ fn same_row(a: &Row, b: &Row) -> bool
     ensures { Decides result (row_view a.now ≡ row_view b.now) }
 {
     a == b
+}
+
+/// Whether a row has these columns.
+///
+/// MySQL: Client/Server Protocol, "Column Definition".
+pub fn has_columns(row: &Row, columns: &[Column]) -> bool
+    ensures { Decides result ((row_view row.now).columns ≡ column_views columns.now) }
+{
+    row.columns_ref() == columns
 }
 
 fn same_payload(a: &Vec<u8>, b: &Vec<u8>) -> bool

@@ -4,6 +4,7 @@ pub use Rattle.mysql_convert.specs.Numbers
 pub use Rattle.mysql_convert.specs.Booleans
 pub use Rattle.mysql_convert.specs.Texts
 pub use Rattle.mysql_convert.specs.Durations
+pub use Rattle.mysql_from_row.specs.FromRow
 pub mod Objects
 pub mod Made
 pub mod Laws

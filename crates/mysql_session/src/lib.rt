@@ -13,6 +13,10 @@ pub use mysql_convert::{
     FromValue, FromValueError, Intermediate, IntoParams, ParseIr, ToValue, ToValueError,
     from_value, from_value_opt,
 };
+pub use mysql_from_row::{
+    FromRow, FromRowError, FromRowRef, RowConversionError, SingleValue, SingleValueRef, from_cell,
+    from_cell_ref, from_row, from_row_opt, from_row_ref,
+};
 pub use mysql_packets;
 pub use mysql_packets::{
     Column, LocalInfilePacket, OkPacket, ProgressReport, ServerError, SqlState, StmtPacket,

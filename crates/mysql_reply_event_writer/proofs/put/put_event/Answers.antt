@@ -12,4 +12,4 @@ pub returns-in-Err : goal.returns-in-Err
 returns-in-Err c =
     let len : c.len-len.result ≡ length c.args.out.now.items = search rules in
     let written = c.in_ok-write_event.ensures in
-    (c.in-Err.ensures, c.truncate.ensures.items ∙ taken_back c.args.out.now.items written.payload c.write_event.new.out.items c.len-len.result written.appended len)
+    (tt, c.in-Err.ensures, c.truncate.ensures.items ∙ taken_back c.args.out.now.items written.payload c.write_event.new.out.items c.len-len.result written.appended len)

@@ -1,4 +1,4 @@
-use Rattle.std.proofs.Common.{◌≡◌, ◌≤◌, ap, subst}
+use Rattle.std.proofs.Common.{◌≤◌, ap, subst}
 use Rattle.mysql_connection_rules.specs.Standing.{Standing, kept}
 use Rattle.mysql_connection_state.specs.Views.{event_view}
 use Rattle.mysql_connection_writer.specs.Writes.{Says}

@@ -1,0 +1,264 @@
+//! Events that are put on a connection: commands, each with its reply read, and replies.
+
+use crate::LIMIT;
+use bitflags::Flags;
+use mysql_connection::{
+    Capabilities, CapabilityFlags, Connection, Event, Limits, MariadbCapabilities, ReplyEvent, Side,
+};
+use mysql_session::Row;
+use std::alloc::{AllocError, Global};
+
+/// Packets of each side as large as elsewhere here, and 16 MB for what is kept.
+const LIMITS: Limits = Limits {
+    client: LIMIT,
+    server: LIMIT,
+    held: 50331648,
+};
+
+/// A connection behind its login, of the protocol of 4.1 with EOF packets.
+fn logged_in(alloc: Global) -> Connection {
+    let capabilities = Capabilities {
+        protocol: CapabilityFlags::CLIENT_PROTOCOL_41,
+        mariadb: MariadbCapabilities::empty(),
+    };
+    Connection::after_login(alloc, LIMITS, capabilities)
+}
+
+/// What comes next, where it can be read.
+fn next_of(connection: &mut Connection) -> Option<Event> {
+    connection.next_event().ok().flatten()
+}
+
+/// Feeds a reply, and takes its events, of which there are so many at most. Answers how many there are.
+fn reply_read(connection: &mut Connection, reply: &[u8], most: usize) -> usize {
+    if connection.feed(Side::Server, reply).is_err() {
+        return 0;
+    }
+    let mut count: usize = 0;
+    for _ in 0..most {
+        match next_of(connection) {
+            Some(_) => count = count.wrapping_add(1),
+            None => return count,
+        }
+    }
+    count
+}
+
+/// The commands of a stream, where the first has this reply and each other that.
+fn commands_of(
+    alloc: Global,
+    commands: &[u8],
+    first: &[u8],
+    reply: &[u8],
+) -> Result<Vec<Event>, AllocError> {
+    let mut found = Vec::new(alloc);
+    let mut connection = logged_in(alloc);
+    if connection.feed(Side::Client, commands).is_err() {
+        return Ok(found);
+    }
+    let mut said = first;
+    for _ in 0..commands.len().saturating_mul(2) {
+        let Some(event) = next_of(&mut connection) else {
+            return Ok(found);
+        };
+        if event.side() == Side::Client {
+            found.push(event)?;
+            let _fed = connection.feed(Side::Server, said);
+            said = reply;
+        }
+    }
+    Ok(found)
+}
+
+/// Puts an event. Answers the bytes.
+#[inline(never)]
+fn put_one(connection: &mut Connection, event: &Event, out: &mut Vec<u8>) -> usize {
+    match connection.put(event, out) {
+        Ok(()) => out.len(),
+        Err(_) => 0,
+    }
+}
+
+/// Puts commands, each into a buffer that is emptied before, and reads the reply to each.
+fn put_commands(alloc: Global, commands: &[Event], first: &[u8], reply: &[u8]) -> usize {
+    let mut connection = logged_in(alloc);
+    let mut out = Vec::new(alloc);
+    let mut written: usize = 0;
+    let mut said = first;
+    for command in commands {
+        out.clear();
+        written = written.wrapping_add(put_one(&mut connection, command, &mut out));
+        let _read = reply_read(&mut connection, said, said.len());
+        said = reply;
+    }
+    written
+}
+
+/// Puts the commands of a stream on a connection, and feeds and reads the reply to each.
+///
+/// The first has one reply and each other another. All of them are put so many times, each time on
+/// a new connection. Answers the bytes of one time.
+#[unsafe(no_mangle)]
+pub extern "C" fn mysql_bench_put_commands(
+    alloc: Global,
+    commands: &[u8],
+    first: &[u8],
+    reply: &[u8],
+    times: usize,
+) -> usize {
+    let Ok(events) = commands_of(alloc, commands, first, reply) else {
+        return 0;
+    };
+    let mut written: usize = 0;
+    for _ in 0..times {
+        written = put_commands(alloc, &events, first, reply);
+    }
+    written
+}
+
+/// The events of both streams.
+fn events_of(alloc: Global, client: &[u8], server: &[u8]) -> Result<Vec<Event>, AllocError> {
+    let mut found = Vec::new(alloc);
+    let mut connection = logged_in(alloc);
+    if connection.feed(Side::Client, client).is_err() {
+        return Ok(found);
+    }
+    if connection.feed(Side::Server, server).is_err() {
+        return Ok(found);
+    }
+    for _ in 0..client.len().saturating_add(server.len()) {
+        let Some(event) = next_of(&mut connection) else {
+            return Ok(found);
+        };
+        found.push(event)?;
+    }
+    Ok(found)
+}
+
+/// Puts events on a connection. Answers whether all were put.
+fn put_all(connection: &mut Connection, events: &[Event], out: &mut Vec<u8>) -> bool {
+    for event in events {
+        if put_one(connection, event, out) == 0 {
+            return false;
+        }
+    }
+    true
+}
+
+/// Puts rows on a connection, each under the columns that are due. Answers whether all were put.
+#[inline(never)]
+fn put_rows(connection: &mut Connection, rows: &[&Row], out: &mut Vec<u8>) -> bool {
+    for row in rows {
+        if connection.put_row(row, out).is_err() {
+            return false;
+        }
+    }
+    true
+}
+
+/// The row that an event is.
+fn row_of(event: &Event) -> Option<&Row> {
+    match event {
+        Event::Reply(said) => match &**said {
+            ReplyEvent::Row(row) => Some(row),
+            _ => None,
+        },
+        _ => None,
+    }
+}
+
+/// The rows among events.
+fn rows_among(alloc: Global, events: &[Event]) -> Result<Vec<&Row>, AllocError> {
+    let mut rows = Vec::new(alloc);
+    for event in events {
+        if let Some(row) = row_of(event) {
+            rows.push(row)?;
+        }
+    }
+    Ok(rows)
+}
+
+/// The events before the last command, and those from it on.
+fn before_last_command(events: &[Event]) -> (&[Event], &[Event]) {
+    for back in 0..events.len() {
+        let place = events.len() - 1 - back;
+        if events[place].side() == Side::Client {
+            return events.split_at(place);
+        }
+    }
+    (&[], events)
+}
+
+/// The events before the first row, and those behind the last one.
+fn around_rows(events: &[Event], rows: usize) -> (&[Event], &[Event]) {
+    for place in 0..events.len() {
+        if row_of(&events[place]).is_some() {
+            let (before, others) = events.split_at(place);
+            let (_, behind) = others.split_at(rows.min(others.len()));
+            return (before, behind);
+        }
+    }
+    (events, &[])
+}
+
+/// Puts the events of both streams of a connection behind its login on one connection.
+///
+/// Those before the last command are put once, and those from it on so many times, each time into a
+/// buffer that is emptied before. Answers the bytes of one time.
+#[unsafe(no_mangle)]
+pub extern "C" fn mysql_bench_put_events(
+    alloc: Global,
+    client: &[u8],
+    server: &[u8],
+    times: usize,
+) -> usize {
+    let Ok(events) = events_of(alloc, client, server) else {
+        return 0;
+    };
+    let (before, others) = before_last_command(&events);
+    let mut connection = logged_in(alloc);
+    let mut out = Vec::new(alloc);
+    if !put_all(&mut connection, before, &mut out) {
+        return 0;
+    }
+    for _ in 0..times {
+        out.clear();
+        if !put_all(&mut connection, others, &mut out) {
+            return 0;
+        }
+    }
+    out.len()
+}
+
+/// Puts the same, where each row is put as a row, under the columns that are due.
+#[unsafe(no_mangle)]
+pub extern "C" fn mysql_bench_put_rows(
+    alloc: Global,
+    client: &[u8],
+    server: &[u8],
+    times: usize,
+) -> usize {
+    let Ok(events) = events_of(alloc, client, server) else {
+        return 0;
+    };
+    let Ok(rows) = rows_among(alloc, &events) else {
+        return 0;
+    };
+    let (before, others) = before_last_command(&events);
+    let (head, tail) = around_rows(others, rows.len());
+    let mut connection = logged_in(alloc);
+    let mut out = Vec::new(alloc);
+    if !put_all(&mut connection, before, &mut out) {
+        return 0;
+    }
+    for _ in 0..times {
+        out.clear();
+        if !put_all(&mut connection, head, &mut out)
+            || !put_rows(&mut connection, &rows, &mut out)
+            || !put_all(&mut connection, tail, &mut out)
+        {
+            return 0;
+        }
+    }
+    out.len()
+}

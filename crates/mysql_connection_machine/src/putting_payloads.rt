@@ -1,0 +1,53 @@
+//! Payloads that are put: looked at, framed, and gone on behind.
+
+ghost use Rattle.std.specs.Prelude.{◌≡◌};
+ghost use Rattle.mysql_connection_machine.specs.PuttingPayloads.{PutsPayloadOf, awaits_payload};
+
+use crate::due::is_free;
+use crate::payload_refusal::PayloadRefusal;
+use crate::put_refusal::PutRefusal;
+use crate::room::limit_of;
+use crate::streams_reader::StreamsReader;
+use mysql_connection_peek::laws::payloads_are_in_turn;
+use mysql_connection_peek::peek_event;
+use mysql_connection_rules::{Fault, Side};
+use mysql_connection_state::Event;
+
+impl StreamsReader {
+    /// Whether a payload of a side is due: it is its turn, and its stream is open and all read.
+    pub fn awaits_payload(&self, side: Side) -> bool
+        ensures { result ≡ awaits_payload self.now.world side }
+    {
+        self.state().turn() == Some(side) && is_free(self.stream(side))
+    }
+
+    /// Appends the packets of a payload of a side, where it is due, and goes on behind it. Answers
+    /// the event that it says.
+    pub fn put_due_payload(
+        &mut self,
+        side: Side,
+        payload: &[u8],
+        out: &mut Vec<u8>,
+    ) -> Result<Event, PayloadRefusal>
+        ensures { PutsPayloadOf self.old side payload.now out.old.items result self.new
+            out.new.items }
+    {
+        payloads_are_in_turn();
+        if !self.awaits_payload(side) {
+            return Err(PayloadRefusal::NotDue);
+        }
+        if payload.len() > limit_of(side, self.limits) {
+            return Err(PayloadRefusal::TooLarge);
+        }
+        let event = match peek_event(self.alloc, &self.state, payload) {
+            Ok(event) => event,
+            Err(Fault::Memory) => return Err(PayloadRefusal::Memory),
+            Err(fault) => return Err(PayloadRefusal::BadPayload(fault)),
+        };
+        match self.put_payload(&event, payload, out) {
+            Ok(()) => Ok(event),
+            Err(PutRefusal::Held) => Err(PayloadRefusal::Held),
+            Err(_) => Err(PayloadRefusal::Memory),
+        }
+    }
+}

@@ -1,0 +1,62 @@
+//! The payload that is due, whatever it is.
+
+ghost use Rattle.std.specs.Prelude.{Ok};
+ghost use Rattle.mysql_connection_rules.specs.Events as events;
+ghost use Rattle.mysql_connection_rules.specs.Steps.{step};
+ghost use Rattle.mysql_connection_state.specs.Reads.{Gives};
+ghost use Rattle.mysql_connection_state.specs.Views.{event_view};
+ghost use Rattle.mysql_connection_peek.specs.Peeks.{IsPlain, Peeks};
+
+use crate::command::peek_command;
+use crate::login::{peek_authentication, peek_greeting, peek_response};
+use crate::reply::peek_in_reply;
+use mysql_connection_rules::Fault;
+use mysql_connection_state::{Event, Phase, State};
+use mysql_queries::ByteString;
+use std::alloc::Global;
+
+// What the client answers while a user is logged in or changed: these bytes.
+fn peek_answer(alloc: Global, payload: &[u8]) -> Result<Event, Fault>
+    ensures { Gives event_view result (Ok (events.Answer payload.now)) }
+{
+    Ok(Event::Answer(ByteString::copy(alloc, payload)?))
+}
+
+// What the payload that is due says, where no exchange is due, nor a reply.
+fn peek_plain(alloc: Global, state: &State, payload: &[u8]) -> Result<Event, Fault>
+    requires { IsPlain state.now.standing.phase }
+    ensures { Peeks (step state.now.standing payload.now) result }
+{
+    match state.phase() {
+        Phase::Greeting => peek_greeting(alloc, payload),
+        Phase::Response => peek_response(alloc, state.offered().protocol, payload),
+        Phase::Answer => peek_answer(alloc, payload),
+        Phase::Command => peek_command(alloc, state, payload),
+        Phase::Over(_) => Err(Fault::Unasked),
+        Phase::Authentication | Phase::Reply | Phase::FileData => unreachable!(),
+    }
+}
+
+/// What the payload that is due says, of the side whose turn it is. The state doesn't change.
+///
+/// Promise: exactly the event of the table of steps, or its fault, for any bytes (`Peeks`, `step`).
+///
+/// # Errors
+/// - `OldProtocol`, `BadGreeting`, `BadLogin`, `BadSwitch`, `BadReply`, each named by what can't be
+///   read.
+/// - `Unasked` where nothing is due.
+/// - `Memory`.
+///
+/// MySQL: Client/Server Protocol, "Connection Phase" and "Command Phase"; MariaDB: Client/Server
+/// Protocol, "Connecting", "2 - Text Protocol" and "3 - Binary Protocol (Prepared Statements)".
+pub fn peek_event(alloc: Global, state: &State, payload: &[u8]) -> Result<Event, Fault>
+    ensures { Peeks (step state.now.standing payload.now) result }
+{
+    if let Some(exchange) = state.exchange() {
+        return peek_authentication(alloc, exchange, state.capabilities().protocol, payload);
+    }
+    if let Some(reader) = state.reply_reader() {
+        return peek_in_reply(alloc, reader, payload);
+    }
+    peek_plain(alloc, state, payload)
+}

@@ -1,0 +1,14 @@
+//! A client's commands that were read on one connection, for another one on which its statements
+//! have other ids.
+//!
+//!     ids.prepared(own, other)?;                  // as the two servers answered a prepare
+//!     let command = ids.recode(command, types)?;  // the same command, by the other server's ids
+#![tactic(auto)]
+
+pub mod laws;
+pub mod refusal;
+pub mod statement_ids;
+mod types;
+
+pub use refusal::RecodingRefusal;
+pub use statement_ids::StatementIds;

@@ -1,0 +1,21 @@
+//! Rows that become values of Rust: tuples, single values, and types of one's own, by [`FromRow`];
+//! and those of a row that is lent, where its cells lie, by [`FromRowRef`].
+//!
+//!     let (id, name) = from_row_ref::<(u32, &str)>(&row)?;
+#![tactic(auto)]
+
+mod cells;
+pub mod convert;
+pub mod errors;
+pub mod lent;
+mod lent_cells;
+mod lent_tuples;
+pub mod lent_values;
+mod tuples;
+pub mod values;
+
+pub use convert::{FromRow, from_cell, from_row, from_row_opt};
+pub use errors::{FromRowError, RowConversionError};
+pub use lent::{FromRowRef, from_cell_ref, from_row_ref};
+pub use lent_values::SingleValueRef;
+pub use values::SingleValue;
