@@ -17,12 +17,15 @@ size_t mysql_bench_recode(Pointer, size_t, Pointer, size_t);
 size_t mysql_bench_read_reply(Pointer, size_t, size_t, _Bool);
 size_t mysql_bench_lend_rows(Pointer, size_t, size_t, _Bool);
 size_t mysql_bench_store_rows(Pointer, size_t, size_t, _Bool);
-size_t mysql_bench_write_reply(Pointer, size_t, _Bool, size_t);
+size_t mysql_bench_write_reply(Pointer, size_t, _Bool, _Bool, size_t);
 size_t mysql_bench_read_reply_taken(Pointer, size_t, Pointer, size_t, size_t, size_t, _Bool);
 size_t mysql_bench_read_connection(Pointer, size_t, Pointer, size_t, size_t);
 size_t mysql_bench_read_connection_lent(Pointer, size_t, Pointer, size_t, size_t);
 size_t mysql_bench_read_apart(Pointer, size_t, Pointer, size_t, Pointer, size_t, size_t, size_t, _Bool);
 size_t mysql_bench_cells(Pointer, size_t, _Bool, _Bool, size_t);
+size_t mysql_bench_put_commands(Pointer, size_t, Pointer, size_t, Pointer, size_t, size_t);
+size_t mysql_bench_put_events(Pointer, size_t, Pointer, size_t, size_t);
+size_t mysql_bench_put_rows(Pointer, size_t, Pointer, size_t, size_t);
 int64_t mysql_bench_convert(Pointer, size_t, size_t, size_t);
 
 static void send_sets(const char *what, Work work, int rounds) {
@@ -75,6 +78,36 @@ static void read_connection(const char *what, int rounds) {
     MEASURE("apart", units, mysql_bench_read_apart(query.at, query.len, all.commands.at, all.commands.len, all.replies.at, all.replies.len, all.reply, PIECE, ENDS("-executions")))
 }
 
+// Commands put on a connection, and the reply to each read: an OK packet, or two of them, so that the replies' part is
+// known. Beside them the same sets sent by a query that is kept, which reads no reply.
+static void put_commands(const char *what, int rounds) {
+    static const unsigned char OK[] = "\7\0\0\1\0\0\0\2\0\0\0", OKS[] = "\7\0\0\1\0\0\0\12\0\0\0\7\0\0\2\0\0\0\2\0\0\0";
+    _Bool executions = ENDS("-executions");
+    Bytes query = load("query"), sets = load("sets"), commands = executions ? repeated(load("prepare"), load("executes"), 1) : load("texts");
+    double units = (double)CONNECTION_COMMANDS * PUT_TIMES;
+    Bytes first = executions ? load("prepared") : (Bytes){(unsigned char *)OK, sizeof OK - 1};
+    MEASURE("library", units, mysql_bench_put_commands(commands.at, commands.len, first.at, first.len, OK, sizeof OK - 1, PUT_TIMES))
+    if (!executions) first = (Bytes){(unsigned char *)OKS, sizeof OKS - 1};
+    MEASURE("two-replies", units, mysql_bench_put_commands(commands.at, commands.len, first.at, first.len, OKS, sizeof OKS - 1, PUT_TIMES))
+    if (executions) {
+        MEASURE("sent", units, mysql_bench_send_more(query.at, query.len, sets.at, sets.len, CONNECTION_COMMANDS, WIDTH, PUT_TIMES))
+    } else {
+        MEASURE("sent", units, mysql_bench_send_kept(query.at, query.len, sets.at, sets.len, CONNECTION_COMMANDS, WIDTH, 0, 0, 1, PUT_TIMES))
+    }
+}
+
+// A reply of many rows put on a connection event by event, and the same results written by one call.
+static void put_rows(const char *what, int rounds) {
+    _Bool binary = ENDS("-binary");
+    Bytes none = {0}, stream = load(binary ? "cells-binary" : "cells-text"), one = load(binary ? "executes" : "texts");
+    one.len = 4 + (one.at[0] | one.at[1] << 8);
+    Bytes client = binary ? repeated(load("prepare"), one, 1) : one, server = repeated(binary ? load("prepared") : none, stream, 1);
+    double units = (double)CELL_ROWS * CELL_TIMES;
+    MEASURE("library", units, mysql_bench_put_rows(client.at, client.len, server.at, server.len, CELL_TIMES))
+    MEASURE("events", units, mysql_bench_put_events(client.at, client.len, server.at, server.len, CELL_TIMES))
+    MEASURE("written", units, mysql_bench_write_reply(stream.at, stream.len, binary, binary, CELL_TIMES))
+}
+
 static void run(const char *what, int rounds) {
     Work work;
     _Bool binary = strstr(what, "binary") != 0, bytewise = strstr(what, "bytewise") != 0, taken = strstr(what, "taken") != 0;
@@ -111,7 +144,7 @@ static void run(const char *what, int rounds) {
         MEASURE(taken ? "kept" : "library", (double)ROWS, mysql_bench_read_reply(stream.at, stream.len, piece, binary))
     } else if (BEGINS("write-reply")) {
         Bytes stream = load("cells-binary");
-        MEASURE("library", (double)CELL_ROWS * CELL_TIMES, mysql_bench_write_reply(stream.at, stream.len, binary, CELL_TIMES))
+        MEASURE("library", (double)CELL_ROWS * CELL_TIMES, mysql_bench_write_reply(stream.at, stream.len, 1, binary, CELL_TIMES))
     } else if (BEGINS("cells")) {
         Bytes stream = load(binary ? "cells-binary" : "cells-text");
         _Bool by_name = strstr(what, "by-name") != 0;
@@ -119,6 +152,10 @@ static void run(const char *what, int rounds) {
     } else if (BEGINS("convert")) {
         Bytes values = load(IS("convert-digits") ? "digits" : "numbers");
         MEASURE("library", (double)CONVERTED * CONVERT_TIMES, mysql_bench_convert(values.at, values.len, CONVERTED, CONVERT_TIMES))
+    } else if (BEGINS("put-rows")) {
+        put_rows(what, rounds);
+    } else if (BEGINS("put")) {
+        put_commands(what, rounds);
     } else if (IS("connection-rows-lent")) {
         lend_connection(what, rounds);
     } else if (BEGINS("connection")) {

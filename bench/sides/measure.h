@@ -6,7 +6,7 @@
 #include <string.h>
 #include <time.h>
 
-enum { WIDTH = 4, PIECE = 65536, COPIES = 100, BYTEWISE_COPIES = 10, ROWS = 1000000, CELL_ROWS = 1000, CELL_TIMES = 1000, CONNECTION_COMMANDS = 10000, CONVERTED = 10000, CONVERT_TIMES = 1000 };
+enum { WIDTH = 4, PIECE = 65536, COPIES = 100, BYTEWISE_COPIES = 10, ROWS = 1000000, CELL_ROWS = 1000, CELL_TIMES = 1000, CONNECTION_COMMANDS = 10000, PUT_TIMES = 20, CONVERTED = 10000, CONVERT_TIMES = 1000 };
 
 __attribute__((unused)) static double now(clockid_t clock) {
     struct timespec time;

@@ -1,6 +1,6 @@
 /*
  * mysql_session: parameter sets of a query as streams of MySQL and MariaDB commands, and back; and
- * whole connections, read as events.
+ * whole connections, read as events and put.
  *
  * The library is compiled from proved code (crates/mysql_c). Each call below is an export whose
  * contract says of the object that a handle stands for what the library's own call promises. What
@@ -50,8 +50,8 @@ extern "C" {
 
 /* The number of this interface. mysql_session_abi() answers the library's: compare them before
  * any other call. It changes with each change of a declaration below, and the shared object's name
- * has it: libmysql_session.so.5. */
-#define MYSQL_SESSION_ABI 5
+ * has it: libmysql_session.so.6. */
+#define MYSQL_SESSION_ABI 6
 
 uint32_t mysql_session_abi(void);
 
@@ -174,7 +174,10 @@ enum mysql_session_code {
     MYSQL_SESSION_CONNECTION_UNASKED = 516,      /* the server says what nothing asked for */
     MYSQL_SESSION_CONNECTION_KEPT = 517,         /* more would be kept than the limit leaves */
     MYSQL_SESSION_CONNECTION_AFTER_QUIT = 518,   /* the client says more behind a quit */
-    MYSQL_SESSION_CONNECTION_NOT_DUE = 519       /* no payload of that side of a reply is due */
+    MYSQL_SESSION_CONNECTION_NOT_DUE = 519,      /* no payload of that side of a reply is due */
+
+    /* Why a payload isn't put on a connection; or one of the faults above. */
+    MYSQL_SESSION_CONNECTION_NOT_ITS_TURN = 520  /* it isn't the turn of this side's payload */
 };
 
 /* The text of a code in English, and its length without the NUL byte that stands behind it. It is
@@ -772,7 +775,8 @@ uint32_t mysql_session_binlog_dump_gtid_put(mysql_session_handle *out, uint32_t 
 
 /* A connection is fed the bytes of both of its sides, in any pieces and order, and tells what was
  * said: each payload is one event. Each payload is due of one side; what comes of the other waits
- * until its turn, so the events don't depend on how the bytes arrive.
+ * until its turn, so the events don't depend on how the bytes arrive. Payloads are put on it too: a
+ * client puts what it asks, and feeds what the server sends; a server does the reverse.
  *
  * Its handle is of a kind of its own, and begins as MYSQL_SESSION_NOTHING too. What is said above
  * of handles holds for it, but that it may be handed to another thread between two calls, under a lock
@@ -794,6 +798,14 @@ enum mysql_session_side {
  * Answers OK, MEMORY. */
 uint32_t mysql_session_connection_new(mysql_session_connection *connection, size_t client,
                                       size_t server, size_t held);
+
+/* The same of a connection behind a login that was made elsewhere, by TLS or a pool: a command is
+ * due, and no byte came since. The capabilities are those that both sides have, MariaDB's own in
+ * the second word. Answers OK, MEMORY. */
+uint32_t mysql_session_connection_after_login(mysql_session_connection *connection,
+                                              uint32_t capabilities,
+                                              uint32_t mariadb_capabilities, size_t client,
+                                              size_t server, size_t held);
 
 /* Frees the connection, as mysql_session_free does an object. */
 void mysql_session_connection_free(mysql_session_connection *connection);
@@ -921,11 +933,40 @@ typedef struct mysql_session_event {
 } mysql_session_event;
 
 /* Takes the next event, and shows it. What is shown of an event, here and by the calls below, is
- * good until the next call on the connection of _next, _finish, _new or _free; what is shown of a
- * statement or of a stream's rest until the next of these, of _feed or of _close. Answers OK, the fault of the packet that stands first (each further call answers it too; the
- * events before it stand), MEMORY (a fault too), EMPTY_HANDLE. */
+ * good until the next call on the connection of _next, _put, _put_packets, _finish, _new,
+ * _after_login or _free; what is shown of a statement or of a stream's rest until the next of these,
+ * of _feed or of _close. Answers OK, the fault of the packet that stands first (each further call
+ * answers it too; the events before it stand), MEMORY (a fault too), EMPTY_HANDLE. */
 uint32_t mysql_session_connection_next(mysql_session_connection *connection,
                                        mysql_session_event *event);
+
+/* Puts a payload of a side, where one of it is due: appends its packets to the bytes of `out`, with
+ * the numbers that are due, and goes on behind it as if they had come. The event that it says is
+ * shown as _next shows events, and the calls below are about it. A server's last words, an error
+ * where no answer is due, can't be put so. Answers OK, or why it isn't put, when nothing has
+ * changed, neither of the connection nor of `out`, nor the event that was told last:
+ * NO_SUCH_KIND (of a side, before any other); EMPTY_HANDLE, OTHER_KIND (of `out`);
+ * CONNECTION_NOT_ITS_TURN where it isn't the turn of this side, bytes of it wait unread, its stream
+ * has ended or the connection has failed; CONNECTION_TOO_LARGE; the fault of a payload that can't
+ * be read here; CONNECTION_KEPT; MEMORY. The first that holds of these is the answer. */
+uint32_t mysql_session_connection_put(mysql_session_connection *connection, uint32_t side,
+                                      const uint8_t *payload, size_t len,
+                                      mysql_session_handle *out, mysql_session_event *event);
+
+/* Puts the payloads of packets of a side, one after another, as long as they are due, as _put does
+ * each; `packets` are whole packets as the calls that send and the writers of replies append them,
+ * with any numbers, which go on within a payload of more than one. Behind OK `used` tells how many
+ * of the bytes were taken: all, or those before the first packet whose turn hasn't come (the rest is
+ * put once it has); what is cut off at the end is left. No event is shown: the calls below stay about
+ * the one that was told last.
+ * Answers OK, or why the packet isn't put that stands behind `used` bytes: those before it were
+ * put, and what was appended of them stands. CONNECTION_TOO_LARGE, CONNECTION_OUT_OF_SYNC (the
+ * numbers of a payload's own packets), the fault of a payload that can't be read here,
+ * CONNECTION_KEPT, MEMORY. Before any other NO_SUCH_KIND, EMPTY_HANDLE, OTHER_KIND, when `used`
+ * stays as it was. */
+uint32_t mysql_session_connection_put_packets(mysql_session_connection *connection,
+                                              uint32_t side, const uint8_t *packets, size_t len,
+                                              mysql_session_handle *out, size_t *used);
 
 /* Kinds of values of bulk executions: those of mysql_session_value_kind, and these. */
 enum mysql_session_bulk_kind {

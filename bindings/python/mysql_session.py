@@ -10,6 +10,13 @@ The C library of `bindings/c/mysql_session.h` by ctypes, for Python 3.8 and late
             print(values)  # (1, b"it's"), then (None, b'2024-02-29')
         print(receiver.end())
 
+And whole connections, read as events and put:
+
+    connection = Connection.after_login(capabilities)
+    stream.sendall(connection.put(Side.CLIENT, Command.query("SELECT name FROM goods")).packets)
+    for event in connection.feed(Side.SERVER, stream.recv(65536)):
+        print(event)
+
 The shared object is libmysql_session.so in the folder that the environment variable
 MYSQL_SESSION_LIBRARY names, else beside this file, as a wheel has it, else where `bindings/build`
 puts it. `__build__` says whether it was proved before it was compiled.
@@ -27,8 +34,9 @@ threads run. What goes in is copied first where it may change, as a bytearray, a
 a copy.
 
 Nothing is lost where a call can't give what it has: where MySQLSessionError by `Code.MEMORY`,
-MemoryError or KeyboardInterrupt ends it on the way, `take` and `payload` give the same at the next
-call, and what `Recoder` and `ReplyWriter` wrote comes with what they write next, or by `rest`.
+MemoryError or KeyboardInterrupt ends it on the way, `take`, `payload` and `next_event` give the
+same at the next call, what `Recoder` and `ReplyWriter` wrote comes with what they write next, or by
+`rest`, and what was put on a `Connection` with what is put next, or by `unsent`.
 
 What an object holds is freed by `close`, at the end of `with`, or when it is collected. Where that
 happens in another thread, its own thread frees it when it makes its next object, and nobody where
@@ -48,33 +56,46 @@ from __future__ import annotations
 
 import collections
 import collections.abc
+import contextlib
 import ctypes
 import dataclasses
 import datetime
+import decimal
 import enum
 import os
+import re
 import struct
 import threading
+import typing
 import weakref
-from typing import (Any, Deque, Dict, Iterable, Iterator, List, Mapping, NamedTuple, Optional,
-                    Sequence, Tuple, Type, TypeVar, Union)
+from typing import (Any, Callable, Deque, Dict, Iterable, Iterator, List, Mapping, NamedTuple,
+                    Optional, Sequence, Tuple, Type, TypeVar, Union)
 
 __all__ = [
-    "ABI", "AUTOCOMMIT", "Capability", "Cell", "Code", "Column", "ColumnType", "Content",
-    "DateFields", "DEFAULT_LIMIT", "End", "EndKind", "File", "Greeting", "Login", "Mode",
-    "MORE_RESULTS", "MySQLSessionError", "Ok", "PacketReader", "Parameter", "ParameterSets",
-    "Prepared", "Receiver", "Recoder", "ReplyKind", "ReplyReader", "ReplyWriter", "Result", "Road",
-    "Rows", "ServerError", "Spelling", "State", "Text", "TimeFields", "binlog_dump",
-    "binlog_dump_gtid", "bind_text", "code_text", "ends_reply", "is_proved", "is_safe_to_quote",
-    "library_version", "literal",
-    "positional", "put_greeting", "put_login", "put_packet", "read_greeting", "read_login",
-    "read_reply", "recode", "register_replica", "send",
+    "ABI", "AcceptedEvent", "AnswerEvent", "AuthMoreEvent", "AuthSwitchEvent", "AUTOCOMMIT",
+    "Bound", "BulkExecuteEvent", "BulkKind", "Capability", "Cell", "ChangeUserEvent", "CloseEvent",
+    "Code", "Column", "ColumnCountEvent", "ColumnEvent", "ColumnsEndEvent", "ColumnType", "Command",
+    "CommandEvent", "Connection", "ConnectionEnd", "ConnectionEndKind", "ConnectionFault",
+    "Content", "CutOffLoginEvent", "DateFields", "DEFAULT_LIMIT", "DeniedEvent", "End", "EndKind",
+    "ErrorEvent", "Event", "ExecuteEvent", "FarewellEvent", "FetchEvent", "FieldEvent", "File",
+    "FileDataEvent", "FileRequestEvent", "Greeting", "GreetingEvent", "InitDbEvent", "LineEvent",
+    "Login", "LoginEvent", "LongDataEvent", "Mode", "MORE_RESULTS", "MySQLSessionError", "Named",
+    "NextFactorEvent", "Ok", "OkEvent", "OldAuthSwitchEvent", "OtherEvent", "PacketReader",
+    "Parameter", "ParameterSets", "Phase", "PluginDataEvent", "Prepared", "PreparedEvent",
+    "PrepareEvent", "ProgressEvent", "Put", "QueryEvent", "QuitEvent", "RawRowEvent", "Reason",
+    "Receiver", "Recoder", "RejectedEvent", "ReplyKind", "ReplyReader", "ReplyWriter",
+    "ResetStatementEvent", "Result", "Road", "RowError", "RowEvent", "Rows", "RowsEndEvent",
+    "SecureRequestEvent", "ServerError", "Side", "Spelling", "State", "Statement", "Text",
+    "TimeFields", "bind_text", "binlog_dump", "binlog_dump_gtid", "code_text", "ends_reply",
+    "executions", "is_proved", "is_safe_to_quote", "library_version", "literal", "positional",
+    "put_greeting", "put_login", "put_packet", "read_greeting", "read_login", "read_reply",
+    "recode", "register_replica", "rows_as", "rows_as_dicts", "rows_as_tuples", "send",
 ]
 
 __version__ = "0.1.0"
 
 # The number of the interface that this module calls.
-ABI = 5
+ABI = 6
 
 # The max_allowed_packet that most servers have.
 DEFAULT_LIMIT = 1 << 24
@@ -168,6 +189,7 @@ class Code(enum.IntEnum):
     CONNECTION_KEPT = 517
     CONNECTION_AFTER_QUIT = 518
     CONNECTION_NOT_DUE = 519
+    CONNECTION_NOT_ITS_TURN = 520
 
 
 class Road(enum.IntEnum):
@@ -696,9 +718,12 @@ _ARGUMENTS: Dict[str, Tuple[Any, ...]] = {
     "binlog_dump_put": (_HANDLE, _U32, _U32, _U16, *_BYTES),
     "binlog_dump_gtid_put": (_HANDLE, _U32, _U64, _U16, *_BYTES, *_BYTES),
     "connection_new": (_CONNECTION, _SIZE, _SIZE, _SIZE),
+    "connection_after_login": (_CONNECTION, _U32, _U32, _SIZE, _SIZE, _SIZE),
     "connection_feed": (_CONNECTION, _U32, *_BYTES),
     "connection_close": (_CONNECTION, _U32),
     "connection_next": (_CONNECTION, _OUT),
+    "connection_put": (_CONNECTION, _U32, *_BYTES, _HANDLE, _OUT),
+    "connection_put_packets": (_CONNECTION, _U32, *_BYTES, _HANDLE, _OUT),
     "connection_value": (_CONNECTION, _SIZE, _SIZE, _OUT),
     "connection_attribute": (_CONNECTION, _SIZE, _OUT, _OUT, _OUT),
     "connection_column": (_CONNECTION, _SIZE, _OUT),
@@ -1032,10 +1057,11 @@ class _Output(_Object):
 
     def to_write(self) -> _Handle:
         """The handle, for a call that appends to the bytes that weren't given."""
+        handle: _Handle = self._handle
         if self._given:
-            _call("bytes_clear", self._handle)
+            _call("bytes_clear", handle)
             self._given = False
-        return self._handle
+        return handle
 
     def take(self) -> bytes:
         """The bytes that were appended since the last call."""
@@ -1401,6 +1427,9 @@ def recode(query: Text, stream: Union[bytes, bytearray, memoryview], statement: 
 # ---- Replies read -------------------------------------------------------------------------------
 
 
+_Record = TypeVar("_Record")
+
+
 class Column(NamedTuple):
     """A column of rows, or of a prepared statement, or a parameter of one."""
 
@@ -1451,6 +1480,19 @@ class Rows(NamedTuple):
     warnings: int
     info: bytes
     states: Tuple[State, ...]
+
+    def rows_as(self, record: Callable[..., _Record]) -> List[_Record]:
+        """The rows as records of a dataclass or a NamedTuple, as `rows_as` makes them."""
+        return rows_as(record, self.columns, self.rows)
+
+    def dicts(self) -> List[Dict[str, Any]]:
+        """The rows by the names of the columns, as `rows_as_dicts` makes them."""
+        return rows_as_dicts(self.columns, self.rows)
+
+    def tuples(self, *types: Any) -> List[Tuple[Any, ...]]:
+        """The rows with values of these types, or the columns' own, as `rows_as_tuples` makes
+        them."""
+        return rows_as_tuples(self.columns, self.rows, *types)
 
 
 class Prepared(NamedTuple):
@@ -1682,6 +1724,253 @@ def read_reply(kind: ReplyKind, capabilities: int, reply: Union[bytes, bytearray
                 raise
         end = reader.end()
         return reader.take(), end
+
+
+# ---- Rows as values of Python's types -----------------------------------------------------------
+
+
+class RowError(ValueError):
+    """A row isn't what was asked for. `column` is the name of the column that it is about, and
+    `row` the number of the row, from 0; None where it is no single row's fault."""
+
+    def __init__(self, why: str, column: str, row: Optional[int] = None) -> None:
+        super().__init__(why, column, row)
+        self.why, self.column, self.row = why, column, row
+
+    def __str__(self) -> str:
+        spot = "" if self.row is None else f"row {self.row}, "
+        return f"{spot}column {self.column}: {self.why}"
+
+
+_Reader = Callable[[Any], Any]
+
+_WHOLE_TEXT = re.compile(rb"[+-]?[0-9]+\Z")
+_DATE_TEXT = re.compile(rb"([0-9]{4})-([0-9]{2})-([0-9]{2})"
+                        rb"(?: ([0-9]{2}):([0-9]{2}):([0-9]{2})(?:\.([0-9]{1,6}))?)?\Z")
+_TIME_TEXT = re.compile(rb"(-?)([0-9]{2,9}):([0-9]{2}):([0-9]{2})(?:\.([0-9]{1,6}))?\Z")
+
+
+def _only(kinds: Any, cell: Any) -> Any:
+    """A cell, or what was found in one, where it is of one of these types."""
+    if not isinstance(cell, kinds):
+        raise ValueError
+    return cell
+
+
+def _whole(cell: Cell) -> int:
+    if isinstance(cell, bytes):
+        return int(_only(re.Match, _WHOLE_TEXT.match(cell))[0])
+    return int(_only(int, cell))
+
+
+def _truth(cell: Cell) -> bool:
+    return bool((0, 1).index(_whole(cell)))
+
+
+def _float(cell: Cell) -> float:
+    return float(_only((bytes, int, float), cell))
+
+
+def _decimal(cell: Cell) -> decimal.Decimal:
+    return decimal.Decimal(cell.decode() if isinstance(cell, bytes) else _only(int, cell))
+
+
+def _text(cell: Cell) -> str:
+    return str(_only(bytes, cell).decode("utf-8"))
+
+
+def _bytes(cell: Cell) -> bytes:
+    return bytes(_only(bytes, cell))
+
+
+def _date_in(cell: Cell) -> Union[datetime.datetime, DateFields]:
+    """The date and time of a cell, by its fields where there is no such day."""
+    if isinstance(cell, bytes):
+        *fields, digits = _only(re.Match, _DATE_TEXT.match(cell)).groups(b"0")
+        cell = DateFields(*map(int, (*fields, digits.ljust(6, b"0"))))
+        with contextlib.suppress(ValueError):
+            return datetime.datetime(*cell)
+    elif type(cell) is datetime.date:
+        return datetime.datetime(cell.year, cell.month, cell.day)
+    found: Union[datetime.datetime, DateFields] = _only((datetime.datetime, DateFields), cell)
+    return found
+
+
+def _moment(cell: Cell) -> datetime.datetime:
+    found: datetime.datetime = _only(datetime.datetime, _date_in(cell))
+    return found
+
+
+def _day_in(cell: Cell) -> Union[datetime.date, DateFields]:
+    """The date of a cell without a time of day, by its fields where there is no such day."""
+    date = _date_in(cell)
+    if isinstance(date, DateFields):
+        return date
+    if date.time() != datetime.time(0):
+        raise ValueError
+    return date.date()
+
+
+def _day(cell: Cell) -> datetime.date:
+    found: datetime.date = _only(datetime.date, _day_in(cell))
+    return found
+
+
+def _duration_in(cell: Cell) -> Union[datetime.timedelta, TimeFields]:
+    """The duration of a cell, by its fields where timedelta hasn't it."""
+    if not isinstance(cell, bytes):
+        given: Union[datetime.timedelta, TimeFields] = _only((datetime.timedelta, TimeFields), cell)
+        return given
+    sign, *fields, digits = _only(re.Match, _TIME_TEXT.match(cell)).groups(b"0")
+    hours, minutes, seconds = map(int, fields)
+    duration = datetime.timedelta(hours=hours, minutes=minutes, seconds=seconds,
+                                  microseconds=int(digits.ljust(6, b"0")))
+    return -duration if sign == b"-" else duration
+
+
+def _duration(cell: Cell) -> datetime.timedelta:
+    found: datetime.timedelta = _only(datetime.timedelta, _duration_in(cell))
+    return found
+
+
+# What reads a cell as a value of a type, be it bytes of a text row or a value of a binary one.
+_READERS: Dict[Any, _Reader] = {
+    bool: _truth, int: _whole, float: _float, decimal.Decimal: _decimal, str: _text, bytes: _bytes,
+    datetime.datetime: _moment, datetime.date: _day, datetime.timedelta: _duration,
+}
+
+# What reads the cells of a column by its type; those that aren't here are texts or bytes.
+_COLUMN_READERS: Dict[int, _Reader] = {
+    **{it: _whole for it in (ColumnType.TINY, ColumnType.SHORT, ColumnType.LONG, ColumnType.INT24,
+                             ColumnType.LONGLONG, ColumnType.YEAR)},
+    **{it: _float for it in (ColumnType.FLOAT, ColumnType.DOUBLE)},
+    **{it: _decimal for it in (ColumnType.DECIMAL, ColumnType.NEWDECIMAL)},
+    **{it: _date_in for it in (ColumnType.TIMESTAMP, ColumnType.DATETIME, ColumnType.TIMESTAMP2,
+                               ColumnType.DATETIME2)},
+    **{it: _day_in for it in (ColumnType.DATE, ColumnType.NEWDATE)},
+    **{it: _duration_in for it in (ColumnType.TIME, ColumnType.TIME2)},
+    **{it: _bytes for it in (ColumnType.BIT, ColumnType.GEOMETRY, ColumnType.VECTOR)},
+    ColumnType.JSON: _text,
+}
+
+# The collation of what is no text.
+_BINARY_COLLATION = 63
+
+
+def _reader_of(column: Column) -> _Reader:
+    """What reads a column's cells as the column says."""
+    plain = _bytes if column.charset == _BINARY_COLLATION else _text
+    return _COLUMN_READERS.get(column.type, plain)
+
+
+def _or_none(read: _Reader) -> _Reader:
+    """The same reader, which leaves NULL as None."""
+    return lambda cell: None if cell is None else read(cell)
+
+
+def _reader_for(wanted: Any, column: Column) -> _Reader:
+    """What reads a column's cells as a value of a type: Any as the column says, Optional[..] with
+    None for NULL."""
+    if wanted is Any:
+        return _or_none(_reader_of(column))
+    if wanted in _READERS:
+        return _READERS[wanted]
+    of, missing = typing.get_args(wanted), type(None)
+    if len(of) == 2 and missing in of:
+        return _or_none(_reader_for(of[of[0] is missing], column))
+    raise TypeError(f"no cell is read as {wanted}")
+
+
+def _names(columns: Sequence[Column]) -> List[str]:
+    """The names of columns."""
+    return [it.name.decode("utf-8", "surrogateescape") for it in columns]
+
+
+def _place(name: str, names: Sequence[str]) -> int:
+    """The place of the one column of a name."""
+    if names.count(name) != 1:
+        raise RowError("there are several columns of this name" if name in names
+                       else "there is no column of this name", name)
+    return names.index(name)
+
+
+def _values(columns: Sequence[Column], readers: Mapping[int, _Reader],
+            rows: Iterable[Sequence[Cell]]) -> Iterator[List[Any]]:
+    """The values at those places of rows that have readers, in the readers' order."""
+    names = _names(columns)
+    for number, row in enumerate(rows):
+        if len(row) != len(columns):
+            raise RowError(f"the row has {len(row)} cells in place of {len(columns)}", names[-1],
+                           number)
+        values = []
+        for place, read in readers.items():
+            try:
+                values.append(read(row[place]))
+            except (ValueError, ArithmeticError):
+                why = "it is NULL" if row[place] is None else "it holds no value of the type wanted"
+                raise RowError(why, names[place], number) from None
+        yield values
+
+
+def _fields_of(record: Any) -> Dict[str, bool]:
+    """The names of a record's fields, and whether each has a value by default."""
+    if dataclasses.is_dataclass(record):
+        missing = dataclasses.MISSING
+        return {it.name: it.default is not missing or it.default_factory is not missing
+                for it in dataclasses.fields(record) if it.init}
+    if issubclass(record, tuple) and hasattr(record, "_fields"):
+        return {it: it in record._field_defaults for it in record._fields}
+    raise TypeError(f"{record.__name__} is neither a dataclass nor a NamedTuple")
+
+
+def rows_as(record: Callable[..., _Record], columns: Sequence[Column],
+            rows: Iterable[Sequence[Cell]]) -> List[_Record]:
+    """Rows as records: those of a dataclass or a NamedTuple, whose fields are found by the names of
+    the columns.
+
+    A field is of the type bool, int, float, Decimal, str, bytes, datetime, date or timedelta, or
+    Optional of it where it may be NULL; Any is what the column's own type says. Rows of queries and
+    of executions give the same values. Columns without a field are passed over; a field with a
+    default takes that where there is no such column.
+
+    Raises RowError where a column of a field isn't there, or there are several of its name, and at
+    the first cell that holds no value of its field's type; TypeError for another type.
+    """
+    names, types = _names(columns), typing.get_type_hints(record)
+    fields = [name for name, has_default in _fields_of(record).items()
+              if not has_default or name in names]
+    places = {_place(name, names): name for name in fields}
+    readers = {at: _reader_for(types[name], columns[at]) for at, name in places.items()}
+    return [record(**dict(zip(fields, values))) for values in _values(columns, readers, rows)]
+
+
+def rows_as_dicts(columns: Sequence[Column],
+                  rows: Iterable[Sequence[Cell]]) -> List[Dict[str, Any]]:
+    """Rows as dicts by the names of the columns, with values of their types: int, float, Decimal,
+    str, bytes (of columns that are no text), datetime, date, timedelta; dates and durations that
+    `datetime` lacks as DateFields and TimeFields; None for NULL.
+
+    Raises RowError where two columns have one name, and where a cell isn't as its column says.
+    """
+    names = _names(columns)
+    readers = {_place(name, names): _or_none(_reader_of(columns[at]))
+               for at, name in enumerate(names)}
+    return [dict(zip(names, values)) for values in _values(columns, readers, rows)]
+
+
+def rows_as_tuples(columns: Sequence[Column], rows: Iterable[Sequence[Cell]],
+                   *types: Any) -> List[Tuple[Any, ...]]:
+    """Rows as tuples with values of these types, one for each column, as `rows_as` takes them;
+    without any, of the types that the columns say.
+
+    Raises RowError at the first cell that holds no value of its type, ValueError for another number
+    of types.
+    """
+    if types and len(types) != len(columns):
+        raise ValueError(f"there are {len(columns)} columns, and {len(types)} types")
+    readers = {at: _reader_for(types[at] if types else Any, column)
+               for at, column in enumerate(columns)}
+    return [tuple(values) for values in _values(columns, readers, rows)]
 
 
 # ---- Replies written ----------------------------------------------------------------------------
@@ -2313,13 +2602,24 @@ def _rarer_event(shown: _Event) -> Optional[Event]:
 _NO_KIND = (1 << 32) - 1
 
 
+class Put(NamedTuple):
+    """A payload that was put."""
+
+    packets: bytes
+    """Its packets, for the other side."""
+    event: Event
+    """What it says."""
+
+
 class Connection(_Object):
-    """Reads a whole connection: it is fed the bytes of both sides, in any pieces and order, and
-    tells what was said, each payload as one event.
+    """A whole connection: it is fed the bytes of both sides, in any pieces and order, and tells
+    what was said, each payload as one event. What one side says can be put in place of fed: a
+    client puts its commands and feeds what the server sends, a server does the reverse.
 
         connection = Connection()
         for event in connection.feed(Side.SERVER, greeting):
             print(event)
+        stream.sendall(connection.put(Side.CLIENT, put_login("ann", capabilities)).packets)
 
     A payload of the client has at most `client` bytes, one of the server `server`. `held` limits
     what is held in all: of each side as much waits unread as its longest payload takes, and what is
@@ -2334,10 +2634,24 @@ class Connection(_Object):
     def __init__(self, *, client: int = DEFAULT_LIMIT, server: int = DEFAULT_LIMIT,
                  held: int = 4 * DEFAULT_LIMIT) -> None:
         super().__init__()
-        # The event that was taken and not given, or one of no kind.
+        # The event that was taken and not given: as it is shown, or one of no kind; and its copy,
+        # once that is made.
         self._shown = _Event(kind=_NO_KIND)
+        self._copied: Optional[Event] = None
+        self._out = {side: _Output() for side in Side}
         sizes = (_fitting(it, _SIZE_BITS) for it in (client, server, held))
         _call("connection_new", self._at, *sizes)
+
+    @classmethod
+    def after_login(cls, capabilities: int, mariadb_capabilities: int = 0, *,
+                    client: int = DEFAULT_LIMIT, server: int = DEFAULT_LIMIT,
+                    held: int = 4 * DEFAULT_LIMIT) -> Connection:
+        """A connection behind a login that was made elsewhere, as over TLS: a command is due, and
+        the capabilities are those that both sides have."""
+        made = cls(client=client, server=server, held=held)
+        _call("connection_after_login", made._at, _fitting(capabilities, 32),
+              _fitting(mariadb_capabilities, 32), client, server, held)
+        return made
 
     def feed(self, side: Side, data: Union[bytes, bytearray, memoryview]) -> Iterator[Event]:
         """Takes a piece of a side's stream, and gives the events that stand whole then.
@@ -2365,23 +2679,79 @@ class Connection(_Object):
         Where it ends by MemoryError or by KeyboardInterrupt, the next call gives the same event.
         """
         with self._alone():
-            if self._shown.kind == _NO_KIND:
+            if self._copied is None and self._shown.kind == _NO_KIND:
                 code = _calls["connection_next"](self._at, ctypes.byref(self._shown))
                 if code:
                     raise self._fault(code)
-            event = self._event(self._shown) if self._shown.kind else None
-            self._shown.kind = _NO_KIND
+            self._copy()
+            event, self._copied = self._copied, None
             return event
 
+    def put(self, side: Side, payload: Union[bytes, bytearray, memoryview]) -> Put:
+        """Puts a payload of the side that is due, as if its packets had come: gives these, to be
+        sent to the other side, and what the payload says. The other side reads the same event.
+
+        The payload is taken byte by byte as it is. `Command` has those of commands, `put_greeting`
+        and `put_login` those of a login. A server's last words, an error where no answer is due,
+        can't be put.
+
+        Raises MySQLSessionError, and nothing changes, by CONNECTION_NOT_ITS_TURN where it isn't the
+        side's turn, its stream has ended or bytes of it wait unread; by CONNECTION_TOO_LARGE past
+        the side's limit; by the fault that the payload would be; by CONNECTION_KEPT where more
+        would be kept than the limit leaves.
+
+        Where MemoryError or KeyboardInterrupt ends the call the payload may be put: `unsent` has
+        its packets then, and the side's next put gives them before its own.
+        """
+        data, length = _lent(_received(payload))
+        out = self._out[Side(side)]
+        with self._alone():
+            self._copy()
+            shown = _Event()
+            _call("connection_put", self._at, Side(side), data, length, out.to_write(),
+                  ctypes.byref(shown))
+            event = self._event(shown)
+            return Put(out.take(), event)
+
+    def put_packets(self, side: Side,
+                    packets: Union[bytes, bytearray, memoryview]) -> Tuple[bytes, int]:
+        """Puts the payloads of packets one after another, while they are due of the side: gives
+        their packets as they are sent, and how many bytes of `packets` were taken.
+
+        The packets are such as `send`, `executions` and `ReplyWriter` make. Of several executions
+        the first is taken, with the long data before it: the next one is due behind its reply, and
+        put by another call with what is left.
+
+        Raises MySQLSessionError as `put` does where nothing is taken for it; a refusal behind a
+        payload that was put comes at the call with what is left. Where MemoryError or
+        KeyboardInterrupt ends the call, `unsent` has as many bytes as were taken.
+        """
+        data, length = _lent(_received(packets))
+        out, used = self._out[Side(side)], _SIZE()
+        with self._alone():
+            self._copy()
+            code = _calls["connection_put_packets"](self._at, Side(side), data, length,
+                                                    out.to_write(), ctypes.byref(used))
+            if code and not used.value:
+                raise MySQLSessionError(code)
+            return out.take(), used.value
+
+    def unsent(self, side: Side) -> bytes:
+        """The packets of what was put of a side and couldn't be given, as MemoryError or
+        KeyboardInterrupt ended the call: mostly none. The side's next put gives them too, before
+        its own."""
+        with self._alone():
+            return self._out[Side(side)].take()
+
     def line(self) -> str:
-        """The event that was told last as a line of text; behind `finish` how the connection
+        """The event that was told or put last as a line of text; behind `finish` how the connection
         stands, as `end Whole`."""
         with self._alone():
             return self._bytes("connection_line").decode("ascii")
 
     def columns(self) -> Tuple[Column, ...]:
         """The columns of the row that was told last, or the column that the event is."""
-        columns = []
+        columns: List[Column] = []
         with self._alone():
             while True:
                 shown = _Column()
@@ -2416,12 +2786,13 @@ class Connection(_Object):
     def room(self, side: Side) -> int:
         """How many bytes of a side `feed` takes now."""
         standing = self._standing()
-        return standing.server_room if Side(side) is Side.SERVER else standing.client_room
+        is_server = Side(side) is Side.SERVER
+        return int(standing.server_room if is_server else standing.client_room)
 
     @property
     def held(self) -> int:
         """How many bytes are held: the unread ones, and what is kept."""
-        return self._standing().held
+        return int(self._standing().held)
 
     @property
     def turn(self) -> Optional[Side]:
@@ -2443,12 +2814,12 @@ class Connection(_Object):
     @property
     def capabilities(self) -> int:
         """The capabilities in force: those that both sides have."""
-        return self._standing().capabilities
+        return int(self._standing().capabilities)
 
     @property
     def mariadb_capabilities(self) -> int:
         """MariaDB's own capabilities in force."""
-        return self._standing().mariadb_capabilities
+        return int(self._standing().mariadb_capabilities)
 
     @property
     def fault(self) -> Optional[ConnectionFault]:
@@ -2465,8 +2836,9 @@ class Connection(_Object):
     def finish(self) -> ConnectionEnd:
         """Ends both streams, and says how the connection stands. Take all events before."""
         shown = _ConnectionEnd()
-        _call("connection_finish", self._handle, ctypes.byref(shown))
-        self._shown.kind = _NO_KIND
+        with self._alone():
+            self._copy()
+            _call("connection_finish", self._at, ctypes.byref(shown))
         kind = ConnectionEndKind(shown.kind)
         if kind == ConnectionEndKind.OVER:
             return ConnectionEnd(kind, reason=Reason(shown.reason))
@@ -2475,6 +2847,21 @@ class Connection(_Object):
         if kind == ConnectionEndKind.FAULT:
             return ConnectionEnd(kind, None, Side(shown.side), Code(shown.fault), shown.byte)
         return ConnectionEnd(kind)
+
+    def close(self) -> None:
+        self._check()
+        # What was shown goes with the connection.
+        self._shown.kind, self._copied = _NO_KIND, None
+        super().close()
+        for out in self._out.values():
+            out.close()
+
+    def _copy(self) -> None:
+        """Copies the event that was taken, unless that is done: what is shown of it stays until the
+        library shows another one."""
+        if self._shown.kind != _NO_KIND:
+            self._copied = self._event(self._shown) if self._shown.kind else None
+            self._shown.kind = _NO_KIND
 
     def _standing(self) -> _Standing:
         """How the connection stands."""
@@ -2774,6 +3161,141 @@ def put_login(user: Text, capabilities: int, response: bytes = b"", database: Te
     return _written("login_put", _fitting(capabilities, 32), _fitting(mariadb_capabilities, 32),
                     _fitting(max_packet_size, 32), *_lent(user), *_lent(response),
                     *_lent(database), *_lent(plugin))
+
+
+# ---- Commands -----------------------------------------------------------------------------------
+
+
+def _counted(text: Text) -> bytes:
+    """A text behind its length, as a length-encoded string has it."""
+    data = _as_bytes(text)
+    count = len(data)
+    for first, size, most in ((b"", 1, 250), (b"\xfc", 2, 0xFFFF), (b"\xfd", 3, 0xFFFFFF)):
+        if count <= most:
+            return first + count.to_bytes(size, "little") + data
+    return b"\xfe" + count.to_bytes(8, "little") + data
+
+
+def _ended(text: Text) -> bytes:
+    """A text before a zero byte, of which it has none itself."""
+    data = _as_bytes(text)
+    if 0 in data:
+        raise ValueError("a zero byte ends a text here")
+    return data + b"\0"
+
+
+def _number(number: int, size: int) -> bytes:
+    """A number of so many bytes."""
+    return _fitting(number, 8 * size).to_bytes(size, "little")
+
+
+class Command:
+    """The payloads of commands, as `Connection.put` takes them (MySQL: Client/Server Protocol,
+    "Command Phase"). Executions are made by `executions`."""
+
+    @staticmethod
+    def quit() -> bytes:
+        """Ends the connection: it has no reply."""
+        return b"\x01"
+
+    @staticmethod
+    def init_db(schema: Text) -> bytes:
+        """Makes another schema the default."""
+        return b"\x02" + _as_bytes(schema)
+
+    @staticmethod
+    def query(text: Text, capabilities: int = 0) -> bytes:
+        """A query. Where QUERY_ATTRIBUTES is in force, which the connection's `capabilities` say,
+        it is one without attributes."""
+        without = b"\0\x01" if capabilities & Capability.QUERY_ATTRIBUTES else b""
+        return b"\x03" + without + _as_bytes(text)
+
+    @staticmethod
+    def statistics() -> bytes:
+        """Asks for a line of statistics."""
+        return b"\x09"
+
+    @staticmethod
+    def process_kill(connection: int) -> bytes:
+        """Ends another connection, by its id."""
+        return b"\x0c" + _number(connection, 4)
+
+    @staticmethod
+    def ping() -> bytes:
+        """Asks whether the server is there."""
+        return b"\x0e"
+
+    @staticmethod
+    def change_user(user: Text, capabilities: int, response: bytes = b"", database: Text = b"",
+                    plugin: Text = b"mysql_native_password", collation: int = 45) -> bytes:
+        """Logs another user in, by the connection's capabilities.
+
+        The response is what the plugin makes of the password and the scramble. Raises ValueError
+        for a text with a zero byte, OverflowError for a response of more than 255 bytes.
+        """
+        length = bool(capabilities & Capability.SECURE_CONNECTION)
+        answer = _number(len(response), 1) + response if length else _ended(response)
+        named = _ended(plugin) if capabilities & Capability.PLUGIN_AUTH else b""
+        attributes = b"\0" if capabilities & Capability.CONNECT_ATTRS else b""
+        return (b"\x11" + _ended(user) + answer + _ended(database) + _number(collation, 2) + named
+                + attributes)
+
+    @staticmethod
+    def prepare(text: Text) -> bytes:
+        """Prepares a statement; the reply has its id."""
+        return b"\x16" + _as_bytes(text)
+
+    @staticmethod
+    def long_data(statement: int, place: int, data: bytes) -> bytes:
+        """Sends a piece of the value of a parameter, by its place from 0, for the next execution:
+        it has no reply."""
+        return b"\x18" + _number(statement, 4) + _number(place, 2) + _received(data)
+
+    @staticmethod
+    def close(statement: int) -> bytes:
+        """Lets go of a statement: it has no reply."""
+        return b"\x19" + _number(statement, 4)
+
+    @staticmethod
+    def reset_statement(statement: int) -> bytes:
+        """Lets go of a statement's long data and of its cursor."""
+        return b"\x1a" + _number(statement, 4)
+
+    @staticmethod
+    def set_option(option: int) -> bytes:
+        """Turns several statements in a text on, by 0, or off, by 1."""
+        return b"\x1b" + _number(option, 2)
+
+    @staticmethod
+    def fetch(statement: int, rows: int) -> bytes:
+        """Asks for so many rows of a statement's cursor."""
+        return b"\x1c" + _number(statement, 4) + _number(rows, 4)
+
+    @staticmethod
+    def reset_connection() -> bytes:
+        """Begins the session anew: no statement is left."""
+        return b"\x1f"
+
+
+def executions(query: Text, sets: Union[ParameterSets, Iterable[Sequence[Parameter]]],
+               statement: int, road: Road = Road.EXECUTE, limit: int = DEFAULT_LIMIT, *,
+               mode: Mode = Mode()) -> bytes:
+    """The packets that execute a prepared statement with these sets, as `Connection.put_packets`
+    takes them: those of `send` behind its prepare. The statement is the id of the server's reply to
+    that.
+
+    They are laid out for a connection without QUERY_ATTRIBUTES. Raises MySQLSessionError as `send`
+    does, and ValueError for `Road.TEXT`, by which nothing is prepared.
+    """
+    if road == Road.TEXT:
+        raise ValueError("a text query executes no prepared statement")
+    stream = send(query, sets, road, statement, limit, mode=mode)
+    at, length = 0, 0xFFFFFF
+    # A packet of the greatest length goes on in the next one.
+    while length == 0xFFFFFF:
+        length = int.from_bytes(stream[at:at + 3], "little")
+        at += 4 + length
+    return stream[at:]
 
 
 # ---- Replication --------------------------------------------------------------------------------

@@ -1,19 +1,31 @@
-"""Tests of the examples: `make check`. The replay sends recorded streams to the test server."""
+"""Tests of the examples: `make check`. The client, the replay of a stream and that of a connection
+speak to the test server."""
 
 from __future__ import annotations
 
 import contextlib
+import datetime
+import io
+import json
 import os
 import pathlib
+import shutil
+import socket
 import subprocess
 import sys
 import tempfile
 import unittest
-from typing import Iterator, List, Sequence
-
-import mysql_session as ms
+from typing import Any, Dict, Iterator, List, Mapping, Sequence, Tuple
 
 EXAMPLES = pathlib.Path(__file__).resolve().parent / "examples"
+sys.path.insert(0, str(EXAMPLES))
+
+import client  # noqa: E402  (found by the line above)
+import replay_connection  # noqa: E402
+import test_server  # noqa: E402
+
+import mysql_session as ms  # noqa: E402
+from mysql_session import Command, Side  # noqa: E402
 
 GOODS_BY_ID = "SELECT * FROM goods WHERE id = ?"
 
@@ -106,6 +118,267 @@ class Examples(unittest.TestCase):
             done = replay(port, stream, "SELECT ?", "--road", "bulk")
             self.assertIn("the server takes no bulk executions", done.stderr)
             self.assertEqual(done.returncode, 2)
+
+
+# ---- The test server and the client -------------------------------------------------------------
+
+TIMES = {"columns": {"id": "bigint unsigned", "day": "date", "at": "datetime", "took": "time",
+                     "more": "json", "small": "tinyint", "data": "blob"},
+         "rows": [[1, "2024-02-29", "2024-02-29T13:14:15.000060", "-30:00:01.5", '{"a": 1}', -1,
+                   "x"],
+                  [2, None, None, None, None, None, None]]}
+FIRST = {"id": 1, "day": datetime.date(2024, 2, 29),
+         "at": datetime.datetime(2024, 2, 29, 13, 14, 15, 60),
+         "took": -datetime.timedelta(hours=30, seconds=1.5), "more": '{"a": 1}', "small": -1,
+         "data": b"x"}
+TIMES_BY_ID, SUM, INSERT = ("SELECT * FROM times WHERE id = ?", "SELECT ? + ?",
+                            "INSERT INTO times (id, data) VALUES (?, ?)")
+
+
+def added(values: Tuple[Any, ...]) -> Mapping[str, Any]:
+    """The answer to a sum."""
+    if None in values:
+        return {"columns": {"sum": "bigint"}, "rows": []}
+    return {"columns": {"sum": "bigint"}, "rows": [[sum(map(int, values))]]}
+
+
+ANSWERS: Dict[str, test_server.Given] = {
+    "SELECT * FROM times": TIMES, TIMES_BY_ID: {**TIMES, "where": ["id"]}, SUM: added,
+    INSERT: lambda values: {"affected": 1, "id": len(values[1] or b"")},
+    "SELECT * FROM secrets": {"error": 1142, "state": "42000", "message": "SELECT is denied"}}
+
+
+@contextlib.contextmanager
+def connected(answers: Mapping[str, test_server.Given]) -> Iterator[client.Client]:
+    """A client of the test server, which answers by this table."""
+    with contextlib.redirect_stdout(io.StringIO()), test_server.serving(answers) as port:
+        with client.Client(socket.create_connection(("127.0.0.1", port))) as it:
+            it.log_in("anyone", "secret", "shop")
+            yield it
+
+
+class TestServer(unittest.TestCase):
+    def dicts(self, results: Sequence[client.Result]) -> List[Dict[str, Any]]:
+        """The rows of the one result that there is."""
+        [rows] = results
+        assert isinstance(rows, ms.Rows), rows
+        return rows.dicts()
+
+    def test_queries(self) -> None:
+        with connected(ANSWERS) as it:
+            nothing = dict.fromkeys(FIRST)
+            self.assertEqual(self.dicts(it.query("SELECT *\n FROM times;")),
+                             [FIRST, {**nothing, "id": 2}])
+            self.assertEqual(it.query("SELECT * FROM secrets"),
+                             [ms.ServerError(1142, b"42000", b"SELECT is denied")])
+            [error] = it.query("SELECT 2")
+            assert isinstance(error, ms.ServerError)
+            self.assertEqual(error.code, 1064)
+            for command in (Command.ping(), Command.init_db("other"), Command.query("SET @a = 1"),
+                            Command.reset_connection(),
+                            Command.change_user("ben", it.connection.capabilities)):
+                [done] = it.results(command)
+                self.assertIsInstance(done, ms.Ok)
+            [line] = it.ask(Command.statistics())
+            self.assertEqual(line, ms.LineEvent(b"Answers are canned"))
+            [refused] = it.results(Command.process_kill(7))
+            assert isinstance(refused, ms.ServerError)
+            self.assertEqual(refused.code, 1047)
+
+    def test_statements(self) -> None:
+        with connected(ANSWERS) as it:
+            by_id = it.prepare(TIMES_BY_ID)
+            self.assertEqual((len(by_id.params), len(by_id.columns)), (1, len(FIRST)))
+            found = [self.dicts(results) for results in
+                     it.execute(TIMES_BY_ID, by_id.statement, [(1,), ("1",), (3,), (None,)])]
+            self.assertEqual(found, [[FIRST], [FIRST], [], []])
+            adds = it.prepare(SUM)
+            [results] = it.execute(SUM, adds.statement, [(2, 3)])
+            self.assertEqual(self.dicts(results), [{"sum": 5}])
+            it.tell(Command.close(adds.statement))
+            [done] = it.results(Command.reset_statement(by_id.statement))
+            self.assertIsInstance(done, ms.Ok)
+            with self.assertRaisesRegex(client.Refused, "^error 1064 .42000.: no answer"):
+                it.prepare("SELECT ?")
+
+    def test_long_data(self) -> None:
+        with connected(ANSWERS) as it:
+            statement = it.prepare(INSERT).statement
+            for _ in range(3):
+                it.tell(Command.long_data(statement, 1, b"x" * 100000))
+            # The execution has no value of its own for it.
+            [event] = it.ask(b"\x17" + statement.to_bytes(4, "little") + b"\0\1\0\0\0\0\1"
+                             b"\x08\0\xfc\0" + (7).to_bytes(8, "little"))
+            assert isinstance(event, ms.OkEvent)
+            self.assertEqual((event.affected_rows, event.last_insert_id), (1, 300000))
+
+    def test_tables(self) -> None:
+        """What is no table is refused before any client comes."""
+        tables: List[Any] = [
+            {"a": 1}, {"a": {"columns": {"a": "strange"}, "rows": []}},
+            {"a": {"columns": {"a": "int"}, "rows": [[1, 2]]}}, {"a": {"columns": {"a": "int"}}},
+            {"a": {"columns": {"a": "date"}, "rows": [["x"]]}},
+            {"a": {"columns": {"a": "int"}, "rows": [[1]], "where": ["b"]}}, []]
+        for answers in tables:
+            with self.subTest(answers=answers), self.assertRaises(test_server.NO_TABLE):
+                test_server.Table(answers)
+        with tempfile.TemporaryDirectory() as folder:
+            path = os.path.join(folder, "answers.json")
+            pathlib.Path(path).write_text(json.dumps(tables[0]), encoding="utf-8")
+            done = subprocess.run([sys.executable, str(EXAMPLES / "test_server.py"), "--answers",
+                                   path], stdout=subprocess.PIPE, stderr=subprocess.PIPE,
+                                  universal_newlines=True, timeout=60)
+        self.assertEqual((done.returncode, done.stdout), (2, ""))
+        self.assertIn("the answers can't be read", done.stderr)
+
+    def test_mariadb(self) -> None:
+        """The `mariadb` client, where there is one."""
+        name = shutil.which("mariadb")
+        if name is None:
+            self.skipTest("there is no mariadb")
+        with contextlib.redirect_stdout(io.StringIO()), test_server.serving(ANSWERS) as port:
+            words = [name, "--no-defaults", "--skip-ssl", "-h", "127.0.0.1", "-P", str(port), "-u",
+                     "anyone", "--batch", "--skip-column-names", "-e",
+                     "SELECT * FROM times; SELECT 2"]
+            done = subprocess.run(words, stdout=subprocess.PIPE, stderr=subprocess.PIPE, timeout=60,
+                                  universal_newlines=True)
+        self.assertEqual(done.stdout.splitlines(), [
+            "1\t2024-02-29\t2024-02-29 13:14:15.000060\t-30:00:01.500000\t{\"a\": 1}\t-1\tx",
+            "2" + 6 * "\tNULL"])
+        self.assertIn("ERROR 1064 (42000)", done.stderr)
+
+    def test_pymysql(self) -> None:
+        """PyMySQL, where there is a Python that has it."""
+        program = ("import pymysql, sys\nit = pymysql.connect(host='127.0.0.1', "
+                   "port=int(sys.argv[1]), user='anyone')\ncursor = it.cursor()\n"
+                   "cursor.execute('SELECT * FROM times')\nprint(cursor.fetchall()[0])\nit.ping()\n")
+        looks = [sys.executable, "/usr/bin/python3"]
+        found = [it for it in looks if os.path.exists(it) and not subprocess.run(
+            [it, "-c", "import pymysql"], stderr=subprocess.DEVNULL).returncode]
+        if not found:
+            self.skipTest("there is no PyMySQL")
+        with contextlib.redirect_stdout(io.StringIO()), test_server.serving(ANSWERS) as port:
+            done = subprocess.run([found[0], "-c", program, str(port)], stdout=subprocess.PIPE,
+                                  stderr=subprocess.PIPE, timeout=60, universal_newlines=True)
+        wanted = tuple(it for it in FIRST.values())
+        self.assertEqual((done.stderr, done.stdout), ("", f"{wanted}\n"))
+
+    def test_refused_login(self) -> None:
+        """A client that finds no server that greets, and one that is sent away."""
+        for greeting, error in ((b"", client.Gone), (b"\xff\x10\x04#08004busy", client.Refused)):
+            with socket.create_server(("127.0.0.1", 0)) as listener:
+                with client.Client(socket.create_connection(listener.getsockname())) as it:
+                    stream, _ = listener.accept()
+                    with stream:
+                        stream.sendall(ms.put_packet(greeting)[0] if greeting else b"")
+                        stream.shutdown(socket.SHUT_WR)
+                        with self.assertRaises(error):
+                            it.log_in("anyone")
+
+
+# ---- The replay of a connection -----------------------------------------------------------------
+
+
+class Recorder:
+    """Records a connection that is put together here."""
+
+    def __init__(self) -> None:
+        self._connection = ms.Connection()
+        self.streams = {side: b"" for side in Side}
+
+    def say(self, side: Side, *payloads: bytes) -> None:
+        """A side says payloads."""
+        for payload in payloads:
+            self.streams[side] += self._connection.put(side, payload).packets
+
+    def send(self, side: Side, packets: bytes) -> None:
+        """A side says what is framed."""
+        self.streams[side] += self._connection.put_packets(side, packets)[0]
+
+    def reply(self, *results: Tuple[Any, ...], kind: ms.ReplyKind = ms.ReplyKind.QUERY) -> None:
+        """The server answers by calls of a writer."""
+        with ms.ReplyWriter(kind, self._connection.capabilities) as writer:
+            for name, *given in results:
+                self.send(Side.SERVER, getattr(writer, name)(*given))
+
+
+def recorded() -> Recorder:
+    """A connection with a query, an execution, a refusal and a file."""
+    it = Recorder()
+    it.say(Side.SERVER, ms.put_greeting(7, "8.0.0", int(test_server.CAPABILITIES), b"12345678",
+                                        b"123456789012"))
+    it.say(Side.CLIENT, ms.put_login("ann", int(client.CAPABILITIES)))
+    it.reply(("ok",))
+    it.say(Side.CLIENT, Command.query("SELECT * FROM times"))
+    it.reply(("rows", [test_server.column("n", "int")]), ("row", (1,)), ("row", (2,)),
+             ("end_rows",))
+    it.say(Side.CLIENT, Command.prepare(TIMES_BY_ID))
+    it.reply(("prepared", 500, [test_server.column("?", "int")], [test_server.column("n", "int")]),
+             kind=ms.ReplyKind.PREPARE)
+    it.send(Side.CLIENT, ms.executions(TIMES_BY_ID, [(1,)], 500))
+    it.reply(("rows", [test_server.column("n", "int")]), ("row", (1,)), ("end_rows",),
+             kind=ms.ReplyKind.EXECUTE)
+    it.say(Side.CLIENT, Command.query("SELECT * FROM secrets"))
+    it.reply(("ok", 5))
+    it.say(Side.CLIENT, Command.process_kill(8))
+    it.reply(("ok",))
+    it.say(Side.CLIENT, Command.close(500), Command.reset_statement(500))
+    it.reply(("error", 1243, "HY000", "no such statement"))
+    it.say(Side.CLIENT, Command.quit())
+    return it
+
+
+class ReplayOfAConnection(unittest.TestCase):
+    LINES = ["0 Query SELECT * FROM times: 2 rows",
+             f"1 Prepare {TIMES_BY_ID}: a statement of 1 parameters and 7 columns; recorded was "
+             "a statement of 1 parameters and 1 columns",
+             f"2 Execute {TIMES_BY_ID}: 1 rows",
+             "3 Query SELECT * FROM secrets: error 1142; recorded was OK, 5 rows affected",
+             "4 command 12: left out, it is no command for a replay",
+             "5 Close: nothing",
+             "6 ResetStatement: left out, its statement isn't prepared here",
+             "8 commands, 2 answers differ"]
+
+    def replay(self, streams: Mapping[Side, bytes]) -> Tuple[int, List[str]]:
+        """The status of a replay, and what it prints."""
+        with tempfile.TemporaryDirectory() as folder:
+            paths = [os.path.join(folder, it.name) for it in Side]
+            for side, path in zip(Side, paths):
+                pathlib.Path(path).write_bytes(streams[side])
+            with contextlib.redirect_stdout(io.StringIO()) as out, \
+                    test_server.serving(ANSWERS) as port:
+                command = [sys.executable, str(EXAMPLES / "replay_connection.py"), *paths,
+                           f"127.0.0.1:{port}", "--user", "anyone"]
+                done = subprocess.run(command, stdout=subprocess.PIPE, stderr=subprocess.PIPE,
+                                      universal_newlines=True, timeout=60)
+        self.assertEqual(done.stderr, "")
+        self.assertIn("client 1: anyone", out.getvalue())
+        return done.returncode, done.stdout.splitlines()
+
+    def test_answers(self) -> None:
+        self.assertEqual(self.replay(recorded().streams), (1, self.LINES))
+
+    def test_fault(self) -> None:
+        """A recording with a fault is replayed up to there."""
+        streams = recorded().streams
+        streams[Side.CLIENT] = streams[Side.CLIENT].replace(
+            ms.put_packet(Command.process_kill(8))[0], b"\1\0\0\7\x0e")
+        status, lines = self.replay(streams)
+        self.assertEqual((status, lines[:3]), (1, self.LINES[:3]))
+        self.assertRegex(lines[-1], "^the recording can't be read further: client, byte [0-9]+: ")
+
+    def test_recordings(self) -> None:
+        """All recordings are read to their ends or to their faults."""
+        folder = EXAMPLES.parent.parent.parent / "crates" / "connection_conformance" / "data"
+        for path in sorted(folder.glob("*.client")):
+            server = path.with_suffix(".server").read_bytes()
+            recording = replay_connection.Recording(path.read_bytes(), server)
+            commands: List[replay_connection.Recorded] = []
+            with contextlib.suppress(ms.ConnectionFault):
+                commands += recording.commands()
+            events = path.with_suffix(".events").read_text().splitlines()
+            prepared = sum(it.startswith("server Prepared") for it in events)
+            self.assertEqual(sum(len(it.given) for it in commands), prepared, path)
 
 
 if __name__ == "__main__":

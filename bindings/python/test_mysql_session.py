@@ -1387,6 +1387,18 @@ def connection_steps() -> Steps:
                 found += connection.feed(side, piece)
         yield connection
         found.append(connection.finish())
+    with ms.Connection.after_login(PROTOCOL_41) as connection:
+        found.append(connection.put(ms.Side.CLIENT, ms.Command.prepare(TWO)))
+        yield connection
+        with ms.ReplyWriter(ReplyKind.PREPARE, PROTOCOL_41) as writer:
+            packets = writer.prepared(1, [Column(b"?", 8)] * 2, [])
+        found.append(connection.put_packets(ms.Side.SERVER, packets))
+        yield connection
+        packets = ms.executions(TWO, ROWS, 1)
+        found.append(connection.put_packets(ms.Side.CLIENT, packets))
+        yield connection
+        found.append(connection.unsent(ms.Side.CLIENT))
+        found.append(connection.finish())
         yield connection
         return found + [connection.line()]
 
@@ -1430,7 +1442,10 @@ CALLS: Dict[Type[ms._Object], Dict[str, Callable[[Any], object]]] = {
         "turn": lambda it: it.turn, "phase": lambda it: it.phase, "reason": lambda it: it.reason,
         "capabilities": lambda it: it.capabilities, "fault": lambda it: it.fault,
         "mariadb_capabilities": lambda it: it.mariadb_capabilities,
-        "close_side": lambda it: it.close_side(ms.Side.SERVER), "finish": ms.Connection.finish},
+        "close_side": lambda it: it.close_side(ms.Side.SERVER), "finish": ms.Connection.finish,
+        "put": lambda it: it.put(ms.Side.CLIENT, b"\x0e"),
+        "put_packets": lambda it: it.put_packets(ms.Side.CLIENT, b"\x01\0\0\0\x0e"),
+        "unsent": lambda it: it.unsent(ms.Side.CLIENT)},
 }
 for given in CALLS.values():
     given["close"] = lambda it: it.close()
@@ -1470,6 +1485,8 @@ class OneCall(Case):
         plain = {"__init__", "__enter__", "__exit__"}
         for kind, calls in CALLS.items():
             found: Set[str] = {it for it in dir(kind) if not it.startswith("_")} | plain
+            # What makes another object is no call of this one.
+            found -= {it for it in found if isinstance(vars(kind).get(it), classmethod)}
             found |= {it for it in ("__iter__", "__len__") if hasattr(kind, it)}
             self.assertEqual(set(calls), found, kind)
         kinds = {it for it in vars(ms).values()

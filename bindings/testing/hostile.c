@@ -7,8 +7,10 @@
  * Both streams of a recording are changed (bytes, lengths and numbers of packets; pieces left out,
  * put in, repeated, taken from other recordings), and read twice under limits that are large or
  * small: in pieces as large as there is room for, and in small ones in a random order. Both have to
- * tell the same events and the same end. All that can be asked of an event is asked. What differs
- * is printed with the seed that shows it, and the status is 1. */
+ * tell the same events and the same end. All that can be asked of an event is asked. Then the same
+ * payloads are put on a connection one by one: each has to be the event that was read, in the bytes
+ * that the stream has, or be refused by the fault that was found, and a refusal changes nothing.
+ * What differs is printed with the seed that shows it, and the status is 1. */
 #include "mysql_session.h"
 
 #include <stdio.h>
@@ -18,6 +20,8 @@
 
 #define LONGEST 60000
 #define MOST 256
+/* No event has fewer bytes of both streams. */
+#define EVENTS (LONGEST / 2 + 1)
 
 typedef struct bytes {
     uint8_t *at;
@@ -31,6 +35,9 @@ typedef struct told {
     size_t rows;
     mysql_session_connection_end end;
 } told;
+
+/* What the sum was behind each event of the connection that was read last. */
+static uint64_t sums[EVENTS];
 
 static bytes recordings[MOST][2];
 static size_t recorded;
@@ -198,9 +205,10 @@ static bool take(mysql_session_connection *connection, told *of, bool *ended) {
         }
         if (event.kind == MYSQL_SESSION_EVENT_NONE) return any;
         any = true;
-        of->events++;
         of->rows += event.kind == MYSQL_SESSION_EVENT_ROW;
         ask(connection, of, &event);
+        if (of->events < EVENTS) sums[of->events] = of->sum;
+        of->events++;
     }
 }
 
@@ -254,6 +262,96 @@ static told read_connection(const bytes streams[2], const size_t limits[3], bool
     return of;
 }
 
+/* ---- Putting --------------------------------------------------------------------------------- */
+
+/* Whether both standings are one. */
+static bool is_same(const mysql_session_standing *one, const mysql_session_standing *other) {
+    return one->turn == other->turn && one->phase == other->phase &&
+           one->reason == other->reason && one->capabilities == other->capabilities &&
+           one->mariadb_capabilities == other->mariadb_capabilities &&
+           one->fault == other->fault && one->client_room == other->client_room &&
+           one->server_room == other->server_room && one->held == other->held;
+}
+
+/* A put that has to be refused, by this code, or by any where it is OK. Nothing changes. */
+static uint32_t refused(mysql_session_connection *connection, uint32_t side, const uint8_t *payload,
+                        size_t len, mysql_session_handle *out, uint32_t code) {
+    mysql_session_standing before, behind;
+    mysql_session_event event;
+    const uint8_t *data;
+    size_t count, more;
+    must(mysql_session_connection_standing(connection, &before), "standing");
+    must(mysql_session_bytes_data(out, &data, &count), "data");
+    uint32_t answer = mysql_session_connection_put(connection, side, payload, len, out, &event);
+    if (answer == MYSQL_SESSION_OK || (code != MYSQL_SESSION_OK && answer != code))
+        fail("a payload isn't refused as it was");
+    must(mysql_session_connection_standing(connection, &behind), "standing");
+    must(mysql_session_bytes_data(out, &data, &more), "data");
+    if (!is_same(&before, &behind) || count != more) fail("a refusal changes something");
+    return answer;
+}
+
+/* Puts the payloads of both streams one by one, where `read` is what was read of them. */
+static void put_connection(const bytes streams[2], const size_t limits[3], const told *read) {
+    mysql_session_connection connection = MYSQL_SESSION_NOTHING;
+    mysql_session_handle out = MYSQL_SESSION_NOTHING;
+    told of = {0xcbf29ce484222325ULL, 0, 0, {0, 0, 0, 0, 0}};
+    size_t done[2] = {0, 0};
+    must(mysql_session_connection_new(&connection, limits[0], limits[1], limits[2]), "new");
+    must(mysql_session_bytes_new(&out), "bytes");
+    for (;;) {
+        mysql_session_standing standing;
+        mysql_session_event event;
+        const uint8_t *put;
+        size_t len;
+        must(mysql_session_connection_standing(&connection, &standing), "standing");
+        uint32_t side = standing.turn;
+        if (side == MYSQL_SESSION_NOBODY) break;
+        const uint8_t *packet = streams[side].at + done[side];
+        size_t left = streams[side].len - done[side];
+        if (left < 4) break;
+        size_t count = packet[0] | (size_t)packet[1] << 8 | (size_t)packet[2] << 16;
+        if (count > left - 4 || count == 0xffffff) break;
+        if (below(4) == 0)
+            refused(&connection, !side, packet + 4, count, &out,
+                    MYSQL_SESSION_CONNECTION_NOT_ITS_TURN);
+        /* A copy of just these bytes, so that a read behind them is seen. */
+        uint8_t *payload = malloc(count + !count);
+        if (!payload) fail("no memory");
+        memcpy(payload, packet + 4, count);
+        must(mysql_session_bytes_clear(&out), "clear");
+        uint32_t code = mysql_session_connection_put(&connection, side, payload, count, &out,
+                                                     &event);
+        if (code != MYSQL_SESSION_OK) {
+            refused(&connection, side, payload, count, &out, code);
+            free(payload);
+            bool is_fault = read->end.kind == MYSQL_SESSION_CONNECTION_FAULT &&
+                            read->events == of.events;
+            bool is_number = is_fault && read->end.fault == MYSQL_SESSION_CONNECTION_OUT_OF_SYNC;
+            /* An error before its number is due was read as last words. */
+            bool is_last = read->events == of.events + 1 &&
+                           read->end.kind == MYSQL_SESSION_CONNECTION_OVER &&
+                           read->end.reason == MYSQL_SESSION_REASON_FAREWELL;
+            if (!is_number && !is_last && !(is_fault && read->end.fault == code))
+                fail("a payload is refused by a fault that wasn't found");
+            break;
+        }
+        free(payload);
+        must(mysql_session_bytes_data(&out, &put, &len), "data");
+        if (len != count + 4 || memcmp(put + 4, packet + 4, count) != 0)
+            fail("other bytes are put");
+        /* By another number the stream said something else, or nothing that can be read. */
+        if (put[3] != packet[3]) break;
+        ask(&connection, &of, &event);
+        if (of.events >= read->events || of.sum != sums[of.events])
+            fail("a payload that is put is another event");
+        of.events++;
+        done[side] += count + 4;
+    }
+    mysql_session_free(&out);
+    mysql_session_connection_free(&connection);
+}
+
 /* ---- One after the other --------------------------------------------------------------------- */
 
 static void one(uint64_t seed, size_t *events, size_t *rows, size_t ends[5]) {
@@ -278,8 +376,8 @@ static void one(uint64_t seed, size_t *events, size_t *rows, size_t ends[5]) {
         limits[1] = 4 + below(2000);
         limits[2] = limits[0] + limits[1] + 8 + below(4000);
     }
-    told whole = read_connection(streams, limits, false);
     told pieces = read_connection(streams, limits, true);
+    told whole = read_connection(streams, limits, false);
     if (whole.sum != pieces.sum || whole.events != pieces.events ||
         whole.end.kind != pieces.end.kind || whole.end.byte != pieces.end.byte ||
         whole.end.fault != pieces.end.fault || whole.end.side != pieces.end.side) {
@@ -290,6 +388,7 @@ static void one(uint64_t seed, size_t *events, size_t *rows, size_t ends[5]) {
                whole.end.kind, whole.end.side, whole.end.fault, (unsigned long long)whole.end.byte);
         exit(1);
     }
+    put_connection(streams, limits, &whole);
     *events += whole.events;
     *rows += whole.rows;
     ends[whole.end.kind]++;

@@ -92,15 +92,31 @@ def test_rust(report, library, room):
         report.run("recorded connections through the proxy", run, words)
 
 
-def test_python(report, library):
-    """Runs the module's tests, and reads each example as a program."""
+def three_machines(events, **how):
+    """A client, a server and an auditor agree on random scripts; tells how many, and their seeds."""
+    words = ["python3", os.path.join(BINDINGS, "testing", "three_machines.py"), RECORDINGS]
+    print("  " + run(words + (["--events", str(events)] if events else []), **how).strip()
+          .replace("\n", "\n  "), flush=True)
+
+
+def test_python(report, library, room, events=None):
+    """Runs the module's tests, looks at its types, has random scripts say so many events, and reads
+    each example as a program."""
     folder = os.path.join(BINDINGS, "python")
     how = {"cwd": folder, "env": python_environment(library)}
     report.run("Python tests", run, ["python3", "-m", "unittest", "discover"], **how)
+    if has("mypy"):
+        words = ["mypy", "--strict", "--cache-dir", os.path.join(room, "mypy"), "mysql_session.py",
+                 *sorted(glob.glob(os.path.join(folder, "examples", "*.py")))]
+        types = {**how["env"], "MYPYPATH": folder}
+        report.run("types of Python", run, words, cwd=folder, env=types)
     testing = os.path.join(BINDINGS, "testing")
     words = ["python3", os.path.join(testing, "connections.py"), RECORDINGS,
              os.path.join(testing, "payloads")]
     report.run("payloads of connections", run, words, **how)
+    words = ["python3", os.path.join(testing, "codes.py"), "--check"]
+    report.run("the page of codes", run, words, **how)
+    report.run("a client, a server and an auditor", three_machines, events, **how)
     for file in sorted(glob.glob(os.path.join(folder, "examples", "*.py"))):
         words = ["python3", file, "--help"]
         report.run(os.path.relpath(file, ROOT) + " --help", run, words, **how)
@@ -163,6 +179,7 @@ def test_documents(report, programs):
     """Runs the programs of the documents; the README has one in each language."""
     documents = [os.path.join(ROOT, "README.md"), os.path.join(BINDINGS, "README.md")]
     documents += sorted(glob.glob(os.path.join(BINDINGS, "*", "README.md")))
+    documents += sorted(glob.glob(os.path.join(ROOT, "docs", "EXAMPLES_*.md")))
     for file in documents:
         name, blocks = os.path.relpath(file, ROOT), blocks_of(file)
         for number, block in enumerate(blocks):

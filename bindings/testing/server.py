@@ -17,6 +17,7 @@ import sys
 import time
 
 from .proxied import test_proxied
+from .replayed import test_replayed
 from .support import (BINDINGS, C99, Failure, ROOT, archive_in, compare, has,
                       python_environment, run, rust_environment)
 
@@ -27,6 +28,18 @@ USER, DATABASE = "tester", "bindings"
 WAIT_SECONDS = 60
 # More than a batch holds, so that several requests are sent.
 ROWS = 12345
+RECORDINGS = os.path.join(ROOT, "crates", "connection_conformance", "data")
+# Recorded connections that need no more than a server.
+WHOLE_RECORDINGS = ("c-direct", "perl-execute", "java-bulk", "ruby-text", "php-pdo-text",
+                    "go-long-data", "load_data_by_execution", "types_in_force")
+# A table of the test server.
+TABLE = """{
+    "SELECT * FROM times": {
+        "columns": {"id": "bigint", "day": "date", "at": "datetime", "took": "time"},
+        "rows": [[1, "2024-02-29", "2024-02-29T13:14:15.000060", "-30:00:01.5"],
+                 [2, null, null, null]]},
+    "SELECT * FROM secrets": {"error": 1142, "state": "42000", "message": "SELECT is denied"}
+}"""
 # The address space that the loader may take, whatever the file's size.
 LOADER_BYTES = 32 << 20
 
@@ -333,6 +346,36 @@ class Tests:
             raise Failure("the second row is refused, and it isn't told")
         compare(self.sql("SELECT * FROM replayed_once"), [["1"]])
 
+    # The replay of a connection.
+
+    def replay_connection(self, name, **how):
+        """Replays a recorded connection, and returns what it prints."""
+        files = [os.path.join(RECORDINGS, f"{name}.{side}") for side in ("client", "server")]
+        return run(["python3", os.path.join(BINDINGS, "python", "examples", "replay_connection.py"),
+                    *files, f"127.0.0.1:{self.port}", "--user", USER, "--database", DATABASE],
+                   env=self.python, **how)
+
+    def replays_of_connections(self):
+        """Recorded connections that make what they use are answered here as there."""
+        for name in WHOLE_RECORDINGS:
+            said = self.replay_connection(name)
+            if not said.endswith(" commands, 0 answers differ\n") or ": left out" in said:
+                raise Failure(f"of {name} it prints {said}")
+
+    def replay_of_files(self):
+        """Files that the server asks for are the recorded ones; a table that isn't there is told."""
+        said = self.replay_connection("infile_pipelined", status=1)
+        if "error 1146; recorded was asks for x; OK, 1 rows affected" not in said:
+            raise Failure(f"it prints {said}")
+        self.sql("CREATE TABLE bag (n INT, s TEXT)")
+        said = self.replay_connection("infile_pipelined")
+        if "asks for x; OK, 1 rows affected\n" not in said:
+            raise Failure(f"it prints {said}")
+        compare(self.sql("SELECT n, s FROM bag"), [["1", "one"]])
+        self.sql("TRUNCATE bag")
+        self.replay_connection("multi_and_infile")
+        compare(self.sql("SELECT n, s FROM bag"), [["8", "eight"], ["9", "nine"]])
+
     # The replication reader.
 
     def read_log(self, *words):
@@ -382,9 +425,10 @@ class Tests:
     # The test server.
 
     @contextlib.contextmanager
-    def canned(self, log):
+    def canned(self, log, *options):
         """Runs the test server, and gives it with the port that it listens at."""
-        words = ["python3", os.path.join(BINDINGS, "python", "examples", "test_server.py")]
+        words = ["python3", os.path.join(BINDINGS, "python", "examples", "test_server.py"),
+                 *options]
         with Started(words, self.file(log), env=self.python) as it:
             yield it, int(it.wait_for(r"^listening on port ([0-9]+)$")[1])
 
@@ -405,6 +449,22 @@ class Tests:
                     "\"it's strong\"), (3, 'maté \N{HERB}', Decimal('12.00'), ''))\n1064\n")
             if server.said().count(f": {USER}\n") != 4:
                 raise Failure(f"it prints {server.said()}")
+
+    def test_server_table(self):
+        """They read dates and errors of a table in a file too."""
+        with open(self.file("answers.json"), "w", encoding="utf-8") as it:
+            it.write(TABLE)
+        with self.canned("canned_table.log", "--answers", self.file("answers.json")) as (_, port):
+            compare(self.sql("SELECT * FROM times", port),
+                    [["1", "2024-02-29", "2024-02-29 13:14:15.000060", "-30:00:01.500000"],
+                     ["2", "NULL", "NULL", "NULL"]])
+            said = self.pymysql("cursor.execute('SELECT * FROM times')\nprint(cursor.fetchone())\n"
+                                "try:\n    cursor.execute('SELECT * FROM secrets')\n"
+                                "except pymysql.err.OperationalError as error:\n"
+                                "    print(error.args)", port)
+            compare(said, "(1, datetime.date(2024, 2, 29), datetime.datetime(2024, 2, 29, 13, 14, "
+                    "15, 60), datetime.timedelta(days=-2, seconds=64798, microseconds=500000))\n"
+                    "(1142, 'SELECT is denied')\n")
 
     def test_server_statements(self):
         """MariaDB's own library reads the rows of executions."""
@@ -508,8 +568,9 @@ def test_server(report, room, library):
         it = Tests(room, library, port)
         for test in (it.bulk_load, it.bulk_load_refused, it.bulk_load_memory,
                      it.bulk_load_valgrind, it.proxy_statements, it.proxy_rows,
-                     it.replays, it.replay_faults, it.replication, it.replication_by_gtid,
-                     it.test_server_clients, it.test_server_statements, it.texts_in_modes,
+                     it.replays, it.replay_faults, it.replays_of_connections, it.replay_of_files,
+                     it.replication, it.replication_by_gtid, it.test_server_clients,
+                     it.test_server_table, it.test_server_statements, it.texts_in_modes,
                      it.proxy_of_a_mode, it.examples_of_a_mode):
             report.run("server: " + test.__name__.replace("_", " "), test)
         if has("tcpdump") and os.geteuid() == 0:
@@ -517,4 +578,5 @@ def test_server(report, room, library):
         else:
             print("left out: server: captured by tcpdump, which root can run (apt-get install "
                   "tcpdump)", flush=True)
+        test_replayed(report, it)
         test_proxied(report, it, mariadb)

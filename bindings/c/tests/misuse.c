@@ -366,7 +366,11 @@ static void all_stand(void)
 /* Calls with two handles, of which the second isn't of its kind. */
 static void second_handles(void)
 {
+    mysql_session_connection connection = MYSQL_SESSION_NOTHING;
+    mysql_session_event event;
     size_t kind;
+    memset(&event, 0, sizeof event);
+    CHECK_DONE(mysql_session_connection_after_login(&connection, 0x200, 0, 1000, 1000, 4000));
     CHECK_DONE(push_int(&handles[SETS]));
     CHECK_DONE(mysql_session_sets_end_set(&handles[SETS]));
     for (kind = 0; kind < KINDS; kind++) {
@@ -375,6 +379,9 @@ static void second_handles(void)
         check_note(names[kind], 0);
         if (kind == BYTES)
             continue;
+        CHECK_CODE(mysql_session_connection_put(&connection, 0, some, LEN, out, &event), wanted);
+        CHECK_CODE(mysql_session_connection_put_packets(&connection, 0, some, LEN, out, &used),
+                   wanted);
         if (kind != SETS) {
             CHECK_CODE(mysql_session_bind_text(&handles[SETS], 0, some, LEN, 0, out, &place),
                        wanted);
@@ -389,6 +396,9 @@ static void second_handles(void)
                                                &spot), wanted);
     }
     check_note("", 0);
+    CHECK_DONE(mysql_session_connection_put(&connection, 0, some, LEN, &good_out, &event));
+    CHECK_DONE(mysql_session_bytes_clear(&good_out));
+    mysql_session_connection_free(&connection);
     CHECK_CODE(writer_end(&handles[WRITER]), MYSQL_SESSION_WRITE_NO_RESULTS);
     CHECK_DONE(recoder_feed(&handles[RECODER]));
     CHECK_DONE(bytes_data(&good_out));
@@ -443,7 +453,7 @@ static const uint32_t ranges[][2] = {
     { MYSQL_SESSION_REPLY_TOO_LARGE, MYSQL_SESSION_REPLY_AFTER_END },
     { MYSQL_SESSION_WRITE_NO_RESULTS, MYSQL_SESSION_WRITE_PACKET_TOO_LARGE },
     { MYSQL_SESSION_CONNECTION_CLOSED, MYSQL_SESSION_CONNECTION_HELD },
-    { MYSQL_SESSION_CONNECTION_TOO_LARGE, MYSQL_SESSION_CONNECTION_NOT_DUE },
+    { MYSQL_SESSION_CONNECTION_TOO_LARGE, MYSQL_SESSION_CONNECTION_NOT_ITS_TURN },
 };
 #define RANGES (sizeof ranges / sizeof ranges[0])
 

@@ -1,9 +1,8 @@
-"""Packets over a socket, and logging in from both sides: what the examples share."""
+"""Packets over a socket, and logging in: what the replay of a stream needs of a connection."""
 
 from __future__ import annotations
 
 import os
-import secrets
 import socket
 import sys
 from typing import Iterator, List, Optional
@@ -22,8 +21,6 @@ CLIENT_CAPABILITIES = (Capability.LONG_FLAG | Capability.PROTOCOL_41 | Capabilit
                        | Capability.SECURE_CONNECTION | Capability.MULTI_RESULTS
                        | Capability.PS_MULTI_RESULTS | Capability.PLUGIN_AUTH
                        | Capability.DEPRECATE_EOF | Capability.CONNECT_WITH_DB)
-
-SERVER_CAPABILITIES = CLIENT_CAPABILITIES | Capability.LONG_PASSWORD | Capability.MULTI_STATEMENTS
 
 
 class ConnectionClosed(Exception):
@@ -80,8 +77,6 @@ class Connection:
         """Sends what is framed."""
         self._stream.sendall(packets)
 
-    # A client's side.
-
     def log_in(self, user: str, database: str) -> ms.Greeting:
         """Logs in with an empty password by mysql_native_password; gives the server's greeting.
 
@@ -125,24 +120,6 @@ class Connection:
         for result in results:
             if isinstance(result, ms.Ok) or isinstance(result, ms.Rows) and result.ended:
                 self.mode = ms.Mode.of(result.status)
-
-    # A server's side.
-
-    def greet(self, connection: int, version: str) -> ms.Login:
-        """Greets a client, and lets in whoever answers; gives the client's login."""
-        scramble = bytes(33 + secrets.randbelow(94) for _ in range(20))
-        number = self.send(ms.put_greeting(connection, version, int(SERVER_CAPABILITIES),
-                                           scramble[:8], scramble[8:]), 0)
-        login = ms.read_login(self.expect(number), int(SERVER_CAPABILITIES))
-        self.capabilities = login.capabilities
-        with ms.ReplyWriter(ms.ReplyKind.QUERY, self.capabilities, number + 1) as writer:
-            self.send_packets(writer.ok())
-        return login
-
-    def receive_command(self) -> Optional[bytes]:
-        """The payload of a client's next command; None where the client has gone."""
-        self._reader.restart()
-        return self.receive()
 
 
 def commands(stream: bytes, limit: int = ms.DEFAULT_LIMIT) -> Iterator[bytes]:

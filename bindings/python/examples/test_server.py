@@ -1,229 +1,382 @@
 #!/usr/bin/env python3
-"""A server for tests: it answers the queries of real clients with canned rows.
+"""A server for tests: it answers the queries of real clients by a table.
 
     test_server.py --port 3399 --clients 1 &
     mariadb -h 127.0.0.1 -P 3399 -u anyone -e 'SELECT * FROM goods'
 
-Every login is let in. SET, USE, transactions and pings are answered by OK, the queries of ANSWERS
-by their rows, and GOODS_BY_ID may be prepared and executed; any other query is error 1064.
+    test_server.py --answers answers.json
+
+    with test_server.serving({"SELECT 1": {"columns": {"1": "bigint"}, "rows": [[1]]}}) as port:
+        ...
+
+The table has a query's text and its answer, in a file of JSON or as a dict:
+
+    {"SELECT id, name FROM goods WHERE id = ?":
+         {"columns": {"id": "bigint unsigned", "name": "varchar"},
+          "rows": [[1, "tea"], [2, null]], "where": ["id"]},
+     "INSERT INTO goods VALUES (?, ?)": {"affected": 1, "id": 3},
+     "SELECT * FROM secrets": {"error": 1142, "state": "42000", "message": "SELECT is denied"}}
+
+A query with question marks is prepared and executed; of its rows those are sent that have its
+values in the columns that `where` names. In a dict a function of the values may stand in place of
+an answer; at the prepare each of them is None. Columns are of the types tinyint, smallint, int, bigint, year, decimal, varchar, text,
+json, blob, date, datetime and time, of which those of numbers may be unsigned. Texts are compared
+in small letters and with one blank between their words.
+
+Every login is let in. SET, USE, transactions, pings and the like are answered by OK; any query that
+the table hasn't is error 1064.
 """
 
 from __future__ import annotations
 
 import argparse
 import contextlib
+import datetime
+import json
+import os
 import socket
 import sys
 import threading
-from typing import Callable, Dict, List, NamedTuple, Optional, Sequence, Tuple
+from typing import (Any, Callable, Dict, Iterator, List, Mapping, NamedTuple, Optional, Sequence,
+                    Tuple, Union)
 
-from connection import Connection, ConnectionClosed
+sys.path.insert(0, os.path.join(os.path.dirname(os.path.abspath(__file__)), os.pardir))
 
-import mysql_session as ms
-from mysql_session import Column, ColumnType
+import mysql_session as ms  # noqa: E402  (found by the line above)
+from mysql_session import Capability, Column, ColumnType, ReplyKind, Side  # noqa: E402
 
 VERSION = "8.0.0-test-server"
 
-NOT_NULL, UNSIGNED, BINARY_FLAG = 1, 32, 128
-BINARY = 63  # the collation of numbers
+PIECE = 1 << 16
 
+CAPABILITIES = int(
+    Capability.LONG_PASSWORD | Capability.LONG_FLAG | Capability.CONNECT_WITH_DB
+    | Capability.PROTOCOL_41 | Capability.TRANSACTIONS | Capability.SECURE_CONNECTION
+    | Capability.MULTI_STATEMENTS | Capability.MULTI_RESULTS | Capability.PS_MULTI_RESULTS
+    | Capability.PLUGIN_AUTH | Capability.PLUGIN_AUTH_LENENC_CLIENT_DATA
+    | Capability.CONNECT_ATTRS | Capability.DEPRECATE_EOF)
 
-class Answer(NamedTuple):
-    """Rows under columns."""
+UNSIGNED, BINARY_FLAG = 32, 128
+BINARY, TEXT = 63, 45  # the collation of what is no text, and of texts
 
-    columns: Sequence[Column]
-    rows: Sequence[Tuple[ms.Parameter, ...]]
-
-
-def number_column(name: bytes, flags: int = 0) -> Column:
-    """A column of whole numbers."""
-    return Column(name, ColumnType.LONGLONG, flags | BINARY_FLAG, BINARY, 20)
-
-
-def text_column(name: bytes, length: int = 255) -> Column:
-    """A column of texts in utf8mb4, of at most so many characters."""
-    return Column(name, ColumnType.VAR_STRING, length=4 * length)
-
-
-GOODS = Answer(
-    [number_column(b"id", NOT_NULL | UNSIGNED), text_column(b"name"),
-     Column(b"price", ColumnType.NEWDECIMAL, BINARY_FLAG, BINARY, 12, 2), text_column(b"note")],
-    [(1, "tea", "2.50", None),
-     (2, "coffee", "3.75", "it's strong"),
-     (3, "maté \N{HERB}", "12.00", "")])
-
-# By the query's text in small letters, with one blank between its words.
-ANSWERS: Dict[str, Answer] = {
-    "select 1": Answer([number_column(b"1", NOT_NULL)], [(1,)]),
-    "select null, 'text', -7": Answer(
-        [text_column(b"NULL", 0), text_column(b"text", 4), number_column(b"-7", NOT_NULL)],
-        [(None, "text", -7)]),
-    "select * from goods": GOODS,
-    "select @@version_comment limit 1": Answer(
-        [text_column(b"@@version_comment")], [("canned answers",)]),
-}
+# Types of columns by their names, their collations, and their lengths in bytes.
+TYPES = {"tinyint": (ColumnType.TINY, BINARY, 4), "smallint": (ColumnType.SHORT, BINARY, 6),
+         "int": (ColumnType.LONG, BINARY, 11), "bigint": (ColumnType.LONGLONG, BINARY, 20),
+         "year": (ColumnType.YEAR, BINARY, 4), "decimal": (ColumnType.NEWDECIMAL, BINARY, 67),
+         "varchar": (ColumnType.VAR_STRING, TEXT, 1020), "text": (ColumnType.BLOB, TEXT, 65535),
+         "json": (ColumnType.JSON, BINARY, 65535), "blob": (ColumnType.BLOB, BINARY, 65535),
+         "date": (ColumnType.DATE, BINARY, 10), "datetime": (ColumnType.DATETIME, BINARY, 26),
+         "time": (ColumnType.TIME, BINARY, 17)}
 
 DONE = ("set ", "use ", "begin", "start transaction", "commit", "rollback")
 
-GOODS_BY_ID = "SELECT * FROM goods WHERE id = ?"
-
-COM_QUIT, COM_INIT_DB, COM_QUERY, COM_PING = 0x01, 0x02, 0x03, 0x0E
-COM_STMT_PREPARE, COM_STMT_EXECUTE, COM_STMT_SEND_LONG_DATA = 0x16, 0x17, 0x18
-COM_STMT_CLOSE, COM_STMT_RESET = 0x19, 0x1A
+# Commands by their numbers that are answered by OK.
+PING, SET_OPTION, RESET_CONNECTION, STATISTICS = 0x0E, 0x1B, 0x1F, 0x09
+OK_COMMANDS = (PING, SET_OPTION, RESET_CONNECTION)
 
 
-def normal(query: bytes) -> str:
+class Rows(NamedTuple):
+    """Rows under columns; the names of those columns that an execution's values are compared
+    with."""
+
+    columns: Sequence[Column]
+    rows: Sequence[Sequence[ms.Parameter]]
+    where: Sequence[str] = ()
+
+
+class Done(NamedTuple):
+    """An answer without rows."""
+
+    affected: int = 0
+    id: int = 0
+
+
+class Failure(NamedTuple):
+    """An error."""
+
+    error: int
+    state: str
+    message: str
+
+
+Answer = Union[Rows, Done, Failure]
+Values = Tuple[Any, ...]
+# What a table has: an answer as JSON has it, or what makes one of an execution's values.
+Given = Union[Mapping[str, Any], Callable[[Values], Mapping[str, Any]]]
+
+GOODS: Dict[str, Any] = {
+    "columns": {"id": "bigint unsigned", "name": "varchar", "price": "decimal", "note": "varchar"},
+    "rows": [[1, "tea", "2.50", None],
+             [2, "coffee", "3.75", "it's strong"],
+             [3, "maté \N{HERB}", "12.00", ""]]}
+
+ANSWERS: Dict[str, Given] = {
+    "SELECT 1": {"columns": {"1": "bigint"}, "rows": [[1]]},
+    "SELECT NULL, 'text', -7": {"columns": {"NULL": "varchar", "text": "varchar", "-7": "bigint"},
+                                "rows": [[None, "text", -7]]},
+    "SELECT * FROM goods": GOODS,
+    "SELECT * FROM goods WHERE id = ?": {**GOODS, "where": ["id"]},
+    "SELECT @@version_comment LIMIT 1": {"columns": {"@@version_comment": "varchar"},
+                                         "rows": [["canned answers"]]},
+}
+
+
+# ---- The table ----------------------------------------------------------------------------------
+
+
+def normal(query: Union[str, bytes]) -> str:
     """The form in which queries are looked up."""
-    return " ".join(query.decode(errors="replace").rstrip("; \n").split()).lower()
+    text = query.decode(errors="replace") if isinstance(query, bytes) else query
+    return " ".join(text.rstrip("; \n").split()).lower()
 
 
-def goods_of(sets: List[Tuple[ms.Content, ...]]) -> Answer:
-    """The goods of the ids that were executed with, as numbers or as text."""
-    ids = {it if isinstance(it, bytes) else str(it).encode() for (it,) in sets}
-    return Answer(GOODS.columns, [row for row in GOODS.rows if str(row[0]).encode() in ids])
+def column(name: str, kind: str) -> Column:
+    """A column of a type by its name, as `bigint unsigned`."""
+    word, _, more = kind.lower().partition(" ")
+    if word not in TYPES or more not in ("", "unsigned"):
+        raise ValueError(f"the column {name} is of no type that is known: {kind}")
+    number, collation, length = TYPES[word]
+    flags = (BINARY_FLAG if collation == BINARY else 0) | (UNSIGNED if more else 0)
+    return Column(name.encode(), number, flags, collation, length)
+
+
+def cell(value: Any, of: Column) -> ms.Parameter:
+    """A value of JSON as a value of its column's type."""
+    if not isinstance(value, str):
+        found: ms.Parameter = value
+        return found
+    if of.type == ColumnType.DATE:
+        return datetime.date.fromisoformat(value)
+    if of.type == ColumnType.DATETIME:
+        return datetime.datetime.fromisoformat(value)
+    if of.type == ColumnType.TIME:
+        hours, minutes, seconds = value.lstrip("-").split(":")
+        length = datetime.timedelta(hours=int(hours), minutes=int(minutes), seconds=float(seconds))
+        return -length if value.startswith("-") else length
+    return value
+
+
+def answer_of(given: Mapping[str, Any]) -> Answer:
+    """An answer as it stands in a table."""
+    if "error" in given:
+        return Failure(given["error"], given.get("state", "HY000"), given.get("message", ""))
+    if "columns" not in given:
+        return Done(given.get("affected", 0), given.get("id", 0))
+    columns = [column(*it) for it in given["columns"].items()]
+    rows = [[cell(*it) for it in zip(row, columns)] for row in given["rows"]]
+    if any(len(row) != len(columns) for row in given["rows"]):
+        raise ValueError("a row has another number of values than there are columns")
+    where = given.get("where", ())
+    if not set(where) <= set(given["columns"]):
+        raise ValueError(f"`where` names a column that isn't there: {where}")
+    return Rows(columns, rows, where)
+
+
+def text_of(value: ms.Parameter) -> bytes:
+    """A value's text, as a text row has it."""
+    if isinstance(value, datetime.timedelta):
+        sign, length = ("-", -value) if value < datetime.timedelta(0) else ("", value)
+        hours, rest = divmod(length.days * 86400 + length.seconds, 3600)
+        micros = f".{length.microseconds:06}" if length.microseconds else ""
+        return f"{sign}{hours:02}:{rest // 60:02}:{rest % 60:02}{micros}".encode()
+    return value if isinstance(value, bytes) else str(value).encode()
+
+
+def rows_for(answer: Rows, values: Values) -> List[Sequence[ms.Parameter]]:
+    """Those of the rows that an execution with these values asks for."""
+    names = [it.name.decode() for it in answer.columns]
+    places = [names.index(it) for it in answer.where]
+    return [row for row in answer.rows
+            if all(value is not None and row[at] is not None and text_of(row[at]) == text_of(value)
+                   for at, value in zip(places, values))]
+
+
+# What is raised of a table that is none.
+NO_TABLE = (ValueError, KeyError, TypeError, AttributeError)
+
+
+class Table:
+    """Queries and their answers. Raises one of NO_TABLE."""
+
+    def __init__(self, answers: Mapping[str, Given]) -> None:
+        self._answers = {normal(query): given if callable(given) else answer_of(given)
+                         for query, given in answers.items()}
+
+    def answer(self, query: bytes, values: Values = ()) -> Answer:
+        """The answer to a query, or to its execution with values."""
+        text = normal(query)
+        if text in self._answers:
+            found = self._answers[text]
+            return answer_of(found(values)) if callable(found) else found
+        if text.startswith(DONE):
+            return Done()
+        return Failure(1064, "42000", f"no answer to this query is known: {text}")
+
+
+# ---- A client's connection ----------------------------------------------------------------------
+
+
+def parameters_of(query: bytes) -> int:
+    """How many placeholders a query has: it is bound to so many values and no others."""
+    for count in range(1 << 16):
+        try:
+            ms.bind_text(query, [None] * count)
+            return count
+        except ms.MySQLSessionError as error:
+            if error.code != ms.Code.REFUSED_WRONG_COUNT:
+                raise
+    raise ValueError("there are too many placeholders")
 
 
 class Session:
-    """A client's connection, behind its login."""
+    """A client's connection: what the client says is fed, and what answers it is put."""
 
-    def __init__(self, connection: Connection) -> None:
-        self._connection = connection
-        # What reads the executions of each statement, by the statement's id.
-        self._statements: Dict[int, ms.Receiver] = {}
+    def __init__(self, stream: socket.socket, table: Table, client: int) -> None:
+        self._stream, self._table, self._client = stream, table, client
+        self._connection = ms.Connection()
         self._prepared = 0
 
-    def serve(self) -> None:
-        """Answers commands until the client goes."""
-        answers: Dict[int, Callable[[bytes], None]] = {
-            COM_INIT_DB: self._done,
-            COM_QUERY: self._query,
-            COM_PING: self._done,
-            COM_STMT_PREPARE: self._prepare,
-            COM_STMT_EXECUTE: self._execute,
-            COM_STMT_SEND_LONG_DATA: self._keep,
-            COM_STMT_CLOSE: self._close,
-            COM_STMT_RESET: self._reset,
-        }
-        command = self._connection.receive_command()
-        while command is not None and command[:1] != bytes([COM_QUIT]):
-            answer = answers.get(command[0]) if command else None
-            if answer is None:
-                self._refuse(1047, "08S01", "no such command is answered")
-            else:
-                answer(command)
-            command = self._connection.receive_command()
+    def close(self) -> None:
+        """Ends the connection."""
+        self._connection.close()
+        self._stream.close()
 
-    def _writer(self, kind: ms.ReplyKind = ms.ReplyKind.QUERY) -> ms.ReplyWriter:
+    def serve(self) -> None:
+        """Greets the client, and answers it until it goes."""
+        scramble = bytes(33 + it % 94 for it in os.urandom(20))
+        self._put(ms.put_greeting(self._client, VERSION, CAPABILITIES, scramble[:8], scramble[8:]))
+        while self._connection.reason is None:
+            piece = self._stream.recv(min(PIECE, self._connection.room(Side.CLIENT)))
+            if not piece:
+                return
+            for event in self._connection.feed(Side.CLIENT, piece):
+                self._answer(event)
+
+    def _put(self, payload: bytes) -> None:
+        """Sends a payload."""
+        self._stream.sendall(self._connection.put(Side.SERVER, payload).packets)
+
+    def _writer(self, kind: ReplyKind = ReplyKind.QUERY) -> ms.ReplyWriter:
         return ms.ReplyWriter(kind, self._connection.capabilities)
 
-    def _done(self, _command: bytes) -> None:
-        with self._writer() as writer:
-            self._connection.send_packets(writer.ok())
+    def _send(self, packets: bytes) -> None:
+        """Sends a reply. The connection numbers its packets as they are due."""
+        put, used = self._connection.put_packets(Side.SERVER, packets)
+        assert used == len(packets), "a reply isn't as the client awaits it"
+        self._stream.sendall(put)
 
-    def _refuse(self, code: int, state: str, message: str) -> None:
-        with self._writer() as writer:
-            self._connection.send_packets(writer.error(code, state, message))
+    def _answer(self, event: ms.Event) -> None:
+        """Answers what the client says, where it has an answer."""
+        if isinstance(event, (ms.LoginEvent, ms.ChangeUserEvent)):
+            print(f"client {self._client}: {event.user.decode(errors='replace')}", flush=True)
+            self._reply(Done())
+        elif isinstance(event, ms.QueryEvent):
+            self._reply(self._table.answer(event.text))
+        elif isinstance(event, ms.PrepareEvent):
+            self._prepare(event.text)
+        elif isinstance(event, ms.ExecuteEvent):
+            # Long data that came before stands among the values.
+            self._reply(self._table.answer(event.text, event.values), event.values)
+        elif isinstance(event, (ms.InitDbEvent, ms.ResetStatementEvent)):
+            self._reply(Done())
+        elif isinstance(event, ms.CommandEvent) and event.number in OK_COMMANDS:
+            self._reply(Done())
+        elif isinstance(event, ms.CommandEvent) and event.number == STATISTICS:
+            self._put(b"Answers are canned")
+        elif not isinstance(event, (ms.QuitEvent, ms.CloseEvent, ms.LongDataEvent)):
+            self._reply(Failure(1047, "08S01", f"{event.name} isn't answered"))
 
-    def _rows(self, answer: Answer, kind: ms.ReplyKind) -> None:
-        """Answers by rows: as text to a query, in binary to an execution."""
+    def _reply(self, answer: Answer, values: Optional[Values] = None) -> None:
+        """Answers a query by text, or an execution with these values in binary."""
+        kind = ReplyKind.QUERY if values is None else ReplyKind.EXECUTE
         with self._writer(kind) as writer:
-            packets = [writer.rows(answer.columns)]
-            packets += [writer.row(row) for row in answer.rows]
-            packets.append(writer.end_rows())
-            writer.end()
-        self._connection.send_packets(b"".join(packets))
+            if isinstance(answer, Failure):
+                self._send(writer.error(*answer))
+            elif isinstance(answer, Done):
+                self._send(writer.ok(*answer))
+            else:
+                rows = answer.rows if values is None else rows_for(answer, values)
+                self._send(writer.rows(answer.columns))
+                for row in rows:
+                    self._send(writer.row([it if it is None or values is not None else text_of(it)
+                                           for it in row]))
+                self._send(writer.end_rows())
 
-    def _query(self, command: bytes) -> None:
-        query = normal(command[1:])
-        if query in ANSWERS:
-            self._rows(ANSWERS[query], ms.ReplyKind.QUERY)
-        elif query.startswith(DONE):
-            self._done(command)
-        else:
-            self._refuse(1064, "42000", f"no answer to this query is known: {query}")
-
-    def _prepare(self, command: bytes) -> None:
-        if normal(command[1:]) != GOODS_BY_ID.lower():
-            self._refuse(1064, "42000", "no other query than this is prepared: " + GOODS_BY_ID)
+    def _prepare(self, query: bytes) -> None:
+        """Prepares a statement whose text the table has."""
+        count = parameters_of(query)
+        answer = self._table.answer(query, (None,) * count)
+        if isinstance(answer, Failure):
+            self._reply(answer)
             return
         self._prepared += 1
-        receiver = ms.Receiver(GOODS_BY_ID, self._prepared)
-        # What it was prepared by may be in small letters; the receiver takes the query's own text.
-        receiver.feed(ms.send(GOODS_BY_ID, [], ms.Road.EXECUTE))
-        self._statements[self._prepared] = receiver
-        with self._writer(ms.ReplyKind.PREPARE) as writer:
-            self._connection.send_packets(
-                writer.prepared(self._prepared, [number_column(b"?")], GOODS.columns))
-
-    def _statement(self, command: bytes) -> Optional[ms.Receiver]:
-        """What reads the executions of the statement that a command names."""
-        return self._statements.get(int.from_bytes(command[1:5], "little"))
-
-    def _fed(self, command: bytes) -> Optional[ms.Receiver]:
-        """What reads the executions, where it takes this command; else an error is answered."""
-        receiver = self._statement(command)
-        if receiver is None:
-            self._refuse(1243, "HY000", "there is no such statement")
-            return None
-        try:
-            receiver.feed(ms.put_packet(command)[0])
-        except ms.MySQLSessionError as error:
-            self._refuse(1210, "HY000", f"the command can't be read: {error}")
-            return None
-        return receiver
-
-    def _execute(self, command: bytes) -> None:
-        receiver = self._fed(command)
-        if receiver is not None:
-            self._rows(goods_of(receiver.take()), ms.ReplyKind.EXECUTE)
-
-    def _reset(self, command: bytes) -> None:
-        if self._fed(command) is not None:
-            self._done(command)
-
-    def _keep(self, command: bytes) -> None:
-        """Keeps long data for the next execution. It has no answer: the receiver keeps a fault too,
-        and the execution, which has an answer, is refused for it."""
-        receiver = self._statement(command)
-        if receiver is not None:
-            with contextlib.suppress(ms.MySQLSessionError):
-                receiver.feed(ms.put_packet(command)[0])
-
-    def _close(self, command: bytes) -> None:
-        """Closes a statement, which has no answer."""
-        receiver = self._statement(command)
-        if receiver is not None:
-            receiver.close()
-            del self._statements[int.from_bytes(command[1:5], "little")]
+        columns = answer.columns if isinstance(answer, Rows) else ()
+        with self._writer(ReplyKind.PREPARE) as writer:
+            self._send(writer.prepared(self._prepared, [column("?", "varchar")] * count, columns))
 
 
-def serve(stream: socket.socket, client: int) -> None:
+# ---- Serving ------------------------------------------------------------------------------------
+
+
+def serve_client(stream: socket.socket, table: Table, client: int) -> None:
     """Serves a client, in its thread."""
-    connection = Connection(stream)
+    session = Session(stream, table, client)
     try:
-        login = connection.greet(client, VERSION)
-        print(f"client {client}: {login.user.decode(errors='replace')}", flush=True)
-        Session(connection).serve()
-    except (OSError, ConnectionClosed, ms.MySQLSessionError) as error:
+        session.serve()
+    except (OSError, ms.MySQLSessionError) as error:
         print(f"client {client}: {error}", file=sys.stderr, flush=True)
     finally:
-        connection.close()
+        session.close()
+
+
+def serve(listener: socket.socket, table: Table, clients: Optional[int] = None) -> None:
+    """Serves so many clients, or all that come until the listener is closed."""
+    threads: List[threading.Thread] = []
+    while clients is None or len(threads) < clients:
+        try:
+            stream, _ = listener.accept()
+        except OSError:
+            break
+        threads.append(threading.Thread(target=serve_client,
+                                        args=(stream, table, len(threads) + 1)))
+        threads[-1].start()
+    for thread in threads:
+        thread.join()
+
+
+@contextlib.contextmanager
+def serving(answers: Mapping[str, Given]) -> Iterator[int]:
+    """Within it, clients are answered by the table; gives the port."""
+    table = Table(answers)
+    with socket.create_server(("127.0.0.1", 0)) as listener:
+        thread = threading.Thread(target=serve, args=(listener, table))
+        thread.start()
+        try:
+            yield int(listener.getsockname()[1])
+        finally:
+            # Wakes the thread, which waits for another client.
+            listener.shutdown(socket.SHUT_RDWR)
+            thread.join()
 
 
 def main() -> int:
-    parser = argparse.ArgumentParser(description="Answers the queries of clients by canned rows.")
+    parser = argparse.ArgumentParser(description="Answers the queries of clients by a table.")
     parser.add_argument("--port", type=int, default=0, help="the port (any that is free)")
     parser.add_argument("--clients", type=int, help="how many clients are served (all that come)")
+    parser.add_argument("--answers", metavar="FILE", help="the table, in JSON (some goods)")
     given = parser.parse_args()
+    answers = ANSWERS
+    try:
+        if given.answers:
+            with open(given.answers, encoding="utf-8") as it:
+                answers = json.load(it)
+        table = Table(answers)
+    except (OSError, *NO_TABLE) as error:
+        print(f"the answers can't be read: {error!r}", file=sys.stderr)
+        return 2
     with socket.create_server(("127.0.0.1", given.port)) as listener:
         print(f"listening on port {listener.getsockname()[1]}", flush=True)
-        threads: List[threading.Thread] = []
-        while given.clients is None or len(threads) < given.clients:
-            stream, _ = listener.accept()
-            threads.append(threading.Thread(target=serve, args=(stream, len(threads) + 1)))
-            threads[-1].start()
-        for thread in threads:
-            thread.join()
+        serve(listener, table, given.clients)
     return 0
 
 

@@ -24,6 +24,8 @@ pub const CLIENT_MULTI_RESULTS: u32 = 1 << 17;
 pub const CLIENT_PS_MULTI_RESULTS: u32 = 1 << 18;
 /// Authentication has plugins.
 pub const CLIENT_PLUGIN_AUTH: u32 = 1 << 19;
+/// Clients tell attributes of theirs at the login.
+pub const CLIENT_CONNECT_ATTRS: u32 = 1 << 20;
 /// OK packets tell of changes of the session's state.
 pub const CLIENT_SESSION_TRACK: u32 = 1 << 23;
 /// OK packets end rows, in place of EOF packets.

@@ -162,7 +162,7 @@ impl Code {
     pub const WRITE_PACKET_TOO_LARGE: Code = Code(411);
 }
 
-/// Why bytes of a connection are refused, and its faults.
+/// Why bytes of a connection are refused, its faults, and why payloads aren't put on it.
 impl Code {
     /// The side's stream has ended.
     pub const CONNECTION_CLOSED: Code = Code(500);
@@ -188,6 +188,8 @@ impl Code {
     pub const CONNECTION_AFTER_QUIT: Code = Code(518);
     /// No payload of that side of a reply is due.
     pub const CONNECTION_NOT_DUE: Code = Code(519);
+    /// It isn't the turn of this side's payload, so that it can't be put.
+    pub const CONNECTION_NOT_ITS_TURN: Code = Code(520);
 }
 
 impl Code {
@@ -336,6 +338,8 @@ pub enum At {
     },
     /// A payload of the stream that is read or written.
     Payload(u64),
+    /// A byte of the packets that are put.
+    Byte(usize),
     /// The end of a stream that isn't whole.
     End(End),
     /// A result of a reply.
@@ -365,6 +369,7 @@ impl fmt::Display for At {
             At::Set(set) => write!(formatter, "set {set}"),
             At::Value { set, place } => write!(formatter, "set {set}, place {place}"),
             At::Payload(payload) => write!(formatter, "payload {payload}"),
+            At::Byte(byte) => write!(formatter, "byte {byte}"),
             At::End(end) => end.fmt(formatter),
             At::Result(result) => write!(formatter, "result {result}"),
             At::Row { result, row } => write!(formatter, "result {result}, row {row}"),

@@ -1,6 +1,7 @@
-//! A whole connection, read as events.
+//! A whole connection, read as events and put.
 
-use crate::codes::{answer, certain, in_range, shown_code, Code, Error};
+use crate::bytes::Bytes;
+use crate::codes::{answer, certain, in_range, shown_code, At, Code, Error};
 use crate::events::Event;
 use crate::handle::check_interface;
 use crate::raw;
@@ -215,18 +216,11 @@ pub(crate) struct ConnectionHandle(UnsafeCell<raw::Connection>);
 unsafe impl Send for ConnectionHandle {}
 
 impl ConnectionHandle {
-    fn new(limits: Limits) -> Result<ConnectionHandle, Code> {
+    /// A handle of the connection that `make` makes it stand for.
+    fn made(make: impl FnOnce(*mut raw::Connection) -> u32) -> Result<ConnectionHandle, Code> {
         check_interface();
         let handle = ConnectionHandle(UnsafeCell::new(raw::Connection { at: null_mut() }));
-        // SAFETY: "Handles": it begins as MYSQL_SESSION_NOTHING.
-        answer(unsafe {
-            raw::mysql_session_connection_new(
-                handle.get(),
-                limits.client,
-                limits.server,
-                limits.held,
-            )
-        })?;
+        answer(make(handle.get()))?;
         Ok(handle)
     }
 
@@ -249,7 +243,8 @@ impl Drop for ConnectionHandle {
 /// what was said, each payload as one event.
 ///
 /// Each payload is due of one side, so that what comes of the other waits until its turn: the
-/// events don't depend on how the bytes arrive.
+/// events don't depend on how the bytes arrive. The payload that is due may also be put: so the
+/// same connection is a client's, a server's, or that of a proxy between them.
 ///
 /// ```
 /// use mysql_session::{Connection, ConnectionEnd, Event, Limits, Side};
@@ -302,10 +297,58 @@ impl Connection {
     /// # Errors
     /// [`Code::MEMORY`].
     pub fn new(limits: Limits) -> Result<Connection, Error> {
-        Ok(Connection {
-            handle: ConnectionHandle::new(limits)?,
+        let Limits {
+            client,
+            server,
+            held,
+        } = limits;
+        // SAFETY: "Handles": a handle that is being made.
+        let handle = ConnectionHandle::made(|connection| unsafe {
+            raw::mysql_session_connection_new(connection, client, server, held)
+        })?;
+        Ok(Connection::of(handle))
+    }
+
+    /// A connection behind a login that was made elsewhere, as by TLS or by a pool: a command is
+    /// due, and these capabilities are in force, which both sides have.
+    ///
+    /// ```
+    /// use mysql_session::{capability, Capabilities, Connection, Limits, Phase};
+    ///
+    /// # fn main() -> Result<(), mysql_session::Error> {
+    /// let capabilities = Capabilities {
+    ///     protocol: capability::CLIENT_PROTOCOL_41 | capability::CLIENT_DEPRECATE_EOF,
+    ///     mariadb: 0,
+    /// };
+    /// let connection = Connection::after_login(Limits::default(), capabilities)?;
+    /// assert_eq!(connection.phase(), Phase::Command);
+    /// # Ok(())
+    /// # }
+    /// ```
+    ///
+    /// # Errors
+    /// [`Code::MEMORY`].
+    pub fn after_login(limits: Limits, capabilities: Capabilities) -> Result<Connection, Error> {
+        let Limits {
+            client,
+            server,
+            held,
+        } = limits;
+        let Capabilities { protocol, mariadb } = capabilities;
+        // SAFETY: "Handles": a handle that is being made.
+        let handle = ConnectionHandle::made(|connection| unsafe {
+            raw::mysql_session_connection_after_login(
+                connection, protocol, mariadb, client, server, held,
+            )
+        })?;
+        Ok(Connection::of(handle))
+    }
+
+    fn of(handle: ConnectionHandle) -> Connection {
+        Connection {
+            handle,
             shown: Shown(raw::Event::default()),
-        })
+        }
     }
 
     /// Takes a piece of a side's stream, whole; nothing of it is read yet.
@@ -346,14 +389,128 @@ impl Connection {
         Ok(self.event())
     }
 
-    /// The event that was told last, again, until the connection changes.
+    /// Puts a payload of the side that is due: appends its packets to `out`, and goes on behind it
+    /// as if they had come. The answer is the event that it says.
+    ///
+    /// A client puts what it asks and feeds what the server sends, and a server does the reverse. A
+    /// third connection that is fed both streams tells the same events, in whatever pieces they
+    /// come. A server's last words, which answer nothing, can't be put so.
+    ///
+    /// ```
+    /// use mysql_session::{command, Bytes, Capabilities, Connection, Event, Limits, Side};
+    ///
+    /// # fn main() -> Result<(), Box<dyn std::error::Error>> {
+    /// let capabilities = Capabilities { protocol: 1 << 9, mariadb: 0 };
+    /// let mut connection = Connection::after_login(Limits::default(), capabilities)?;
+    /// let mut out = Bytes::new()?;
+    /// let event = connection.put(Side::Client, &command::ping(), &mut out)?;
+    /// assert!(matches!(event, Event::Ping));
+    /// assert_eq!(out.as_slice(), [1, 0, 0, 0, 0x0e]);
+    ///
+    /// // .. `out` is written to the server, and what it answers is read.
+    /// connection.feed(Side::Server, b"\x07\0\0\x01\0\0\0\x02\0\0\0")?;
+    /// assert!(matches!(connection.next_event()?, Some(Event::Ok(_))));
+    /// # Ok(())
+    /// # }
+    /// ```
+    ///
+    /// # Errors
+    /// The first that holds: [`Code::CONNECTION_NOT_ITS_TURN`] where a payload of the side isn't
+    /// due, bytes of it wait unread, its stream has ended, or the connection has failed;
+    /// [`Code::CONNECTION_TOO_LARGE`]; the fault of a payload that can't be read here;
+    /// [`Code::CONNECTION_KEPT`]; [`Code::MEMORY`]. The connection and `out` are as they were then,
+    /// but that [`Connection::event`] shows none.
+    pub fn put(&mut self, side: Side, payload: &[u8], out: &mut Bytes) -> Result<Event<'_>, Error> {
+        self.forget();
+        // SAFETY: "Handles": by `ConnectionHandle::get` and `Handle::get`, which are different ones
+        // of objects of two kinds; "Bytes go in": the payload is a slice, and none of `out`, which
+        // is borrowed to be changed; "Results go out": a field of this object.
+        let code = unsafe {
+            raw::mysql_session_connection_put(
+                self.handle.get(),
+                side as u32,
+                payload.as_ptr(),
+                payload.len(),
+                out.changing(),
+                &mut self.shown.0,
+            )
+        };
+        if let Err(code) = answer(code) {
+            self.forget();
+            return Err(code.into());
+        }
+        Ok(self.event().expect("what was put is an event"))
+    }
+
+    /// Puts framed packets of a side, one after another while they are due, as
+    /// [`executions`](crate::executions), [`send`](crate::send) and a
+    /// [`ReplyWriter`](crate::ReplyWriter) make them; they get the numbers that are due. The answer
+    /// is how many bytes of them were taken: all, or those before the first packet whose turn hasn't
+    /// come. A packet that is cut off at the end is left. No event is shown of what was put.
+    ///
+    /// So an execution with its long data and a whole reply are one call each, and a list of
+    /// executions is put up to the first one, which has a reply:
+    ///
+    /// ```
+    /// use mysql_session::{
+    ///     executions, Bytes, Capabilities, Connection, Limits, ParameterSets, Side,
+    /// };
+    ///
+    /// # fn main() -> Result<(), Box<dyn std::error::Error>> {
+    /// let capabilities = Capabilities { protocol: 1 << 9, mariadb: 0 };
+    /// let mut connection = Connection::after_login(Limits::default(), capabilities)?;
+    /// let mut sets = ParameterSets::new()?;
+    /// sets.add(&[7.into()])?;
+    /// sets.add(&[8.into()])?;
+    /// let packets = executions(&sets, b"SELECT ?", 1, 1 << 24)?;
+    /// let mut out = Bytes::new()?;
+    /// let used = connection.put_packets(Side::Client, &packets, &mut out)?;
+    /// assert_eq!(out.as_slice(), &packets[..used]);
+    /// // The second is due once the reply to the first has come.
+    /// assert_eq!(connection.put_packets(Side::Client, &packets[used..], &mut out)?, 0);
+    /// # Ok(())
+    /// # }
+    /// ```
+    ///
+    /// # Errors
+    /// Of the first payload that is due and isn't put, with the [`At::Byte`] of the packets at
+    /// which it begins; what was put before it stands: [`Code::CONNECTION_TOO_LARGE`];
+    /// [`Code::CONNECTION_OUT_OF_SYNC`] where it has more packets, whose numbers don't go on from
+    /// one another; the fault of a payload that can't be read here; [`Code::CONNECTION_KEPT`];
+    /// [`Code::MEMORY`].
+    pub fn put_packets(
+        &mut self,
+        side: Side,
+        packets: &[u8],
+        out: &mut Bytes,
+    ) -> Result<usize, Error> {
+        self.forget();
+        let mut used = 0;
+        // SAFETY: as in `put`; "Results go out": a local.
+        let code = unsafe {
+            raw::mysql_session_connection_put_packets(
+                self.handle.get(),
+                side as u32,
+                packets.as_ptr(),
+                packets.len(),
+                out.changing(),
+                &mut used,
+            )
+        };
+        match answer(code) {
+            Ok(()) => Ok(used),
+            Err(code) => Err(Error::new(code, Some(At::Byte(used)))),
+        }
+    }
+
+    /// The event that was told or put last, again, until the connection changes.
     pub fn event(&self) -> Option<Event<'_>> {
         // SAFETY: the library wrote the fields; the texts are "good until the next call on it" that
         // takes its `&mut self`, which forgets the event.
         (self.shown.0.kind != 0).then(|| unsafe { Event::of(&self.handle, &self.shown.0) })
     }
 
-    /// The event that was told last as a line of text, without its end: whose it is, its name, its
+    /// The event that was told or put last as a line of text, without its end: whose it is, its name, its
     /// fields. Behind [`Connection::finish`] it is how the connection stands, as `end Whole`.
     ///
     /// # Errors

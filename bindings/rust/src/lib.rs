@@ -4,12 +4,14 @@
 //! - [`Receiver`] reads a stream of commands about one query, and shows its parameter sets;
 //!   [`Recoder`] and [`recode`] make one form of it.
 //! - [`send`] appends [`ParameterSets`] as commands to [`Bytes`], by text, by execution or by bulk;
-//!   [`bind_text`] puts one set into the query's text.
+//!   [`executions`] has those of a statement that was prepared before; [`bind_text`] puts one set
+//!   into the query's text.
 //! - [`Mode`] is how a server reads a text, and [`Spelling`] how byte strings are written in one:
 //!   calls whose names end with `_in` take them.
 //! - [`ReplyReader`] reads a server's reply; [`ReplyWriter`] writes one.
 //! - [`Connection`] reads a whole connection, and tells each payload of either side as an
-//!   [`Event`].
+//!   [`Event`]. A client and a server put theirs on it; [`command`] makes payloads of commands.
+//! - [`FromValue`] and [`FromRow`] make types of Rust, and tuples, of cells and rows.
 //! - [`PacketReader`] cuts a stream into payloads, [`put_packet`] frames them; [`Greeting`] and
 //!   [`Login`], [`RegisterReplica`], [`BinlogDump`] and [`BinlogDumpGtid`] are payloads of a
 //!   connection's beginning and of a replica.
@@ -38,7 +40,10 @@
 mod bytes;
 pub mod capability;
 mod codes;
+pub mod command;
 mod connection;
+mod conversions;
+mod event_values;
 mod events;
 mod handle;
 mod login;
@@ -52,6 +57,7 @@ mod reply;
 mod results;
 mod sending;
 mod sets;
+mod texts;
 mod values;
 mod writer;
 
@@ -61,10 +67,9 @@ pub use connection::{
     Capabilities, Connection, ConnectionEnd, ConnectionFault, Limits, Phase, Reason, Side,
     Statement,
 };
-pub use events::{
-    Attributes, BulkRow, BulkRows, BulkValue, ClientChange, ClientLogin, ClientRequest, Event,
-    EventRow, OtherCommand, ServerGreeting, Values,
-};
+pub use conversions::{FromRow, FromValue, RowError};
+pub use event_values::{Attributes, BulkRow, BulkRows, BulkValue, EventRow, Values};
+pub use events::{ClientChange, ClientLogin, ClientRequest, Event, OtherCommand, ServerGreeting};
 pub use login::{Greeting, Login};
 pub use modes::{is_safe_to_quote, Mode, Spelling};
 pub use packets::{put_packet, PacketReader};
@@ -76,7 +81,10 @@ pub use results::{
     Column, ColumnType, Done, ErrorPacket, OkPacket, Prepared, ReplyResult, Row, Rows,
     SessionState, SessionStates,
 };
-pub use sending::{bind_text, bind_text_in, send, send_in, value_text, value_text_in, Road};
+pub use sending::{
+    bind_text, bind_text_in, bulk_executions, executions, send, send_in, value_text, value_text_in,
+    Road,
+};
 pub use sets::ParameterSets;
 pub use values::{Content, Date, Time, Value};
 pub use writer::ReplyWriter;

@@ -9,7 +9,7 @@ use std::ptr::null;
 use std::slice;
 
 /// `MYSQL_SESSION_ABI`: the interface that is declared here.
-pub const ABI: u32 = 5;
+pub const ABI: u32 = 6;
 
 // `enum mysql_session_flag`.
 pub const NO_BACKSLASH_ESCAPES: u32 = 1;
@@ -593,6 +593,14 @@ extern "C" {
         server: usize,
         held: usize,
     ) -> u32;
+    pub fn mysql_session_connection_after_login(
+        connection: *mut Connection,
+        capabilities: u32,
+        mariadb_capabilities: u32,
+        client: usize,
+        server: usize,
+        held: usize,
+    ) -> u32;
     pub fn mysql_session_connection_free(connection: *mut Connection);
     pub fn mysql_session_connection_feed(
         connection: *mut Connection,
@@ -602,6 +610,22 @@ extern "C" {
     ) -> u32;
     pub fn mysql_session_connection_close(connection: *mut Connection, side: u32) -> u32;
     pub fn mysql_session_connection_next(connection: *mut Connection, event: *mut Event) -> u32;
+    pub fn mysql_session_connection_put(
+        connection: *mut Connection,
+        side: u32,
+        payload: *const u8,
+        len: usize,
+        out: *mut Handle,
+        event: *mut Event,
+    ) -> u32;
+    pub fn mysql_session_connection_put_packets(
+        connection: *mut Connection,
+        side: u32,
+        packets: *const u8,
+        len: usize,
+        out: *mut Handle,
+        used: *mut usize,
+    ) -> u32;
     pub fn mysql_session_connection_value(
         connection: *mut Connection,
         row: usize,

@@ -5,6 +5,7 @@
 //! `&mut self` or the reader itself, and so ends the borrow.
 
 use crate::codes::{answer, certain, in_range, Code, Error};
+use crate::conversions::{cell_as, row_as, FromRow, FromValue, RowError};
 use crate::handle::Handle;
 use crate::raw;
 use crate::values::Value;
@@ -343,6 +344,52 @@ impl<'a> Row<'a> {
         });
         // SAFETY: its bytes "are good as a result's text is".
         found.then(|| unsafe { Value::of(shown) })
+    }
+
+    /// The value in a cell, by its column's number from 0, as a type of Rust.
+    ///
+    /// # Errors
+    /// [`RowError::NoColumn`]; [`RowError::OtherType`] where the value doesn't convert.
+    pub fn get<T: FromValue<'a>>(&self, column: usize) -> Result<T, RowError> {
+        cell_as(self.cell(column), column, self.columns)
+    }
+
+    /// The whole row as a tuple, or another type that rows convert to.
+    ///
+    /// ```
+    /// use mysql_session::{ReplyKind, ReplyReader, ReplyResult, RowError};
+    ///
+    /// # fn main() -> Result<(), Box<dyn std::error::Error>> {
+    /// # use mysql_session::{capability, Bytes, ColumnType, ParameterSets, ReplyWriter};
+    /// # let capabilities = capability::CLIENT_PROTOCOL_41;
+    /// # let (mut sets, mut bytes) = (ParameterSets::new()?, Bytes::new()?);
+    /// # sets.add(&[7.into(), "tea".into()])?;
+    /// # sets.add(&[8.into(), None::<&str>.into()])?;
+    /// # let mut writer = ReplyWriter::new(ReplyKind::Query, capabilities, 1, 1 << 24)?;
+    /// # for name in [b"id", b"no"] {
+    /// #     writer.column(name, ColumnType { kind: 253, charset: 45, ..ColumnType::default() })?;
+    /// # }
+    /// # writer.rows(&mut bytes)?;
+    /// # writer.row(&sets, 0, &mut bytes)?;
+    /// # writer.row(&sets, 1, &mut bytes)?;
+    /// # writer.end_rows(0, 0, false, &mut bytes)?;
+    /// let mut reader = ReplyReader::new(ReplyKind::Query, capabilities, 1, 1 << 24)?;
+    /// reader.feed(&bytes)?;
+    /// for result in reader.take()? {
+    ///     let ReplyResult::Rows(rows) = result else { continue };
+    ///     let found = rows.iter().map(|row| row.into_tuple::<(u32, Option<&str>)>());
+    ///     let found = found.collect::<Result<Vec<_>, RowError>>()?;
+    ///     assert_eq!(found, [(7, Some("tea")), (8, None)]);
+    /// }
+    /// # Ok(())
+    /// # }
+    /// ```
+    ///
+    /// # Errors
+    /// [`RowError::OtherWidth`], then [`RowError::OtherType`] of the first cell that doesn't
+    /// convert.
+    pub fn into_tuple<T: FromRow<'a>>(self) -> Result<T, RowError> {
+        row_as(|column| self.cell(column), self.columns)
     }
 
     /// The cells, column by column.

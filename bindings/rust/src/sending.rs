@@ -131,6 +131,80 @@ pub fn send_in(
     answer(code).map_err(|code| refusal(code, place))
 }
 
+/// The packets that execute a prepared statement with each of these sets, as
+/// [`Connection::put_packets`](crate::Connection::put_packets) takes them: those of [`send`] by
+/// [`Road::Execute`], without the prepare in front of them. The statement's id is that of the
+/// server's reply to the prepare.
+///
+/// They are laid out for a connection where [`CLIENT_QUERY_ATTRIBUTES`] isn't in force, and for a
+/// server in any mode that reads the query's placeholders as the default mode does; else there is
+/// [`send_in`].
+///
+/// ```
+/// use mysql_session::{executions, ParameterSets};
+///
+/// # fn main() -> Result<(), mysql_session::Error> {
+/// let mut sets = ParameterSets::new()?;
+/// sets.add(&[7.into()])?;
+/// let packets = executions(&sets, b"SELECT ?", 9, 1 << 24)?;
+/// assert_eq!(packets[4..9], [0x17, 9, 0, 0, 0]);
+/// # Ok(())
+/// # }
+/// ```
+///
+/// [`CLIENT_QUERY_ATTRIBUTES`]: crate::capability::CLIENT_QUERY_ATTRIBUTES
+///
+/// # Errors
+/// Those of [`send`].
+pub fn executions(
+    sets: &ParameterSets,
+    query: &[u8],
+    statement: u32,
+    limit: usize,
+) -> Result<Vec<u8>, Error> {
+    behind_prepare(sets, query, Road::Execute, statement, limit)
+}
+
+/// The packets that execute a prepared statement with all of these sets by the fewest of MariaDB's
+/// bulk executions: what [`executions`] is by [`Road::Bulk`].
+///
+/// # Errors
+/// Those of [`send`].
+pub fn bulk_executions(
+    sets: &ParameterSets,
+    query: &[u8],
+    statement: u32,
+    limit: usize,
+) -> Result<Vec<u8>, Error> {
+    behind_prepare(sets, query, Road::Bulk, statement, limit)
+}
+
+/// What is sent by a road behind its prepare.
+fn behind_prepare(
+    sets: &ParameterSets,
+    query: &[u8],
+    road: Road,
+    statement: u32,
+    limit: usize,
+) -> Result<Vec<u8>, Error> {
+    let mut out = Bytes::new()?;
+    send(sets, query, road, statement, limit, &mut out)?;
+    Ok(behind_payload(&out).to_vec())
+}
+
+/// What stands behind the packets of the first payload.
+fn behind_payload(mut packets: &[u8]) -> &[u8] {
+    while let Some(([low, middle, high, _], rest)) = packets.split_first_chunk() {
+        let length = u32::from_le_bytes([*low, *middle, *high, 0]) as usize;
+        packets = &rest[length..];
+        // A packet of the greatest length goes on in the next one.
+        if length < 0xff_ffff {
+            break;
+        }
+    }
+    packets
+}
+
 /// Appends to `out` the text of one set, by its number from 0: the query with a literal in the
 /// place of each placeholder. It is what a text query has behind its first byte.
 ///

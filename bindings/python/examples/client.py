@@ -1,0 +1,233 @@
+"""A client that waits for what it asks: a socket, and `mysql_session.Connection` alone."""
+
+from __future__ import annotations
+
+import hashlib
+import os
+import socket
+import sys
+from typing import Iterable, Iterator, List, Optional, Sequence, Tuple, Union
+
+sys.path.insert(0, os.path.join(os.path.dirname(os.path.abspath(__file__)), os.pardir))
+
+import mysql_session as ms  # noqa: E402  (found by the line above)
+from mysql_session import Capability, Side  # noqa: E402
+
+PIECE = 1 << 16
+
+# MariaDB's own: bulk executions.
+MARIADB_BULK = 1 << 2
+
+CAPABILITIES = int(
+    Capability.LONG_FLAG | Capability.PROTOCOL_41 | Capability.TRANSACTIONS
+    | Capability.SECURE_CONNECTION | Capability.MULTI_RESULTS | Capability.PS_MULTI_RESULTS
+    | Capability.PLUGIN_AUTH | Capability.DEPRECATE_EOF | Capability.CONNECT_WITH_DB)
+
+NATIVE = b"mysql_native_password"
+
+Result = Union[ms.Ok, ms.Rows, ms.Prepared, ms.ServerError]
+
+OkEvents = (ms.OkEvent, ms.AcceptedEvent)
+
+
+class Refused(Exception):
+    """The server refuses a login or a command, by this error."""
+
+    def __init__(self, error: ms.ServerError) -> None:
+        message = error.message.decode(errors="replace")
+        super().__init__(f"error {error.code} ({error.state.decode()}): {message}")
+        self.error = error
+
+
+class Gone(Exception):
+    """The server has closed the connection, or said its last words."""
+
+
+def native_answer(password: str, scramble: bytes) -> bytes:
+    """What proves a password by mysql_native_password: SHA1(password) with
+    SHA1(scramble + SHA1(SHA1(password))) over it, bit by bit; of no password no bytes."""
+    if not password:
+        return b""
+    hashed = hashlib.sha1(password.encode()).digest()
+    over = hashlib.sha1(scramble + hashlib.sha1(hashed).digest()).digest()
+    return bytes(one ^ other for one, other in zip(hashed, over))
+
+
+class Results:
+    """The results of a reply, as its events come."""
+
+    def __init__(self) -> None:
+        self.done: List[Result] = []
+        self._columns: List[ms.Column] = []
+        self._rows: List[Tuple[ms.Cell, ...]] = []
+        self._prepared: Optional[ms.PreparedEvent] = None
+
+    def take(self, event: ms.Event) -> None:
+        """Takes the next event."""
+        if isinstance(event, ms.ColumnCountEvent):
+            self._columns, self._rows = [], []
+        elif isinstance(event, ms.PreparedEvent):
+            self._prepared = event
+        elif isinstance(event, ms.ColumnEvent):
+            self._columns.append(event.column)
+        elif isinstance(event, ms.RowEvent):
+            self._rows.append(event.cells)
+        elif isinstance(event, ms.RowsEndEvent):
+            self.done.append(ms.Rows(tuple(self._columns), self._rows, True, event.status,
+                                     event.warnings, event.info, ()))
+        elif isinstance(event, (ms.ErrorEvent, ms.DeniedEvent)):
+            self.done.append(ms.ServerError(event.code, event.state, event.message))
+        elif isinstance(event, OkEvents):
+            self.done.append(ms.Ok(event.affected_rows, event.last_insert_id, event.status,
+                                   event.warnings, event.info, ()))
+
+    def whole(self) -> List[Result]:
+        """All of them, once the reply is whole."""
+        if self._prepared is not None and not self.done:
+            of = self._prepared
+            self.done.append(ms.Prepared(of.statement, of.warnings,
+                                         tuple(self._columns[:of.parameters]),
+                                         tuple(self._columns[of.parameters:])))
+        return self.done
+
+
+class Client:
+    """A connection to a server. A packet that it sends or takes has a payload of at most `limit`
+    bytes."""
+
+    def __init__(self, stream: socket.socket, limit: int = ms.DEFAULT_LIMIT) -> None:
+        self._stream = stream
+        self._limit = limit
+        self.connection = ms.Connection(client=limit, server=limit, held=4 * limit)
+        self.greeting: Optional[ms.Greeting] = None
+
+    def __enter__(self) -> Client:
+        return self
+
+    def __exit__(self, *_: object) -> None:
+        self.close()
+
+    def close(self) -> None:
+        """Says goodbye, where a command is due, and ends the connection."""
+        try:
+            if self.connection.phase == ms.Phase.COMMAND:
+                self._put(ms.Command.quit())
+        except OSError:
+            pass  # the server has gone before
+        self.connection.close()
+        self._stream.close()
+
+    def log_in(self, user: str, password: str = "", database: str = "",
+               capabilities: int = CAPABILITIES, mariadb_capabilities: int = MARIADB_BULK) -> None:
+        """Logs in by mysql_native_password, with those of the capabilities that the server has.
+
+        Raises Refused where the server refuses, PermissionError where it asks for another plugin
+        and there is a password.
+        """
+        greeting = self._greeted()
+        scramble = (greeting.scramble_1 + greeting.scramble_2).rstrip(b"\0")
+        # A server of MySQL has none of MariaDB's own.
+        self._put(ms.put_login(
+            user, capabilities & greeting.capabilities, native_answer(password, scramble), database,
+            NATIVE, mariadb_capabilities & greeting.mariadb_capabilities, self._limit))
+        while self.connection.phase not in (ms.Phase.COMMAND, ms.Phase.OVER):
+            event = self._next()
+            if isinstance(event, ms.AuthSwitchEvent):
+                if password and event.plugin != NATIVE:
+                    raise PermissionError(f"the server asks for {event.plugin.decode()}")
+                self._put(native_answer(password, event.data.rstrip(b"\0")))
+            elif isinstance(event, ms.DeniedEvent):
+                raise Refused(ms.ServerError(event.code, event.state, event.message))
+
+    def ask(self, payload: bytes) -> Iterator[ms.Event]:
+        """Sends a command; the events of its reply as they come, to its end."""
+        self._put(payload)
+        return self._reply()
+
+    def tell(self, payload: bytes) -> None:
+        """Sends a command that has no reply."""
+        self._put(payload)
+
+    def results(self, payload: bytes) -> List[Result]:
+        """Sends a command; the results of its reply."""
+        results = Results()
+        for event in self.ask(payload):
+            results.take(event)
+        return results.whole()
+
+    def query(self, text: ms.Text) -> List[Result]:
+        """The results of a query."""
+        return self.results(ms.Command.query(text, self.connection.capabilities))
+
+    def prepare(self, text: ms.Text) -> ms.Prepared:
+        """Prepares a statement. Raises Refused."""
+        [result] = self.results(ms.Command.prepare(text))
+        if isinstance(result, ms.ServerError):
+            raise Refused(result)
+        assert isinstance(result, ms.Prepared)
+        return result
+
+    def execute(self, text: ms.Text, statement: int, sets: Iterable[Sequence[ms.Parameter]],
+                road: ms.Road = ms.Road.EXECUTE) -> Iterator[List[Result]]:
+        """Executes a statement with sets of values, one after another or in bulk; the results of
+        each execution."""
+        for reply in self.ask_packets(ms.executions(text, sets, statement, road, self._limit)):
+            results = Results()
+            for event in reply:
+                results.take(event)
+            yield results.whole()
+
+    def ask_packets(self, packets: bytes) -> Iterator[Iterator[ms.Event]]:
+        """Sends what `executions` makes, each execution behind the reply to the one before; the
+        events of each reply, which are taken before the next one is asked for."""
+        while packets:
+            put, used = self.connection.put_packets(Side.CLIENT, packets)
+            self._stream.sendall(put)
+            packets = packets[used:]
+            yield self._reply()
+
+    def put_file(self, pieces: Iterable[bytes]) -> None:
+        """Sends the file that a FileRequestEvent asked for: its pieces, of which none is empty."""
+        for piece in pieces:
+            self._put(piece)
+        self._put(b"")
+
+    def _greeted(self) -> ms.Greeting:
+        """The server's greeting, which comes first."""
+        front = b""
+        event = None
+        while event is None:
+            piece = self._received()
+            front += piece
+            event = next(self.connection.feed(Side.SERVER, piece), None)
+        if isinstance(event, ms.RejectedEvent):
+            raise Refused(ms.ServerError(event.code, event.state, event.message))
+        self.greeting = ms.read_greeting(front[4:4 + int.from_bytes(front[:3], "little")])
+        return self.greeting
+
+    def _put(self, payload: bytes) -> None:
+        """Sends a payload."""
+        self._stream.sendall(self.connection.put(Side.CLIENT, payload).packets)
+
+    def _received(self) -> bytes:
+        """The next bytes of the server."""
+        piece = self._stream.recv(min(PIECE, self.connection.room(Side.SERVER)))
+        if not piece:
+            raise Gone("the server has closed the connection")
+        return piece
+
+    def _next(self) -> ms.Event:
+        """The server's next event."""
+        event = self.connection.next_event()
+        while event is None:
+            self.connection.feed(Side.SERVER, self._received())
+            event = self.connection.next_event()
+        if isinstance(event, ms.FarewellEvent):
+            raise Gone(f"the server says {event.message.decode(errors='replace')}")
+        return event
+
+    def _reply(self) -> Iterator[ms.Event]:
+        """The events of a reply. Where it asks for a file, `put_file` has to be called before the
+        next one is taken: else there is none."""
+        while self.connection.turn is Side.SERVER:
+            yield self._next()

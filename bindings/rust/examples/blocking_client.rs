@@ -1,0 +1,225 @@
+//! A client that runs one query, and prints what the server answers:
+//!
+//! ```text
+//! blocking_client ADDRESS USER DATABASE QUERY [VALUE .. [-- VALUE ..] ..]
+//! ```
+//!
+//! A query without values is sent as a text. One with values is prepared, and executed with each
+//! set of them; `--` begins the next set. A value of digits is a whole number, `NULL` is NULL, and
+//! all else is a text. Of rows the cells are printed with tabs between them, below the names of
+//! their columns.
+//!
+//! The user logs in by mysql_native_password. The environment variable MYSQL_PASSWORD_SHA1 has the
+//! digest of the password by SHA-1, as 40 hexadecimal digits; without it the password is empty.
+//! The status is 0 where the server answered no error, 1 where it did or the connection failed, and
+//! 2 where the words are wrong.
+
+#[path = "blocking_client/client.rs"]
+mod client;
+#[path = "blocking_client/native_password.rs"]
+mod native_password;
+
+use client::{text_of, Account, Client, Failure, LIMIT};
+use mysql_session::{
+    capability, command, executions, Capabilities, Event, OkPacket, ParameterSets, Value,
+};
+use native_password::digest_of;
+use std::env;
+use std::io::{self, Write};
+use std::process::ExitCode;
+
+const USAGE: &str =
+    "usage: blocking_client ADDRESS USER DATABASE QUERY [VALUE .. [-- VALUE ..] ..]";
+
+/// The environment variable that has the digest of the password.
+const VARIABLE: &str = "MYSQL_PASSWORD_SHA1";
+
+/// What this client has. It is no MariaDB, whose own capabilities it doesn't need.
+const CAPABILITIES: Capabilities = Capabilities {
+    protocol: capability::CLIENT_LONG_PASSWORD
+        | capability::CLIENT_PROTOCOL_41
+        | capability::CLIENT_TRANSACTIONS
+        | capability::CLIENT_SECURE_CONNECTION
+        | capability::CLIENT_MULTI_RESULTS
+        | capability::CLIENT_PS_MULTI_RESULTS
+        | capability::CLIENT_PLUGIN_AUTH
+        | capability::CLIENT_DEPRECATE_EOF,
+    mariadb: 0,
+};
+
+fn main() -> ExitCode {
+    let words: Vec<String> = env::args().skip(1).collect();
+    let [address, user, database, query, values @ ..] = &words[..] else {
+        eprintln!("{USAGE}");
+        return ExitCode::from(2);
+    };
+    match run(address, user, database, query.as_bytes(), values) {
+        Ok(true) => ExitCode::SUCCESS,
+        Ok(false) => ExitCode::FAILURE,
+        Err(failure) => {
+            eprintln!("{failure}");
+            ExitCode::FAILURE
+        }
+    }
+}
+
+/// Logs in, runs the query, and quits. The answer is whether the server answered no error.
+fn run(
+    address: &str,
+    user: &str,
+    database: &str,
+    query: &[u8],
+    values: &[String],
+) -> Result<bool, Failure> {
+    let password = match env::var(VARIABLE) {
+        Ok(digits) => Some(digest_of(&digits).ok_or("the password's digest isn't of 40 digits")?),
+        Err(_) => None,
+    };
+    let account = Account {
+        user: user.as_bytes(),
+        password,
+        database: database.as_bytes(),
+        capabilities: CAPABILITIES,
+    };
+    let mut client = Client::connect(address, &account)?;
+    let mut out = io::stdout().lock();
+    let done = if values.is_empty() {
+        client.query(query)?;
+        print_reply(&mut client, &mut out)?
+    } else {
+        execute(&mut client, query, &sets_of(values)?, &mut out)?
+    };
+    client.send(&command::quit())?;
+    Ok(done)
+}
+
+/// The sets of values that words are.
+fn sets_of(words: &[String]) -> Result<ParameterSets, Failure> {
+    let mut sets = ParameterSets::new()?;
+    for words in words.split(|word| word == "--") {
+        let values: Vec<Value<'_>> = words.iter().map(|word| value_of(word)).collect();
+        sets.add(&values)?;
+    }
+    Ok(sets)
+}
+
+/// The value that a word is.
+fn value_of(word: &str) -> Value<'_> {
+    match word.parse::<i64>() {
+        _ if word == "NULL" => Value::Null,
+        Ok(number) => number.into(),
+        Err(_) => word.into(),
+    }
+}
+
+/// Prepares a query, executes it with each set, and closes it. The answer is whether the server
+/// answered no error.
+fn execute(
+    client: &mut Client,
+    query: &[u8],
+    sets: &ParameterSets,
+    out: &mut dyn Write,
+) -> Result<bool, Failure> {
+    client.send(&command::prepare(query))?;
+    let Some(statement) = statement_of(client, out)? else {
+        return Ok(false);
+    };
+    let packets = executions(sets, query, statement, LIMIT)?;
+    let mut left = &packets[..];
+    let mut done = true;
+    while !left.is_empty() {
+        let used = client.send_packets(left)?;
+        left = &left[used..];
+        done &= print_reply(client, out)?;
+    }
+    client.send(&command::close(statement))?;
+    Ok(done)
+}
+
+/// The id of the statement that the server prepares; none where it answers an error.
+fn statement_of(client: &mut Client, out: &mut dyn Write) -> Result<Option<u32>, Failure> {
+    let mut id = None;
+    while client.awaits_reply() {
+        match client.next()? {
+            Event::Prepared { statement, .. } => id = Some(statement),
+            Event::Error(error) | Event::Farewell(error) => writeln!(out, "{}", text_of(&error))?,
+            _ => (),
+        }
+    }
+    Ok(id)
+}
+
+/// Prints the reply to a command. The answer is whether it has no error.
+fn print_reply(client: &mut Client, out: &mut dyn Write) -> Result<bool, Failure> {
+    let (mut names, mut rows, mut done) = (Vec::new(), 0u64, true);
+    while client.awaits_reply() {
+        match client.next()? {
+            Event::ColumnCount { .. } => (names, rows) = (Vec::new(), 0),
+            Event::Column(column) => names.push(readable(column.name)),
+            Event::Row(row) => {
+                if rows == 0 {
+                    writeln!(out, "{}", names.join("\t"))?;
+                }
+                rows += 1;
+                let cells: Vec<String> = row.iter().map(cell_text).collect();
+                writeln!(out, "{}", cells.join("\t"))?;
+            }
+            Event::RowsEnd(_) => writeln!(out, "{}", counted(rows))?,
+            Event::Ok(packet) => writeln!(out, "{}", ok_text(&packet))?,
+            Event::Error(error) | Event::Farewell(error) => {
+                writeln!(out, "{}", text_of(&error))?;
+                done = false;
+            }
+            // No file is sent: no bytes end it.
+            Event::FileRequest(_) => client.send(b"")?,
+            _ => (),
+        }
+    }
+    Ok(done)
+}
+
+/// So many rows.
+fn counted(rows: u64) -> String {
+    let end = if rows == 1 { "" } else { "s" };
+    format!("{rows} row{end}")
+}
+
+fn ok_text(packet: &OkPacket<'_>) -> String {
+    let mut text = format!("OK, {} affected", counted(packet.affected_rows));
+    if packet.last_insert_id != 0 {
+        text += &format!(", the last id is {}", packet.last_insert_id);
+    }
+    text
+}
+
+/// What a cell holds: in the reply to a query a text, in that to an execution any value.
+fn cell_text(value: Value<'_>) -> String {
+    match value {
+        Value::Null => "NULL".to_string(),
+        Value::Int(number) => number.to_string(),
+        Value::UInt(number) => number.to_string(),
+        Value::Bytes(bytes) => readable(bytes),
+        Value::Float(number) => number.to_string(),
+        Value::Double(number) => number.to_string(),
+        Value::Date(it) => format!(
+            "{:04}-{:02}-{:02} {:02}:{:02}:{:02}.{:06}",
+            it.year, it.month, it.day, it.hour, it.minute, it.second, it.micros
+        ),
+        Value::Time(it) => format!(
+            "{}{:02}:{:02}:{:02}.{:06}",
+            if it.negative { "-" } else { "" },
+            u64::from(it.days) * 24 + u64::from(it.hours),
+            it.minutes,
+            it.seconds,
+            it.micros
+        ),
+    }
+}
+
+/// A text on one line.
+fn readable(bytes: &[u8]) -> String {
+    let text = String::from_utf8_lossy(bytes);
+    text.replace('\\', "\\\\")
+        .replace('\t', "\\t")
+        .replace('\n', "\\n")
+}

@@ -1,0 +1,187 @@
+//! A client over a socket and a connection: what it puts is written, what comes is read.
+
+use crate::native_password::{answer, Digest};
+use mysql_session::{
+    capability, command, Bytes, Capabilities, Connection, ErrorPacket, Event, Greeting, Limits,
+    Login, Side,
+};
+use std::error::Error;
+use std::io::{self, Read, Write};
+use std::net::TcpStream;
+
+/// Why an example stops.
+pub type Failure = Box<dyn Error + Send + Sync>;
+
+/// The longest payload of either side: the largest `max_allowed_packet` of a server.
+pub const LIMIT: usize = 1 << 30;
+
+/// How much is held of a connection in all.
+const HELD: usize = 4 * LIMIT;
+
+const PLUGIN: &[u8] = b"mysql_native_password";
+
+/// What takes a connection to where it isn't read.
+const HIDDEN: u32 = capability::CLIENT_COMPRESS
+    | capability::CLIENT_SSL
+    | capability::CLIENT_ZSTD_COMPRESSION_ALGORITHM;
+
+/// Who logs in.
+pub struct Account<'a> {
+    pub user: &'a [u8],
+    /// The digest of the password, or none of an empty one.
+    pub password: Option<Digest>,
+    /// The database, or no bytes.
+    pub database: &'a [u8],
+    /// What the client has.
+    pub capabilities: Capabilities,
+}
+
+/// A client that is logged in.
+pub struct Client {
+    stream: TcpStream,
+    connection: Connection,
+    /// What was put, and isn't written yet.
+    out: Bytes,
+}
+
+impl Client {
+    /// Connects and logs in.
+    pub fn connect(address: &str, account: &Account<'_>) -> Result<Client, Failure> {
+        let limits = Limits {
+            client: LIMIT,
+            server: LIMIT,
+            held: HELD,
+        };
+        let mut client = Client {
+            stream: TcpStream::connect(address)?,
+            connection: Connection::new(limits)?,
+            out: Bytes::new()?,
+        };
+        client.stream.set_nodelay(true)?;
+        client.log_in(account)?;
+        Ok(client)
+    }
+
+    /// Whether the server is due, which replies.
+    pub fn awaits_reply(&self) -> bool {
+        self.connection.turn() == Some(Side::Server)
+    }
+
+    /// Whether queries and executions have attributes.
+    pub fn has_attributes(&self) -> bool {
+        self.connection.capabilities().protocol & capability::CLIENT_QUERY_ATTRIBUTES != 0
+    }
+
+    /// Sends a query.
+    pub fn query(&mut self, text: &[u8]) -> Result<(), Failure> {
+        let payload = match self.has_attributes() {
+            true => command::query_without_attributes(text),
+            false => command::query(text),
+        };
+        self.send(&payload)
+    }
+
+    /// Sends a payload.
+    pub fn send(&mut self, payload: &[u8]) -> Result<(), Failure> {
+        self.connection.put(Side::Client, payload, &mut self.out)?;
+        self.write()
+    }
+
+    /// Sends packets up to the first that has a reply. The answer is how many of their bytes went.
+    pub fn send_packets(&mut self, packets: &[u8]) -> Result<usize, Failure> {
+        let used = self
+            .connection
+            .put_packets(Side::Client, packets, &mut self.out)?;
+        self.write()?;
+        Ok(used)
+    }
+
+    /// The next event of the server's, which may have to be waited for.
+    pub fn next(&mut self) -> Result<Event<'_>, Failure> {
+        while self.connection.next_event()?.is_none() {
+            self.receive()?;
+        }
+        Ok(self.connection.event().expect("an event was told"))
+    }
+
+    /// Writes what was put.
+    fn write(&mut self) -> Result<(), Failure> {
+        self.stream.write_all(&self.out)?;
+        self.out.clear();
+        Ok(())
+    }
+
+    /// Reads what comes next, as far as there is room for it.
+    fn receive(&mut self) -> Result<(), Failure> {
+        let mut piece = [0; 1 << 14];
+        let room = self.connection.room(Side::Server).min(piece.len());
+        let count = self.stream.read(&mut piece[..room])?;
+        if count == 0 {
+            return Err(io::Error::from(io::ErrorKind::UnexpectedEof).into());
+        }
+        Ok(self.connection.feed(Side::Server, &piece[..count])?)
+    }
+
+    /// Answers the greeting, and what the server asks for behind it.
+    fn log_in(&mut self, account: &Account<'_>) -> Result<(), Failure> {
+        let payload = self.greeting()?;
+        if let Event::Rejected(error) = self.next()? {
+            return Err(text_of(&error).into());
+        }
+        let greeting = Greeting::read(&payload)?;
+        let nonce = [greeting.scramble_1, greeting.scramble_2].concat();
+        let mut login = Bytes::new()?;
+        Login {
+            capabilities: account.capabilities.protocol & greeting.capabilities & !HIDDEN,
+            mariadb_capabilities: account.capabilities.mariadb & greeting.mariadb_capabilities,
+            user: account.user,
+            response: &response(account, &nonce),
+            database: account.database,
+            plugin: PLUGIN,
+            ..Login::default()
+        }
+        .put(LIMIT as u32, &mut login)?;
+        self.send(&login)?;
+        loop {
+            let nonce = match self.next()? {
+                Event::Accepted(_) => return Ok(()),
+                Event::Denied(error) => return Err(text_of(&error).into()),
+                // A nonce ends with a zero.
+                Event::AuthSwitch { plugin, data } if plugin == PLUGIN => {
+                    data.strip_suffix(b"\0").unwrap_or(data).to_vec()
+                }
+                event => return Err(format!("the server asks for more: {event:?}").into()),
+            };
+            self.send(&response(account, &nonce))?;
+        }
+    }
+
+    /// The payload of the server's greeting, which isn't taken as an event yet.
+    fn greeting(&mut self) -> Result<Vec<u8>, Failure> {
+        loop {
+            let unread = self.connection.rest(Side::Server);
+            if let Some(([low, middle, high, _], payload)) = unread.split_first_chunk() {
+                let length = u32::from_le_bytes([*low, *middle, *high, 0]) as usize;
+                if let Some(payload) = payload.get(..length) {
+                    return Ok(payload.to_vec());
+                }
+            }
+            self.receive()?;
+        }
+    }
+}
+
+/// What a client answers to a nonce: nothing where the password is empty.
+fn response(account: &Account<'_>, nonce: &[u8]) -> Vec<u8> {
+    let password = account.password.as_ref();
+    password.map_or(Vec::new(), |password| answer(password, nonce).to_vec())
+}
+
+/// An error of the server's, as its own clients print it.
+pub fn text_of(error: &ErrorPacket<'_>) -> String {
+    let state = error.state.map_or(String::new(), |state| {
+        format!(" ({})", String::from_utf8_lossy(&state))
+    });
+    let message = String::from_utf8_lossy(error.message);
+    format!("error {}{state}: {message}", error.code)
+}
