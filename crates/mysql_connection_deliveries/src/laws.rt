@@ -63,8 +63,9 @@ pub fn events_are_spoken()
 /// executions say the contents of the sets: all of them, in order, and nothing between. The same is
 /// so where it is what `Query::send_more` alone appends of sets.
 ///
-/// That is so as far as the statement isn't closed or replaced, no error takes an execution back, and
-/// query attributes aren't in force.
+/// That is so as far as the statement isn't closed or replaced, nor goes with a change of user or a
+/// reset of the connection, and no error takes an execution back; where query attributes aren't in
+/// force, and bulk executions are if there are any.
 ///
 /// MySQL: Client/Server Protocol, "Prepared Statements"; MariaDB: Client/Server Protocol,
 /// "3 - Binary Protocol (Prepared Statements)".
@@ -79,9 +80,10 @@ pub fn delivered_sets_are_said()
 
 /// What a client puts on a connection, an auditor between it and the server reads.
 ///
-/// Once all bytes of both have come to the auditor, in whatever pieces and order, the client's
-/// events that it has are those that the client put, the server's those that the server put, in
-/// order, and of each prepared statement the executions say the sets that were sent of it.
+/// The three go by the same limits. Once all bytes of both have come to the auditor, in whatever
+/// pieces and order, and all events are taken, the client's events that it has are those that the
+/// client put, the server's those that the server put, in order, and of each prepared statement the
+/// executions say the sets that were sent of it.
 ///
 /// MySQL: Client/Server Protocol, "Connection Lifecycle" and "Prepared Statements".
 pub fn put_sets_are_read()
@@ -94,9 +96,10 @@ pub fn put_sets_are_read()
 
 /// What a client put, payload by payload, an auditor between it and the server reads.
 ///
-/// Once all bytes of both have come to the auditor, its events begin with those of the client's own
-/// record of payloads that it put and took; and where what it put of a prepared statement is what
-/// is sent of sets, their executions say the sets.
+/// The three go by the same limits. Once all bytes of both have come to the auditor, and all events
+/// are taken, its events begin with those of the client's own record of payloads that it put and
+/// took; and where what the client put of a prepared statement is what is sent of sets, their
+/// executions say the sets.
 ///
 /// MySQL: Client/Server Protocol, "Connection Lifecycle" and "Prepared Statements".
 pub fn put_payloads_are_read()

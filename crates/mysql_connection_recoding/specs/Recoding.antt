@@ -3,7 +3,7 @@
 -- "COM_STMT_EXECUTE", new_params_bind_flag); MariaDB: Client/Server Protocol, "COM_STMT_EXECUTE"
 -- ('Statement id').
 use Rattle.std.specs.Prelude.{◌≡◌, ℕ, Bool, true, false, ◌==◌, if◌then◌else◌, List, [], ◌∷◌, map}
-use Rattle.std.specs.Prelude.{Option, Some, None, Result, Ok, Err}
+use Rattle.std.specs.Prelude.{Option, Some, None, Result, Ok, Err, IsOk}
 use Rattle.std.specs.Option.{ok_or, option_map}
 use Rattle.mysql_commands.specs.Commands.{BulkExecute, ChangeUser, Close, Command, Execute, Fetch}
 use Rattle.mysql_commands.specs.Commands.{LongData, Other, ResetStatement}
@@ -77,7 +77,7 @@ recoded in_force ids (Fetch id rows) = by_id ids id (λ other. Fetch other rows)
 recoded in_force ids (Other payload) = Err refusals.OtherPayload
 recoded in_force ids command = Ok command
 
--- Which ids are known behind it: a closed statement's goes, and at a change of user all go.
+-- Which ids are known behind it: that by which a statement is closed goes, and at a change of user all go.
 abbrev pub ids_behind : Command → Ids → Ids
 ids_behind (Close id) ids = without_id id ids
 ids_behind (ChangeUser login) ids = no_ids
@@ -96,7 +96,8 @@ needs_memory in_force (Execute e) = lacks_types in_force e.types
 needs_memory in_force (BulkExecute e) = lacks_types in_force e.types
 needs_memory in_force command = false
 
--- Why a command isn't recoded: Memory may be wanted where it needs any.
+-- Why a command isn't recoded. Memory may be wanted where it needs any, and nothing else speaks against it.
 abbrev pub Refuses : List ParameterType → Ids → Command → RecodingRefusal → Type 0
-Refuses in_force ids command refusals.Memory = needs_memory in_force command ≡ true
+Refuses in_force ids command refusals.Memory =
+    (needs_memory in_force command ≡ true) × IsOk (recoded in_force ids command)
 Refuses in_force ids command refusal = recoded in_force ids command ≡ Err refusal

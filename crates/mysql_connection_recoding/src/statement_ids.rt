@@ -129,7 +129,9 @@ impl StatementIds {
     /// An execution, a bulk execution, long data, a close, a reset or a fetch names its statement by
     /// the id there; an execution that carries no types gets those that are in force of its
     /// statement here, since none may be there. All else is as it was, and no value is copied. A
-    /// statement that is closed is known no more, and none is behind a change of user.
+    /// statement that is closed by its id is known no more, and none is behind a change of user.
+    /// 0xffffffff stays: it names the statement that was prepared last, which is the same one where
+    /// the statements are prepared there in the same order.
     ///
     /// `in_force` are the types of the statement's parameters here, as
     /// `Connection::statement` has them; a command that is no execution takes none.
@@ -140,7 +142,7 @@ impl StatementIds {
     /// # Errors
     /// - `OtherPayload` of a payload that is laid out as no command.
     /// - `UnknownStatement` with the id, where the statement isn't known there.
-    /// - `Memory` where an execution lacks types.
+    /// - `Memory` where an execution lacks types, and neither of the others holds.
     ///
     /// Nothing changes then, and the command is gone.
     pub fn recode<'a>(
