@@ -111,13 +111,13 @@ due_unfailed m side due = none_failed m.failure side (stream_in side m) m.world.
 pub put_first_by : PacketsTakeBytes → (old new : Machine) (side : Side) (packets before behind payload : List ℕ)
     (limit number used next : ℕ) (event : Event) → limit ≡ limit_of side old.world.limits →
     number ≡ slice_index_or packets 3 0 → first_packet limit number packets ≡ Whole payload next (drop used packets) →
-    used ≤ length packets → PutsPayloadOn old side payload before (Ok event) new behind →
+    used ≤ length packets → old.failure ≡ None → PutsPayloadOn old side payload before (Ok event) new behind →
     PutsFirstBy old side packets before used new behind
-put_first_by law old new side packets before behind payload limit number used next event its_limit its_number found within puts = record {
+put_first_by law old new side packets before behind payload limit number used next event its_limit its_number found within going puts = record {
   payload = payload;
   number = next;
   found = ap (λ (l : ℕ). first_of l packets) (sym its_limit) ∙ ap (λ (n : ℕ). first_packet limit n packets) (sym its_number) ∙ found;
   header = took_four law limit number used next packets payload found;
   within = within;
-  one = record { event = event; puts = puts };
+  one = record { going = going; event = event; puts = puts };
 }

@@ -24,9 +24,10 @@ StandFirst limit packets [] rest = packets ≡ rest
 StandFirst limit packets (payload ∷ payloads) rest = (number : ℕ) × (behind : List ℕ) ×
     (first_of limit packets ≡ Whole payload number behind) × StandFirst limit behind payloads rest
 
--- A payload of the side was put, as the event that it says.
+-- A payload of the side was put on a machine that has found no fault, as the event that it says.
 pub record PutsOne (old : Machine) (side : Side) (payload before : List ℕ) (new : Machine)
     (behind : List ℕ) : Type 0 where
+  pub going : old.failure ≡ None
   pub event : Event
   pub puts : PutsPayloadOn old side payload before (Ok event) new behind
 

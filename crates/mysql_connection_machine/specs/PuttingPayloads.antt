@@ -26,7 +26,8 @@ pub record IsDue (w : World) (side : Side) (payload : List ℕ) : Type 0 where
   pub awaited : awaits_payload w side ≡ true
   pub within : length payload ≤ limit_of side w.limits
 
--- When each refusal of a payload comes: the first that holds. Want of memory may stand in place of any.
+-- When each refusal of a payload comes: the first that holds. Want of memory may stand in place of what comes
+-- behind the first two.
 abbrev pub RefusesPayload : World → Side → List ℕ → PayloadRefusal → Type 0
 RefusesPayload w side payload NotDue = awaits_payload w side ≡ false
 RefusesPayload w side payload TooLarge =
@@ -36,7 +37,7 @@ RefusesPayload w side payload (BadPayload fault) =
 RefusesPayload w side payload Held = IsDue w side payload ×
     (event : Event) × (after : Standing) × (step w.standing payload ≡ Ok (event, after)) ×
     (room_to_keep w.limits < kept after)
-RefusesPayload w side payload Memory = Unit {0}
+RefusesPayload w side payload Memory = IsDue w side payload
 
 -- The packets of a payload of the side were appended, which says this event by the table of steps, and
 -- the connection goes on behind them.

@@ -7,11 +7,11 @@ use Rattle.mysql_connection_machine.proofs.connection.Connection.put_first.Goals
 pub returns-in_ok-put_payload-in-Whole : goal.returns-in_ok-put_payload-in-Whole
 returns-in_ok-put_payload-in-Whole c =
     let due : is_due_of c.args.self.now c.args.side ≡ true = sym c.is_due.ensures ∙ c.if-not-is_due.false in
+    let going = due_unfailed c.args.self.now c.args.side due in
     let found = rw c.in-Whole.is at c.in_ok-first_packet.ensures.found in
     let within = rw c.in-Whole.is at c.in_ok-first_packet.ensures.within in
     put_first_by c.packets_take_bytes.ensures c.args.self.now c.put_payload.new.self c.args.side c.args.packets.now
     c.args.out.now.items c.put_payload.new.out.items c.as_slice.result.now c.limit_of-limit.result c.number_of.result
     c.in-Whole.used c.in-Whole.next c.in_ok-put_payload-in-Whole.field-0 c.limit_of-limit.ensures c.number_of.ensures
     (found ∙ ap (λ (p : List ℕ). Whole p c.in-Whole.next (drop c.in-Whole.used c.args.packets.now)) (sym c.as_slice.ensures.value))
-    within
-    (c.in_ok-put_payload-in-Whole.ensures.puts (due_unfailed c.args.self.now c.args.side due))
+    within going (c.in_ok-put_payload-in-Whole.ensures.puts going)
