@@ -79,6 +79,13 @@ TASKS = {
         ('read and print a set of transaction identifiers', ['Sid::parse']),
     ],
     'mysql_connection': [
+        ('read a whole connection as events', ['Connection::new', 'Connection::feed', 'Connection::next_event']),
+        ('say how it stands, and how it ends', ['Connection::turn', 'Connection::phase', 'Connection::finish']),
+        ('read the rows of one without copies', ['Connection::next_event_lent', 'Connection::row']),
+        ('begin behind a login', ['Connection::after_login']),
+        ('put an event on a connection', ['Connection::put', 'Connection::put_row', 'Event::command', 'Event::reply']),
+        ('put a payload or packets on it', ['Connection::put_payload', 'Connection::put_packets', 'Connection::is_due']),
+        ('say a command on another connection', ['StatementIds::recode']),
         ('read what a client asks for', ['Command::read', 'Command::statement_id', 'Command::reply']),
         ('put a command', ['put_command']),
         ('follow what is in force of a statement', ['StatementParameters::execute', 'StatementParameters::take_back']),
@@ -86,6 +93,6 @@ TASKS = {
         ('put an event of a reply', ['put_event']),
         ('read a login', ['read_greeting', 'read_response', 'read_authentication']),
         ('put a login', ['put_greeting', 'put_response', 'put_authentication']),
-        ('print an event as a line', ['write_command', 'write_reply_event']),
+        ('print an event as a line', ['write_event', 'write_end', 'write_command', 'write_reply_event']),
     ],
 }

@@ -49,8 +49,8 @@ extern "C" {
 #define MYSQL_SESSION_VERSION_PATCH 0
 
 /* The number of this interface. mysql_session_abi() answers the library's: compare them before
- * any other call. It changes with each change of a declaration below, and the shared object's name
- * has it: libmysql_session.so.6. */
+ * any other call. It changes with each change of what the library exports and of a struct, and the
+ * shared object's name has it: libmysql_session.so.6. */
 #define MYSQL_SESSION_ABI 6
 
 uint32_t mysql_session_abi(void);
@@ -378,7 +378,10 @@ typedef struct mysql_session_place {
  * receiver of the same query, id, limit and mode reads the sets back, to the end of what was
  * appended.
  * Values of a set that wasn't ended aren't sent; the sets stay. The limit is the
- * max_allowed_packet of the receiving side, at least 4. The two handles are different ones.
+ * max_allowed_packet of the receiving side, at least 4; a packet's header counts in it, so that a
+ * payload has at most `limit - 4` bytes. The two handles are different ones.
+ * The commands are laid out for a connection on which CLIENT_QUERY_ATTRIBUTES isn't in force, bulk
+ * executions for one on which MARIADB_CLIENT_STMT_BULK_OPERATIONS is.
  * By MYSQL_SESSION_TEXT: safe for a server in the mode that the flags (of mysql_session_flag) tell,
  * over a connection whose collation is safe to quote, as UTF-8's are, or with
  * MYSQL_SESSION_HEXADECIMAL in any character set in which bytes below 80 that follow one another
@@ -443,6 +446,92 @@ uint32_t mysql_session_recoder_feed(mysql_session_handle *handle, const uint8_t 
  * MEMORY; with a handle `out` of another kind nothing has changed. */
 uint32_t mysql_session_recoder_end(mysql_session_handle *handle, mysql_session_handle *out,
                                    mysql_session_stop *stop);
+
+/* ---- Numbers of the protocol ----------------------------------------------------------------- */
+
+/* Capabilities, by which packets are laid out: calls take those that client and server agreed on, as
+ * bits of a word. Other bits than these may be set too (Capabilities Flags). */
+enum mysql_session_capability {
+    MYSQL_SESSION_CLIENT_LONG_PASSWORD = 0x1,
+    MYSQL_SESSION_CLIENT_FOUND_ROWS = 0x2,
+    MYSQL_SESSION_CLIENT_LONG_FLAG = 0x4,
+    MYSQL_SESSION_CLIENT_CONNECT_WITH_DB = 0x8,
+    MYSQL_SESSION_CLIENT_NO_SCHEMA = 0x10,
+    MYSQL_SESSION_CLIENT_COMPRESS = 0x20,
+    MYSQL_SESSION_CLIENT_ODBC = 0x40,
+    MYSQL_SESSION_CLIENT_LOCAL_FILES = 0x80,
+    MYSQL_SESSION_CLIENT_IGNORE_SPACE = 0x100,
+    MYSQL_SESSION_CLIENT_PROTOCOL_41 = 0x200,
+    MYSQL_SESSION_CLIENT_INTERACTIVE = 0x400,
+    MYSQL_SESSION_CLIENT_SSL = 0x800,
+    MYSQL_SESSION_CLIENT_IGNORE_SIGPIPE = 0x1000,
+    MYSQL_SESSION_CLIENT_TRANSACTIONS = 0x2000,
+    MYSQL_SESSION_CLIENT_RESERVED = 0x4000,
+    MYSQL_SESSION_CLIENT_SECURE_CONNECTION = 0x8000,
+    MYSQL_SESSION_CLIENT_MULTI_STATEMENTS = 0x10000,
+    MYSQL_SESSION_CLIENT_MULTI_RESULTS = 0x20000,
+    MYSQL_SESSION_CLIENT_PS_MULTI_RESULTS = 0x40000,
+    MYSQL_SESSION_CLIENT_PLUGIN_AUTH = 0x80000,
+    MYSQL_SESSION_CLIENT_CONNECT_ATTRS = 0x100000,
+    MYSQL_SESSION_CLIENT_PLUGIN_AUTH_LENENC_CLIENT_DATA = 0x200000,
+    MYSQL_SESSION_CLIENT_CAN_HANDLE_EXPIRED_PASSWORDS = 0x400000,
+    MYSQL_SESSION_CLIENT_SESSION_TRACK = 0x800000,
+    MYSQL_SESSION_CLIENT_DEPRECATE_EOF = 0x1000000,
+    MYSQL_SESSION_CLIENT_OPTIONAL_RESULTSET_METADATA = 0x2000000,
+    MYSQL_SESSION_CLIENT_ZSTD_COMPRESSION_ALGORITHM = 0x4000000,
+    MYSQL_SESSION_CLIENT_QUERY_ATTRIBUTES = 0x8000000,
+    MYSQL_SESSION_MULTI_FACTOR_AUTHENTICATION = 0x10000000,
+    MYSQL_SESSION_CLIENT_PROGRESS_OBSOLETE = 0x20000000,
+    MYSQL_SESSION_CLIENT_SSL_VERIFY_SERVER_CERT = 0x40000000
+};
+
+/* MariaDB's own, in a word beside the other one. */
+enum mysql_session_mariadb_capability {
+    MYSQL_SESSION_MARIADB_CLIENT_PROGRESS = 0x1,
+    MYSQL_SESSION_MARIADB_CLIENT_COM_MULTI = 0x2,
+    MYSQL_SESSION_MARIADB_CLIENT_STMT_BULK_OPERATIONS = 0x4,
+    MYSQL_SESSION_MARIADB_CLIENT_EXTENDED_METADATA = 0x8,
+    MYSQL_SESSION_MARIADB_CLIENT_CACHE_METADATA = 0x10,
+    MYSQL_SESSION_MARIADB_CLIENT_BULK_UNIT_RESULTS = 0x20
+};
+
+/* Types of columns (Field Types). */
+enum mysql_session_column_type {
+    MYSQL_SESSION_TYPE_DECIMAL = 0,
+    MYSQL_SESSION_TYPE_TINY = 1,
+    MYSQL_SESSION_TYPE_SHORT = 2,
+    MYSQL_SESSION_TYPE_LONG = 3,
+    MYSQL_SESSION_TYPE_FLOAT = 4,
+    MYSQL_SESSION_TYPE_DOUBLE = 5,
+    MYSQL_SESSION_TYPE_NULL = 6,
+    MYSQL_SESSION_TYPE_TIMESTAMP = 7,
+    MYSQL_SESSION_TYPE_LONGLONG = 8,
+    MYSQL_SESSION_TYPE_INT24 = 9,
+    MYSQL_SESSION_TYPE_DATE = 10,
+    MYSQL_SESSION_TYPE_TIME = 11,
+    MYSQL_SESSION_TYPE_DATETIME = 12,
+    MYSQL_SESSION_TYPE_YEAR = 13,
+    MYSQL_SESSION_TYPE_NEWDATE = 14,
+    MYSQL_SESSION_TYPE_VARCHAR = 15,
+    MYSQL_SESSION_TYPE_BIT = 16,
+    MYSQL_SESSION_TYPE_TIMESTAMP2 = 17,
+    MYSQL_SESSION_TYPE_DATETIME2 = 18,
+    MYSQL_SESSION_TYPE_TIME2 = 19,
+    MYSQL_SESSION_TYPE_TYPED_ARRAY = 20,
+    MYSQL_SESSION_TYPE_VECTOR = 242,
+    MYSQL_SESSION_TYPE_UNKNOWN = 243,
+    MYSQL_SESSION_TYPE_JSON = 245,
+    MYSQL_SESSION_TYPE_NEWDECIMAL = 246,
+    MYSQL_SESSION_TYPE_ENUM = 247,
+    MYSQL_SESSION_TYPE_SET = 248,
+    MYSQL_SESSION_TYPE_TINY_BLOB = 249,
+    MYSQL_SESSION_TYPE_MEDIUM_BLOB = 250,
+    MYSQL_SESSION_TYPE_LONG_BLOB = 251,
+    MYSQL_SESSION_TYPE_BLOB = 252,
+    MYSQL_SESSION_TYPE_VAR_STRING = 253,
+    MYSQL_SESSION_TYPE_STRING = 254,
+    MYSQL_SESSION_TYPE_GEOMETRY = 255
+};
 
 /* ---- Replies of a server, read as they come -------------------------------------------------- */
 
@@ -549,7 +638,8 @@ uint32_t mysql_session_reply_cell(mysql_session_handle *handle, size_t number, s
                                   size_t column, mysql_session_value *value);
 
 /* A column of a result set, or of a prepared statement. `type` is the number of the protocol's
- * column type (Field Types), `flags` its Column Definition Flags, `charset` its collation. */
+ * column type (of mysql_session_column_type), `flags` its Column Definition Flags, `charset` its
+ * collation. */
 typedef struct mysql_session_column {
     uint8_t type;
     uint8_t decimals;
@@ -794,7 +884,8 @@ enum mysql_session_side {
 /* Makes the handle stand for a connection of which no byte came. What it stood for before is freed.
  * `client` and `server` are the longest payloads of the sides. `held` limits what is held in all:
  * of each side as much waits unread as its longest payload takes with its headers, and what `held`
- * leaves beside both is for what is kept of statements, columns and long data.
+ * leaves beside both is for what is kept of statements, columns and long data: take twice as much as
+ * both. Where nothing is left, no statement is prepared and no column is read: CONNECTION_KEPT.
  * Answers OK, MEMORY. */
 uint32_t mysql_session_connection_new(mysql_session_connection *connection, size_t client,
                                       size_t server, size_t held);
@@ -828,7 +919,10 @@ enum mysql_session_event_kind {
     MYSQL_SESSION_EVENT_NONE = 0,
     MYSQL_SESSION_EVENT_REJECTED = 1, /* an error in place of a greeting */
     /* text (the server's version), number (the connection's id), capabilities,
-     * mariadb_capabilities, status, charset, plugin */
+     * mariadb_capabilities, status, charset, plugin. A client that scrambles a password reads the
+     * scrambles by mysql_session_greeting_read of the payload, which
+     * mysql_session_connection_rest of the server shows behind its header of four bytes, as long as
+     * the event isn't taken. */
     MYSQL_SESSION_EVENT_GREETING = 2,
     /* capabilities, mariadb_capabilities, charset, number (the longest packet that it takes) */
     MYSQL_SESSION_EVENT_SECURE_REQUEST = 3,
@@ -948,7 +1042,9 @@ uint32_t mysql_session_connection_next(mysql_session_connection *connection,
  * NO_SUCH_KIND (of a side, before any other); EMPTY_HANDLE, OTHER_KIND (of `out`);
  * CONNECTION_NOT_ITS_TURN where it isn't the turn of this side, bytes of it wait unread, its stream
  * has ended or the connection has failed; CONNECTION_TOO_LARGE; the fault of a payload that can't
- * be read here; CONNECTION_KEPT; MEMORY. The first that holds of these is the answer. */
+ * be read here; CONNECTION_KEPT; MEMORY. The first that holds of these is the answer.
+ * No command is such a payload: one that is laid out as none, as an execution of a statement that
+ * isn't known, is put, and the event is EVENT_OTHER. A server answers it by an error. */
 uint32_t mysql_session_connection_put(mysql_session_connection *connection, uint32_t side,
                                       const uint8_t *payload, size_t len,
                                       mysql_session_handle *out, mysql_session_event *event);
@@ -958,7 +1054,9 @@ uint32_t mysql_session_connection_put(mysql_session_connection *connection, uint
  * with any numbers, which go on within a payload of more than one. Behind OK `used` tells how many
  * of the bytes were taken: all, or those before the first packet whose turn hasn't come (the rest is
  * put once it has); what is cut off at the end is left. No event is shown: the calls below stay about
- * the one that was told last.
+ * the one that was told last. So nothing tells of a command that is laid out as none: see before that
+ * _statement knows the statement, and by _standing that the capabilities are those which the packets
+ * are laid out for, as mysql_session_send says.
  * Answers OK, or why the packet isn't put that stands behind `used` bytes: those before it were
  * put, and what was appended of them stands. CONNECTION_TOO_LARGE, CONNECTION_OUT_OF_SYNC (the
  * numbers of a payload's own packets), the fault of a payload that can't be read here,

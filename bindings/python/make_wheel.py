@@ -23,7 +23,7 @@ LICENSES = ("LICENSE-APACHE", "LICENSE-MIT")
 METADATA = """Metadata-Version: 2.1
 Name: mysql_session
 Version: {version}
-Summary: Parameter sets of a query as streams of MySQL and MariaDB commands, and back
+Summary: MySQL and MariaDB connections, and parameter sets of queries, as bytes and back
 License: MIT OR Apache-2.0
 Requires-Python: >=3.8
 """

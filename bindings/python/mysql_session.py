@@ -1,6 +1,7 @@
-"""Parameter sets of a query as streams of MySQL and MariaDB commands, and back.
+"""MySQL and MariaDB connections, and parameter sets of queries, as bytes and back.
 
-The C library of `bindings/c/mysql_session.h` by ctypes, for Python 3.8 and later:
+The C library of `bindings/c/mysql_session.h` by ctypes, for Python 3.8 and later. Parameter sets of
+a query as a stream of commands, and back:
 
     sets = [(1, "it's"), (None, datetime.date(2024, 2, 29))]
     stream = send("INSERT INTO t VALUES (?, ?)", sets, Road.EXECUTE, statement=7)
@@ -36,7 +37,8 @@ a copy.
 Nothing is lost where a call can't give what it has: where MySQLSessionError by `Code.MEMORY`,
 MemoryError or KeyboardInterrupt ends it on the way, `take`, `payload` and `next_event` give the
 same at the next call, what `Recoder` and `ReplyWriter` wrote comes with what they write next, or by
-`rest`, and what was put on a `Connection` with what is put next, or by `unsent`.
+`rest`, and what was put on a `Connection` with what is put next, or by `unsent`. Only a `Connection`
+that reads an event and is refused memory by the library has failed: that is its fault from then on.
 
 What an object holds is freed by `close`, at the end of `with`, or when it is collected. Where that
 happens in another thread, its own thread frees it when it makes its next object, and nobody where
@@ -79,14 +81,14 @@ __all__ = [
     "Content", "CutOffLoginEvent", "DateFields", "DEFAULT_LIMIT", "DeniedEvent", "End", "EndKind",
     "ErrorEvent", "Event", "ExecuteEvent", "FarewellEvent", "FetchEvent", "FieldEvent", "File",
     "FileDataEvent", "FileRequestEvent", "Greeting", "GreetingEvent", "InitDbEvent", "LineEvent",
-    "Login", "LoginEvent", "LongDataEvent", "Mode", "MORE_RESULTS", "MySQLSessionError", "Named",
-    "NextFactorEvent", "Ok", "OkEvent", "OldAuthSwitchEvent", "OtherEvent", "PacketReader",
-    "Parameter", "ParameterSets", "Phase", "PluginDataEvent", "Prepared", "PreparedEvent",
-    "PrepareEvent", "ProgressEvent", "Put", "QueryEvent", "QuitEvent", "RawRowEvent", "Reason",
-    "Receiver", "Recoder", "RejectedEvent", "ReplyKind", "ReplyReader", "ReplyWriter",
-    "ResetStatementEvent", "Result", "Road", "RowError", "RowEvent", "Rows", "RowsEndEvent",
-    "SecureRequestEvent", "ServerError", "Side", "Spelling", "State", "Statement", "Text",
-    "TimeFields", "bind_text", "binlog_dump", "binlog_dump_gtid", "code_text", "ends_reply",
+    "Login", "LoginEvent", "LongDataEvent", "MariadbCapability", "Mode", "MORE_RESULTS",
+    "MySQLSessionError", "Named", "NextFactorEvent", "Ok", "OkEvent", "OldAuthSwitchEvent",
+    "OtherEvent", "PacketReader", "Parameter", "ParameterSets", "Phase", "PluginDataEvent",
+    "Prepared", "PreparedEvent", "PrepareEvent", "ProgressEvent", "Put", "QueryEvent", "QuitEvent",
+    "RawRowEvent", "Reason", "Receiver", "Recoder", "RejectedEvent", "ReplyKind", "ReplyReader",
+    "ReplyWriter", "ResetStatementEvent", "Result", "Road", "RowError", "RowEvent", "Rows",
+    "RowsEndEvent", "SecureRequestEvent", "ServerError", "Side", "Spelling", "State", "Statement",
+    "Text", "TimeFields", "bind_text", "binlog_dump", "binlog_dump_gtid", "code_text", "ends_reply",
     "executions", "is_proved", "is_safe_to_quote", "library_version", "literal", "positional",
     "put_greeting", "put_login", "put_packet", "read_greeting", "read_login", "read_reply",
     "recode", "register_replica", "rows_as", "rows_as_dicts", "rows_as_tuples", "send",
@@ -267,9 +269,21 @@ class Capability(enum.IntFlag):
     OPTIONAL_RESULTSET_METADATA = 0x2000000
     ZSTD_COMPRESSION_ALGORITHM = 0x4000000
     QUERY_ATTRIBUTES = 0x8000000
+    MULTI_FACTOR_AUTHENTICATION = 0x10000000
     PROGRESS_OBSOLETE = 0x20000000
     SSL_VERIFY_SERVER_CERT = 0x40000000
     REMEMBER_OPTIONS = 0x80000000
+
+
+class MariadbCapability(enum.IntFlag):
+    """MariaDB's own capabilities, in a word of their own (MariaDB: "Connecting", 'Capabilities')."""
+
+    PROGRESS = 1
+    COM_MULTI = 2
+    STMT_BULK_OPERATIONS = 4
+    EXTENDED_METADATA = 8
+    CACHE_METADATA = 0x10
+    BULK_UNIT_RESULTS = 0x20
 
 
 class ColumnType(enum.IntEnum):
@@ -1731,15 +1745,16 @@ def read_reply(kind: ReplyKind, capabilities: int, reply: Union[bytes, bytearray
 
 class RowError(ValueError):
     """A row isn't what was asked for. `column` is the name of the column that it is about, and
-    `row` the number of the row, from 0; None where it is no single row's fault."""
+    `row` the number of the row, from 0; each is None where it is about no single one."""
 
-    def __init__(self, why: str, column: str, row: Optional[int] = None) -> None:
+    def __init__(self, why: str, column: Optional[str], row: Optional[int] = None) -> None:
         super().__init__(why, column, row)
         self.why, self.column, self.row = why, column, row
 
     def __str__(self) -> str:
-        spot = "" if self.row is None else f"row {self.row}, "
-        return f"{spot}column {self.column}: {self.why}"
+        spots = [f"{name} {spot}" for name, spot in (("row", self.row), ("column", self.column))
+                 if spot is not None]
+        return f"{', '.join(spots)}: {self.why}"
 
 
 _Reader = Callable[[Any], Any]
@@ -1900,7 +1915,7 @@ def _values(columns: Sequence[Column], readers: Mapping[int, _Reader],
     names = _names(columns)
     for number, row in enumerate(rows):
         if len(row) != len(columns):
-            raise RowError(f"the row has {len(row)} cells in place of {len(columns)}", names[-1],
+            raise RowError(f"it has {len(row)} cells, and there are {len(columns)} columns", None,
                            number)
         values = []
         for place, read in readers.items():
@@ -2622,8 +2637,9 @@ class Connection(_Object):
         stream.sendall(connection.put(Side.CLIENT, put_login("ann", capabilities)).packets)
 
     A payload of the client has at most `client` bytes, one of the server `server`. `held` limits
-    what is held in all: of each side as much waits unread as its longest payload takes, and what is
-    left is for what is kept of statements, columns and long data.
+    what is held in all, by default twice as much as both: of each side as much waits unread as its
+    longest payload takes, and what is left is for what is kept of statements, columns and long
+    data. Where nothing is left, no statement is prepared and no column is read: CONNECTION_KEPT.
 
     An event is a copy, and stays as it is. After a fault each call for an event raises it again;
     the events before it were told.
@@ -2632,26 +2648,32 @@ class Connection(_Object):
     _handle_type = _ConnectionHandle
 
     def __init__(self, *, client: int = DEFAULT_LIMIT, server: int = DEFAULT_LIMIT,
-                 held: int = 4 * DEFAULT_LIMIT) -> None:
+                 held: Optional[int] = None) -> None:
         super().__init__()
         # The event that was taken and not given: as it is shown, or one of no kind; and its copy,
         # once that is made.
         self._shown = _Event(kind=_NO_KIND)
         self._copied: Optional[Event] = None
         self._out = {side: _Output() for side in Side}
-        sizes = (_fitting(it, _SIZE_BITS) for it in (client, server, held))
-        _call("connection_new", self._at, *sizes)
+        _call("connection_new", self._at, *self._limits(client, server, held))
 
     @classmethod
     def after_login(cls, capabilities: int, mariadb_capabilities: int = 0, *,
                     client: int = DEFAULT_LIMIT, server: int = DEFAULT_LIMIT,
-                    held: int = 4 * DEFAULT_LIMIT) -> Connection:
+                    held: Optional[int] = None) -> Connection:
         """A connection behind a login that was made elsewhere, as over TLS: a command is due, and
         the capabilities are those that both sides have."""
         made = cls(client=client, server=server, held=held)
         _call("connection_after_login", made._at, _fitting(capabilities, 32),
-              _fitting(mariadb_capabilities, 32), client, server, held)
+              _fitting(mariadb_capabilities, 32), *cls._limits(client, server, held))
         return made
+
+    @staticmethod
+    def _limits(client: int, server: int, held: Optional[int]) -> List[int]:
+        """The three limits, of which the last is twice the others where it isn't given."""
+        if held is None:
+            held = min(2 * (client + server), (1 << _SIZE_BITS) - 1)
+        return [_fitting(it, _SIZE_BITS) for it in (client, server, held)]
 
     def feed(self, side: Side, data: Union[bytes, bytearray, memoryview]) -> Iterator[Event]:
         """Takes a piece of a side's stream, and gives the events that stand whole then.
@@ -2695,10 +2717,14 @@ class Connection(_Object):
         and `put_login` those of a login. A server's last words, an error where no answer is due,
         can't be put.
 
+        No command is refused for its layout: one that is laid out as none, as an execution of a
+        statement that isn't known, is put, and its event is an OtherEvent. A server answers it by
+        an error.
+
         Raises MySQLSessionError, and nothing changes, by CONNECTION_NOT_ITS_TURN where it isn't the
-        side's turn, its stream has ended or bytes of it wait unread; by CONNECTION_TOO_LARGE past
-        the side's limit; by the fault that the payload would be; by CONNECTION_KEPT where more
-        would be kept than the limit leaves.
+        side's turn, its stream has ended, bytes of it wait unread or the connection has failed; by
+        CONNECTION_TOO_LARGE past the side's limit; by the fault that the payload would be; by
+        CONNECTION_KEPT where more would be kept than the limit leaves; by MEMORY.
 
         Where MemoryError or KeyboardInterrupt ends the call the payload may be put: `unsent` has
         its packets then, and the side's next put gives them before its own.
@@ -2720,7 +2746,10 @@ class Connection(_Object):
 
         The packets are such as `send`, `executions` and `ReplyWriter` make. Of several executions
         the first is taken, with the long data before it: the next one is due behind its reply, and
-        put by another call with what is left.
+        put by another call with what is left. A packet that is cut off at the end is left.
+
+        Nothing tells of a command that is laid out as none, whose event `put` gives: executions of
+        a statement that `statement` doesn't know, or for other capabilities than are in force.
 
         Raises MySQLSessionError as `put` does where nothing is taken for it; a refusal behind a
         payload that was put comes at the call with what is left. Where MemoryError or
@@ -2750,7 +2779,8 @@ class Connection(_Object):
             return self._bytes("connection_line").decode("ascii")
 
     def columns(self) -> Tuple[Column, ...]:
-        """The columns of the row that was told last, or the column that the event is."""
+        """The columns of the event that was told last: of a row all, of a column itself; of any
+        other event none. So take them with the row: behind it another event is the last."""
         columns: List[Column] = []
         with self._alone():
             while True:
@@ -3284,8 +3314,9 @@ def executions(query: Text, sets: Union[ParameterSets, Iterable[Sequence[Paramet
     takes them: those of `send` behind its prepare. The statement is the id of the server's reply to
     that.
 
-    They are laid out for a connection without QUERY_ATTRIBUTES. Raises MySQLSessionError as `send`
-    does, and ValueError for `Road.TEXT`, by which nothing is prepared.
+    They are laid out for a connection without QUERY_ATTRIBUTES, those of `Road.BULK` for one with
+    `MariadbCapability.STMT_BULK_OPERATIONS`. Raises MySQLSessionError as `send` does, and
+    ValueError for `Road.TEXT`, by which nothing is prepared.
     """
     if road == Road.TEXT:
         raise ValueError("a text query executes no prepared statement")

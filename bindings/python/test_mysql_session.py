@@ -105,8 +105,8 @@ class Interface(Case):
         """The names of an enum without the prefix, and their numbers."""
         found = re.search(rf"enum {name} {{(.*?)}};", self.header, re.S)
         assert found
-        pairs = re.findall(r"MYSQL_SESSION_(\w+) = (\d+)", found.group(1))
-        return {word: int(number) for word, number in pairs}
+        pairs = re.findall(r"MYSQL_SESSION_(\w+) = (\w+)", found.group(1))
+        return {word: int(number, 0) for word, number in pairs}
 
     def test_abi(self) -> None:
         found = re.search(r"#define MYSQL_SESSION_ABI (\d+)", self.header)
@@ -143,6 +143,17 @@ class Interface(Case):
         self.assertEqual(self.numbers("mysql_session_flag"), flags)
         self.assertEqual((ms._flags(Mode()), ms._flags(Mode(True, True), Spelling.HEXADECIMAL)),
                          (0, 7))
+
+    def test_numbers_of_the_protocol(self) -> None:
+        types = {"TYPE_" + it.name: int(it) for it in ms.ColumnType}
+        self.assertEqual(self.numbers("mysql_session_column_type"), types)
+        capabilities = {"CLIENT_" + it.name: int(it) for it in ms.Capability}
+        del capabilities["CLIENT_REMEMBER_OPTIONS"]  # a name of C has no number above 2**31 - 1
+        factors = "MULTI_FACTOR_AUTHENTICATION"
+        capabilities[factors] = capabilities.pop("CLIENT_" + factors)
+        self.assertEqual(self.numbers("mysql_session_capability"), capabilities)
+        of_mariadb = {"MARIADB_CLIENT_" + it.name: int(it) for it in ms.MariadbCapability}
+        self.assertEqual(self.numbers("mysql_session_mariadb_capability"), of_mariadb)
 
     def argument(self, written: str) -> Any:
         """The type of an argument, as the header has it."""

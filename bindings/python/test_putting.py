@@ -300,6 +300,15 @@ class Refusals(Case):
             self.refuses(Code.CONNECTION_KEPT,
                          lambda: it.put(Side.CLIENT, Command.prepare("x" * 98)))
             it.put(Side.CLIENT, Command.query("x" * 98))
+        prepare = Command.prepare("SELECT 1")
+        with ms.Connection.after_login(CAPABILITIES, client=99, server=99, held=198) as it:
+            self.refuses(Code.CONNECTION_KEPT, lambda: it.put(Side.CLIENT, prepare))
+        # Where it isn't told how much is held, there is room for what is kept.
+        for longest in (99, 1 << 26, 1 << 61):
+            with ms.Connection.after_login(CAPABILITIES, client=longest, server=longest) as it:
+                it.put(Side.CLIENT, prepare)
+        with self.assertRaises(OverflowError):
+            ms.Connection(client=-1)
 
     def test_packets(self) -> None:
         """A refusal behind a payload that was put comes with what is left."""

@@ -143,7 +143,7 @@ class AsValues(unittest.TestCase):
                      if isinstance(event, ms.RowEvent)]
         self.assertEqual(found, [[{"id": 7, "name": "tea"}]])
 
-    def refuses(self, why: str, column: str, row: Optional[int], call: Any) -> None:
+    def refuses(self, why: str, column: Optional[str], row: Optional[int], call: Any) -> None:
         """A call is refused about this column and this row."""
         with self.assertRaises(ms.RowError) as caught:
             call()
@@ -157,7 +157,10 @@ class AsValues(unittest.TestCase):
         self.refuses("several columns", "id", None, lambda: ms.rows_as_dicts([number, number], []))
         self.refuses("it is NULL", "id", 1, lambda: ms.rows_as(
             Number, [name, number], [(b"x", b"1"), (b"y", None)]))
-        self.refuses("cells", "id", 0, lambda: ms.rows_as(Number, [number], [(b"1", b"2")]))
+        self.refuses("row 0: it has 2 cells, and there are 1 columns", None, 0,
+                     lambda: ms.rows_as(Number, [number], [(b"1", b"2")]))
+        # Without columns, as those of an event that is no row.
+        self.refuses("row 1: it has 1 cells", None, 1, lambda: ms.rows_as_dicts([], [(), (b"1",)]))
         cells: List[ms.Cell] = [b"", b"1x", b" 1", b"1_0", 1.5, datetime.date(2024, 2, 29)]
         for cell in cells:
             self.refuses("no value of the type", "id", 0,

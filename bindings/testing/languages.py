@@ -135,7 +135,7 @@ def blocks_of(file):
 
 
 class Programs:
-    """Runs programs of documents as they stand there."""
+    """Runs programs of documents as they stand there, in the repository's folder."""
 
     def __init__(self, library, room):
         self.library, self.room = library, room
@@ -153,7 +153,7 @@ class Programs:
         file = self.write("program.c", text)
         made = file + ".out"
         run([*C99, f"-I{BINDINGS}/c", file, archive_in(self.library), "-o", made])
-        return run([made])
+        return run([made], cwd=ROOT)
 
     def rust(self, text):
         """Compiles and runs a program in Rust, as a crate that uses the bindings."""
@@ -163,11 +163,11 @@ class Programs:
                               f'"{BINDINGS}/rust" }}\n[workspace]\n')
         words = ["cargo", "build", "--offline", "--quiet", "--manifest-path", manifest]
         run(words, env=rust_environment(self.library, self.room))
-        return run([os.path.join(self.room, "target", "debug", "program")])
+        return run([os.path.join(self.room, "target", "debug", "program")], cwd=ROOT)
 
     def python(self, text):
         """Runs a program in Python."""
-        return run(["python3", self.write("program.py", text)],
+        return run(["python3", self.write("program.py", text)], cwd=ROOT,
                    env=python_environment(self.library))
 
     def test(self, language, text, output):

@@ -16,7 +16,7 @@ from mysql_session import Capability, Side  # noqa: E402
 PIECE = 1 << 16
 
 # MariaDB's own: bulk executions.
-MARIADB_BULK = 1 << 2
+MARIADB_BULK = int(ms.MariadbCapability.STMT_BULK_OPERATIONS)
 
 CAPABILITIES = int(
     Capability.LONG_FLAG | Capability.PROTOCOL_41 | Capability.TRANSACTIONS
@@ -182,6 +182,8 @@ class Client:
         events of each reply, which are taken before the next one is asked for."""
         while packets:
             put, used = self.connection.put_packets(Side.CLIENT, packets)
+            if not used:
+                raise Gone("no command is due: the connection is over, or a reply wasn't taken")
             self._stream.sendall(put)
             packets = packets[used:]
             yield self._reply()

@@ -55,18 +55,32 @@ pub struct Limits {
     pub server: usize,
     /// All that is held: of each side as much waits unread as its longest payload takes with its
     /// headers; what this leaves beside both is for what is kept of statements, columns and long
-    /// data.
+    /// data. Where nothing is left, no statement is prepared and no column is read:
+    /// [`Code::CONNECTION_KEPT`].
     pub held: usize,
+}
+
+impl Limits {
+    /// Payloads of at most so many bytes of either side, and four times as much in all.
+    ///
+    /// ```
+    /// use mysql_session::Limits;
+    ///
+    /// assert_eq!(Limits::of(1 << 24), Limits::default());
+    /// ```
+    pub fn of(longest: usize) -> Limits {
+        Limits {
+            client: longest,
+            server: longest,
+            held: longest.saturating_mul(4),
+        }
+    }
 }
 
 impl Default for Limits {
     /// Payloads of 2^24 bytes of either side, and 2^26 in all.
     fn default() -> Limits {
-        Limits {
-            client: 1 << 24,
-            server: 1 << 24,
-            held: 1 << 26,
-        }
+        Limits::of(1 << 24)
     }
 }
 
@@ -396,6 +410,10 @@ impl Connection {
     /// third connection that is fed both streams tells the same events, in whatever pieces they
     /// come. A server's last words, which answer nothing, can't be put so.
     ///
+    /// No command is refused for its layout: one that is laid out as none, as an execution of a
+    /// statement that isn't known, is put, and the answer is [`Event::Other`]. A server answers it
+    /// by an error.
+    ///
     /// ```
     /// use mysql_session::{command, Bytes, Capabilities, Connection, Event, Limits, Side};
     ///
@@ -447,6 +465,10 @@ impl Connection {
     /// [`ReplyWriter`](crate::ReplyWriter) make them; they get the numbers that are due. The answer
     /// is how many bytes of them were taken: all, or those before the first packet whose turn hasn't
     /// come. A packet that is cut off at the end is left. No event is shown of what was put.
+    ///
+    /// So nothing tells of a command that is laid out as none, which [`Connection::put`] answers as
+    /// [`Event::Other`]: executions of a statement that [`Connection::statement`] doesn't know, and
+    /// those for other capabilities than are in force.
     ///
     /// So an execution with its long data and a whole reply are one call each, and a list of
     /// executions is put up to the first one, which has a reply:
@@ -510,8 +532,37 @@ impl Connection {
         (self.shown.0.kind != 0).then(|| unsafe { Event::of(&self.handle, &self.shown.0) })
     }
 
-    /// The event that was told or put last as a line of text, without its end: whose it is, its name, its
-    /// fields. Behind [`Connection::finish`] it is how the connection stands, as `end Whole`.
+    /// The changes of the session's state that the event has which was told or put last, as its OK
+    /// packet has them: of each the number of its type, and its data behind their length. No bytes
+    /// where the event is no OK packet or has none (MySQL: Client/Server Protocol, "Session State
+    /// Information").
+    ///
+    /// ```
+    /// use mysql_session::{capability, command, Bytes, Capabilities, Connection, Limits, Side};
+    ///
+    /// # fn main() -> Result<(), Box<dyn std::error::Error>> {
+    /// let protocol = capability::CLIENT_PROTOCOL_41 | capability::CLIENT_SESSION_TRACK;
+    /// let capabilities = Capabilities { protocol, mariadb: 0 };
+    /// let mut connection = Connection::after_login(Limits::default(), capabilities)?;
+    /// connection.put(Side::Client, &command::query(b"USE db"), &mut Bytes::new()?)?;
+    /// connection.feed(Side::Server, b"\x10\0\0\x01\0\0\0\x02\x40\0\0\x02hi\x05\x01\x03\x02db")?;
+    /// connection.next_event()?;
+    /// assert_eq!(connection.state_changes(), b"\x01\x03\x02db");
+    /// # Ok(())
+    /// # }
+    /// ```
+    pub fn state_changes(&self) -> &[u8] {
+        match self.event() {
+            Some(Event::Accepted(_) | Event::Ok(_) | Event::ColumnsEnd(_) | Event::RowsEnd(_)) => {
+                // SAFETY: as in `event`: the bytes are good until a call that takes `&mut self`.
+                unsafe { self.shown.0.data.bytes() }
+            }
+            _ => &[],
+        }
+    }
+
+    /// The event that was told or put last as a line of text, without its end: whose it is, its name,
+    /// its fields. Behind [`Connection::finish`] it is how the connection stands, as `end Whole`.
     ///
     /// # Errors
     /// [`Code::OUT_OF_RANGE`] where no event was told; [`Code::MEMORY`].

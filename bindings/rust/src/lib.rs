@@ -1,4 +1,4 @@
-//! Parameter sets of a query as streams of MySQL and MariaDB commands, and back: safe Rust over the
+//! MySQL and MariaDB connections, and parameter sets of queries, as bytes and back: safe Rust over the
 //! library for C of this repository, which is compiled from proved code.
 //!
 //! - [`Receiver`] reads a stream of commands about one query, and shows its parameter sets;
@@ -12,6 +12,7 @@
 //! - [`Connection`] reads a whole connection, and tells each payload of either side as an
 //!   [`Event`]. A client and a server put theirs on it; [`command`] makes payloads of commands.
 //! - [`FromValue`] and [`FromRow`] make types of Rust, and tuples, of cells and rows.
+//! - [`capability`] and [`column_type`] have numbers of the protocol by their names.
 //! - [`PacketReader`] cuts a stream into payloads, [`put_packet`] frames them; [`Greeting`] and
 //!   [`Login`], [`RegisterReplica`], [`BinlogDump`] and [`BinlogDumpGtid`] are payloads of a
 //!   connection's beginning and of a replica.
@@ -40,6 +41,7 @@
 mod bytes;
 pub mod capability;
 mod codes;
+pub mod column_type;
 pub mod command;
 mod connection;
 mod conversions;

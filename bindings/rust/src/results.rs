@@ -436,7 +436,7 @@ impl<'a> Prepared<'a> {
 /// What cells a column has.
 #[derive(Clone, Copy, Debug, Default, PartialEq, Eq, Hash)]
 pub struct ColumnType {
-    /// The number of the protocol's column type, as 3 for a whole number of 32 bits.
+    /// The number of the protocol's column type, as [`column_type`](crate::column_type) has them.
     pub kind: u8,
     /// The bits of the protocol's Column Definition Flags.
     pub flags: u16,

@@ -168,6 +168,10 @@ pub fn executions(
 /// The packets that execute a prepared statement with all of these sets by the fewest of MariaDB's
 /// bulk executions: what [`executions`] is by [`Road::Bulk`].
 ///
+/// They are for a connection where [`MARIADB_CLIENT_STMT_BULK_OPERATIONS`] is in force.
+///
+/// [`MARIADB_CLIENT_STMT_BULK_OPERATIONS`]: crate::capability::MARIADB_CLIENT_STMT_BULK_OPERATIONS
+///
 /// # Errors
 /// Those of [`send`].
 pub fn bulk_executions(

@@ -14,7 +14,9 @@ use crate::sets::ParameterSets;
 /// and where. `more` says whether another result follows.
 ///
 /// ```
-/// use mysql_session::{capability, Bytes, ColumnType, ParameterSets, ReplyKind, ReplyWriter};
+/// use mysql_session::{
+///     capability, column_type, Bytes, ColumnType, ParameterSets, ReplyKind, ReplyWriter,
+/// };
 ///
 /// # fn main() -> Result<(), mysql_session::Error> {
 /// let mut rows = ParameterSets::new()?;
@@ -24,8 +26,10 @@ use crate::sets::ParameterSets;
 /// let capabilities = capability::CLIENT_PROTOCOL_41;
 /// let mut out = Bytes::new()?;
 /// let mut writer = ReplyWriter::new(ReplyKind::Query, capabilities, 1, 1 << 24)?;
-/// writer.column(b"number", ColumnType { kind: 3, ..ColumnType::default() })?;
-/// writer.column(b"name", ColumnType { kind: 253, charset: 45, ..ColumnType::default() })?;
+/// let number = ColumnType { kind: column_type::LONG, charset: 63, ..ColumnType::default() };
+/// let text = ColumnType { kind: column_type::VAR_STRING, charset: 45, ..ColumnType::default() };
+/// writer.column(b"number", number)?;
+/// writer.column(b"name", text)?;
 /// writer.rows(&mut out)?;
 /// for row in 0..rows.len() {
 ///     writer.row(&rows, row, &mut out)?;

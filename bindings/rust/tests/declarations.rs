@@ -261,6 +261,46 @@ fn flags_and_the_interface_are_those_of_the_header() {
     assert_eq!(wanted, found);
 }
 
+/// The constants of a file of this crate, and their numbers as the header writes them.
+fn constants(file: &str, kind: &str) -> BTreeMap<String, u64> {
+    let number = |text: &str| match text.split_once(" << ") {
+        Some((one, bits)) => {
+            one.parse::<u64>().expect("a number") << bits.parse::<u64>().expect("a number")
+        }
+        None => text.parse().expect("a number"),
+    };
+    let text = text_of(file);
+    text.lines()
+        .filter_map(|line| line.strip_prefix("pub const ")?.strip_suffix(';'))
+        .filter_map(|constant| constant.split_once(&format!(": {kind} = ")))
+        .map(|(name, text)| (name.to_string(), number(text)))
+        .collect()
+}
+
+#[test]
+fn numbers_of_the_protocol_are_those_of_the_header() {
+    let numbers = |name: &str, prefix: &str| -> BTreeMap<String, u64> {
+        let found = header_numbers(name);
+        let number = |text: &str| match text.strip_prefix("0x") {
+            Some(digits) => u64::from_str_radix(digits, 16).expect("a number"),
+            None => text.parse().expect("a number"),
+        };
+        found
+            .iter()
+            .map(|(name, text)| (name.replacen(prefix, "", 1), number(text)))
+            .collect()
+    };
+    let mut wanted = numbers("mysql_session_capability", "");
+    wanted.extend(numbers("mysql_session_mariadb_capability", ""));
+    // A name of C has no number above 2^31 - 1.
+    wanted.insert("CLIENT_REMEMBER_OPTIONS".to_string(), 1 << 31);
+    assert_eq!(wanted.len(), 38);
+    assert_eq!(wanted, constants("src/capability.rs", "u32"));
+    let wanted = numbers("mysql_session_column_type", "TYPE_");
+    assert!(wanted.len() > 30);
+    assert_eq!(wanted, constants("src/column_type.rs", "u8"));
+}
+
 #[test]
 fn version_is_that_of_the_header() {
     let text = text_of("../c/mysql_session.h");

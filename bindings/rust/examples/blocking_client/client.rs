@@ -83,12 +83,14 @@ impl Client {
 
     /// Sends a payload.
     pub fn send(&mut self, payload: &[u8]) -> Result<(), Failure> {
+        self.goes_on()?;
         self.connection.put(Side::Client, payload, &mut self.out)?;
         self.write()
     }
 
     /// Sends packets up to the first that has a reply. The answer is how many of their bytes went.
     pub fn send_packets(&mut self, packets: &[u8]) -> Result<usize, Failure> {
+        self.goes_on()?;
         let used = self
             .connection
             .put_packets(Side::Client, packets, &mut self.out)?;
@@ -102,6 +104,14 @@ impl Client {
             self.receive()?;
         }
         Ok(self.connection.event().expect("an event was told"))
+    }
+
+    /// Fails where the connection is over, as behind the server's last words: nothing is put then.
+    fn goes_on(&self) -> Result<(), Failure> {
+        match self.connection.turn() {
+            Some(_) => Ok(()),
+            None => Err("the connection is over".into()),
+        }
     }
 
     /// Writes what was put.
