@@ -40,21 +40,31 @@ fn put_content(words: &mut String, content: &Content) -> Result<(), AllocError> 
     }
 }
 
+/// Writes a set.
+fn put_set(words: &mut String, number: usize, set: &[Content]) -> Result<(), AllocError> {
+    write!(words, " set {number}:")?;
+    for content in set {
+        put_content(words, content)?;
+    }
+    words.push_str(" |")
+}
+
+/// Writes how a stream ends.
+fn put_end(words: &mut String, end: End) -> Result<(), AllocError> {
+    match end {
+        End::Fault(packet, fault) => write!(words, " end: fault {packet} {fault:?} |"),
+        End::WaitingPieces => words.push_str(" end: waiting pieces |"),
+        End::UnfinishedPacket => words.push_str(" end: unfinished packet |"),
+        End::Whole => words.push_str(" end: whole |"),
+    }
+}
+
 /// The words of an audit: a field for each set, and one for the end.
 pub fn audit_words(alloc: Global, audit: &Audit) -> Result<String, AllocError> {
     let mut words = String::new(alloc);
     for (number, set) in audit.sets.iter().enumerate() {
-        write!(words, " set {number}:")?;
-        for content in set {
-            put_content(&mut words, content)?;
-        }
-        words.push_str(" |")?;
+        put_set(&mut words, number, set)?;
     }
-    match audit.end {
-        End::Fault(packet, fault) => write!(words, " end: fault {packet} {fault:?} |")?,
-        End::WaitingPieces => words.push_str(" end: waiting pieces |")?,
-        End::UnfinishedPacket => words.push_str(" end: unfinished packet |")?,
-        End::Whole => words.push_str(" end: whole |")?,
-    }
+    put_end(&mut words, audit.end)?;
     Ok(words)
 }

@@ -5,25 +5,8 @@ use crate::trouble::Trouble;
 use std::alloc::Global;
 use std::str::FromStr;
 
-/// Puts what a token stands for, so many times: two digits a byte, a text its bytes.
-fn put_token(
-    alloc: Global,
-    token: Token<'_>,
-    times: usize,
-    bytes: &mut Vec<u8>,
-) -> Result<(), Trouble> {
-    let digits;
-    let run = match token {
-        Token::Text(text) => text.as_bytes(),
-        Token::Word(word) => {
-            digits = match hex::decode(alloc, word) {
-                Ok(digits) => digits,
-                Err(hex::FromHexError::OutOfMemory) => return Err(Trouble::Memory),
-                Err(_) => return Err(Trouble::Malformed("not bytes")),
-            };
-            digits.as_slice()
-        }
-    };
+/// Puts bytes so many times.
+fn put_run(run: &[u8], times: usize, bytes: &mut Vec<u8>) -> Result<(), Trouble> {
     if let [byte] = run {
         bytes.resize(bytes.len().saturating_add(times), *byte)?;
         return Ok(());
@@ -32,6 +15,28 @@ fn put_token(
         bytes.extend_from_slice(run)?;
     }
     Ok(())
+}
+
+/// The bytes that digits are, two of them a byte.
+fn digits_of(alloc: Global, word: &str) -> Result<Vec<u8>, Trouble> {
+    match hex::decode(alloc, word) {
+        Ok(digits) => Ok(digits),
+        Err(hex::FromHexError::OutOfMemory) => Err(Trouble::Memory),
+        Err(_) => Err(Trouble::Malformed("not bytes")),
+    }
+}
+
+/// Puts what a token stands for, so many times: two digits a byte, a text its bytes.
+fn put_token(
+    alloc: Global,
+    token: Token<'_>,
+    times: usize,
+    bytes: &mut Vec<u8>,
+) -> Result<(), Trouble> {
+    match token {
+        Token::Text(text) => put_run(text.as_bytes(), times, bytes),
+        Token::Word(word) => put_run(digits_of(alloc, word)?.as_slice(), times, bytes),
+    }
 }
 
 /// The number that a word is.
@@ -59,29 +64,30 @@ fn is_star(token: Option<&Token<'_>>) -> bool {
     matches!(token, Some(Token::Word("*")))
 }
 
-/// The bytes that tokens stand for, one after another; `N * TOKEN` is N times what the token stands for.
-fn run_of(alloc: Global, tokens: &[Token<'_>]) -> Result<Vec<u8>, Trouble> {
-    let mut bytes = Vec::new(alloc);
+/// Puts the bytes that tokens stand for, one after another; `N * TOKEN` is N times what the token stands for.
+fn put_tokens(alloc: Global, tokens: &[Token<'_>], bytes: &mut Vec<u8>) -> Result<(), Trouble> {
     let mut times = 1;
     for (place, token) in tokens.iter().enumerate() {
         if is_star(tokens.get(place.saturating_add(1))) {
             times = number_of(Some(token))?;
         } else if !is_star(Some(token)) {
-            put_token(alloc, *token, times, &mut bytes)?;
+            put_token(alloc, *token, times, bytes)?;
             times = 1;
         }
     }
-    Ok(bytes)
+    Ok(())
 }
 
 /// The bytes that a field stands for; `first N of ..` is a front of them.
 pub fn bytes_of(alloc: Global, field: &[Token<'_>]) -> Result<Vec<u8>, Trouble> {
-    match field {
+    let (whole, most) = match field {
         [Token::Word("first"), count, Token::Word("of"), whole @ ..] => {
-            let mut bytes = run_of(alloc, whole)?;
-            bytes.truncate(number_of(Some(count))?);
-            Ok(bytes)
+            (whole, number_of(Some(count))?)
         }
-        _ => run_of(alloc, field),
-    }
+        _ => (field, usize::MAX),
+    };
+    let mut bytes = Vec::new(alloc);
+    put_tokens(alloc, whole, &mut bytes)?;
+    bytes.truncate(most);
+    Ok(bytes)
 }

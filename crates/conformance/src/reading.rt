@@ -1,13 +1,13 @@
 //! Audits and replies: bytes that are read in pieces of each size.
 
 use crate::contents::audit_words;
-use crate::fields::{bytes_of, number};
 use crate::results::reply_words;
 use crate::tokens::{Token, words_of};
 use crate::trouble::Trouble;
+use crate::writing::Sides;
 use mysql_session::{
-    Audit, CapabilityFlags, End, Receiver, ReceiverError, Reply, ReplyEnd, ReplyFault, ReplyKind,
-    ReplyReader, StreamFault, read_reply, receive,
+    Audit, Content, End, Receiver, Reply, ReplyEnd, ReplyFault, ReplyReader, StreamFault,
+    read_reply, receive,
 };
 use std::alloc::Global;
 
@@ -16,13 +16,38 @@ use std::alloc::Global;
 pub enum Reading {
     /// Commands about a query: the query, the statement's id, and the limit of a packet.
     Audit(Vec<u8>, u32, usize),
-    /// A reply: the command's kind, the capabilities, the number that is due first, and the limit of a packet.
-    Reply(ReplyKind, CapabilityFlags, u8, usize),
+    /// A reply, and what it is read by.
+    Reply(Sides),
 }
 
 /// How bytes are fed: the size of the pieces, and how many times in a row an empty piece follows
 /// each and what stands is taken.
 type Feeding = (usize, usize);
+
+/// The sets of an audit.
+type Sets = Vec<Vec<Content>>;
+
+/// Feeds a piece, then the empty pieces, and takes the sets that stand behind each.
+fn feed_commands(
+    receiver: &mut Receiver,
+    piece: &[u8],
+    takes: usize,
+    sets: &mut Sets,
+) -> Result<(), Trouble> {
+    let _answer = receiver.feed(piece);
+    for _ in 0..takes {
+        let _answer = receiver.feed(&[]);
+        sets.append(&mut receiver.take_sets())?;
+    }
+    Ok(())
+}
+
+/// Puts the sets of the end behind those that were taken.
+fn behind_taken(mut sets: Sets, mut audit: Audit) -> Result<Audit, Trouble> {
+    sets.append(&mut audit.sets)?;
+    audit.sets = sets;
+    Ok(audit)
+}
 
 /// What a stream of commands says that is fed so: the sets that were taken, and behind them those of the end.
 fn fed_audit(
@@ -32,16 +57,17 @@ fn fed_audit(
 ) -> Result<Audit, Trouble> {
     let mut sets = receiver.take_sets();
     for piece in stream.chunks(size.max(1)) {
-        let _answer = receiver.feed(piece);
-        for _ in 0..takes {
-            let _answer = receiver.feed(&[]);
-            sets.append(&mut receiver.take_sets())?;
-        }
+        feed_commands(&mut receiver, piece, takes, &mut sets)?;
     }
-    let mut audit = receiver.finish();
-    sets.append(&mut audit.sets)?;
-    audit.sets = sets;
-    Ok(audit)
+    behind_taken(sets, receiver.finish())
+}
+
+/// The words of an audit, where memory sufficed.
+fn words_of_audit(alloc: Global, audit: &Audit) -> Result<String, Trouble> {
+    match audit.end {
+        End::Fault(_, StreamFault::Memory) => Err(Trouble::Memory),
+        _ => Ok(audit_words(alloc, audit)?),
+    }
 }
 
 /// What a stream of commands says that is fed so.
@@ -58,10 +84,31 @@ fn audited(
     } else {
         fed_audit(Receiver::new(alloc, query, id, limit)?, stream, feeding)?
     };
-    if matches!(audit.end, End::Fault(_, StreamFault::Memory)) {
-        return Err(Trouble::Memory);
+    words_of_audit(alloc, &audit)
+}
+
+/// Feeds a piece, then the empty pieces, and takes the results and reports that stand behind each.
+fn feed_answers(
+    reader: &mut ReplyReader,
+    piece: &[u8],
+    takes: usize,
+    taken: &mut Reply,
+) -> Result<(), Trouble> {
+    let _answer = reader.feed(piece);
+    for _ in 0..takes {
+        let _answer = reader.feed(&[]);
+        taken.results.append(&mut reader.take_results())?;
+        taken.progress.append(&mut reader.take_progress())?;
     }
-    Ok(audit_words(alloc, &audit)?)
+    Ok(())
+}
+
+/// Puts what stands at the end behind what was taken.
+fn put_behind(taken: &mut Reply, mut reply: Reply) -> Result<(), Trouble> {
+    taken.results.append(&mut reply.results)?;
+    taken.progress.append(&mut reply.progress)?;
+    taken.end = reply.end;
+    Ok(())
 }
 
 /// What a reply says that is fed so: the results and reports that were taken, and behind them those
@@ -71,28 +118,30 @@ fn fed_reply(
     stream: &[u8],
     (size, takes): Feeding,
 ) -> Result<Reply, Trouble> {
-    let mut results = reader.take_results();
-    let mut progress = reader.take_progress();
+    let mut taken = Reply {
+        results: reader.take_results(),
+        progress: reader.take_progress(),
+        end: ReplyEnd::Unfinished,
+    };
     for piece in stream.chunks(size.max(1)) {
-        let _answer = reader.feed(piece);
-        for _ in 0..takes {
-            let _answer = reader.feed(&[]);
-            results.append(&mut reader.take_results())?;
-            progress.append(&mut reader.take_progress())?;
-        }
+        feed_answers(&mut reader, piece, takes, &mut taken)?;
     }
-    let mut reply = reader.finish();
-    results.append(&mut reply.results)?;
-    progress.append(&mut reply.progress)?;
-    reply.results = results;
-    reply.progress = progress;
-    Ok(reply)
+    put_behind(&mut taken, reader.finish())?;
+    Ok(taken)
+}
+
+/// The words of a reply, where memory sufficed.
+fn words_of_reply(alloc: Global, reply: &Reply) -> Result<String, Trouble> {
+    match reply.end {
+        ReplyEnd::Fault(_, ReplyFault::Memory) => Err(Trouble::Memory),
+        _ => Ok(reply_words(alloc, reply)?),
+    }
 }
 
 /// What a reply says that is fed so.
 fn replied(
     alloc: Global,
-    (kind, capabilities, first_id, limit): (ReplyKind, CapabilityFlags, u8, usize),
+    (kind, capabilities, first_id, limit): Sides,
     stream: &[u8],
     feeding: Feeding,
 ) -> Result<String, Trouble> {
@@ -110,10 +159,7 @@ fn replied(
         let reader = ReplyReader::new(alloc, kind, capabilities, first_id, limit);
         fed_reply(reader, stream, feeding)?
     };
-    if matches!(reply.end, ReplyEnd::Fault(_, ReplyFault::Memory)) {
-        return Err(Trouble::Memory);
-    }
-    Ok(reply_words(alloc, &reply)?)
+    words_of_reply(alloc, &reply)
 }
 
 /// What bytes say that are fed so.
@@ -125,13 +171,26 @@ fn words_said(
 ) -> Result<String, Trouble> {
     match reading {
         Reading::Audit(query, id, limit) => audited(alloc, (query, *id, *limit), stream, feeding),
-        Reading::Reply(kind, capabilities, id, limit) => replied(
-            alloc,
-            (*kind, *capabilities, *id, *limit),
-            stream,
-            feeding,
-        ),
+        Reading::Reply(sides) => replied(alloc, *sides, stream, feeding),
     }
+}
+
+/// Compares what bytes say that are fed so with what is wanted.
+fn check_feeding(
+    alloc: Global,
+    reading: &Reading,
+    stream: &[u8],
+    (size, takes): Feeding,
+    wanted: &str,
+) -> Result<(), Trouble> {
+    let found = words_said(alloc, reading, stream, (size, takes))?;
+    if found.as_str() == wanted {
+        return Ok(());
+    }
+    Err(Trouble::Differs(format!(in alloc;
+        "{} bytes in pieces of {size}, {takes} takes: wanted{wanted}, found{found}",
+        stream.len()
+    )?))
 }
 
 /// Compares what bytes say with what is wanted: in two halves with an empty piece between them,
@@ -148,13 +207,7 @@ fn check_bytes(
         let size = if size == 0 { stream.len() } else { size };
         let taken = (size.max(stream.len() / 10000), 1 + size % 2);
         for (size, takes) in [(size, 0), taken] {
-            let found = words_said(alloc, reading, stream, (size, takes))?;
-            if found.as_str() != wanted {
-                return Err(Trouble::Differs(format!(in alloc;
-                    "{} bytes in pieces of {size}, {takes} takes: wanted{wanted}, found{found}",
-                    stream.len()
-                )?));
-            }
+            check_feeding(alloc, reading, stream, (size, takes), wanted)?;
         }
     }
     Ok(())
@@ -163,19 +216,23 @@ fn check_bytes(
 /// After how many bytes a front of a stream ends with a packet, and how many of the row's lines stand then.
 type Stage = (usize, usize);
 
-/// The stages of a field: the bytes, a colon, the lines.
+/// The stage that a token is: the bytes, a colon, the lines.
+fn stage_of(token: &Token<'_>) -> Result<Stage, Trouble> {
+    if let Token::Word(word) = token
+        && let Some((bytes, lines)) = word.split_once(':')
+        && let Ok(bytes) = bytes.parse::<usize>()
+        && let Ok(lines) = lines.parse::<usize>()
+    {
+        return Ok((bytes, lines));
+    }
+    Err(Trouble::Malformed("a front is written as BYTES:LINES"))
+}
+
+/// The stages of a field.
 fn stages_of(alloc: Global, field: &[Token<'_>]) -> Result<Vec<Stage>, Trouble> {
     let mut stages = Vec::new(alloc);
     for token in field {
-        if let Token::Word(word) = token
-            && let Some((bytes, lines)) = word.split_once(':')
-            && let Ok(bytes) = bytes.parse::<usize>()
-            && let Ok(lines) = lines.parse::<usize>()
-        {
-            stages.push((bytes, lines))?;
-        } else {
-            return Err(Trouble::Malformed("a front is written as BYTES:LINES"));
-        }
+        stages.push(stage_of(token)?)?;
     }
     Ok(stages)
 }
@@ -201,11 +258,26 @@ fn front_words(
     };
     let mut words = words_of(alloc, front)?;
     words.push_str(match reading {
-        Reading::Reply(_, _, _, _) => " end: unfinished |",
+        Reading::Reply(_) => " end: unfinished |",
         Reading::Audit(_, _, _) if is_whole => " end: whole |",
         Reading::Audit(_, _, _) => " end: unfinished packet |",
     })?;
     Ok(words)
+}
+
+/// Compares what each front of a stream says with what is wanted of it.
+fn check_fronts(
+    alloc: Global,
+    reading: &Reading,
+    stream: &[u8],
+    said: &[&[Token<'_>]],
+    stages: &[Stage],
+) -> Result<(), Trouble> {
+    for len in 0..stream.len() {
+        let words = front_words(alloc, reading, said, stages, len)?;
+        check_bytes(alloc, reading, &stream[..len], &words)?;
+    }
+    Ok(())
 }
 
 /// Compares what a stream says with the lines of a row.
@@ -223,10 +295,6 @@ pub fn check(
     let [Token::Word("prefixes:"), stages @ ..] = *last else {
         return check_bytes(alloc, reading, stream, &words_of(alloc, lines)?);
     };
-    let stages = stages_of(alloc, stages)?;
-    for len in 0..stream.len() {
-        let words = front_words(alloc, reading, said, &stages, len)?;
-        check_bytes(alloc, reading, &stream[..len], &words)?;
-    }
+    check_fronts(alloc, reading, stream, said, &stages_of(alloc, stages)?)?;
     check_bytes(alloc, reading, stream, &words_of(alloc, said)?)
 }

@@ -1,7 +1,9 @@
 //! What a reply says, in words.
 
 use crate::contents::put_bytes;
-use mysql_session::{Column, OkPacket, Reply, ReplyEnd, ReplyResult, Row, ServerError, Value};
+use mysql_session::{
+    Column, OkPacket, ProgressReport, Reply, ReplyEnd, ReplyResult, Row, ServerError, Value,
+};
 use std::alloc::{AllocError, Global};
 
 /// Writes the status of an OK packet or an end of rows, and what else it has.
@@ -145,29 +147,44 @@ fn put_result(
     }
 }
 
-/// The words of a reply: a field for each report, then some for each result, and one for the end.
-pub fn reply_words(alloc: Global, reply: &Reply) -> Result<String, AllocError> {
-    let mut words = String::new(alloc);
+/// Writes a report of progress.
+fn put_report(words: &mut String, report: &ProgressReport<'_>) -> Result<(), AllocError> {
+    write!(
+        words,
+        " report: {} of {} at {}",
+        report.stage(),
+        report.max_stage(),
+        report.progress()
+    )?;
+    put_bytes(words, report.stage_info_ref())?;
+    words.push_str(" |")
+}
+
+/// Writes how a reply ends.
+fn put_end(words: &mut String, end: ReplyEnd) -> Result<(), AllocError> {
+    match end {
+        ReplyEnd::Whole => words.push_str(" end: whole |"),
+        ReplyEnd::Unfinished => words.push_str(" end: unfinished |"),
+        ReplyEnd::Fault(packet, fault) => write!(words, " end: fault {packet} {fault:?} |"),
+    }
+}
+
+/// Writes a reply: a field for each report, then some for each result, and one for the end.
+fn put_reply(words: &mut String, reply: &Reply) -> Result<(), AllocError> {
     for report in &reply.progress {
-        write!(
-            words,
-            " report: {} of {} at {}",
-            report.stage(),
-            report.max_stage(),
-            report.progress()
-        )?;
-        put_bytes(&mut words, report.stage_info_ref())?;
-        words.push_str(" |")?;
+        put_report(words, report)?;
     }
     let mut before = None;
     for outcome in &reply.results {
-        put_result(&mut words, before, outcome)?;
+        put_result(words, before, outcome)?;
         before = Some(outcome);
     }
-    match reply.end {
-        ReplyEnd::Whole => words.push_str(" end: whole |")?,
-        ReplyEnd::Unfinished => words.push_str(" end: unfinished |")?,
-        ReplyEnd::Fault(packet, fault) => write!(words, " end: fault {packet} {fault:?} |")?,
-    }
+    put_end(words, reply.end)
+}
+
+/// The words of a reply.
+pub fn reply_words(alloc: Global, reply: &Reply) -> Result<String, AllocError> {
+    let mut words = String::new(alloc);
+    put_reply(&mut words, reply)?;
     Ok(words)
 }

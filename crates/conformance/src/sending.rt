@@ -57,6 +57,23 @@ fn check_refusal<E: Debug + Drop>(
     Ok(())
 }
 
+/// Compares what was appended, or the refusal, with what is wanted.
+fn check_answer<E: Debug + Drop>(
+    alloc: Global,
+    statement: Statement,
+    answer: Result<(), E>,
+    out: &[u8],
+    wanted: &[&[Token<'_>]],
+) -> Result<(), Trouble> {
+    let [first, lines @ ..] = wanted else {
+        return Err(Trouble::Malformed("nothing is wanted"));
+    };
+    match answer {
+        Ok(()) => check_stream(alloc, statement, out, first, lines),
+        Err(refusal) => check_refusal(alloc, refusal, out, first),
+    }
+}
+
 /// The road of this name.
 fn road_of(field: &[Token<'_>]) -> Result<Road, Trouble> {
     match field {
@@ -98,6 +115,61 @@ fn wanted_of(
     Ok(wanted)
 }
 
+/// Sends sets to a writer by a query that is kept.
+fn sent_to(
+    alloc: Global,
+    (query, id, limit): &Statement,
+    sets: &[Params],
+    road: Road,
+    taken: &mut Vec<u8>,
+) -> Result<(), SendToError> {
+    match Query::new(alloc, query, *id) {
+        Ok(query) => query.send_to(alloc, sets, road, (*limit).max(4), taken),
+        Err(refusal) => Err(SendToError::Refused(refusal, 0)),
+    }
+}
+
+/// Whether a writer's answer is the one that [`send`] gave, with so many sets before a refusal.
+fn is_same(
+    answer: &Result<(), SendToError>,
+    sent: &Result<(), Refusal>,
+    count: usize,
+) -> Result<bool, Trouble> {
+    match (answer, sent) {
+        (Err(SendToError::Refused(Refusal::Memory, _) | SendToError::Io(_)), _) => {
+            Err(Trouble::Memory)
+        }
+        (Err(SendToError::Refused(found, before)), Err(refusal)) => {
+            Ok(*found == *refusal && *before == count)
+        }
+        (Ok(()), Ok(())) => Ok(true),
+        _ => Ok(false),
+    }
+}
+
+/// Says what a writer took.
+fn differs(alloc: Global, answer: Result<(), SendToError>, taken: &[u8]) -> Result<(), Trouble> {
+    let mut found = format!(in alloc; "to a writer: {answer:?}, written")?;
+    put_bytes(&mut found, taken)?;
+    Err(Trouble::Differs(found))
+}
+
+/// Sends sets to a writer, and compares the answer and what was written with these.
+fn check_taken(
+    alloc: Global,
+    statement: &Statement,
+    sets: &[Params],
+    road: Road,
+    (sent, count, wanted): (&Result<(), Refusal>, usize, &[u8]),
+) -> Result<(), Trouble> {
+    let mut taken = Vec::from_slice(alloc, FRONT)?;
+    let answer = sent_to(alloc, statement, sets, road, &mut taken);
+    if is_same(&answer, sent, count)? && taken.as_slice() == wanted {
+        return Ok(());
+    }
+    differs(alloc, answer, &taken)
+}
+
 /// Sends sets to a writer by a query that is kept, and compares the answer and what was written
 /// with what [`send`] answered and appended.
 fn check_sent_to(
@@ -117,28 +189,26 @@ fn check_sent_to(
         None => None,
     };
     let wanted = wanted_of(alloc, statement, first, road, out)?;
-    let mut taken = Vec::from_slice(alloc, FRONT)?;
-    let (query, id, limit) = statement;
-    let answer = match Query::new(alloc, query, *id) {
-        Ok(query) => query.send_to(alloc, sets, road, (*limit).max(4), &mut taken),
-        Err(refusal) => Err(SendToError::Refused(refusal, 0)),
-    };
-    let is_answer = match (&answer, sent) {
-        (Err(SendToError::Refused(Refusal::Memory, _) | SendToError::Io(_)), _) => {
-            return Err(Trouble::Memory);
-        }
-        (Err(SendToError::Refused(found, before)), Err(refusal)) => {
-            *found == *refusal && *before == count.unwrap_or(0)
-        }
-        (Ok(()), Ok(())) => true,
-        _ => false,
-    };
-    if !is_answer || taken != wanted {
-        let mut found = format!(in alloc; "to a writer: {answer:?}, written")?;
-        put_bytes(&mut found, &taken)?;
-        return Err(Trouble::Differs(found));
+    let wanted = (sent, count.unwrap_or(0), wanted.as_slice());
+    check_taken(alloc, statement, sets, road, wanted)
+}
+
+/// Sends sets, also to a writer, and compares what comes of it.
+fn check_sets(
+    alloc: Global,
+    road: Road,
+    statement: Statement,
+    sets: &[Params],
+    wanted: &[&[Token<'_>]],
+) -> Result<(), Trouble> {
+    let mut out = Vec::from_slice(alloc, FRONT)?;
+    let (query, id, limit) = &statement;
+    let sent = send(alloc, query, sets, road, *id, (*limit).max(4), &mut out);
+    if matches!(sent, Err(Refusal::Memory)) {
+        return Err(Trouble::Memory);
     }
-    Ok(())
+    check_sent_to(alloc, &statement, sets, road, &sent, &out)?;
+    check_answer(alloc, statement, sent, &out, wanted)
 }
 
 /// Sends the sets of a field.
@@ -149,43 +219,38 @@ pub fn check_sent(
     sets: &[Token<'_>],
     wanted: &[&[Token<'_>]],
 ) -> Result<(), Trouble> {
-    let [first, lines @ ..] = wanted else {
-        return Err(Trouble::Malformed("nothing is wanted"));
-    };
     let road = road_of(road)?;
+    let sets = sets_of(alloc, &json_of(alloc, sets)?)?;
+    check_sets(alloc, road, statement, &sets, wanted)
+}
+
+/// The text in JSON that a field is.
+fn json_of(alloc: Global, field: &[Token<'_>]) -> Result<String, Trouble> {
     let mut json = String::new(alloc);
-    put_field(&mut json, sets)?;
-    let sets = sets_of(alloc, &json)?;
-    let mut out = Vec::from_slice(alloc, FRONT)?;
-    let (query, id, limit) = &statement;
-    let sent = send(alloc, query, &sets, road, *id, (*limit).max(4), &mut out);
-    if matches!(sent, Err(Refusal::Memory)) {
-        return Err(Trouble::Memory);
+    put_field(&mut json, field)?;
+    Ok(json)
+}
+
+/// The contents of a list of values.
+fn contents_of_set(alloc: Global, set: &Json) -> Result<Vec<Content>, Trouble> {
+    let Json::Array(members) = set else {
+        return Err(Trouble::Malformed("contents are lists"));
+    };
+    let mut contents = Vec::new(alloc);
+    for value in list_of(alloc, members)? {
+        match value.into_content(alloc)? {
+            Some(content) => contents.push(content)?,
+            None => return Err(Trouble::Malformed("a float is no content")),
+        }
     }
-    check_sent_to(alloc, &statement, &sets, road, &sent, &out)?;
-    match sent {
-        Ok(()) => check_stream(alloc, statement, &out, first, lines),
-        Err(refusal) => check_refusal(alloc, refusal, &out, first),
-    }
+    Ok(contents)
 }
 
 /// The contents of sets of a field: lists of values.
 fn contents_of(alloc: Global, sets: &[Token<'_>]) -> Result<Vec<Vec<Content>>, Trouble> {
-    let mut json = String::new(alloc);
-    put_field(&mut json, sets)?;
     let mut all = Vec::new(alloc);
-    for set in &json_list(alloc, &json)? {
-        let Json::Array(members) = set else {
-            return Err(Trouble::Malformed("contents are lists"));
-        };
-        let mut contents = Vec::new(alloc);
-        for value in list_of(alloc, members)? {
-            match value.into_content(alloc)? {
-                Some(content) => contents.push(content)?,
-                None => return Err(Trouble::Malformed("a float is no content")),
-            }
-        }
-        all.push(contents)?;
+    for set in &json_list(alloc, &json_of(alloc, sets)?)? {
+        all.push(contents_of_set(alloc, set)?)?;
     }
     Ok(all)
 }
@@ -197,17 +262,14 @@ pub fn check_contents(
     sets: &[Token<'_>],
     wanted: &[&[Token<'_>]],
 ) -> Result<(), Trouble> {
-    let [first, lines @ ..] = wanted else {
-        return Err(Trouble::Malformed("nothing is wanted"));
-    };
     let sets = contents_of(alloc, sets)?;
     let mut out = Vec::from_slice(alloc, FRONT)?;
     let (query, id, limit) = &statement;
-    match send_contents(alloc, query, sets, *id, (*limit).max(4), &mut out) {
-        Ok(()) => check_stream(alloc, statement, &out, first, lines),
-        Err(Refusal::Memory) => Err(Trouble::Memory),
-        Err(refusal) => check_refusal(alloc, refusal, &out, first),
+    let sent = send_contents(alloc, query, sets, *id, (*limit).max(4), &mut out);
+    if matches!(sent, Err(Refusal::Memory)) {
+        return Err(Trouble::Memory);
     }
+    check_answer(alloc, statement, sent, &out, wanted)
 }
 
 /// Recodes a stream.
@@ -217,15 +279,12 @@ pub fn check_recoded(
     stream: &[Token<'_>],
     wanted: &[&[Token<'_>]],
 ) -> Result<(), Trouble> {
-    let [first, lines @ ..] = wanted else {
-        return Err(Trouble::Malformed("nothing is wanted"));
-    };
     let stream = bytes_of(alloc, stream)?;
     let mut out = Vec::from_slice(alloc, FRONT)?;
     let (query, id, limit) = &statement;
-    match recode(alloc, query, *id, (*limit).max(4), &[&stream], &mut out) {
-        Ok(()) => check_stream(alloc, statement, &out, first, lines),
-        Err(RecodeError::Memory) => Err(Trouble::Memory),
-        Err(error) => check_refusal(alloc, error, &out, first),
+    let recoded = recode(alloc, query, *id, (*limit).max(4), &[&stream], &mut out);
+    if matches!(recoded, Err(RecodeError::Memory)) {
+        return Err(Trouble::Memory);
     }
+    check_answer(alloc, statement, recoded, &out, wanted)
 }

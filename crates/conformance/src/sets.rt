@@ -84,19 +84,23 @@ pub fn list_of(alloc: Global, members: &[Json]) -> Result<Vec<Value>, Trouble> {
     Ok(values)
 }
 
+/// The set that an object is.
+fn named_set(alloc: Global, members: &Map<String, Json>) -> Result<Params, Trouble> {
+    let mut values = HashMap::new(alloc);
+    for (name, member) in members {
+        let value = value_of(alloc, member)?;
+        let name = Vec::from_slice(alloc, name.as_bytes())?;
+        let _earlier = values.insert(name, value)?;
+    }
+    Ok(Params::Named(values))
+}
+
 /// The set that an array or an object is.
 fn set_of(alloc: Global, set: &Json) -> Result<Params, Trouble> {
     match set {
         Json::Array(members) if members.is_empty() => Ok(Params::Empty),
         Json::Array(members) => Ok(Params::Positional(list_of(alloc, members)?)),
-        Json::Object(members) => {
-            let mut values = HashMap::new(alloc);
-            for (name, member) in members {
-                let name = Vec::from_slice(alloc, name.as_bytes())?;
-                let _earlier = values.insert(name, value_of(alloc, member)?)?;
-            }
-            Ok(Params::Named(values))
-        }
+        Json::Object(members) => named_set(alloc, members),
         _ => Err(Trouble::Malformed("a set is an array or an object")),
     }
 }

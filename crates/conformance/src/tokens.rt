@@ -29,6 +29,23 @@ fn put_word<'a>(
     Ok(())
 }
 
+/// Puts the tokens of a part of a line that stands between two quotes or before or behind all.
+fn put_part<'a>(
+    names: &Names<'a>,
+    is_text: bool,
+    part: &'a str,
+    tokens: &mut Vec<Token<'a>>,
+) -> Result<(), AllocError> {
+    if is_text {
+        tokens.push(Token::Text(part))?;
+        return Ok(());
+    }
+    for word in part.split_whitespace() {
+        put_word(names, word, tokens)?;
+    }
+    Ok(())
+}
+
 /// The tokens of a line.
 pub fn tokens_of<'a>(
     alloc: Global,
@@ -37,13 +54,7 @@ pub fn tokens_of<'a>(
 ) -> Result<Vec<Token<'a>>, AllocError> {
     let mut tokens = Vec::new(alloc);
     for (number, part) in line.split('"').enumerate() {
-        if number % 2 == 1 {
-            tokens.push(Token::Text(part))?;
-        } else {
-            for word in part.split_whitespace() {
-                put_word(names, word, &mut tokens)?;
-            }
-        }
+        put_part(names, number % 2 == 1, part, &mut tokens)?;
     }
     Ok(tokens)
 }

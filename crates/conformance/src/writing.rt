@@ -66,6 +66,22 @@ fn put_result(
     }
 }
 
+/// Writes the reports and the results of a reply part by part.
+fn put_parts(
+    writer: &mut ReplyWriter,
+    reply: &Reply,
+    out: &mut Vec<u8>,
+) -> Result<(), ReplyRefusal> {
+    for report in &reply.progress {
+        writer.report(report, out)?;
+    }
+    let last = reply.results.len().saturating_sub(1);
+    for (place, found) in reply.results.iter().enumerate() {
+        put_result(writer, found, place < last, out)?;
+    }
+    Ok(())
+}
+
 /// The bytes that a reply is written as part by part, or why it is not.
 fn written_in_parts(
     alloc: Global,
@@ -74,13 +90,7 @@ fn written_in_parts(
 ) -> Result<Vec<u8>, ReplyRefusal> {
     let mut writer = ReplyWriter::new(alloc, kind, capabilities, first_id, limit);
     let mut out = Vec::new(alloc);
-    for report in &reply.progress {
-        writer.report(report, &mut out)?;
-    }
-    let last = reply.results.len().saturating_sub(1);
-    for (place, found) in reply.results.iter().enumerate() {
-        put_result(&mut writer, found, place < last, &mut out)?;
-    }
+    put_parts(&mut writer, reply, &mut out)?;
     writer.finish()?;
     Ok(out)
 }
@@ -100,15 +110,12 @@ fn check_parts(
     }
 }
 
-/// The bytes that a reply is written as, or why it is not.
-///
-/// Part by part it is written in the same way.
-pub fn written(
+/// The bytes that a reply is written as in one call, or why it is not.
+fn written_at_once(
     alloc: Global,
-    sides: Sides,
+    (kind, capabilities, first_id, limit): Sides,
     reply: &Reply,
 ) -> Result<Result<Vec<u8>, ReplyRefusal>, Trouble> {
-    let (kind, capabilities, first_id, limit) = sides;
     let mut out = Vec::from_slice(alloc, FRONT)?;
     let answer = write_reply(
         alloc,
@@ -120,16 +127,64 @@ pub fn written(
         &reply.progress,
         &mut out,
     );
-    let found = match answer {
-        Ok(()) => Ok(Vec::from_slice(alloc, out.get(FRONT.len()..).unwrap_or(&[]))?),
-        Err(ReplyRefusal::Memory) => return Err(Trouble::Memory),
-        Err(_) if out.as_slice() != FRONT => {
-            return Err(Trouble::Malformed("a refusal appended bytes"));
-        }
-        Err(refusal) => Err(refusal),
-    };
+    match answer {
+        Ok(()) => Ok(Ok(Vec::from_slice(alloc, out.get(FRONT.len()..).unwrap_or(&[]))?)),
+        Err(ReplyRefusal::Memory) => Err(Trouble::Memory),
+        Err(_) if out.as_slice() != FRONT => Err(Trouble::Malformed("a refusal appended bytes")),
+        Err(refusal) => Ok(Err(refusal)),
+    }
+}
+
+/// The bytes that a reply is written as, or why it is not.
+///
+/// Part by part it is written in the same way.
+pub fn written(
+    alloc: Global,
+    sides: Sides,
+    reply: &Reply,
+) -> Result<Result<Vec<u8>, ReplyRefusal>, Trouble> {
+    let found = written_at_once(alloc, sides, reply)?;
     check_parts(alloc, sides, reply, &found)?;
     Ok(found)
+}
+
+/// Compares what a reply is written as with what is wanted.
+fn check_found(alloc: Global, bytes: &[u8], wanted: &[Token<'_>]) -> Result<(), Trouble> {
+    if let [Token::Word("refused:"), ..] = wanted {
+        return Err(Trouble::Malformed("it is not refused"));
+    }
+    if bytes == bytes_of(alloc, wanted)?.as_slice() {
+        return Ok(());
+    }
+    let mut found = String::new(alloc);
+    put_bytes(&mut found, bytes)?;
+    Err(Trouble::Differs(found))
+}
+
+/// Compares why a reply is not written with what is wanted.
+fn check_refusal(
+    alloc: Global,
+    refusal: ReplyRefusal,
+    wanted: &[Token<'_>],
+) -> Result<(), Trouble> {
+    let found = format!(in alloc; " refused: {refusal:?} |")?;
+    if found == words_of(alloc, &[wanted])? {
+        return Ok(());
+    }
+    Err(Trouble::Differs(found))
+}
+
+/// Writes a reply, and compares the bytes or the refusal.
+fn check_written_as(
+    alloc: Global,
+    sides: Sides,
+    reply: &Reply,
+    wanted: &[Token<'_>],
+) -> Result<(), Trouble> {
+    match written(alloc, sides, reply)? {
+        Ok(bytes) => check_found(alloc, &bytes, wanted),
+        Err(refusal) => check_refusal(alloc, refusal, wanted),
+    }
 }
 
 /// Writes what a reply says that was read with packets of up to 32 MB, and compares the bytes.
@@ -144,45 +199,57 @@ pub fn check_written(
 ) -> Result<(), Trouble> {
     let (_, capabilities, first_id, _) = sides;
     let reply = reply_of(alloc, (read_kind, capabilities, first_id, 1 << 25), stream)?;
-    let mut found = String::new(alloc);
-    match written(alloc, sides, &reply)? {
-        Ok(bytes) => {
-            if let [Token::Word("refused:"), ..] = wanted {
-                return Err(Trouble::Malformed("it is not refused"));
-            }
-            if bytes == bytes_of(alloc, wanted)? {
-                return Ok(());
-            }
-            put_bytes(&mut found, &bytes)?;
-        }
-        Err(refusal) => {
-            write!(found, " refused: {refusal:?} |")?;
-            if found == words_of(alloc, &[wanted])? {
-                return Ok(());
-            }
-        }
+    check_written_as(alloc, sides, &reply, wanted)
+}
+
+/// Compares what two replies say.
+fn check_same(alloc: Global, reply: &Reply, again: &Reply) -> Result<(), Trouble> {
+    let (wanted, found) = (reply_words(alloc, reply)?, reply_words(alloc, again)?);
+    if found.as_str() == wanted.as_str() {
+        return Ok(());
     }
-    Err(Trouble::Differs(found))
+    Err(Trouble::Differs(format!(in alloc; "written again: wanted{wanted}, found{found}")?))
+}
+
+/// Compares what a reply is written as with these bytes.
+fn check_bytes(alloc: Global, sides: Sides, reply: &Reply, bytes: &[u8]) -> Result<(), Trouble> {
+    match written(alloc, sides, reply)? {
+        Ok(once_more) if once_more.as_slice() == bytes => Ok(()),
+        _ => Err(Trouble::Malformed("a reply that was written is written in another way")),
+    }
+}
+
+/// Compares a reply with what was read of the bytes that it was written as.
+fn check_reread(
+    alloc: Global,
+    sides: Sides,
+    reply: &Reply,
+    again: &Reply,
+    bytes: &[u8],
+) -> Result<(), Trouble> {
+    check_same(alloc, reply, again)?;
+    check_bytes(alloc, sides, again, bytes)
+}
+
+/// Reads bytes that a reply was written as: they say the same, and are written as the same bytes.
+fn check_read(alloc: Global, sides: Sides, reply: &Reply, bytes: &[u8]) -> Result<(), Trouble> {
+    let again = reply_of(alloc, sides, bytes)?;
+    check_reread(alloc, sides, reply, &again, bytes)
+}
+
+/// Writes a reply again, where it is whole.
+fn check_reply(alloc: Global, sides: Sides, reply: &Reply) -> Result<(), Trouble> {
+    if !matches!(reply.end, ReplyEnd::Whole) {
+        return Ok(());
+    }
+    match written(alloc, sides, reply)? {
+        Ok(bytes) => check_read(alloc, sides, reply, &bytes),
+        Err(_) => Err(Trouble::Malformed("a reply that was read is not written")),
+    }
 }
 
 /// Writes a whole reply again: it reads as the same, and written once more it is the same bytes.
 pub fn check_again(alloc: Global, sides: Sides, stream: &[u8]) -> Result<(), Trouble> {
     let reply = reply_of(alloc, sides, stream)?;
-    if !matches!(reply.end, ReplyEnd::Whole) {
-        return Ok(());
-    }
-    let Ok(bytes) = written(alloc, sides, &reply)? else {
-        return Err(Trouble::Malformed("a reply that was read is not written"));
-    };
-    let again = reply_of(alloc, sides, &bytes)?;
-    let (wanted, found) = (reply_words(alloc, &reply)?, reply_words(alloc, &again)?);
-    if found.as_str() != wanted.as_str() {
-        return Err(Trouble::Differs(format!(in alloc;
-            "written again: wanted{wanted}, found{found}"
-        )?));
-    }
-    match written(alloc, sides, &again)? {
-        Ok(once_more) if once_more == bytes => Ok(()),
-        _ => Err(Trouble::Malformed("a reply that was written is written in another way")),
-    }
+    check_reply(alloc, sides, &reply)
 }

@@ -92,10 +92,15 @@ fn take(connection: &mut Connection, lent: bool) -> Result<Counts, Fault> {
     }
 }
 
+// Feeds a piece. What `feed` promises is long, so it is called here alone.
+fn feed_once(connection: &mut Connection, side: Side, piece: &[u8]) -> Result<(), FeedRefusal> {
+    connection.feed(side, piece)
+}
+
 /// Feeds a piece, which has room; for want of memory once more.
 pub fn feed(connection: &mut Connection, side: Side, piece: &[u8]) -> Result<(), Fault> {
-    let fed = match connection.feed(side, piece) {
-        Err(FeedRefusal::Memory) => connection.feed(side, piece),
+    let fed = match feed_once(connection, side, piece) {
+        Err(FeedRefusal::Memory) => feed_once(connection, side, piece),
         answer => answer,
     };
     match fed {
@@ -104,24 +109,33 @@ pub fn feed(connection: &mut Connection, side: Side, piece: &[u8]) -> Result<(),
     }
 }
 
-// Reads the connection in pieces of a size, the client's first. Answers what was counted, and how it
-// ends.
+// Reads both streams in pieces of a size, the client's first. Answers what was counted.
+fn read_pieces(connection: &mut Connection, size: usize, lent: bool) -> Result<Counts, Fault>
+    requires { 0 < size }
+{
+    let mut count: usize = 0;
+    let mut rows: usize = 0;
+    for piece in CLIENT.chunks(size) {
+        feed(connection, Side::Client, piece)?;
+    }
+    for piece in SERVER.chunks(size) {
+        feed(connection, Side::Server, piece)?;
+        let (more, lent_rows) = take(connection, lent)?;
+        count = count.wrapping_add(more);
+        rows = rows.wrapping_add(lent_rows);
+    }
+    Ok((count, rows))
+}
+
+// Reads the connection in pieces of a size. Answers what was counted, and how it ends.
 fn read(alloc: Global, size: usize, lent: bool) -> Result<(Counts, End), Fault>
     requires { 0 < size }
 {
     let mut connection = Connection::new(alloc, LIMITS);
-    let mut count: usize = 0;
-    let mut rows: usize = 0;
-    for piece in CLIENT.chunks(size) {
-        feed(&mut connection, Side::Client, piece)?;
+    match read_pieces(&mut connection, size, lent) {
+        Ok(counts) => Ok((counts, connection.finish())),
+        Err(fault) => Err(fault),
     }
-    for piece in SERVER.chunks(size) {
-        feed(&mut connection, Side::Server, piece)?;
-        let (more, lent_rows) = take(&mut connection, lent)?;
-        count = count.wrapping_add(more);
-        rows = rows.wrapping_add(lent_rows);
-    }
-    Ok(((count, rows), connection.finish()))
 }
 
 // Reads it, once more where memory ran out.

@@ -7,7 +7,84 @@ use mysql_connection::{
     ReplyEvent, Side,
 };
 use std::alloc::Global;
+use std::process::Abort;
 use tests_support::{Assert, assert_bytes};
+
+// What is said again: a whole connection, or what follows a login, whose rows are put as such.
+#[derive(Clone, Copy)]
+struct Told {
+    client: &'static [u8],
+    server: &'static [u8],
+    events: usize,
+    behind_login: bool,
+}
+
+const CONNECTION: Told = Told {
+    client: CLIENT,
+    server: SERVER,
+    events: 16,
+    behind_login: false,
+};
+
+// A query, and a result of three rows: 1, 2 and NULL.
+const ROWS: Told = Told {
+    client: b"\x09\0\0\0\x03SELECT 1",
+    server: b"\x01\0\0\x01\x01\
+        \x17\0\0\x02\x03def\0\0\0\x011\0\x0c\x3f\0\0\0\0\0\xfd\x80\0\0\0\0\
+        \x05\0\0\x03\xfe\0\0\x02\0\
+        \x02\0\0\x04\x011\
+        \x02\0\0\x05\x012\
+        \x01\0\0\x06\xfb\
+        \x05\0\0\x07\xfe\0\0\x02\0",
+    events: 8,
+    behind_login: true,
+};
+
+// A connection; behind a login it is of the protocol of 4.1 with EOF packets.
+fn opened(alloc: Global, behind_login: bool) -> Connection {
+    if !behind_login {
+        return Connection::new(alloc, LIMITS);
+    }
+    let capabilities = Capabilities {
+        protocol: CapabilityFlags::CLIENT_PROTOCOL_41,
+        mariadb: MariadbCapabilities(0),
+    };
+    Connection::after_login(alloc, LIMITS, capabilities)
+}
+
+// Puts an event; a row as such where rows are.
+fn put_once(
+    connection: &mut Connection,
+    rows_as_such: bool,
+    event: &Event,
+    out: &mut Vec<u8>,
+) -> Result<(), PutRefusal> {
+    if rows_as_such
+        && let Event::Reply(said) = event
+        && let ReplyEvent::Row(row) = &**said
+    {
+        return connection.put_row(row, out);
+    }
+    connection.put(event, out)
+}
+
+// Puts an event, for want of memory once more.
+fn put(
+    connection: &mut Connection,
+    rows_as_such: bool,
+    event: &Event,
+    out: &mut Vec<u8>,
+) -> Result<(), Fault> {
+    let put = match put_once(connection, rows_as_such, event, out) {
+        Err(PutRefusal::Memory) => put_once(connection, rows_as_such, event, out),
+        answer => answer,
+    };
+    match put {
+        Ok(()) => Ok(()),
+        Err(PutRefusal::Memory) => Err(Fault::Memory),
+        Err(_) => Err(Fault::Unasked),
+    }
+}
 
 // What both sides said again.
 #[derive(Drop)]
@@ -16,146 +93,77 @@ struct Said {
     server: Vec<u8>,
 }
 
-// Puts an event, for want of memory once more.
-fn put(connection: &mut Connection, event: &Event, out: &mut Vec<u8>) -> Result<(), Fault> {
-    let put = match connection.put(event, out) {
-        Err(PutRefusal::Memory) => connection.put(event, out),
-        answer => answer,
+// Puts an event on the connection that says both sides' again.
+fn say_event(
+    speaker: &mut Connection,
+    rows_as_such: bool,
+    event: &Event,
+    said: &mut Said,
+) -> Result<(), Fault> {
+    let out = match event.side() {
+        Side::Client => &mut said.client,
+        Side::Server => &mut said.server,
     };
-    match put {
-        Ok(()) => Ok(()),
-        Err(PutRefusal::Memory) => Err(Fault::Memory),
-        Err(_) => Err(Fault::Unasked),
-    }
+    put(speaker, rows_as_such, event, out)
 }
 
-// Reads the connection, and puts each event on another one, which says both sides'.
-fn say(alloc: Global, said: &mut Said) -> Result<usize, Fault> {
-    let mut source = Connection::new(alloc, LIMITS);
-    let mut speaker = Connection::new(alloc, LIMITS);
-    feed(&mut source, Side::Client, CLIENT)?;
-    feed(&mut source, Side::Server, SERVER)?;
+// Puts each event that was read on the connection that says them again. Answers how many there were.
+fn say_events(
+    source: &mut Connection,
+    speaker: &mut Connection,
+    rows_as_such: bool,
+    said: &mut Said,
+) -> Result<usize, Fault> {
     let mut count: usize = 0;
     for _ in 0..20 {
-        let event = match source.next_event() {
-            Ok(Some(event)) => event,
+        match source.next_event() {
+            Ok(Some(event)) => say_event(speaker, rows_as_such, &event, said)?,
             Ok(None) => break,
             Err(failure) => return Err(failure.fault),
-        };
-        match event.side() {
-            Side::Client => put(&mut speaker, &event, &mut said.client)?,
-            Side::Server => put(&mut speaker, &event, &mut said.server)?,
         }
         count = count.wrapping_add(1);
     }
     Ok(count)
 }
 
+// Reads the streams, and says them again.
+fn say(alloc: Global, told: Told, said: &mut Said) -> Result<usize, Fault> {
+    let mut source = opened(alloc, told.behind_login);
+    feed(&mut source, Side::Client, told.client)?;
+    feed(&mut source, Side::Server, told.server)?;
+    let mut speaker = opened(alloc, told.behind_login);
+    say_events(&mut source, &mut speaker, told.behind_login, said)
+}
+
 // Says it, once more where memory ran out.
-fn say_again(alloc: Global, said: &mut Said) -> Result<usize, Fault> {
-    match say(alloc, said) {
+fn say_again(alloc: Global, told: Told, said: &mut Said) -> Result<usize, Fault> {
+    match say(alloc, told, said) {
         Err(Fault::Memory) => {
             said.client.clear();
             said.server.clear();
-            say(alloc, said)
+            say(alloc, told, said)
         }
         answer => answer,
     }
+}
+
+// Asserts that both streams are said again.
+fn assert_said<R: Abort>(assert: &Asserting<'_, R>, alloc: Global, told: Told) {
+    let mut said = Said {
+        client: Vec::new(alloc),
+        server: Vec::new(alloc),
+    };
+    assert.holds(say_again(alloc, told, &mut said) == Ok(told.events));
+    assert_bytes(assert, said.client.as_slice(), told.client);
+    assert_bytes(assert, said.server.as_slice(), told.server);
 }
 
 #[test]
 fn both_streams_again(rt: HostRuntime) {
-    let assert = Asserting(&rt);
-    let mut said = Said {
-        client: Vec::new(rt.alloc()),
-        server: Vec::new(rt.alloc()),
-    };
-    assert.holds(say_again(rt.alloc(), &mut said) == Ok(16));
-    assert_bytes(&assert, said.client.as_slice(), CLIENT);
-    assert_bytes(&assert, said.server.as_slice(), SERVER);
-}
-
-// A query, and a result of three rows: 1, 2 and NULL.
-const QUERY: &[u8] = b"\x09\0\0\0\x03SELECT 1";
-
-const RESULT: &[u8] = b"\x01\0\0\x01\x01\
-    \x17\0\0\x02\x03def\0\0\0\x011\0\x0c\x3f\0\0\0\0\0\xfd\x80\0\0\0\0\
-    \x05\0\0\x03\xfe\0\0\x02\0\
-    \x02\0\0\x04\x011\
-    \x02\0\0\x05\x012\
-    \x01\0\0\x06\xfb\
-    \x05\0\0\x07\xfe\0\0\x02\0";
-
-// A connection behind its login, of the protocol of 4.1 with EOF packets.
-fn logged_in(alloc: Global) -> Connection {
-    let capabilities = Capabilities {
-        protocol: CapabilityFlags::CLIENT_PROTOCOL_41,
-        mariadb: MariadbCapabilities(0),
-    };
-    Connection::after_login(alloc, LIMITS, capabilities)
-}
-
-// Puts an event, a row as such.
-fn put_part(connection: &mut Connection, event: &Event, out: &mut Vec<u8>) -> Result<(), Fault> {
-    let Event::Reply(said) = event else {
-        return put(connection, event, out);
-    };
-    let ReplyEvent::Row(row) = &**said else {
-        return put(connection, event, out);
-    };
-    let put = match connection.put_row(row, out) {
-        Err(PutRefusal::Memory) => connection.put_row(row, out),
-        answer => answer,
-    };
-    match put {
-        Ok(()) => Ok(()),
-        Err(PutRefusal::Memory) => Err(Fault::Memory),
-        Err(_) => Err(Fault::Unasked),
-    }
-}
-
-// Reads the query and its result, and puts them on another connection.
-fn say_result(alloc: Global, said: &mut Said) -> Result<usize, Fault> {
-    let mut source = logged_in(alloc);
-    let mut speaker = logged_in(alloc);
-    feed(&mut source, Side::Client, QUERY)?;
-    feed(&mut source, Side::Server, RESULT)?;
-    let mut count: usize = 0;
-    for _ in 0..20 {
-        let event = match source.next_event() {
-            Ok(Some(event)) => event,
-            Ok(None) => break,
-            Err(failure) => return Err(failure.fault),
-        };
-        match event.side() {
-            Side::Client => put_part(&mut speaker, &event, &mut said.client)?,
-            Side::Server => put_part(&mut speaker, &event, &mut said.server)?,
-        }
-        count = count.wrapping_add(1);
-    }
-    Ok(count)
-}
-
-// Says it, once more where memory ran out.
-fn say_result_again(alloc: Global, said: &mut Said) -> Result<usize, Fault> {
-    match say_result(alloc, said) {
-        Err(Fault::Memory) => {
-            said.client.clear();
-            said.server.clear();
-            say_result(alloc, said)
-        }
-        answer => answer,
-    }
+    assert_said(&Asserting(&rt), rt.alloc(), CONNECTION);
 }
 
 #[test]
 fn rows_as_such(rt: HostRuntime) {
-    let assert = Asserting(&rt);
-    let mut said = Said {
-        client: Vec::new(rt.alloc()),
-        server: Vec::new(rt.alloc()),
-    };
-    assert.holds(say_result_again(rt.alloc(), &mut said) == Ok(8));
-    assert_bytes(&assert, said.client.as_slice(), QUERY);
-    assert_bytes(&assert, said.server.as_slice(), RESULT);
+    assert_said(&Asserting(&rt), rt.alloc(), ROWS);
 }
