@@ -296,11 +296,11 @@ class Session:
                 self._send(writer.ok(*answer))
             else:
                 rows = answer.rows if values is None else rows_for(answer, values)
-                self._send(writer.rows(answer.columns))
-                for row in rows:
-                    self._send(writer.row([it if it is None or values is not None else text_of(it)
-                                           for it in row]))
-                self._send(writer.end_rows())
+                # It is sent at once: parts of it would wait for one another in the network.
+                packets = [writer.rows(answer.columns)]
+                packets += [writer.row([it if it is None or values is not None else text_of(it)
+                                        for it in row]) for row in rows]
+                self._send(b"".join(packets) + writer.end_rows())
 
     def _prepare(self, query: bytes) -> None:
         """Prepares a statement whose text the table has."""
@@ -335,8 +335,6 @@ def serve(listener: socket.socket, table: Table, clients: Optional[int] = None) 
     while clients is None or len(threads) < clients:
         try:
             stream, _ = listener.accept()
-            # Rows are sent one by one, and none waits until the one before has come.
-            stream.setsockopt(socket.IPPROTO_TCP, socket.TCP_NODELAY, 1)
         except OSError:
             break
         threads.append(threading.Thread(target=serve_client,
