@@ -39,7 +39,8 @@ pub fn puts_are_the_run()
     pieces_are_the_run();
 }
 
-/// A client, a server and an auditor between them agree on one list of events.
+/// A client, a server and an auditor between them, all by the same limits, agree on one list of
+/// events.
 ///
 /// Its client's events are those that the client put, and its server's those that the server put.
 pub fn three_agree()

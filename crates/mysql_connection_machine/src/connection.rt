@@ -345,7 +345,8 @@ impl Connection {
     ///
     /// The connection stands then as if they had come. For who has payloads by packet writers of
     /// their own, or passes on what another connection said. Last words are put by [`Connection::put`]
-    /// alone: an error that stands in place of an answer says what it says there.
+    /// alone: an error that stands in place of an answer says what it says there. No command is refused
+    /// for its layout: one that is laid out as none is put as `Other`.
     ///
     ///     let event = connection.put_payload(Side::Client, payload, &mut output)?;
     ///     socket.write_all(&output)?;

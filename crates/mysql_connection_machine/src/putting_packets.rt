@@ -46,7 +46,8 @@ impl Connection {
     /// set with its long data, or a whole reply, is one call. Answers how many bytes of `packets` were
     /// taken: all, or those before the first packet whose turn hasn't come. What is cut off at the
     /// end is left. The packets' own numbers are looked at in the chunks of one payload alone: each is
-    /// framed anew, by the number that is due.
+    /// framed anew, by the number that is due. A command that is laid out as none is put as `Other`,
+    /// which nothing tells here.
     ///
     ///     let used = connection.put_packets(Side::Client, packets, &mut output)?;
     ///     socket.write_all(&output)?;

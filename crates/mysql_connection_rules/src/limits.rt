@@ -9,6 +9,7 @@ pub struct Limits {
     pub server: usize,
     /// The unread bytes of both, and what is kept of statements, columns and long data. Of each
     /// side as much waits unread as its longest payload takes with its headers; what this leaves
-    /// beside both is for what is kept.
+    /// beside both is for what is kept. Where nothing is left, no statement is prepared and no column
+    /// is read: `Held`.
     pub held: usize,
 }

@@ -41,6 +41,9 @@ use std::alloc::Global;
 /// `max_allowed_packet` of their own side and count the payload alone, so that with the same limit
 /// each payload that is appended here is within it.
 ///
+/// Commands are laid out for a connection on which CLIENT_QUERY_ATTRIBUTES isn't in force, and bulk
+/// executions for one on which MARIADB_CLIENT_STMT_BULK_OPERATIONS is.
+///
 /// By execute and bulk **safe for** any server. By text for one whose SQL mode has neither
 /// NO_BACKSLASH_ESCAPES nor ANSI_QUOTES over a connection in UTF-8, as `mysql_values::bind_text` is:
 /// for any other a value may end its literal, and what stands behind the quote is read as SQL.
