@@ -29,7 +29,6 @@ fn has_query_attributes(capabilities: Capabilities) -> bool
 
 /// Puts an execution, by what is in force of its statement's parameters.
 pub(crate) fn put_execute(
-    alloc: Global,
     capabilities: Capabilities,
     parameters: Option<&StatementParameters>,
     execution: &Execution,
@@ -44,7 +43,7 @@ pub(crate) fn put_execute(
     executions_read_back();
     let len = out.len();
     out.extend_from_slice(&[0x17])?;
-    if let Err(refusal) = put_execution(alloc, capabilities, parameters, execution, out) {
+    if let Err(refusal) = put_execution(capabilities, parameters, execution, out) {
         out.truncate(len);
         return Err(CommandRefusal::from(refusal));
     }

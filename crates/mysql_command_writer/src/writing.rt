@@ -159,7 +159,7 @@ pub fn put_command(
             sql.as_slice(),
             out,
         ),
-        Command::Execute(execution) => put_execute(alloc, capabilities, parameters, execution, out),
+        Command::Execute(execution) => put_execute(capabilities, parameters, execution, out),
         Command::BulkExecute(execution) => put_bulk(
             alloc,
             capabilities,

@@ -1,5 +1,5 @@
 -- The bits of a bitmap, the highest of a byte first.
-use Rattle.std.proofs.Common.{◌≡◌, ℕ, zero, suc, ◌+◌, ◌-◌, ◌*◌, ◌^◌, ◌<◌, ◌≤◌, ◌⊎◌, Bool, true, false, List, [], ◌∷◌, ◌++◌, length, map, get_or, drop, refl, sym, ap, ◌∙◌, inl, inr, add-one, drop-cons, append_assoc, length-append, ◌/◌, arith, lit≤}
+use Rattle.std.proofs.Common.{◌≡◌, ℕ, zero, suc, ◌+◌, ◌-◌, ◌*◌, ◌^◌, ◌<◌, ◌≤◌, ◌⊎◌, Bool, true, false, List, [], ◌∷◌, ◌++◌, length, map, min, get_or, drop, refl, sym, ap, ◌∙◌, inl, inr, add-one, drop-cons, append_assoc, length-append, ◌/◌, arith, lit≤}
 use Rattle.std.specs.Prelude.{if◌then◌else◌}
 use Rattle.std.specs.List.{range_with_len}
 use Rattle.std.proofs.lemmas.List.FromFn.{map-range_with_len_more}
@@ -66,6 +66,21 @@ one_bit false = omega arith
 pub none_yet : (values : List Value) → 0 ≡ null_bits 0 values
 unfolding null_bits
 none_yet values = refl
+
+-- no bit yet, where so many places of the eight hold values
+pub none_left : (first count : ℕ) (values : List Value) → count ≡ min (length values - first) 8 → 0 ≡ null_bits (8 - count) (drop (first + (8 - (8 - count))) values)
+none_left first count values is = by (cases_lt count 8)
+  where
+    later : List Value
+    later = drop (first + (8 - (8 - count))) values
+
+    by : (count < 8) ⊎ (8 ≤ count) → 0 ≡ null_bits (8 - count) later
+    by (inl lt) =
+        let none : later ≡ [] = drop_all (first + (8 - (8 - count))) values (omega (arith, lt, is)) in
+        sym (ap (λ (l : List Value). null_bits (8 - count) l) none ∙ no_bits (8 - count))
+    by (inr le) =
+        let full : 8 - count ≡ 0 = omega (arith, le) in
+        none_yet later ∙ ap (λ n. null_bits n later) (sym full)
 
 -- the bytes of a bitmap so far, and one more
 pub bytes_more : (f : ℕ → ℕ) (old out new : List ℕ) (k byte : ℕ) → out ≡ old ++ map f (range_with_len 0 k) → byte ≡ f k → new ≡ out ++ byte ∷ [] → new ≡ old ++ map f (range_with_len 0 (k + 1))

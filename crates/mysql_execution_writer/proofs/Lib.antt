@@ -1,5 +1,7 @@
 pub mod Loops
 pub mod Bits
+pub mod Begins
+pub mod Refusing
 pub mod CellsBack
 pub mod TypesBack
 pub mod ValuesBack

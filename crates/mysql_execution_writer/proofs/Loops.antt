@@ -51,12 +51,6 @@ module _ (waiting : List (Option (List ℕ))) (place : ℕ) (types : List Parame
       ap (λ (l : List ℕ). l ++ parameters_bytes waiting (place + 1) later others) put
       ∙ append_assoc out (parameter_bytes (data_for waiting place) t value) (parameters_bytes waiting (place + 1) later others) ∙ sym one ∙ so_far
 
-  pub parameters_end : (out total : List ℕ) → types ≡ [] → out ++ parameters_bytes waiting place types values ≡ total → out ≡ total
-  unfolding parameters_bytes
-  parameters_end out total none so_far =
-      let one : out ++ parameters_bytes waiting place types values ≡ out = rw none (append-nil out) in
-      sym one ∙ so_far
-
   pub parameters_done : (out total : List ℕ) → values ≡ [] → out ++ parameters_bytes waiting place types values ≡ total → out ≡ total
   unfolding parameters_bytes
   parameters_done out total none so_far = by types so_far
@@ -101,6 +95,17 @@ module _ (waiting : List (Option (List ℕ))) (place : ℕ) (types : List Parame
   fit_exceeds total t later some nothing so_far =
       let one : are_parameters waiting place types values ≡ false = rw (some, nothing) refl in
       sym one ∙ so_far
+
+-- all values were looked at, and a type is left, or none
+pub fit_exceeds_at : (waiting : List (Option (List ℕ))) (place : ℕ) (types later : List ParameterType) (values : List Value) (total : Bool) (found : Option ParameterType) → is_some found ≡ true
+    → IfSome found (λ t. types ≡ t ∷ later) → values ≡ [] → are_parameters waiting place types values ≡ total → false ≡ total
+fit_exceeds_at waiting place types later values total (Some t) is some all so_far = fit_exceeds waiting place types values total t later some all so_far
+fit_exceeds_at waiting place types later values total None is some all so_far = absurd cc
+
+pub fit_ends_at : (waiting : List (Option (List ℕ))) (place : ℕ) (types : List ParameterType) (values : List Value) (total : Bool) (found : Option ParameterType) → is_some found ≡ false
+    → IfNone found (types ≡ []) → values ≡ [] → are_parameters waiting place types values ≡ total → true ≡ total
+fit_ends_at waiting place types values total (Some t) is nothing all so_far = absurd cc
+fit_ends_at waiting place types values total None is nothing all so_far = fit_ends waiting place types values total nothing all so_far
 
 pub none_of : (none : Bool) → true ≡ not none → none ≡ false
 none_of true e = absurd cc

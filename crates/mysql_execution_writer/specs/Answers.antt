@@ -9,3 +9,10 @@ abbrev pub PutsIf : Bool → List ℕ → List ℕ → List ℕ → Result (Unit
 PutsIf can bytes old new (Ok done) = (can ≡ true) × (new ≡ old ++ bytes)
 PutsIf can bytes old new (Err Unreadable) = (can ≡ false) × (new ≡ old)
 PutsIf can bytes old new (Err Memory) = (can ≡ true) × (new ≡ old)
+
+-- What is written fits; or it doesn't, where it is refused as unreadable. Where memory runs out that
+-- isn't known.
+abbrev pub FitsIf : Bool → Result (Unit {0}) PutRefusal → Type 0
+FitsIf can (Ok done) = can ≡ true
+FitsIf can (Err Unreadable) = can ≡ false
+FitsIf can (Err Memory) = Unit {0}

@@ -1,27 +1,30 @@
 //! Executions as they are written.
 
-ghost use Rattle.std.specs.Prelude.{◌≡◌, ◌++◌, ◌∷◌, ◌+◌, ◌<◌, ◌==◌, ◌||◌, ◌&&◌, [], IfOk, OnOk, false, length, true};
+ghost use Rattle.std.specs.Prelude.{◌≡◌, ◌++◌, ◌∷◌, ◌+◌, ◌<◌, ◌==◌, ◌||◌, ◌&&◌, [], IsTrue, OnOk, length, take};
 ghost use Rattle.std.specs.Prelude.{unwrap_or};
 ghost use Rattle.std.specs.Prelude.{if◌then◌else◌};
 ghost use Rattle.mysql_buf.specs.Writing.{lenenc_int};
 ghost use Rattle.mysql_executions.specs.Executions.{gives_count as has_count};
-ghost use Rattle.mysql_executions.specs.Views.{execution_of, types_of};
-ghost use Rattle.mysql_execution_writer.specs.Answers.{PutsIf};
+ghost use Rattle.mysql_executions.specs.Views.{execution_of, types_by, types_of};
+ghost use Rattle.mysql_fields.specs.Wire.{Appends};
+ghost use Rattle.byteorder.specs.Endian.{little_bytes};
+ghost use Rattle.mysql_execution_writer.specs.Answers.{FitsIf, PutsIf};
+ghost use Rattle.mysql_execution_writer.specs.Cells.{are_parameters};
+ghost use Rattle.mysql_execution_writer.specs.declared.refusal.PutRefusal.TheVariants.{Unreadable};
 ghost use Rattle.mysql_execution_writer.specs.Written.{all_values, can_be_put, can_have_attributes, can_have_flags};
 ghost use Rattle.mysql_execution_writer.specs.Written.{can_have_types, execution_bytes, flags_of};
 
 use crate::bitmap::put_binding;
 use crate::cells::{
-    fit_attributes, fit_names, fit_parameters, put_attribute_types, put_attributes, put_parameters,
-    put_types,
+    append_parameters, fit_attributes, fit_names, fit_parameters, put_attribute_types,
+    put_attributes, put_types,
 };
 use crate::refusal::PutRefusal;
 use mysql_buf::BufMutExt;
 use mysql_const::Capabilities;
 use mysql_executions::execution_reading::{gives_count, has_query_attributes};
 use mysql_executions::{BoundType, Execution, StatementParameters};
-use mysql_fields::{IntRepr, LeU32};
-use std::alloc::{AllocError, Global};
+use std::alloc::AllocError;
 
 /// The flag of an execution that says that the number of parameters is given.
 const PARAMETER_COUNT_AVAILABLE: u8 = 8;
@@ -80,10 +83,12 @@ fn own_types(e: &Execution) -> &[BoundType]
     }
 }
 
-/// Whether an execution can be written.
+/// Whether an execution can be written, where its parameters can.
 #[tactic(auto, unfolding(crate::specs::Written::can_be_put))]
-fn can_put(capabilities: Capabilities, s: &StatementParameters, e: &Execution) -> bool
-    ensures { result ≡ can_be_put capabilities s.now (execution_of e.now) }
+fn fits_around(capabilities: Capabilities, s: &StatementParameters, e: &Execution) -> bool
+    ensures fits { (result && are_parameters s.now.long_data 0 (types_by (types_of e.now.types) s.now.types)
+        e.now.parameters.items) ≡ can_be_put capabilities s.now (execution_of e.now) }
+    ensures flags { IsTrue result → e.now.cursor.0 < 8 }
 {
     !s.is_broken()
         && fits_flags(capabilities, e)
@@ -91,11 +96,21 @@ fn can_put(capabilities: Capabilities, s: &StatementParameters, e: &Execution) -
         && fits_types(s, e)
         && has_room(capabilities, s, e)
         && fit_names(has_query_attributes(capabilities), own_types(e))
-        && fit_parameters(s, &e.types, &e.parameters)
         && fit_attributes(has_query_attributes(capabilities), &e.attributes)
 }
 
-/// Appends the number of parameters, where it is given. After a refusal what is there isn't said, here and below.
+/// Appends what stands before the number of parameters.
+fn put_head(e: &Execution, out: &mut Vec<u8>) -> Result<(), AllocError>
+    requires { e.now.cursor.0 < 8 }
+    ensures { Appends result out.old.items out.new.items (little_bytes 4 e.now.statement ++
+        (little_bytes 1 (flags_of (execution_of e.now)) ++ little_bytes 4 1)) }
+{
+    let [a, b, c, d] = e.statement.to_le_bytes();
+    let [flags] = flags(e).to_le_bytes();
+    out.extend_from_slice(&[a, b, c, d, flags, 1, 0, 0, 0])
+}
+
+/// Appends the number of parameters, where it is given.
 fn put_count(
     capabilities: Capabilities,
     s: &StatementParameters,
@@ -103,9 +118,9 @@ fn put_count(
     out: &mut Vec<u8>,
 ) -> Result<(), AllocError>
     requires { e.now.cursor.0 < 8 }
-    ensures { OnOk result (out.new.items ≡ out.old.items ++
+    ensures { Appends result out.old.items out.new.items
         (if has_count capabilities (flags_of (execution_of e.now)) s.now.count
-        then lenenc_int (length (all_values (execution_of e.now))) else [])) }
+        then lenenc_int (length (all_values (execution_of e.now))) else []) }
 {
     if gives_count(capabilities, flags(e), s.count()) {
         out.put_lenenc_int(count(e) as u64)
@@ -114,16 +129,20 @@ fn put_count(
     }
 }
 
-/// Appends an execution whose flags can be had.
+/// Appends an execution whose flags can be had, where its parameters can be written.
 #[tactic(auto, unfolding(crate::specs::Written::execution_bytes))]
 fn put_body(
     capabilities: Capabilities,
     s: &StatementParameters,
     e: &Execution,
     out: &mut Vec<u8>,
-) -> Result<(), AllocError>
+) -> Result<(), PutRefusal>
     requires { e.now.cursor.0 < 8 }
-    ensures { OnOk result (out.new.items ≡ out.old.items ++ execution_bytes capabilities s.now (execution_of e.now)) }
+    ensures fits { FitsIf (are_parameters s.now.long_data 0 (types_by (types_of e.now.types) s.now.types)
+        e.now.parameters.items) result }
+    ensures ok { OnOk result (out.new.items ≡
+        out.old.items ++ execution_bytes capabilities s.now (execution_of e.now)) }
+    ensures kept { take (length out.old.items) out.new.items ≡ out.old.items }
 {
     // COM_STMT_EXECUTE, behind its first byte:
     //   int<4>       statement_id
@@ -134,26 +153,32 @@ fn put_body(
     //   (int<2> type and flag, string<lenenc> name with query attributes) for each, where bound
     //   ..           parameter values
     let named = has_query_attributes(capabilities);
-    LeU32::serialize(e.statement, out)?;
-    u8::serialize(flags(e), out)?;
-    LeU32::serialize(1, out)?;
+    out.reserve(likely_size(e))?;
+    put_head(e, out)?;
     put_count(capabilities, s, e, out)?;
     put_binding(&e.parameters, &e.attributes, e.types.is_some(), out)?;
     put_types(named, own_types(e), out)?;
     put_attribute_types(named, &e.attributes, out)?;
-    put_parameters(s, &e.types, &e.parameters, out)?;
-    put_attributes(&e.attributes, out)
+    append_parameters(s, &e.types, &e.parameters, out)?;
+    put_attributes(&e.attributes, out)?;
+    Ok(())
 }
 
-// About as many bytes as the body takes, so that it seldom grows: nothing rests on it.
+// About as many bytes as the body takes beside texts, so that it seldom grows: nothing rests on it.
 fn likely_size(e: &Execution) -> usize {
-    let mut size: usize = 32;
-    for value in &e.parameters {
-        size = size
-            .saturating_add(4)
-            .saturating_add(value.bin_len() as usize);
+    e.parameters.len().saturating_mul(12).saturating_add(32)
+}
+
+/// Why an execution isn't written: for want of memory only where it could be.
+fn refusal_of(refusal: PutRefusal, s: &StatementParameters, e: &Execution) -> PutRefusal
+    ensures { result ≡ (if are_parameters s.now.long_data 0 (types_by (types_of e.now.types) s.now.types)
+        e.now.parameters.items then refusal else Unreadable) }
+{
+    if fit_parameters(s, &e.types, &e.parameters) {
+        refusal
+    } else {
+        PutRefusal::Unreadable
     }
-    size
 }
 
 /// Appends the body of an execution, behind the command's first byte, by what is in force.
@@ -173,7 +198,6 @@ fn likely_size(e: &Execution) -> usize {
 ///
 /// Follows "COM_STMT_EXECUTE" of the client/server protocol documentation.
 pub fn put_execution(
-    alloc: Global,
     capabilities: Capabilities,
     parameters: &StatementParameters,
     execution: &Execution,
@@ -183,11 +207,15 @@ pub fn put_execution(
         (execution_bytes capabilities parameters.now (execution_of execution.now))
         out.old.items out.new.items result }
 {
-    if !can_put(capabilities, parameters, execution) {
+    if !fits_around(capabilities, parameters, execution) {
         return Err(PutRefusal::Unreadable);
     }
-    let mut body = Vec::with_capacity(alloc, likely_size(execution))?;
-    put_body(capabilities, parameters, execution, &mut body)?;
-    out.extend_from_slice(&body)?;
-    Ok(())
+    let len = out.len();
+    match put_body(capabilities, parameters, execution, out) {
+        Ok(()) => Ok(()),
+        Err(refusal) => {
+            out.truncate(len);
+            Err(refusal_of(refusal, parameters, execution))
+        }
+    }
 }

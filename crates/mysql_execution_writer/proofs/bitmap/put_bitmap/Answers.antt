@@ -7,7 +7,7 @@ use Rattle.mysql_execution_writer.proofs.bitmap.put_bitmap.Goals as goal
 pub loop-k-preserved : goal.loop-k-preserved
 loop-k-preserved c =
     bytes_more (λ k. null_bits 8 (drop (8 * k) (c.args.parameters.now ++ values_of c.args.attributes.now))) c.args.out.now.items c.loop-k.out.items c.push.new.self.items c.loop-k.k c.null_byte.result
-    c.loop-k.invariant c.null_byte.ensures c.in_ok-push.ensures.items
+    c.loop-k.invariant c.null_byte.ensures c.in_default.ensures.items
 
 pub returns : goal.returns
 returns c =

@@ -2,7 +2,7 @@ use Rattle.std.proofs.Common.{◌+◌, ◌-◌, ◌++◌, ap, ◌∙◌, drop, B
 use Rattle.std.specs.Prelude.{if◌then◌else◌}
 use Rattle.mysql_execution_writer.specs.Written.{values_of}
 use Rattle.mysql_execution_writer.proofs.Bits.{none_yet, one_bit, one_more, small}
-use Rattle.mysql_execution_writer.proofs.bitmap.null_byte.Goals as goal
+use Rattle.mysql_execution_writer.proofs.bitmap.null_byte_of_both.Goals as goal
 
 pub loop-done-init : goal.loop-done-init
 loop-done-init c = none_yet (drop (c.args.first + 8) (c.args.parameters.now ++ values_of c.args.attributes.now))

@@ -1,9 +1,0 @@
-use Rattle.std.proofs.Common.{◌≡◌, ◌++◌, drop}
-use Rattle.mysql_executions.specs.Views.{types_by, types_of}
-use Rattle.mysql_execution_writer.specs.Cells.{parameters_bytes}
-use Rattle.mysql_execution_writer.proofs.cells.put_parameters.Given as goal
-
-abbrev pub invariant-loop-place : goal.invariant-loop-place
-invariant-loop-place l =
-    l.out.items ++ parameters_bytes l.s.long_data l.place (drop l.place (types_by (types_of l.own) l.s.types)) (drop l.place l.values)
-    ≡ l.initial.out.items ++ parameters_bytes l.s.long_data 0 (types_by (types_of l.own) l.s.types) l.values
