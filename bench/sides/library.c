@@ -24,6 +24,7 @@ size_t mysql_bench_read_connection_lent(Pointer, size_t, Pointer, size_t, size_t
 size_t mysql_bench_read_apart(Pointer, size_t, Pointer, size_t, Pointer, size_t, size_t, size_t, _Bool);
 size_t mysql_bench_cells(Pointer, size_t, _Bool, _Bool, size_t);
 size_t mysql_bench_put_commands(Pointer, size_t, Pointer, size_t, Pointer, size_t, size_t);
+size_t mysql_bench_put_sets(Pointer, size_t, Pointer, size_t, Pointer, size_t, size_t, size_t, Pointer, size_t, size_t);
 size_t mysql_bench_put_events(Pointer, size_t, Pointer, size_t, size_t);
 size_t mysql_bench_put_rows(Pointer, size_t, Pointer, size_t, size_t);
 int64_t mysql_bench_convert(Pointer, size_t, size_t, size_t);
@@ -90,6 +91,7 @@ static void put_commands(const char *what, int rounds) {
     if (!executions) first = (Bytes){(unsigned char *)OKS, sizeof OKS - 1};
     MEASURE("two-replies", units, mysql_bench_put_commands(commands.at, commands.len, first.at, first.len, OKS, sizeof OKS - 1, PUT_TIMES))
     if (executions) {
+        MEASURE("sets", units, mysql_bench_put_sets(commands.at, commands.len, first.at, first.len, sets.at, sets.len, CONNECTION_COMMANDS, WIDTH, OK, sizeof OK - 1, PUT_TIMES))
         MEASURE("sent", units, mysql_bench_send_more(query.at, query.len, sets.at, sets.len, CONNECTION_COMMANDS, WIDTH, PUT_TIMES))
     } else {
         MEASURE("sent", units, mysql_bench_send_kept(query.at, query.len, sets.at, sets.len, CONNECTION_COMMANDS, WIDTH, 0, 0, 1, PUT_TIMES))

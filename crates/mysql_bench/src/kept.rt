@@ -77,7 +77,7 @@ fn sent_behind(alloc: Global, query: &Query<'_>, sets: &[Vec<Value>], out: &mut 
 }
 
 /// So many sets of so many values each.
-fn lists_of(
+pub fn lists_of(
     alloc: Global,
     bytes: &[u8],
     count: usize,

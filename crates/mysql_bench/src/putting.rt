@@ -1,11 +1,12 @@
 //! Events that are put on a connection: commands, each with its reply read, and replies.
 
-use crate::LIMIT;
+use crate::kept::lists_of;
+use crate::{LIMIT, STATEMENT};
 use bitflags::Flags;
 use mysql_connection::{
     Capabilities, CapabilityFlags, Connection, Event, Limits, MariadbCapabilities, ReplyEvent, Side,
 };
-use mysql_session::Row;
+use mysql_session::{Row, Value};
 use std::alloc::{AllocError, Global};
 
 /// Packets of each side as large as elsewhere here, and 16 MB for what is kept.
@@ -112,6 +113,76 @@ pub extern "C" fn mysql_bench_put_commands(
     let mut written: usize = 0;
     for _ in 0..times {
         written = put_commands(alloc, &events, first, reply);
+    }
+    written
+}
+
+/// Puts an execution of values. Answers the bytes.
+#[inline(never)]
+fn put_set(connection: &mut Connection, set: &[Value], out: &mut Vec<u8>) -> usize {
+    match connection.put_execution(STATEMENT, set, out) {
+        Ok(()) => out.len(),
+        Err(_) => 0,
+    }
+}
+
+/// Puts executions of sets, each into a buffer that is emptied before, and reads the reply to each.
+/// Answers the bytes.
+fn put_sets(
+    connection: &mut Connection,
+    sets: &[Vec<Value>],
+    reply: &[u8],
+    out: &mut Vec<u8>,
+) -> usize {
+    let mut written: usize = 0;
+    for set in sets {
+        out.clear();
+        written = written.wrapping_add(put_set(connection, set, out));
+        let _read = reply_read(connection, reply, reply.len());
+    }
+    written
+}
+
+/// A connection on which commands were put, of which the first has one reply and each other another.
+fn behind(alloc: Global, commands: &[Event], first: &[u8], reply: &[u8]) -> Connection {
+    let mut connection = logged_in(alloc);
+    let mut out = Vec::new(alloc);
+    let mut said = first;
+    for command in commands {
+        let _put = put_one(&mut connection, command, &mut out);
+        let _read = reply_read(&mut connection, said, said.len());
+        said = reply;
+    }
+    connection
+}
+
+/// Puts executions of the sets that the bytes hold on a connection, and feeds and reads the reply to
+/// each.
+///
+/// The first commands of a stream are put before: a prepare, and executions by which the types of all
+/// sets are in force. All sets are put so many times. Answers the bytes of one time.
+#[unsafe(no_mangle)]
+pub extern "C" fn mysql_bench_put_sets(
+    alloc: Global,
+    commands: &[u8],
+    first: &[u8],
+    bytes: &[u8],
+    count: usize,
+    width: usize,
+    reply: &[u8],
+    times: usize,
+) -> usize {
+    let Ok(sets) = lists_of(alloc, bytes, count, width) else {
+        return 0;
+    };
+    let Ok(events) = commands_of(alloc, commands, first, reply) else {
+        return 0;
+    };
+    let mut connection = behind(alloc, &events[..events.len().min(3)], first, reply);
+    let mut out = Vec::new(alloc);
+    let mut written: usize = 0;
+    for _ in 0..times {
+        written = put_sets(&mut connection, &sets, reply, &mut out);
     }
     written
 }

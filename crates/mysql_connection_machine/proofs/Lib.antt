@@ -1,4 +1,5 @@
 pub mod Limits
+pub mod Phases
 pub mod PutEvents
 pub mod PutPackets
 pub mod PutPayloads

@@ -1,5 +1,5 @@
 -- What is put, by what was written of it.
-use Rattle.std.proofs.Common.{◌<◌, ℕ, List, Option, Some, None, refl, subst, sym}
+use Rattle.std.proofs.Common.{◌<◌, ℕ, List, OnOk, Option, Some, None, Result, Ok, Err, refl, subst, sym}
 use Rattle.mysql_connection_agreement.specs.Laws.{PutsAreRead}
 use Rattle.mysql_connection_agreement.specs.Machines.{Puts}
 use Rattle.mysql_connection_agreement.specs.Puts.{packets_for}
@@ -7,7 +7,9 @@ use Rattle.mysql_connection_agreement.specs.Refusals.{IsUnsaid, Written}
 use Rattle.mysql_connection_rules.specs.Events.{Event, side_of}
 use Rattle.mysql_connection_rules.specs.Streams.{World}
 use Rattle.mysql_connection_writer.specs.Writes.{IsUnread, Says}
-use Rattle.mysql_connection_machine.specs.Writing.{AppendsEvent, IsReadFrom}
+use Rattle.mysql_connection_machine.specs.Machines.{LendingWorld}
+use Rattle.mysql_connection_machine.specs.Writing.{AppendsEvent, IsReadFrom, PutsEvent}
+use Rattle.mysql_connection_machine.specs.declared.put_refusal.PutRefusal.{PutRefusal}
 
 -- an event that isn't written says nothing there
 pub unread_unsaid : (w : World) (event : Event) (found : Option (List ℕ)) →
@@ -33,3 +35,12 @@ pub read_from : PutsAreRead → (old new : World) (event : Event) (before behind
     IsReadFrom old event before behind new
 read_from law old new event before behind byte appends =
     read_written law old new event appends.0 before behind byte appends.2
+
+-- so is what was put, by what the call answers
+pub read_put : PutsAreRead → (old new : LendingWorld) (event : Event) (before behind : List ℕ)
+    (result : Result (Unit {0}) PutRefusal) → old.world.standing.number < 256 →
+    PutsEvent old event before result new behind →
+    OnOk result (IsReadFrom old.world event before behind new.world)
+read_put law old new event before behind (Ok done) byte puts =
+    read_from law old.world new.world event before behind byte puts.0
+read_put law old new event before behind (Err cause) byte puts = tt

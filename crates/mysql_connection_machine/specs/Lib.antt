@@ -6,5 +6,6 @@ pub mod Endings
 pub mod Writing
 pub mod NextRows
 pub mod PuttingPayloads
+pub mod PuttingExecutions
 pub mod PuttingPackets
 pub mod PuttingRows

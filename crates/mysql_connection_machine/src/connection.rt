@@ -8,12 +8,14 @@ ghost use Rattle.mysql_connection_machine.specs.Machines.{ended};
 ghost use Rattle.mysql_connection_machine.specs.Machines.{failure_in, failure_view, new_machine};
 ghost use Rattle.mysql_connection_machine.specs.Machines.{room_left, statement_meant, stream_in, turn_in};
 ghost use Rattle.mysql_connection_machine.specs.PuttingPayloads.{PutsPayloadOn, is_due_of};
+ghost use Rattle.mysql_connection_machine.specs.PuttingExecutions.{PutsExecutionOn};
 ghost use Rattle.mysql_connection_machine.specs.PuttingRows.{PutsRowOn};
 ghost use Rattle.mysql_connection_machine.specs.Writing.{IsReadFrom, PutsOn};
 ghost use Rattle.mysql_connection_machine.specs.declared.payload_refusal.PayloadRefusal.TheVariants as refusals;
 ghost use Rattle.mysql_connection_machine.specs.declared.put_refusal.PutRefusal.TheVariants.{NotDue};
 ghost use Rattle.mysql_connection_rules.specs.Streams.{from_greeting, from_login, held, limit_of};
 ghost use Rattle.mysql_connection_state.specs.Views.{event_view, plain_phase};
+ghost use Rattle.mysql_connection_writer.specs.Executions.{execution_said};
 ghost use Rattle.mysql_connection_writer.specs.NextRows.{row_said};
 ghost use Rattle.mysql_row_refs.specs.RowRefs.{row_ref_view};
 ghost use Rattle.mysql_rows.specs.Views.{row_view};
@@ -25,6 +27,7 @@ use crate::payload_refusal::PayloadRefusal;
 use crate::put_refusal::PutRefusal;
 use crate::room::{limit_of, room};
 use crate::streams_reader::StreamsReader;
+use mysql_cells::Value;
 use mysql_connection_agreement::laws::puts_are_read;
 use mysql_connection_rules::laws::{events_take_bytes, held_stays};
 use mysql_connection_rules::{Limits, Side};
@@ -323,6 +326,51 @@ impl Connection {
         // A byte, which the law wants to know.
         let _number = self.reader.state().number();
         self.reader.put_row(row, out)
+    }
+
+    /// Puts an execution of the statement of this id with these values, in the order of its placeholders.
+    ///
+    /// As [`Connection::put`] of its event. Types go with it only where those in force won't do, as
+    /// servers keep them: at the first execution, and where a value has no cell by them. NULL has one by
+    /// any type. An unsigned number below 2^63 is put as one with a sign, as it is read. An execution
+    /// whose types are in force is written where it goes, and no event is made of it.
+    ///
+    ///     for set in &sets {
+    ///         connection.put_execution(id, set, &mut output)?;
+    ///         // send the output, and feed and take the reply
+    ///     }
+    ///
+    /// Promise: exactly what `put` of that event does (`PutsExecutionOn`, `execution_said`).
+    ///
+    /// # Errors
+    /// - Those of [`Connection::put`], in the same order: `BadEvent(Command(UnknownStatement))` of a
+    ///   statement that isn't known, and `BadEvent(Command(ReadsOtherwise))` where the values aren't as
+    ///   many as its placeholders, or long data that waits is another text.
+    ///
+    /// MySQL: Client/Server Protocol, "COM_STMT_EXECUTE" (new_params_bind_flag).
+    #[tactic(auto, using(crate::proofs::PutEvents::read_from))]
+    pub fn put_execution(
+        &mut self,
+        id: u32,
+        values: &[Value],
+        out: &mut Vec<u8>,
+    ) -> Result<(), PutRefusal>
+        ensures failed { IfSome self.old.failure (λ failure. (result ≡ Err NotDue) ×
+            (self.new ≡ self.old) × (out.new.items ≡ out.old.items)) }
+        ensures puts { self.old.failure ≡ None → PutsExecutionOn self.old id values.now
+            out.old.items result self.new out.new.items }
+        ensures read { OnOk result (IsReadFrom self.old.world
+            (execution_said self.old.world.standing id values.now) out.old.items out.new.items
+            self.new.world) }
+    {
+        puts_are_read();
+        held_stays();
+        if self.fault.is_some() {
+            return Err(PutRefusal::NotDue);
+        }
+        // A byte, which the law wants to know.
+        let _number = self.reader.state().number();
+        self.reader.put_execution(id, values, out)
     }
 
     /// Whether a payload of a side is due to be put.

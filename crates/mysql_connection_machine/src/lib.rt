@@ -18,6 +18,7 @@ pub mod packets_refusal;
 pub mod payload_refusal;
 pub mod put_refusal;
 mod putting;
+mod putting_executions;
 mod putting_packets;
 mod putting_payloads;
 mod putting_rows;

@@ -2,6 +2,7 @@
 -- MySQL: Client/Server Protocol, "Connection Lifecycle".
 use Rattle.std.specs.Prelude.{◌≡◌, ◌+◌, ◌<◌, ◌≤◌, ℕ, List, Option, Some, None, Result, Ok, Err}
 use Rattle.std.specs.Prelude.{if◌then◌else◌}
+use Rattle.mysql_columns.specs.Columns.{ColumnDefinition}
 use Rattle.mysql_reply_events.specs.Behind.{behind}
 use Rattle.mysql_reply_events.specs.Events.{Event as ReplySaid, ReplySoFar}
 use Rattle.mysql_reply_events.specs.Reader.{GoesOn, ReaderState}
@@ -12,9 +13,11 @@ use Rattle.mysql_connection_rules.specs.Standing.{phase_size}
 use Rattle.mysql_connection_rules.specs.Standing.About.{OfStatement}
 use Rattle.mysql_connection_rules.specs.Standing as phases
 use Rattle.mysql_connection_rules.specs.Steps.{about_after, changed_by, context_of, is_whole}
+use Rattle.mysql_connection_rules.specs.Steps.{reply_due}
 use Rattle.mysql_connection_rules.specs.Steps.{reply_after, with_columns}
 use Rattle.mysql_connection_rules.specs.declared.exchange.Exchange.{Exchange}
 use Rattle.mysql_connection_statements.specs.Statements.{Statements}
+use Rattle.mysql_reply_events.specs.declared.context.ReplyKind.TheVariants as kinds
 use Rattle.mysql_connection_state.specs.Reads.{IsInReply, kept_columns}
 use Rattle.mysql_connection_state.specs.Views.{ConnectionState, about_view, in_reply_view}
 use Rattle.mysql_connection_state.specs.declared.due.InReply.{InReply as HeldReply}
@@ -44,6 +47,10 @@ abbrev pub Goes : ConnectionState → (after : Standing) → (room : ℕ) → Re
 Goes old after room (Ok done) new = (new.standing ≡ after) × (kept after ≤ room)
 Goes old after room (Err Held) new = (new ≡ old) × (room < kept after)
 Goes old after room (Err Memory) new = new ≡ old
+
+-- Behind an execution of this statement that leaves all else as it is, its reply is due.
+abbrev pub after_settled : (id : ℕ) → Option (List ColumnDefinition) → Standing → Standing
+after_settled id columns s = reply_due kinds.Binary columns (OfStatement id) s
 
 -- So much is within the room, or it is not.
 abbrev pub HasRoom : (size room : ℕ) → Result (Unit {0}) FollowRefusal → Type 0

@@ -8,6 +8,7 @@ ghost use Rattle.mysql_connection_rules.specs.Steps.{about_execution, after_exec
 ghost use Rattle.mysql_connection_rules.specs.Steps.{carried_types, execution_of};
 ghost use Rattle.mysql_connection_rules.specs.Steps.{id_in_question, refused_as};
 ghost use Rattle.mysql_connection_statements.specs.Statements.{statement_at};
+ghost use Rattle.mysql_connection_state.specs.Follows.{after_settled};
 ghost use Rattle.mysql_connection_state.specs.Views.{about_view};
 
 use crate::due::About;
@@ -136,6 +137,17 @@ impl State {
         let pending = self.statements.execute(id, refused, types)?;
         self.await_reply(ReplyKind::Binary, columns, about_execution(id, pending));
         Ok(())
+    }
+
+    /// An execution was put that leaves all as it is, of the statement of this id, which last had these
+    /// columns.
+    ///
+    /// MySQL: Client/Server Protocol, "COM_STMT_EXECUTE".
+    pub fn execute_settled(&mut self, id: u32, columns: Option<RcSlice<Column>>)
+        ensures { self.new.standing ≡
+            after_settled id (option_map shared_columns columns) self.old.standing }
+    {
+        self.await_reply(ReplyKind::Binary, columns, About::OfStatement(id));
     }
 
     /// An execution came, with this number; of a statement that isn't known there is only a reply.

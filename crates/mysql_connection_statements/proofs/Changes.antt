@@ -1,9 +1,10 @@
 -- A statement that is changed in its place.
-use Rattle.std.proofs.Common.{◌≡◌, ℕ, ◌+◌, ◌-◌, Bool, true, false, if◌then◌else◌, List, [], ◌∷◌, Option, Some, nat_eq, refl, ap, sym, ◌∙◌, OnErr, Result, Ok, Err}
+use Rattle.std.proofs.Common.{◌≡◌, ℕ, ◌+◌, ◌-◌, Bool, true, false, if◌then◌else◌, List, [], ◌∷◌, Option, Some, nat_eq, refl, ap, arith, sym, ◌∙◌, ◌≢◌, ◌≤◌, OnErr, Result, Ok, Err}
 use Rattle.std.proofs.lemmas.Map.Steps.{set_value_same}
+use Rattle.std.proofs.lemmas.Grind.{common_steps}
 use Rattle.std.specs.Map.{lookup, set_value}
 use Rattle.indexmap.specs.IndexMap.{insert_entry}
-use Rattle.mysql_connection_statements.specs.Statements.{Statement, Statements, change_at, changed, statement_at, statement_size, stored_size}
+use Rattle.mysql_connection_statements.specs.Statements.{Statement, Statements, change_at, changed, last_prepared, resolved, statement_at, statement_size, stored_size, with_statement}
 
 in_first : (test : Bool) (e : ℕ × Statement) (es : List (ℕ × Statement)) (id : ℕ) (statement : Statement)
     → (test ≡ false → set_value (nat_eq id) es statement ≡ insert_entry nat_eq es id statement)
@@ -33,6 +34,21 @@ changed_in_place s id change old statement es sum known is_changed entries is_su
     is_sum ∙ ap (λ (x : Option Statement). s.stored - stored_size x + statement_size (change old)) known in
     (λ i. record { by_id = by_id i; last = s.last; stored = stored i })
     ∙ ap (λ (x : Option Statement). changed change id x s) known
+
+-- an id that isn't that of the statement prepared last
+pub own_id : (s : Statements) (id : ℕ) → id ≢ last_prepared → resolved s id ≡ Some id
+own_id s id other = grind (arith, common_steps)
+
+-- a statement that stays as it is, and so does what is kept of all
+pub kept_in_place : (s : Statements) (id : ℕ) (statement : Statement) → Some statement ≡ statement_at s id
+    → statement_size statement ≤ s.stored → with_statement id statement s ≡ s
+kept_in_place s id statement known small =
+    let by_id : insert_entry nat_eq s.by_id id statement ≡ s.by_id =
+    sym (in_place s.by_id id statement statement known) ∙ set_value_same (nat_eq id) s.by_id statement (sym known) in
+    let same : s.stored - statement_size statement + statement_size statement ≡ s.stored = omega arith in
+    let stored : s.stored - stored_size (statement_at s id) + statement_size statement ≡ s.stored =
+    ap (λ (found : Option Statement). s.stored - stored_size found + statement_size statement) (sym known) ∙ same in
+    λ i. record { by_id = by_id i; last = s.last; stored = stored i }
 
 on_err : {T E P : Type 0} (r : Result T E) → P → OnErr r P
 on_err (Ok x) p = tt

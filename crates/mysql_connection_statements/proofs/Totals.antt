@@ -5,7 +5,7 @@ use Rattle.std.specs.Option.{option_and_then}
 use Rattle.indexmap.specs.IndexMap.{insert_entry}
 use Rattle.mysql_executions.specs.declared.refused.Refused.{Refused}
 use Rattle.mysql_executions.specs.declared.types.BoundType.{BoundType}
-use Rattle.mysql_connection_statements.specs.Statements.{Statement, Statements, change_at, changed, executed, executing_size, more_before, pending_of, statement_at, statement_size, stored_size, waiting_size, with_statement}
+use Rattle.mysql_connection_statements.specs.Statements.{Statement, Statements, change_at, changed, executed, executing_size, has_nothing, more_before, pending_of, statement_at, statement_size, stored_size, waiting_size, with_statement}
 use Rattle.mysql_connection_statements.specs.declared.pending.Pending.{Pending}
 
 same_number : (n : ℕ) → nat_eq n n ≡ true
@@ -60,7 +60,7 @@ pub executing_stored : (s : Statements) (id : ℕ) (statement : Statement) (refu
 executing_stored s id statement refused types known =
     sym (ap (λ (found : Option Statement). (changed (executed types) id found s).stored +
     waiting_size (changed (executed types) id found s) (option_and_then (pending_of id refused types) found)) known)
-    ∙ by_broken s id (executed types statement) _ statement.parameters.broken refl
+    ∙ by_broken s id (executed types statement) _ (has_nothing types statement) refl
     ∙ ap (λ (found : Option Statement). s.stored - stored_size found +
     executing_size (pending_of id refused types statement) (executed types statement)) (sym known)
 

@@ -1,7 +1,8 @@
 -- The prepared statements of a connection: what stands of each, and what a command and its reply
 -- change. MySQL: Client/Server Protocol, "Prepared Statements"; MariaDB: Client/Server Protocol,
 -- "3 - Binary Protocol (Prepared Statements)".
-use Rattle.std.specs.Prelude.{ℕ, ◌+◌, ◌*◌, ◌-◌, ◌==◌, if◌then◌else◌, nat_eq, nat_lt, List, []}
+use Rattle.std.specs.Prelude.{ℕ, ◌+◌, ◌*◌, ◌-◌, ◌==◌, ◌&&◌, ◌||◌, Bool, not, if◌then◌else◌, nat_eq, nat_lt}
+use Rattle.std.specs.Prelude.{List, []}
 use Rattle.std.specs.Prelude.{length, Option, Some, None}
 use Rattle.std.specs.Map.{lookup}
 use Rattle.indexmap.specs.IndexMap.{insert_entry, swap_remove_entry}
@@ -162,12 +163,17 @@ having_columns columns size statement = record {
 
 -- WHAT AN ERROR TAKES BACK
 
+-- An execution has nothing that an error takes back: it carries no types, and no long data waits for
+-- it; or it is of a broken statement.
+unfoldable pub has_nothing : List BoundType → Statement → Bool
+has_nothing types statement =
+    statement.parameters.broken || ((length types == 0) && not (is_waiting statement.parameters))
+
 -- An execution that isn't answered: its statement, how it is refused, how many types it carried,
--- and what was in force before it, with the long data that waited then. Of a broken statement there
--- is none.
+-- and what was in force before it, with the long data that waited then.
 abbrev pub pending_of : ℕ → Refused → List BoundType → Statement → Option Pending
 pending_of id refused types statement =
-    if statement.parameters.broken then None
+    if has_nothing types statement then None
     else Some (record {
       id = id;
       refused = refused;

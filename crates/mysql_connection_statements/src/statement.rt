@@ -1,13 +1,15 @@
 //! A prepared statement of a connection.
 
-ghost use Rattle.std.specs.Prelude.{◌≡◌, ℕ, ◌+◌, ◌<◌, ◌^◌, IfOk, List, OnErr, OnOk, Option, Some};
+ghost use Rattle.std.specs.Prelude.{◌≡◌, ℕ, ◌+◌, ◌<◌, ◌^◌, IfOk, IsTrue, List, OnErr, OnOk, Option};
+ghost use Rattle.std.specs.Prelude.{[], Some};
 ghost use Rattle.std.specs.Option.{option_map};
 ghost use Rattle.mysql_columns.specs.Columns.{ColumnDefinition};
 ghost use Rattle.mysql_executions.specs.declared.refused.Refused.{Refused as RefusedAs};
 ghost use Rattle.mysql_rows.specs.Views.{shared_columns};
 ghost use Rattle.mysql_connection_statements.specs.Statements.{bound as bound_size};
+ghost use Rattle.mysql_connection_statements.specs.Settled.{IsSettled};
 ghost use Rattle.mysql_connection_statements.specs.Statements.{described_behind};
-ghost use Rattle.mysql_connection_statements.specs.Statements.{executed, executing_size};
+ghost use Rattle.mysql_connection_statements.specs.Statements.{executed, executing_size, has_nothing};
 ghost use Rattle.mysql_connection_statements.specs.Statements.{having_columns, is_reset};
 ghost use Rattle.mysql_connection_statements.specs.Statements.{more_before as more_before_it};
 ghost use Rattle.mysql_connection_statements.specs.Statements.{pending_of, prepared_as};
@@ -131,6 +133,14 @@ impl Statement {
         self.size_with(self.bound_executed(types))
     }
 
+    // Whether an execution that carries these types has nothing that an error takes back.
+    #[tactic(auto, unfolding(crate::specs::Statements::has_nothing))]
+    fn has_nothing(&self, types: &[BoundType]) -> bool
+        ensures { result ≡ has_nothing types.now self.now }
+    {
+        self.parameters.is_broken() || (types.is_empty() && !self.parameters.is_waiting())
+    }
+
     /// What is kept for it until that is answered.
     pub(crate) fn size_executing(&self, types: &[BoundType]) -> u128
         ensures size { (id : ℕ) (refused : RefusedAs) → result ≡ executing_size
@@ -138,7 +148,7 @@ impl Statement {
         ensures small { result < 2 ^ 68 }
     {
         let behind = self.bound_executed(types);
-        let more = if self.parameters.is_broken() {
+        let more = if self.has_nothing(types) {
             0
         } else {
             bound(&self.parameters, self.sent).saturating_sub(behind)
@@ -242,7 +252,26 @@ impl Statement {
         before.saturating_sub(bound(&self.parameters, self.sent))
     }
 
+    // An execution comes by which nothing is kept that an error takes back.
+    fn settle(&mut self)
+        ensures { self.new ≡ executed [] self.old }
+    {
+        if !self.parameters.is_broken() {
+            self.parameters.reset();
+            self.sent = 0;
+        }
+    }
+
+    /// Whether an execution of it that carries no types changes nothing.
+    #[tactic(auto, unfolding(crate::specs::Statements::has_nothing))]
+    pub(crate) fn is_settled(&self) -> bool
+        ensures { IsTrue result → IsSettled self.now }
+    {
+        self.parameters.is_clear() && self.sent == 0
+    }
+
     /// An execution comes, which carries these types; it answers what an error takes back.
+    #[tactic(auto, unfolding(crate::specs::Statements::has_nothing))]
     pub(crate) fn execute(
         &mut self,
         alloc: Global,
@@ -255,6 +284,10 @@ impl Statement {
         ensures ok { OnOk result (self.new ≡ executed types.now self.old) }
         ensures err { OnErr result (self.new ≡ self.old) }
     {
+        if self.has_nothing(types) {
+            self.settle();
+            return Ok(None);
+        }
         let Some(before) = self.parameters.execute(alloc, types)? else {
             return Ok(None);
         };

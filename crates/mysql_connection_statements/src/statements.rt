@@ -1,11 +1,12 @@
 //! The prepared statements of a connection by their ids.
 
-ghost use Rattle.std.specs.Prelude.{◌≡◌, ℕ, ◌+◌, ◌<◌, ◌≤◌, ◌^◌, List, Option, IfErr, IfOk, OnErr, OnOk};
+ghost use Rattle.std.specs.Prelude.{◌≡◌, ℕ, ◌+◌, ◌<◌, ◌≤◌, ◌^◌, List, Option, IfErr, IfOk, IfSome, OnErr, OnOk};
 ghost use Rattle.std.specs.Prelude.{if◌then◌else◌, Some, None, nat_lt};
 ghost use Rattle.std.specs.Option.{option_and_then, option_copied, option_map};
 ghost use Rattle.mysql_columns.specs.Columns.{ColumnDefinition};
 ghost use Rattle.mysql_executions.specs.declared.refused.Refused.{Refused as RefusedAs};
 ghost use Rattle.mysql_rows.specs.Views.{shared_columns};
+ghost use Rattle.mysql_connection_statements.specs.Settled.{IsSettledAt};
 ghost use Rattle.mysql_connection_statements.specs.Statements.{after_close, after_prepared};
 ghost use Rattle.mysql_connection_statements.specs.Statements.{change_at, executed};
 ghost use Rattle.mysql_connection_statements.specs.Statements.{forgetting_last, having_columns};
@@ -73,6 +74,23 @@ impl Statements {
         ensures { option_copied result ≡ statement_at self.now id }
     {
         self.by_id.get(&id)
+    }
+
+    /// The statement of this id, where an execution of it that carries no types leaves all as it is.
+    ///
+    /// `None` says nothing of it.
+    pub fn get_settled(&self, id: u32) -> Option<&Statement>
+        ensures { IfSome result (λ statement. IsSettledAt self.now id statement.now) }
+    {
+        if id == LAST_PREPARED {
+            return None;
+        }
+        let statement = self.by_id.get(&id)?;
+        if statement.is_settled() && statement.size() <= self.stored as u128 {
+            Some(statement)
+        } else {
+            None
+        }
     }
 
     /// The id that this one stands for: 0xffffffff for that of the statement prepared last, if one

@@ -4,6 +4,7 @@
 
 #[cfg(test)]
 mod connection;
+mod executions;
 #[cfg(test)]
 mod memory;
 #[cfg(test)]

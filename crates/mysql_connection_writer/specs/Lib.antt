@@ -1,4 +1,5 @@
 pub mod Commands
+pub mod Executions
 pub mod Exchanges
 pub mod Fits
 pub mod NextRows

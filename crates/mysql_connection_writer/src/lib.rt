@@ -5,6 +5,7 @@
 
 mod authentication;
 mod command;
+mod executions;
 pub mod laws;
 mod login;
 mod next_rows;
@@ -16,6 +17,7 @@ mod reply;
 mod same;
 mod writing;
 
+pub use executions::{execution_event, write_execution};
 pub use next_rows::{has_columns_due, write_next_row};
 pub use refusal::{BadEvent, EventRefusal};
 pub use writing::write_event;

@@ -24,6 +24,7 @@ use std::alloc::AllocError;
 /// `out` is as it was after an error, and where the answer is `false`.
 ///
 /// MySQL: Client/Server Protocol, "Text Resultset Row" and "Binary Protocol Resultset Row".
+#[inline(always)]
 pub fn write_next_row(state: &State, row: &Row, out: &mut Vec<u8>) -> Result<bool, AllocError>
     requires { IsAmongRows state.now.standing }
     ensures { WritesNextRow state.now.standing (row_view row.now) out.old.items out.new.items result }

@@ -1,3 +1,4 @@
+pub mod InForce
 pub mod Loops
 pub mod Bits
 pub mod Begins

@@ -1,6 +1,6 @@
 //! Types and values as they are written.
 
-ghost use Rattle.std.specs.Prelude.{◌≡◌, ◌++◌, ◌∷◌, ◌+◌, ◌<◌, ◌≤◌, ◌||◌, ◌==◌, [], IfNone, IfSome, drop};
+ghost use Rattle.std.specs.Prelude.{◌≡◌, ◌++◌, ◌∷◌, ◌+◌, ◌<◌, ◌≤◌, ◌||◌, ◌==◌, [], IfNone, IfSome, OnOk, drop};
 ghost use Rattle.std.specs.Prelude.{false, is_some};
 ghost use Rattle.std.specs.Prelude.{length, map, true, unwrap_or};
 ghost use Rattle.std.specs.Prelude.{if◌then◌else◌};
@@ -11,7 +11,8 @@ ghost use Rattle.mysql_executions.specs.Types.{unnamed};
 ghost use Rattle.mysql_executions.specs.Views.{types_by, types_of};
 ghost use Rattle.mysql_fields.specs.Wire.{Appends};
 ghost use Rattle.mysql_execution_writer.specs.Answers.{FitsIf};
-ghost use Rattle.mysql_execution_writer.specs.Cells.{are_attributes, are_parameters, attribute_cell, attributes_bytes};
+ghost use Rattle.mysql_execution_writer.specs.Cells.{are_attributes, are_parameters, as_read, attribute_cell};
+ghost use Rattle.mysql_execution_writer.specs.Cells.{attributes_bytes};
 ghost use Rattle.mysql_execution_writer.specs.Cells.{fits_name, is_negative_zero as is_zero_below, is_parameter};
 ghost use Rattle.mysql_execution_writer.specs.Cells.{is_text, negative_zero_cell, parameter_bytes, parameter_cell};
 ghost use Rattle.mysql_execution_writer.specs.Cells.{parameters_bytes};
@@ -24,7 +25,9 @@ use mysql_cells::cell_form::{CellForm, form_of_type};
 use mysql_cells::typed_cell::in_eight;
 use mysql_cells::{Cell, Value, cell_of, put_cell};
 use mysql_executions::{Attribute, BoundType, ParameterType, StatementParameters};
+use mysql_stmt::{put_number, put_text};
 use std::alloc::AllocError;
+use std::mem::replace;
 
 /// The flag of a type whose whole numbers have no sign.
 const UNSIGNED: u8 = 0x80;
@@ -172,6 +175,18 @@ fn append_any(kind: ParameterType, value: &Value, out: &mut Vec<u8>) -> Result<(
     }
 }
 
+/// The same in another vector than the one at hand, so that no reference leads to that.
+#[inline(always)]
+fn append_other(kind: ParameterType, value: &Value, out: &mut Vec<u8>) -> Result<(), PutRefusal>
+    ensures fits { FitsIf (is_some (parameter_cell kind value.now)) result }
+    ensures written { Appends result out.old.items out.new.items (unwrap_or (parameter_cell kind value.now) []) }
+{
+    let mut whole = replace(out, Vec::new(*out.allocator()));
+    let put = append_any(kind, value, &mut whole);
+    *out = whole;
+    put
+}
+
 /// Appends the cell of a number with a sign, which the value is, if it has one.
 #[inline(always)]
 fn append_int(
@@ -187,12 +202,12 @@ fn append_int(
     match form_of_type(kind.column_type) {
         CellForm::Whole8 => match in_eight(kind.unsigned, i128::from(number)) {
             Some(number) => {
-                out.extend_from_slice(&number.to_le_bytes())?;
+                put_number(number.to_le_bytes(), out)?;
                 Ok(())
             }
             None => Err(PutRefusal::Unreadable),
         },
-        _ => append_any(kind, value, out),
+        _ => append_other(kind, value, out),
     }
 }
 
@@ -210,7 +225,7 @@ fn append_bytes(
 {
     match form_of_type(kind.column_type) {
         CellForm::Counted => {
-            out.put_lenenc_str(bytes)?;
+            put_text(bytes, out)?;
             Ok(())
         }
         _ => Err(PutRefusal::Unreadable),
@@ -228,8 +243,25 @@ fn append_value(kind: ParameterType, value: &Value, out: &mut Vec<u8>) -> Result
         Value::Bytes(bytes) => append_bytes(kind, value, bytes.as_slice(), out),
         Value::Int(number) => append_int(kind, value, *number, out),
         Value::UInt(_) | Value::Float(_) | Value::Double(_) | Value::Date(..) | Value::Time(..) => {
-            append_any(kind, value, out)
+            append_other(kind, value, out)
         }
+    }
+}
+
+/// Appends the cell of a value that is read as itself, if it has one.
+#[inline(always)]
+pub fn append_own_value(
+    kind: ParameterType,
+    value: &Value,
+    out: &mut Vec<u8>,
+) -> Result<(), PutRefusal>
+    ensures own { OnOk result (as_read value.now ≡ value.now) }
+    ensures fits { OnOk result (is_some (parameter_cell kind value.now) ≡ true) }
+    ensures written { Appends result out.old.items out.new.items (unwrap_or (parameter_cell kind value.now) []) }
+{
+    match value {
+        Value::UInt(number) if *number < 1 << 63 => Err(PutRefusal::Unreadable),
+        _ => append_value(kind, value, out),
     }
 }
 
@@ -349,6 +381,26 @@ fn append_parameter(
 
 /// Appends the parameters, where they are one for each type and each can be written.
 pub fn append_parameters(
+    s: &StatementParameters,
+    own: &Option<Vec<BoundType>>,
+    values: &[Value],
+    out: &mut Vec<u8>,
+) -> Result<(), PutRefusal>
+    ensures fits { FitsIf (are_parameters s.now.long_data 0 (types_by (types_of own.now) s.now.types) values.now)
+        result }
+    ensures written { Appends result out.old.items out.new.items
+        (parameters_bytes s.now.long_data 0 (types_by (types_of own.now) s.now.types) values.now) }
+{
+    // The length of what no reference leads to isn't written back for each byte.
+    let mut whole = replace(out, Vec::new(*out.allocator()));
+    let put = append_each(s, own, values, &mut whole);
+    *out = whole;
+    put
+}
+
+/// The same into a vector to which no reference leads.
+#[inline(always)]
+fn append_each(
     s: &StatementParameters,
     own: &Option<Vec<BoundType>>,
     values: &[Value],

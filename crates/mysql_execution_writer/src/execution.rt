@@ -99,6 +99,22 @@ fn fits_around(capabilities: Capabilities, s: &StatementParameters, e: &Executio
         && fit_attributes(has_query_attributes(capabilities), &e.attributes)
 }
 
+/// Whether an execution can be written by what is in force.
+///
+/// Promise: exactly where [`put_execution`] has no cause against it (`can_be_put`).
+///
+/// Follows "COM_STMT_EXECUTE" of the client/server protocol documentation.
+pub fn can_put(
+    capabilities: Capabilities,
+    parameters: &StatementParameters,
+    execution: &Execution,
+) -> bool
+    ensures { result ≡ can_be_put capabilities parameters.now (execution_of execution.now) }
+{
+    fits_around(capabilities, parameters, execution)
+        && fit_parameters(parameters, &execution.types, &execution.parameters)
+}
+
 /// Appends what stands before the number of parameters.
 fn put_head(e: &Execution, out: &mut Vec<u8>) -> Result<(), AllocError>
     requires { e.now.cursor.0 < 8 }

@@ -6,10 +6,12 @@ mod bitmap;
 mod bulk;
 mod cells;
 mod execution;
+mod in_force;
 pub mod laws;
 pub mod refusal;
 
 pub use attributes::put_query_attributes;
 pub use bulk::put_bulk_execution;
-pub use execution::put_execution;
+pub use execution::{can_put, put_execution};
+pub use in_force::put_in_force;
 pub use refusal::PutRefusal;

@@ -110,6 +110,7 @@ fn write_cells(
 /// `out` is as it was after an error, and where the answer is `false`.
 ///
 /// MySQL: Client/Server Protocol, "Text Resultset Row" and "Binary Protocol Resultset Row".
+#[inline(always)]
 pub fn write_next_row(
     context: Context,
     columns: &[Column],

@@ -331,9 +331,14 @@ impl<'a> MySerialize for Types<'a> {
     }
 }
 
-// Appends a byte string after its length.
+/// Appends a byte string after its length as a length-encoded number. A short one is copied in place.
+///
+/// # Errors
+/// - `AllocError` for want of memory; nothing is changed then.
+///
+/// MySQL: Client/Server Protocol, "Protocol::LengthEncodedString".
 #[inline(always)]
-fn put_text(text: &[u8], buf: &mut Vec<u8>) -> Result<(), AllocError>
+pub fn put_text(text: &[u8], buf: &mut Vec<u8>) -> Result<(), AllocError>
     ensures { Appends result buf.old.items buf.new.items (lenenc_str text.now) }
 {
     if text.len() > SHORT {
@@ -375,9 +380,14 @@ fn put_long_text(text: &[u8], buf: &mut Vec<u8>) -> Result<(), AllocError>
     buf.put_lenenc_str(text)
 }
 
-// Appends a number's eight bytes.
+/// Appends a number's eight bytes.
+///
+/// # Errors
+/// - `AllocError` for want of memory; nothing is changed then.
+///
+/// MySQL: Client/Server Protocol, "Binary Protocol Value".
 #[inline(always)]
-fn put_number(bytes: [u8; 8], buf: &mut Vec<u8>) -> Result<(), AllocError>
+pub fn put_number(bytes: [u8; 8], buf: &mut Vec<u8>) -> Result<(), AllocError>
     requires { length bytes ≡ 8 }
     ensures { Appends result buf.old.items buf.new.items bytes }
 {

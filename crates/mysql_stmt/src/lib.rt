@@ -7,12 +7,12 @@ pub mod headers;
 mod in_room;
 pub mod laws;
 pub mod long_data;
-mod null_bits;
+pub mod null_bits;
 pub mod statement_alone;
 
 pub use execute::{
-    ComStmtExecuteRequest, ComStmtExecuteRequestBuilder, put_execution, size_within,
-    size_without_floats,
+    ComStmtExecuteRequest, ComStmtExecuteRequestBuilder, put_execution, put_number, put_text,
+    size_within, size_without_floats,
 };
 pub use has_value::HasValue;
 pub use headers::{
@@ -21,4 +21,5 @@ pub use headers::{
     InvalidComStmtSendLongDataHeader, InvalidIterationCount, IterationCount,
 };
 pub use long_data::ComStmtSendLongData;
+pub use null_bits::put_null_bitmap;
 pub use statement_alone::{ComStmtClose, ComStmtReset, StatementAlone};

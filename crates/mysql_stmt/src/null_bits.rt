@@ -32,12 +32,16 @@ fn null_byte<V: HasValue>(values: &[V]) -> u8
     byte as u8
 }
 
-// Appends a bit for each value, eight to a byte. After a refusal what stood before stands in front.
+/// Appends a bit for each value, eight to a byte, the first one the lowest bit of its byte.
+///
+/// The values are at most 65535. After a refusal what stood before stands in front.
+///
+/// # Errors
+/// - `AllocError` for want of memory.
+///
+/// MySQL: Client/Server Protocol, "Null-Bitmap".
 #[inline(always)]
-pub(crate) fn put_null_bitmap<V: HasValue>(
-    values: &[V],
-    out: &mut Vec<u8>,
-) -> Result<(), AllocError>
+pub fn put_null_bitmap<V: HasValue>(values: &[V], out: &mut Vec<u8>) -> Result<(), AllocError>
     requires { length values.now ≤ 65535 }
     ensures ok { OnOk result (out.new.items ≡ out.old.items ++ null_bitmap (map V.value values.now)) }
     ensures kept { take (length out.old.items) out.new.items ≡ out.old.items }

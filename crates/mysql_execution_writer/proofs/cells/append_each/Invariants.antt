@@ -1,7 +1,7 @@
 use Rattle.std.proofs.Common.{◌≡◌, ◌++◌, drop, length, take}
 use Rattle.mysql_executions.specs.Views.{types_by, types_of}
 use Rattle.mysql_execution_writer.specs.Cells.{are_parameters, parameters_bytes}
-use Rattle.mysql_execution_writer.proofs.cells.append_parameters.Given as goal
+use Rattle.mysql_execution_writer.proofs.cells.append_each.Given as goal
 
 abbrev pub invariant-loop-place : goal.invariant-loop-place
 invariant-loop-place l = record {

@@ -1,11 +1,11 @@
-use Rattle.std.proofs.Common.{◌≡◌, ◌+◌, ◌++◌, drop, length, subst, sym, ap, ◌∙◌, true, arith}
+use Rattle.std.proofs.Common.{◌≡◌, ◌+◌, ◌++◌, drop, length, subst, sym, ◌∙◌, arith}
 use Rattle.std.proofs.lemmas.List.{drop_all}
 use Rattle.mysql_executions.specs.Views.{types_by, types_of}
 use Rattle.mysql_execution_writer.specs.Cells.{are_parameters, parameters_bytes}
 use Rattle.mysql_execution_writer.proofs.Begins.{begins_more}
 use Rattle.mysql_execution_writer.proofs.Loops.{at_place, fit_ends_at, fit_exceeds_at, fit_fails, fit_goes_on, fit_lacks, parameters_done, parameters_go_on}
 use Rattle.mysql_execution_writer.proofs.Refusing.{one_refused}
-use Rattle.mysql_execution_writer.proofs.cells.append_parameters.Goals as goal
+use Rattle.mysql_execution_writer.proofs.cells.append_each.Goals as goal
 
 pub returns-in_default-clause-fits : goal.returns-in_default-clause-fits
 returns-in_default-clause-fits c =
