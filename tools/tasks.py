@@ -83,7 +83,7 @@ TASKS = {
         ('say how it stands, and how it ends', ['Connection::turn', 'Connection::phase', 'Connection::finish']),
         ('read the rows of one without copies', ['Connection::next_event_lent', 'Connection::row']),
         ('begin behind a login', ['Connection::after_login']),
-        ('put an event on a connection', ['Connection::put', 'Connection::put_row', 'Event::command', 'Event::reply']),
+        ('put an event on a connection', ['Connection::put', 'Connection::put_execution', 'Connection::put_row', 'Event::command', 'Event::reply']),
         ('put a payload or packets on it', ['Connection::put_payload', 'Connection::put_packets', 'Connection::is_due']),
         ('say a command on another connection', ['StatementIds::recode']),
         ('read what a client asks for', ['Command::read', 'Command::statement_id', 'Command::reply']),

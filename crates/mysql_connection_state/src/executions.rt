@@ -139,8 +139,9 @@ impl State {
         Ok(())
     }
 
-    /// An execution was put that leaves all as it is, of the statement of this id, which last had these
-    /// columns.
+    /// An execution was put that leaves all as it is.
+    ///
+    /// It is of the statement of this id, which last had these columns: only its reply is due.
     ///
     /// MySQL: Client/Server Protocol, "COM_STMT_EXECUTE".
     pub fn execute_settled(&mut self, id: u32, columns: Option<RcSlice<Column>>)

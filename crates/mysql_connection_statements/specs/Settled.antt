@@ -14,4 +14,5 @@ IsSettled statement = (executed [] statement ≡ statement) ×
 -- So it is of the statement of this id, and what is kept of all stays as it is.
 abbrev pub IsSettledAt : Statements → ℕ → Statement → Type 0
 IsSettledAt s id statement =
-    (resolved s id ≡ Some id) × (statement_at s id ≡ Some statement) × IsSettled statement × (with_statement id statement s ≡ s)
+    (resolved s id ≡ Some id) × (statement_at s id ≡ Some statement) × IsSettled statement ×
+        (with_statement id statement s ≡ s)
