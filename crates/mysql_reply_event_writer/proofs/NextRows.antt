@@ -1,5 +1,5 @@
 -- A row behind another one is read as it, where its cells are read as themselves.
-use Rattle.std.proofs.Common.{◌≡◌, ◌<◌, ◌+◌, ◌&&◌, if◌then◌else◌, ℕ, zero, suc, Bool, true, false, List, [], ◌∷◌, ◌++◌, length, map}
+use Rattle.std.proofs.Common.{◌≡◌, ◌<◌, ◌+◌, ◌&&◌, if◌then◌else◌, ℕ, suc, Bool, true, false, List, [], ◌∷◌, ◌++◌, length, map}
 use Rattle.std.proofs.Common.{Option, None, Some, Result, Ok, Err, refl, sym, ap, ◌∙◌, subst, arith, append-nil, slice_get}
 use Rattle.std.specs.Prelude.{is_none, zip}
 use Rattle.std.specs.declared.alloc.AllocError.{AllocError}
@@ -9,19 +9,18 @@ use Rattle.mysql_cells.specs.AsSql.{FitsFields}
 use Rattle.mysql_cells.specs.declared.value.Value.{Value}
 use Rattle.mysql_columns.specs.Columns.{ColumnDefinition}
 use Rattle.mysql_row_refs.specs.Lines.{begins_with}
-use Rattle.mysql_rows.specs.Rows.{Row, binary_resultset_row_at, cell_at, text_row_at, whole_row}
-use Rattle.mysql_rows.specs.Written.{binary_cause, binary_row, cell_in, text_cause, text_cell, text_row, values_of}
+use Rattle.mysql_rows.specs.Rows.{Row, binary_resultset_row_at, text_row_at, whole_row}
+use Rattle.mysql_rows.specs.Written.{as_text, binary_cause, binary_row, cell_in, text_cause, text_cell, text_row, values_of}
 use Rattle.mysql_rows.specs.WrittenLaws.{BinaryRowsReadBack, TextRowsBegin, TextRowsReadBack}
 use Rattle.mysql_reply_events.specs.declared.context.Context.{Context}
 use Rattle.mysql_reply_events.specs.Events.{Payload, ReplySoFar}
 use Rattle.mysql_reply_events.specs.Events.Awaited.{Rows}
 use Rattle.mysql_reply_events.specs.Events.Event.{RowEvent}
-use Rattle.mysql_reply_events.specs.Readings.{begins_terminator, deprecate_eof, is_binary, row}
+use Rattle.mysql_reply_events.specs.Readings.{begins_terminator, deprecate_eof, is_binary}
 use Rattle.mysql_reply_events.specs.Table.{event_at}
 use Rattle.mysql_reply_event_writer.proofs.ReadEvents.{BeginsRow, gave, no_report, row_payload, text_begins_row}
 use Rattle.mysql_reply_event_writer.specs.NextRows.{IsReadAmongRows, WritesNextRow, under}
-use Rattle.mysql_reply_event_writer.specs.OwnCells.{IsOwnCell, WritesCells, as_read, bytes_in, cause_in}
-use Rattle.mysql_reply_event_writer.specs.Written.{event_payload}
+use Rattle.mysql_reply_event_writer.specs.OwnCells.{FitsCell, IsOwnText, WritesOwnCells, as_read}
 
 -- CELLS
 
@@ -59,20 +58,32 @@ none_taken : (binary : Bool) (columns : List ColumnDefinition) (cells : List (Op
 none_taken true columns cells same h = binary_whole 0 columns cells same h
 none_taken false columns cells same h = text_whole 0 cells h
 
--- the cell at each place is read as itself
-abbrev pub AreOwn : Bool → List (Option Value) → Type 0
-AreOwn binary cells = (place : ℕ) → place < length cells → IsOwnCell binary (option_flatten (slice_get cells place))
+-- the value of the cell at each place fits its fields
+abbrev AllFit : List (Option Value) → Type 0
+AllFit cells = (place : ℕ) → place < length cells → FitsCell (option_flatten (slice_get cells place))
+
+fitting_values : (cells : List (Option Value)) → AllFit cells → AllByRecursion (λ value. FitsFields value) (values_of cells)
+fitting_values [] fit = tt
+fitting_values (None ∷ cells) fit = fitting_values cells (λ place below. fit (suc place) (omega (arith, below)))
+fitting_values (Some value ∷ cells) fit =
+    let first : FitsCell (Some value) = fit 0 (omega arith) in
+    (first, fitting_values cells (λ place below. fit (suc place) (omega (arith, below))))
+
+-- that of a text row is read as itself
+abbrev pub AllOwnTexts : List (Option Value) → Type 0
+AllOwnTexts cells = (place : ℕ) → place < length cells → IsOwnText (option_flatten (slice_get cells place))
+
+pub own_texts : (cells : List (Option Value)) → AllOwnTexts cells → map as_text (values_of cells) ≡ values_of cells
+own_texts [] own = refl
+own_texts (None ∷ cells) own = own_texts cells (λ place below. own (suc place) (omega (arith, below)))
+own_texts (Some value ∷ cells) own =
+    let first : IsOwnText (Some value) = own 0 (omega arith) in
+    let others = own_texts cells (λ place below. own (suc place) (omega (arith, below))) in
+    ap (λ (v : Value). v ∷ map as_text (values_of cells)) first ∙ ap (λ (vs : List Value). value ∷ vs) others
 
 -- values that fit, each of which is read as itself
 abbrev OwnValues : Bool → List Value → Type 0
-OwnValues binary values = AllByRecursion (λ value. FitsFields value) values × (map (as_read binary) values ≡ values)
-
-own_values : (binary : Bool) (values : List Value) → AreOwn binary (map Some values) → OwnValues binary values
-own_values binary [] own = (tt, refl)
-own_values binary (value ∷ values) own =
-    let first : IsOwnCell binary (Some value) = own 0 (omega arith) in
-    let others = own_values binary values (λ place below. own (suc place) (omega (arith, below))) in
-    ((first.0, others.0), ap (λ (v : Value). v ∷ map (as_read binary) values) first.1 ∙ ap (λ (vs : List Value). value ∷ vs) others.1)
+OwnValues binary values = AllByRecursion (λ value. FitsFields value) values × (as_read binary values ≡ values)
 
 -- READ AGAIN
 
@@ -147,32 +158,29 @@ whole_written laws c columns values before after same none own appended = (
 
 cells_written : NextRowLaws → (c : Context) (columns : List ColumnDefinition) (cells : List (Option Value)) (values : List Value)
     (before after : List ℕ) → cells ≡ map Some values → length columns ≡ length cells →
-    (if is_binary c.kind then binary_cause columns cells else text_cause cells) ≡ None → AreOwn (is_binary c.kind) cells →
+    (if is_binary c.kind then binary_cause columns cells else text_cause cells) ≡ None → OwnValues (is_binary c.kind) values →
     after ≡ before ++ bytes_of (is_binary c.kind) columns values →
     WritesNextRow c (record { columns = columns; cells = cells }) (Ok true) before after
 cells_written laws c columns cells values before after whole =
     subst (λ (cells : List (Option Value)). length columns ≡ length cells →
-    (if is_binary c.kind then binary_cause columns cells else text_cause cells) ≡ None → AreOwn (is_binary c.kind) cells →
+    (if is_binary c.kind then binary_cause columns cells else text_cause cells) ≡ None → OwnValues (is_binary c.kind) values →
     after ≡ before ++ bytes_of (is_binary c.kind) columns values →
     WritesNextRow c (record { columns = columns; cells = cells }) (Ok true) before after) (sym whole)
-    (λ same none own appended. whole_written laws c columns values before after (same ∙ map_length Some values) none
-    (own_values (is_binary c.kind) values own) appended)
+    (λ same none own appended. whole_written laws c columns values before after (same ∙ map_length Some values) none own appended)
 
-pub next_row_written : NextRowLaws → (c : Context) (columns : List ColumnDefinition) (cells : List (Option Value))
-    (before after : List ℕ) → length columns ≡ length cells → AreOwn (is_binary c.kind) cells →
-    cause_in (is_binary c.kind) (record { columns = columns; cells = cells }) ≡ None →
-    after ≡ before ++ bytes_in (is_binary c.kind) (record { columns = columns; cells = cells }) →
+next_row_written : NextRowLaws → (c : Context) (columns : List ColumnDefinition) (cells : List (Option Value))
+    (before after : List ℕ) → length columns ≡ length cells → AllFit cells →
+    WritesOwnCells (is_binary c.kind) (record { columns = columns; cells = cells }) (Ok true) before after →
     WritesNextRow c (record { columns = columns; cells = cells }) (Ok true) before after
-next_row_written laws c columns cells before after same own none appended =
-    cells_written laws c columns cells (values_of cells) before after (none_taken (is_binary c.kind) columns cells same none)
-    same none own appended
+next_row_written laws c columns cells before after same fit h =
+    cells_written laws c columns cells (values_of cells) before after (none_taken (is_binary c.kind) columns cells same h.0)
+    same h.0 (fitting_values cells fit, h.2) h.1
 
 pub next_row_by : NextRowLaws → (c : Context) (binary : Bool) (columns : List ColumnDefinition) (r : Row) (result : Result Bool AllocError)
-    (before after : List ℕ) → binary ≡ is_binary c.kind → length columns ≡ length r.cells → AreOwn binary r.cells →
-    WritesCells binary (under columns r) result before after → WritesNextRow c (under columns r) result before after
-next_row_by laws c binary columns r (Ok true) before after kind same own h =
-    subst (λ (b : Bool). AreOwn b r.cells → WritesCells b (under columns r) (Ok true) before after →
-    WritesNextRow c (under columns r) (Ok true) before after) (sym kind)
-    (λ own h. next_row_written laws c columns r.cells before after same own h.0 h.1) own h
-next_row_by laws c binary columns r (Ok false) before after kind same own h = h
-next_row_by laws c binary columns r (Err refused) before after kind same own h = h
+    (before after : List ℕ) → binary ≡ is_binary c.kind → length columns ≡ length r.cells → AllFit r.cells →
+    WritesOwnCells binary (under columns r) result before after → WritesNextRow c (under columns r) result before after
+next_row_by laws c binary columns r (Ok true) before after kind same fit h =
+    next_row_written laws c columns r.cells before after same fit
+    (subst (λ (b : Bool). WritesOwnCells b (under columns r) (Ok true) before after) kind h)
+next_row_by laws c binary columns r (Ok false) before after kind same fit h = h
+next_row_by laws c binary columns r (Err refused) before after kind same fit h = h

@@ -1,6 +1,6 @@
 -- A row behind another one, as it is written without being read back.
 -- MySQL: Client/Server Protocol, "Text Resultset Row" and "Binary Protocol Resultset Row".
-use Rattle.std.specs.Prelude.{◌≡◌, List, ℕ, ◌++◌, length, Bool, true, false, Option, Some, Result, Ok, Err}
+use Rattle.std.specs.Prelude.{◌≡◌, List, ℕ, ◌++◌, length, Bool, true, false, Some, Result, Ok, Err}
 use Rattle.std.specs.declared.alloc.AllocError.{AllocError}
 use Rattle.mysql_columns.specs.Columns.{ColumnDefinition}
 use Rattle.mysql_rows.specs.Rows.{Row}

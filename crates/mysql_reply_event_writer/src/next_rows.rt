@@ -1,11 +1,10 @@
 //! Rows that stand behind others, as most of a long result do: they are written, and not read back.
 
 ghost use Rattle.std.specs.Prelude.{◌≡◌, ◌<◌, ℕ, IsTrue, Some, false, length, true};
-ghost use Rattle.mysql_cells.specs.AsSql.{FitsFields};
 ghost use Rattle.mysql_rows.specs.Rows.{cell_at};
 ghost use Rattle.mysql_rows.specs.Views.{column_views, row_view};
 ghost use Rattle.mysql_reply_event_writer.specs.NextRows.{WritesNextRow, under};
-ghost use Rattle.mysql_reply_event_writer.specs.OwnCells.{IsOwnCell, WritesCells, as_read};
+ghost use Rattle.mysql_reply_event_writer.specs.OwnCells.{FitsCell, IsOwnText, WritesOwnCells};
 
 use crate::payloads::has_binary_rows;
 use mysql_cells::Value;
@@ -16,84 +15,81 @@ use mysql_rows::laws::{binary_rows_read_back, text_rows_begin, text_rows_read_ba
 use mysql_rows::{Row, RowRefusal};
 use std::alloc::AllocError;
 
-// A value of a text row is read as itself: NULL, and bytes.
-fn is_own_text(value: &Value) -> bool
-    ensures { IsTrue result → as_read false value.now ≡ value.now }
+// The numbers of a cell's value fit their fields.
+fn cell_fits(row: &Row, place: usize)
+    ensures { FitsCell (cell_at (row_view row.now) (Some place)) }
 {
-    match value {
-        Value::NULL | Value::Bytes(_) => true,
+    if let Some(value) = row.as_ref(place) {
+        fields_fit(value);
+    }
+}
+
+// So do those of each cell's value. Compiled with optimizations, nothing is left of the loop.
+fn cells_fit(row: &Row)
+    ensures { (place : ℕ) → place < length (row_view row.now).cells →
+        FitsCell (cell_at (row_view row.now) (Some place)) }
+{
+    for place in 0..row.len() {
+        cell_fits(row, place);
+    }
+}
+
+// A cell of a text row is read as itself, where its value wasn't taken: NULL, and bytes.
+fn is_own_text(row: &Row, place: usize) -> bool
+    ensures { IsTrue result → IsOwnText (cell_at (row_view row.now) (Some place)) }
+{
+    match row.as_ref(place) {
+        None | Some(Value::NULL | Value::Bytes(_)) => true,
         _ => false,
     }
 }
 
-// A value of a binary row is read as itself: all but whole numbers without a sign that fit one with
-// it, and times.
-fn is_own_binary(value: &Value) -> bool
-    ensures { IsTrue result → as_read true value.now ≡ value.now }
-{
-    match value {
-        Value::UInt(number) => *number >= 1 << 63,
-        Value::Time(negative, ..) => !*negative,
-        _ => true,
-    }
-}
-
-// A value is read as itself.
-fn is_own(binary: bool, value: &Value) -> bool
-    ensures own { IsTrue result → as_read binary value.now ≡ value.now }
-    ensures fits { FitsFields value.now }
-{
-    fields_fit(value);
-    if binary {
-        is_own_binary(value)
-    } else {
-        is_own_text(value)
-    }
-}
-
-// A cell's value is read as itself, where it wasn't taken.
-fn is_own_cell(binary: bool, row: &Row, place: usize) -> bool
-    ensures { IsTrue result → IsOwnCell binary (cell_at (row_view row.now) (Some place)) }
-{
-    match row.as_ref(place) {
-        Some(value) => is_own(binary, value),
-        None => true,
-    }
-}
-
-// Each cell's value is read as itself, where it wasn't taken.
-fn are_own_cells(binary: bool, row: &Row) -> bool
+// Each cell of a text row is read as itself, where its value wasn't taken.
+fn are_own_texts(row: &Row) -> bool
     ensures { IsTrue result → (place : ℕ) → place < length (row_view row.now).cells →
-        IsOwnCell binary (cell_at (row_view row.now) (Some place)) }
+        IsOwnText (cell_at (row_view row.now) (Some place)) }
 {
     for place in 0..row.len() {
-        if !is_own_cell(binary, row, place) {
+        if !is_own_text(row, place) {
             return false;
         }
     }
     true
 }
 
-// Appends the cells of a row under these columns, as many. `false` where one of them has no form.
-fn write_cells(
+// Appends the text row of cells that are each read as itself.
+#[inline(always)]
+fn write_own_text(row: &Row, out: &mut Vec<u8>) -> Result<bool, AllocError>
+    ensures { WritesOwnCells false (row_view row.now) result out.old.items out.new.items }
+{
+    if !are_own_texts(row) {
+        return Ok(false);
+    }
+    match row.write_text(out) {
+        Ok(()) => Ok(true),
+        Err(RowRefusal::NoForm(_)) => Ok(false),
+        Err(RowRefusal::Memory) => Err(AllocError),
+    }
+}
+
+// Appends the row of cells under these columns, as many, that are each read as itself.
+//
+// Of a binary row that is told as it is written; `false` where it isn't so, or a cell has no form.
+#[inline(always)]
+fn write_own_cells(
     binary: bool,
     columns: &[Column],
     row: &Row,
     out: &mut Vec<u8>,
 ) -> Result<bool, AllocError>
     requires { length columns.now ≡ length (row_view row.now).cells }
-    ensures { WritesCells binary (under (column_views columns.now) (row_view row.now)) result
+    ensures { WritesOwnCells binary (under (column_views columns.now) (row_view row.now)) result
         out.old.items out.new.items }
 {
-    let written = if binary {
-        row.write_binary(columns, out)
+    if binary {
+        row.write_own_binary(columns, out)
     } else {
-        row.write_text(out)
-    };
-    match written {
-        Ok(()) => Ok(true),
-        Err(RowRefusal::NoForm(_)) => Ok(false),
-        Err(RowRefusal::Memory) => Err(AllocError),
+        write_own_text(row, out)
     }
 }
 
@@ -123,9 +119,9 @@ pub fn write_next_row(
     text_rows_read_back();
     text_rows_begin();
     binary_rows_read_back();
-    let binary = has_binary_rows(context.kind);
-    if columns.len() != row.len() || !are_own_cells(binary, row) {
+    cells_fit(row);
+    if columns.len() != row.len() {
         return Ok(false);
     }
-    write_cells(binary, columns, row, out)
+    write_own_cells(has_binary_rows(context.kind), columns, row, out)
 }

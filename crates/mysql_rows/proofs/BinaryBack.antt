@@ -1,31 +1,20 @@
 -- Binary rows are read again.
-use Rattle.std.proofs.Common.{◌≡◌, ℕ, ℤ, pos, negsuc, zero, suc, ◌+◌, ◌-◌, ◌*◌, ◌/◌, ◌%◌, ◌^◌, ◌<◌, ◌≤◌, ◌==◌, Bool, true, false, List, [], ◌∷◌, ◌++◌, length, map, drop, get_or, Option, Some, None, Ok, refl, sym, subst, ◌∙◌, ap, append_assoc, arith, lit<, lit≤}
-use Rattle.std.specs.Prelude.{FitsSigned, if◌then◌else◌, is_none, slice_index, unwrap_or, zip}
-use Rattle.std.specs.Int.{Width, w8, w16, w32, w64, cast_unsigned}
+use Rattle.std.proofs.Common.{◌≡◌, ℕ, zero, suc, ◌+◌, ◌*◌, ◌/◌, ◌%◌, ◌^◌, ◌<◌, ◌==◌, Bool, true, false, List, [], ◌∷◌, ◌++◌, length, map, drop, get_or, Some, None, Ok, refl, sym, ◌∙◌, ap, append_assoc, arith}
+use Rattle.std.specs.Prelude.{if◌then◌else◌, is_none, slice_index, unwrap_or, zip}
 use Rattle.std.specs.List.{AllByRecursion, position_from}
-use Rattle.std.specs.Option.{option_and_then, option_map}
-use Rattle.std.proofs.Math.Facts.{Fits-of_z}
+use Rattle.std.specs.Option.{option_and_then}
 use Rattle.std.proofs.Math.Nat.{div-div-eq-div-mul, pow-succ'}
-use Rattle.std.proofs.lemmas.Bool.{lt-ltb, ltb-true}
-use Rattle.std.proofs.lemmas.Int.{to_z-of_z}
 use Rattle.std.proofs.lemmas.List.{get_or-drop, length-drop, length-map}
 use Rattle.std.proofs.lemmas.List.FromFn.{get_or-map-range_with_len, length-map-range_with_len}
-use Rattle.byteorder.specs.Endian.{little_bytes, little_number}
-use mir.Val.{bits, hbits}
+use Rattle.byteorder.specs.Endian.{little_number}
 use Rattle.mysql_buf.specs.FirstBytes.{first-enough}
-use Rattle.mysql_fields.specs.Laws.{bytes_at-back, fixed_number_at-back}
+use Rattle.mysql_fields.specs.Laws.{bytes_at-back}
 use Rattle.mysql_fields.specs.Wire.{Reading, ◌>>=◌}
-use Rattle.mysql_const.specs.NamedLaws.{column_type-names_back}
-use Rattle.mysql_const.specs.declared.column_flags.ColumnFlags.{ColumnFlags}
-use Rattle.mysql_const.specs.declared.column_type.ColumnType.{ColumnType}
-use Rattle.mysql_const.specs.ColumnTypes.{column_type_number}
 use Rattle.mysql_field_lists.specs.NullBitmap.{bitmap_len, has_bit, is_null_at}
 use Rattle.mysql_cells.specs.AsSql.{FitsFields}
 use Rattle.mysql_cells.specs.TypedCells.{TypedCellsReadBack}
-use Rattle.mysql_cells.specs.Cells.{cell_at, column_cell_at, form, form_of, has_no_sign, number_value_at, unsigned_value, value_at, whole_value}
+use Rattle.mysql_cells.specs.Cells.{has_no_sign}
 use Rattle.mysql_cells.specs.Values.{is_null}
-use Rattle.mysql_cells.specs.declared.cell_form.CellForm.{CellForm}
-use Rattle.mysql_cells.specs.declared.cell_form.CellForm.TheVariants.{Whole1, Whole2, Whole4, Whole8, FloatBits, DoubleBits, Counted, DateAndTime, Duration, Without}
 use Rattle.mysql_cells.specs.declared.value.Value.{Value}
 use Rattle.mysql_cells.specs.declared.value.Value.TheVariants.{NULL, Bytes, Int, UInt, Float, Double, Date, Time}
 use Rattle.mysql_columns.specs.Columns.{ColumnDefinition}

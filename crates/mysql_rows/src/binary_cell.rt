@@ -1,6 +1,7 @@
 //! Cells of a binary row as they are written.
 
-ghost use Rattle.std.specs.Prelude.{◌≡◌, ◌++◌, ◌+◌, ◌-◌, ◌/◌, ◌%◌, ◌^◌, ◌<◌, ◌≤◌, IsSomeAnd, OnErr, OnOk, length, ⊤};
+ghost use Rattle.std.specs.Prelude.{◌≡◌, ◌++◌, ◌+◌, ◌-◌, ◌/◌, ◌%◌, ◌^◌, ◌<◌, ◌≤◌, IsSomeAnd, IsTrue, OnErr, OnOk};
+ghost use Rattle.std.specs.Prelude.{length, ⊤};
 ghost use Rattle.std.proofs.Common.{get_or};
 ghost use Rattle.std.specs.Int.{w32, w64};
 ghost use Rattle.std.specs.Option.{option_map};
@@ -10,7 +11,7 @@ ghost use Rattle.mysql_columns.specs.Views.{column_view};
 ghost use Rattle.mysql_cells.specs.Cells.{form as form_by_type, has_no_sign as is_without_sign};
 ghost use Rattle.mysql_cells.specs.declared.cell_form.CellForm.TheVariants as cell_form;
 ghost use Rattle.mysql_cells.specs.declared.value.Value.TheVariants.{Int};
-ghost use Rattle.mysql_rows.specs.Written.{cell_in};
+ghost use Rattle.mysql_rows.specs.Written.{as_binary, cell_in};
 ghost use Rattle.mysql_cells.specs.TypedCells.{cell_bytes, number_cell};
 ghost use Rattle.mysql_cells.specs.Values.{is_null};
 ghost use Rattle.mysql_rows.specs.CellsWritten.{marked};
@@ -59,6 +60,19 @@ impl From<AllocFailed<u8>> for NotWritten {
     }
 }
 
+/// Whether a value's cell is surely read as the value itself.
+///
+/// So it is but of whole numbers without a sign that fit one with it, and of negative times.
+pub fn is_own(value: &Value) -> bool
+    ensures { IsTrue result → as_binary value.now ≡ value.now }
+{
+    match value {
+        Value::UInt(number) => *number >= 1 << 63,
+        Value::Time(negative, ..) => !*negative,
+        _ => true,
+    }
+}
+
 /// Appends the cell of a value by its column's type and flags.
 #[inline(never)]
 fn put_any(column: &Column, value: &Value, out: &mut Vec<u8>) -> Result<(), NotWritten>
@@ -70,6 +84,23 @@ fn put_any(column: &Column, value: &Value, out: &mut Vec<u8>) -> Result<(), NotW
         Some(cell) => Ok(put_cell(cell, out)?),
         None => Err(NotWritten),
     }
+}
+
+/// Appends the cell of a value of a kind that few have.
+///
+/// Where each has to be its `own`, one that isn't surely read as itself is refused. Here, and not
+/// before the kinds are told apart: the others, which always are, don't pay for it.
+#[inline(always)]
+fn put_rare(own: bool, column: &Column, value: &Value, out: &mut Vec<u8>) -> Result<(), NotWritten>
+    ensures ok { OnOk result (IsSomeAnd (cell_in (column_view column.now) value.now)
+        (λ bytes. out.new.items ≡ out.old.items ++ bytes)) }
+    ensures own { OnOk result (IsTrue own → as_binary value.now ≡ value.now) }
+    ensures kept { OnErr result (out.new.items ≡ out.old.items) }
+{
+    if own && !is_own(value) {
+        return Err(NotWritten);
+    }
+    put_any(column, value, out)
 }
 
 /// Appends the cell of bytes.
@@ -129,9 +160,11 @@ fn put_int(column: &Column, value: &Value, number: i64, out: &mut Vec<u8>) -> Re
 
 /// Appends the cell of the value at a place; NULL sets its bit in the bitmap.
 ///
-/// The bitmap stands from `bitmap` on. The kinds that most values have come first.
+/// The bitmap stands from `bitmap` on. Where the value has to be its `own`, one that isn't surely read
+/// as itself is refused. The kinds that most values have come first.
 #[inline(always)]
 pub fn put_value(
+    own: bool,
     bitmap: usize,
     place: usize,
     column: &Column,
@@ -144,6 +177,7 @@ pub fn put_value(
     ensures ok { OnOk result (IsSomeAnd (cell_in (column_view column.now) value.now)
         (λ bytes. out.new.items ≡ marked (is_null value.now) bitmap (place + 2) out.old.items ++
         bytes)) }
+    ensures own { OnOk result (IsTrue own → as_binary value.now ≡ value.now) }
     ensures kept { OnErr result (out.new.items ≡ out.old.items) }
 {
     match value {
@@ -154,6 +188,6 @@ pub fn put_value(
         Value::Bytes(bytes) => put_bytes(column, bytes.as_slice(), out),
         Value::Int(number) => put_int(column, value, *number, out),
         Value::UInt(_) | Value::Float(_) | Value::Double(_) | Value::Date(..) | Value::Time(..) =>
-            put_any(column, value, out),
+            put_rare(own, column, value, out),
     }
 }

@@ -4,14 +4,14 @@ ghost use Rattle.std.specs.Prelude.{◌≡◌, ◌==◌, ◌<◌, IfOk, IsSome, 
 ghost use Rattle.std.specs.Option.{option_copied};
 ghost use Rattle.std.specs.Rc.{rc_slice_items};
 ghost use Rattle.mysql_rows.specs.Rows.{cell_at, column_named, is_whole, whole_row, with_cell, without_cell};
-ghost use Rattle.mysql_rows.specs.CellsWritten.{PutsRow};
+ghost use Rattle.mysql_rows.specs.CellsWritten.{PutsOwnRow, PutsRow};
 ghost use Rattle.mysql_rows.specs.Written.{binary_cause, binary_row, text_cause, text_row, values_of};
 ghost use Rattle.mysql_rows.specs.Views.{column_views, row_view, shared_columns};
 
 use crate::column_index::ColumnIndex;
 use crate::refusal::RowRefusal;
 use crate::row::Row;
-use crate::writing::{write_binary, write_text};
+use crate::writing::{write_binary, write_own_binary, write_text};
 use mysql_cells::Value;
 use mysql_columns::Column;
 use std::alloc::{AllocError, Global};
@@ -185,6 +185,37 @@ impl Row {
             out.old.items out.new.items result }
     {
         write_binary(columns, self.cells.as_slice(), out)
+    }
+
+    /// Appends the binary row of the cells' values by these columns, where each is surely read as itself.
+    ///
+    /// The columns are as many as the cells. Such a row need not be read back.
+    ///
+    /// `false` says nothing of the row: [`write_binary`](Row::write_binary) writes it then, or says
+    /// what speaks against it. So it is where a value was taken or has no cell by its column, and of
+    /// a number without a sign below 2^63, which is read as one with it, and a negative time.
+    ///
+    /// Promise: where the answer is `true`, exactly the row is appended, and each value is what is
+    /// read of its cell (`binary_row`, `as_binary`).
+    ///
+    /// # Errors
+    /// - `AllocError` for want of memory; no cause speaks against the row then.
+    ///
+    /// `out` is as it was after an error, and where the answer is `false`.
+    ///
+    /// MySQL: Client/Server Protocol, "Binary Protocol Resultset Row", "Null-Bitmap" and "Binary
+    /// Protocol Value".
+    #[inline(always)]
+    pub fn write_own_binary(
+        &self,
+        columns: &[Column],
+        out: &mut Vec<u8>,
+    ) -> Result<bool, AllocError>
+        requires { length columns.now ≡ length (row_view self.now).cells }
+        ensures { PutsOwnRow (column_views columns.now) (row_view self.now).cells out.old.items
+            out.new.items result }
+    {
+        write_own_binary(columns, self.cells.as_slice(), out)
     }
 
     /// A copy of the row's cells, under the columns that it shares.

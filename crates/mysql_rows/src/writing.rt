@@ -1,7 +1,7 @@
 //! Rows that are written whole or not at all.
 
-ghost use Rattle.std.specs.Prelude.{◌≡◌, Some, length, map};
-ghost use Rattle.mysql_rows.specs.CellsWritten.{PutsRow};
+ghost use Rattle.std.specs.Prelude.{◌≡◌, Some, length, map, take};
+ghost use Rattle.mysql_rows.specs.CellsWritten.{PutsOwnRow, PutsRow};
 ghost use Rattle.mysql_rows.specs.Views.{column_views};
 ghost use Rattle.mysql_rows.specs.Written.{binary_cause, binary_row, text_cause, text_row, values_of};
 
@@ -10,6 +10,7 @@ use crate::refusal::RowRefusal;
 use crate::{binary_writing, text_writing};
 use mysql_cells::Value;
 use mysql_columns::Column;
+use std::alloc::AllocError;
 
 /// Appends a text row, after room was made for all of it.
 pub(crate) fn write_text<C: Held>(cells: &[C], out: &mut Vec<u8>) -> Result<(), RowRefusal>
@@ -49,6 +50,43 @@ pub(crate) fn write_binary<C: Held>(
         Some(place) => Err(RowRefusal::NoForm(place)),
         None => Err(RowRefusal::Memory),
     }
+}
+
+/// Takes back what stands behind this length, of a row that was refused. Answers `false`, or an error
+/// where that was for want of memory.
+#[cold]
+fn take_back<C: Held>(
+    len: usize,
+    columns: &[Column],
+    cells: &[C],
+    out: &mut Vec<u8>,
+) -> Result<bool, AllocError>
+    requires { length columns.now ≡ length cells.now }
+    ensures { PutsOwnRow (column_views columns.now) (map C.held cells.now) (take len out.old.items)
+        out.new.items result }
+{
+    out.truncate(len);
+    if binary_writing::have_own_forms(columns, cells) {
+        return Err(AllocError);
+    }
+    Ok(false)
+}
+
+/// Appends a binary row of which each value is surely read as itself, or answers `false`.
+#[inline(always)]
+pub(crate) fn write_own_binary<C: Held>(
+    columns: &[Column],
+    cells: &[C],
+    out: &mut Vec<u8>,
+) -> Result<bool, AllocError>
+    requires { length columns.now ≡ length cells.now }
+    ensures { PutsOwnRow (column_views columns.now) (map C.held cells.now) out.old.items out.new.items result }
+{
+    let len = out.len();
+    if binary_writing::put_own_row(columns, cells, out).is_ok() {
+        return Ok(true);
+    }
+    take_back(len, columns, cells, out)
 }
 
 /// Appends the text row of these values.

@@ -7,14 +7,15 @@ use Rattle.mysql_columns.specs.declared.column.Column.{Column}
 use Rattle.mysql_rows.specs.CellsWritten.{cells_in}
 use Rattle.mysql_rows.specs.Views.{column_views}
 use Rattle.mysql_rows.specs.Written.{cell_in}
-use Rattle.mysql_rows.proofs.BinaryWriting.{next_bytes, next_cause}
+use Rattle.mysql_rows.proofs.BinaryWriting.{next_bytes, next_cause, next_own}
 use Rattle.mysql_rows.proofs.NullBits.{bit_has_room, bit_inside, cell_passed, none_passed, row_passed}
-use Rattle.mysql_rows.proofs.binary_writing.put_cells.Goals as goal
+use Rattle.mysql_rows.proofs.binary_writing.put_cells_as.Goals as goal
 
 pub loop-place-init : goal.loop-place-init
 loop-place-init g c = record {
   so_far = none_passed g.C.Held.held c.args.cells.now c.args.out.now.items (cells_in (column_views c.args.columns.now) (map g.C.Held.held c.args.cells.now)) c.args.bitmap c.requires.clear;
   caused = refl;
+  own = λ is_own own. own;
 }
 
 pub put_held-requires-clause-inside : goal.put_held-requires-clause-inside
@@ -42,6 +43,9 @@ loop-place-preserved g c =
           c.in_ok-put_held.ensures.ok;
       caused = next_cause g.C.Held.held c.args.columns.now c.args.cells.now c.loop-place.place c.index-columns-place.result c.index-cells-place.result c.loop-place-test.true inside c.index-columns-place.is c.index-cells-place.is
           _ c.in_ok-put_held.ensures.form c.loop-place.invariant.caused;
+      own = λ is_own later. c.loop-place.invariant.own is_own
+          (next_own g.C.Held.held c.args.columns.now c.args.cells.now c.loop-place.place c.index-columns-place.result c.index-cells-place.result c.loop-place-test.true inside c.index-columns-place.is c.index-cells-place.is
+          (c.in_ok-put_held.ensures.own is_own) later);
     }
 
 pub returns-clause-ok : goal.returns-clause-ok
