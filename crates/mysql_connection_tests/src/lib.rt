@@ -4,6 +4,7 @@
 
 #[cfg(test)]
 mod connection;
+#[cfg(test)]
 mod executions;
 #[cfg(test)]
 mod memory;
