@@ -332,8 +332,9 @@ impl Connection {
     ///
     /// As [`Connection::put`] of its event. Types go with it only where those in force won't do, as
     /// servers keep them: at the first execution, and where a value has no cell by them. NULL has one by
-    /// any type. An unsigned number below 2^63 is put as one with a sign, as it is read. An execution
-    /// whose types are in force is written where it goes, and no event is made of it.
+    /// any type. An unsigned number below 2^63 is put as one with a sign, as it is read. Where its types
+    /// are in force, no long data waits and query attributes aren't in force, it is written where it
+    /// goes, and no event is made of it.
     ///
     ///     for set in &sets {
     ///         connection.put_execution(id, set, &mut output)?;
