@@ -15,4 +15,4 @@ IsSettled statement = (executed [] statement ≡ statement) ×
 abbrev pub IsSettledAt : Statements → ℕ → Statement → Type 0
 IsSettledAt s id statement =
     (resolved s id ≡ Some id) × (statement_at s id ≡ Some statement) × IsSettled statement ×
-        (with_statement id statement s ≡ s)
+    (with_statement id statement s ≡ s)
