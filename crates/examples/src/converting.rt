@@ -10,6 +10,7 @@ use mysql_session::{
     from_row_opt, read_reply,
 };
 use std::alloc::Global;
+use std::io;
 use std::io::{Read, Write};
 
 /// A row of goods.
@@ -34,18 +35,38 @@ impl FromRow for Good {
     }
 }
 
-/// Prints a good, or why a row is none.
-fn say<W: Write>(good: Result<Good, FromRowError>, out: &mut W) -> anyhow::Result<()> {
-    let good = match good {
-        Ok(good) => good,
-        Err(error) => {
-            writeln!(out, "{error}")?;
-            return Ok(());
-        }
-    };
+/// Prints a good.
+fn say_good<W: Write>(good: &Good, out: &mut W) -> io::Result<()> {
     match &good.price {
-        Some(price) => writeln!(out, "{} for {price}", good.name)?,
-        None => writeln!(out, "{} for nothing", good.name)?,
+        Some(price) => writeln!(out, "{} for {price}", good.name),
+        None => writeln!(out, "{} for nothing", good.name),
+    }
+}
+
+/// Prints a good, or why a row is none.
+fn say<W: Write>(good: Result<Good, FromRowError>, out: &mut W) -> io::Result<()> {
+    match &good {
+        Ok(good) => say_good(good, out),
+        Err(error) => writeln!(out, "{error}"),
+    }
+}
+
+/// The rows of a result.
+fn rows_of(alloc: Global, found: ReplyResult) -> Vec<Row> {
+    match found {
+        ReplyResult::Rows {
+            columns: _columns,
+            rows,
+            terminator: _terminator,
+        } => rows,
+        _other => Vec::new(alloc),
+    }
+}
+
+/// Prints each row as a good.
+fn say_rows<W: Write>(alloc: Global, rows: Vec<Row>, out: &mut W) -> anyhow::Result<()> {
+    for row in rows {
+        say(from_row_opt::<Good>(alloc, row)?, out)?;
     }
     Ok(())
 }
@@ -62,17 +83,7 @@ pub fn convert<R: Read, W: Write>(
     let pieces = [bytes.as_slice()];
     let reply = read_reply(alloc, ReplyKind::Text, capabilities, 1, 1 << 24, &pieces);
     for result in reply.results {
-        let rows = match result {
-            ReplyResult::Rows {
-                columns: _columns,
-                rows,
-                terminator: _terminator,
-            } => rows,
-            _other => continue,
-        };
-        for row in rows {
-            say(from_row_opt::<Good>(alloc, row)?, out)?;
-        }
+        say_rows(alloc, rows_of(alloc, result), out)?;
     }
     Ok(())
 }

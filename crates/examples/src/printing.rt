@@ -1,6 +1,8 @@
 //! Any packet of a client, printed: what it asks for, and by which values.
 
-use mysql_connection::mysql_session::{IntoParams, PacketReader, Road, packet_to_chunks, send};
+use mysql_connection::mysql_session::{
+    IntoParams, PacketReader, Params, Road, packet_to_chunks, send,
+};
 use mysql_connection::{
     Capabilities, CapabilityFlags, Command, MariadbCapabilities, StatementParameters, write_command,
 };
@@ -52,18 +54,26 @@ fn print_packets<W: Write>(alloc: Global, stream: &[u8], out: &mut W) -> anyhow:
     Ok(())
 }
 
-/// What a client sends that changes its schema, sends a query, executes a statement and quits.
+/// Sends what changes the schema, a query, two executions, a fetch, a command without a name, and quits.
+fn put_commands(alloc: Global, sets: &[Params], stream: &mut Vec<u8>) -> anyhow::Result<()> {
+    packet_to_chunks(0, b"\x02shop", stream)?;
+    packet_to_chunks(0, b"\x03SELECT 1", stream)?;
+    send(alloc, b"SELECT ?", sets, Road::Execute, 1, LIMIT, stream)?;
+    packet_to_chunks(0, b"\x1c\x01\0\0\0\x02\0\0\0", stream)?;
+    packet_to_chunks(0, b"\x2bwhat", stream)?;
+    packet_to_chunks(0, b"\x01", stream)?;
+    Ok(())
+}
+
+/// The sets of two executions.
+fn sets(alloc: Global) -> anyhow::Result<[Params; 2]> {
+    let first = (7u8,).into_params(alloc)?;
+    Ok([first, ("it's",).into_params(alloc)?])
+}
+
+/// Prints what a client sends behind its login.
 pub fn print<W: Write>(alloc: Global, out: &mut W) -> anyhow::Result<()> {
-    let mut sets = Vec::new(alloc);
-    sets.push((7u8,).into_params(alloc)?)?;
-    sets.push(("it's",).into_params(alloc)?)?;
     let mut stream = Vec::new(alloc);
-    packet_to_chunks(0, b"\x02shop", &mut stream)?;
-    packet_to_chunks(0, b"\x03SELECT 1", &mut stream)?;
-    let query = b"SELECT ?";
-    send(alloc, query, &sets, Road::Execute, 1, LIMIT, &mut stream)?;
-    packet_to_chunks(0, b"\x1c\x01\0\0\0\x02\0\0\0", &mut stream)?;
-    packet_to_chunks(0, b"\x2bwhat", &mut stream)?;
-    packet_to_chunks(0, b"\x01", &mut stream)?;
+    put_commands(alloc, &sets(alloc)?, &mut stream)?;
     print_packets(alloc, &stream, out)
 }

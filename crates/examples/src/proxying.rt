@@ -12,6 +12,44 @@ pub const SERVER: &[u8] =
     b"\x01\0\0\x01\x01\x16\0\0\x02\x03def\0\0\0\0\0\x0c\x3f\0\x01\0\0\0\x08\0\0\0\0\0\x05\0\0\x03\
     \xfe\0\0\x02\0\x02\0\0\x04\x016\x02\0\0\x05\x017\x01\0\0\x06\xfb\x05\0\0\x07\xfe\0\0\x02\0";
 
+/// Passes on a piece of the client's, and prints how many values the sets have that it ends.
+fn pass_query<C: Read, W: Write>(
+    client: &mut C,
+    commands: &mut Receiver,
+    out: &mut W,
+) -> anyhow::Result<usize> {
+    let mut piece = [0; 16];
+    // A proxy writes each piece on to the other side as well.
+    let sent = client.read(&mut piece)?;
+    commands.feed(&piece[..sent])?;
+    for set in commands.take_sets() {
+        writeln!(out, "values: {}", set.len())?;
+    }
+    Ok(sent)
+}
+
+/// Passes on a piece of the server's, and prints how many rows come back.
+fn pass_answer<S: Read, W: Write>(
+    server: &mut S,
+    reply: &mut ReplyReader,
+    out: &mut W,
+) -> anyhow::Result<usize> {
+    let mut piece = [0; 16];
+    let answered = server.read(&mut piece)?;
+    reply.feed(&piece[..answered])?;
+    for result in reply.take_results() {
+        if let ReplyResult::Rows {
+            columns: _,
+            rows,
+            terminator: _,
+        } = &result
+        {
+            writeln!(out, "rows: {}", rows.len())?;
+        }
+    }
+    Ok(answered)
+}
+
 /// Prints what passes between a client and a server, as it passes.
 ///
 /// That is how many values the sets have that the client sends about `SELECT :a, :b`, and how many
@@ -25,26 +63,9 @@ pub fn proxy<C: Read, S: Read, W: Write>(
     let sides = CapabilityFlags::CLIENT_PROTOCOL_41;
     let mut commands = Receiver::new(alloc, b"SELECT :a, :b", 1, 1 << 24)?;
     let mut reply = ReplyReader::new(alloc, ReplyKind::Text, sides, 1, 1 << 24);
-    let mut piece = [0; 16];
     for _ in 0..u64::MAX {
-        // A proxy writes each piece on to the other side as well.
-        let sent = client.read(&mut piece)?;
-        commands.feed(&piece[..sent])?;
-        for set in commands.take_sets() {
-            writeln!(out, "values: {}", set.len())?;
-        }
-        let answered = server.read(&mut piece)?;
-        reply.feed(&piece[..answered])?;
-        for result in reply.take_results() {
-            if let ReplyResult::Rows {
-                columns: _,
-                rows,
-                terminator: _,
-            } = &result
-            {
-                writeln!(out, "rows: {}", rows.len())?;
-            }
-        }
+        let sent = pass_query(client, &mut commands, out)?;
+        let answered = pass_answer(server, &mut reply, out)?;
         if sent == 0 && answered == 0 {
             break;
         }

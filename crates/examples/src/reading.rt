@@ -1,7 +1,7 @@
 //! Rows of a reply, read by the names of their columns.
 
 use crate::cents::Cents;
-use mysql_session::{CapabilityFlags, ReplyKind, ReplyReader, ReplyResult, Row, RowExt};
+use mysql_session::{CapabilityFlags, Reply, ReplyKind, ReplyReader, ReplyResult, Row, RowExt};
 use std::alloc::Global;
 use std::io::{Read, Write};
 
@@ -21,6 +21,29 @@ fn say_row<W: Write>(alloc: Global, row: &Row, out: &mut W) -> anyhow::Result<()
     Ok(())
 }
 
+/// Prints the rows of a result.
+fn say_result<W: Write>(alloc: Global, found: &ReplyResult, out: &mut W) -> anyhow::Result<()> {
+    match found {
+        ReplyResult::Rows { rows, .. } => {
+            for row in rows {
+                say_row(alloc, row, out)?;
+            }
+        }
+        ReplyResult::Error(error) => writeln!(out, "{error}")?,
+        _ => writeln!(out, "no rows")?,
+    }
+    Ok(())
+}
+
+/// Prints the results of a reply, and how it ends.
+fn say<W: Write>(alloc: Global, reply: &Reply, out: &mut W) -> anyhow::Result<()> {
+    for result in &reply.results {
+        say_result(alloc, result, out)?;
+    }
+    writeln!(out, "{}", reply.end)?;
+    Ok(())
+}
+
 /// Prints the rows of a server's reply to `SELECT name, price FROM goods`, which comes in pieces of at most 64 bytes.
 pub fn read<R: Read, W: Write>(alloc: Global, stream: &mut R, out: &mut W) -> anyhow::Result<()> {
     let capabilities = CapabilityFlags::CLIENT_PROTOCOL_41;
@@ -33,17 +56,5 @@ pub fn read<R: Read, W: Write>(alloc: Global, stream: &mut R, out: &mut W) -> an
         }
     }
     let reply = reader.finish();
-    for result in &reply.results {
-        match result {
-            ReplyResult::Rows { rows, .. } => {
-                for row in rows {
-                    say_row(alloc, row, out)?;
-                }
-            }
-            ReplyResult::Error(error) => writeln!(out, "{error}")?,
-            _ => writeln!(out, "no rows")?,
-        }
-    }
-    writeln!(out, "{}", reply.end)?;
-    Ok(())
+    say(alloc, &reply, out)
 }

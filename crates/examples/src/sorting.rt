@@ -3,8 +3,11 @@
 use crate::answering::login_packet;
 use mysql_login::mysql_wire::constants::Command;
 use mysql_login::{HandshakeResponse, ParseBuf, ParseExt};
-use mysql_session::{IntoParams, PacketReader, Receiver, Road, packet_to_chunks, send};
+use mysql_session::{
+    Audit, IntoParams, PacketReader, Params, Receiver, Road, packet_to_chunks, send,
+};
 use std::alloc::Global;
+use std::io;
 use std::io::Write;
 
 const QUERY: &[u8] = b"INSERT INTO goods VALUES (?)";
@@ -49,8 +52,8 @@ impl Sorter {
     /// The login is numbered 1, behind the server's greeting.
     fn new(alloc: Global) -> anyhow::Result<Sorter> {
         Ok(Sorter {
-            packets: PacketReader::new(alloc, 1, LIMIT),
             receiver: Receiver::new(alloc, QUERY, STATEMENT, LIMIT)?,
+            packets: PacketReader::new(alloc, 1, LIMIT),
             framed: Vec::new(alloc),
             logged_in: false,
             others: 0,
@@ -90,33 +93,28 @@ impl Sorter {
     }
 }
 
-/// What a client sends that logs in, and then sends a ping, the query by text, another query, and quits.
+/// Sends a ping, the query by text, another query, the query by an execution, and quits.
+fn put_commands(alloc: Global, sets: &[Params], stream: &mut Vec<u8>) -> anyhow::Result<()> {
+    packet_to_chunks(0, b"\x0e", stream)?;
+    send(alloc, QUERY, sets, Road::Text, STATEMENT, LIMIT, stream)?;
+    packet_to_chunks(0, b"\x03SELECT 1", stream)?;
+    send(alloc, QUERY, sets, Road::Execute, STATEMENT, LIMIT, stream)?;
+    packet_to_chunks(0, b"\x01", stream)?;
+    Ok(())
+}
+
+/// What a client sends that logs in and asks.
 fn connection(alloc: Global) -> anyhow::Result<Vec<u8>> {
-    let mut sets = Vec::new(alloc);
-    sets.push((7u8,).into_params(alloc)?)?;
+    let sets = [(7u8,).into_params(alloc)?];
     let mut stream = login_packet(alloc)?;
-    packet_to_chunks(0, b"\x0e", &mut stream)?;
-    send(
-        alloc,
-        QUERY,
-        &sets,
-        Road::Text,
-        STATEMENT,
-        LIMIT,
-        &mut stream,
-    )?;
-    packet_to_chunks(0, b"\x03SELECT 1", &mut stream)?;
-    send(
-        alloc,
-        QUERY,
-        &sets,
-        Road::Execute,
-        STATEMENT,
-        LIMIT,
-        &mut stream,
-    )?;
-    packet_to_chunks(0, b"\x01", &mut stream)?;
+    put_commands(alloc, &sets, &mut stream)?;
     Ok(stream)
+}
+
+/// Prints what was sorted.
+fn say<W: Write>(audit: &Audit, others: u32, out: &mut W) -> io::Result<()> {
+    writeln!(out, "{} sets: {}", audit.sets.len(), audit.end)?;
+    writeln!(out, "{others} other commands")
 }
 
 /// Sorts what a client sends, which comes in pieces of at most 16 bytes.
@@ -127,7 +125,6 @@ pub fn sort<W: Write>(alloc: Global, out: &mut W) -> anyhow::Result<()> {
         sorter.take(alloc, piece, out)?;
     }
     let audit = sorter.receiver.finish();
-    writeln!(out, "{} sets: {}", audit.sets.len(), audit.end)?;
-    writeln!(out, "{} other commands", sorter.others)?;
+    say(&audit, sorter.others, out)?;
     Ok(())
 }

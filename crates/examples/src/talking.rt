@@ -51,8 +51,8 @@ fn greeting() -> HandshakePacket<'static> {
     )
 }
 
-/// What a client says: it logs in, asks, and quits.
-fn script(alloc: Global) -> anyhow::Result<VecDeque<Event>> {
+/// A login.
+fn login(alloc: Global) -> anyhow::Result<Event> {
     let login = HandshakeResponse::new(
         alloc,
         Some(CowSlice::Borrowed(b"")),
@@ -64,14 +64,24 @@ fn script(alloc: Global) -> anyhow::Result<VecDeque<Event>> {
         None,
         1 << 24,
     )?;
+    let login = ResponseEvent::Login(LoginResponse::Whole(login));
+    Ok(Event::response(alloc, login)?)
+}
+
+/// A query.
+fn query(alloc: Global) -> anyhow::Result<Event> {
     let query = Command::Query {
         attributes: Vec::new(alloc),
         sql: CowSlice::Borrowed(b"DO 1"),
     };
+    Ok(Event::command(alloc, query)?)
+}
+
+/// What a client says: it logs in, asks, and quits.
+fn script(alloc: Global) -> anyhow::Result<VecDeque<Event>> {
     let mut script = VecDeque::new(alloc);
-    let login = ResponseEvent::Login(LoginResponse::Whole(login));
-    script.push_back(Event::response(alloc, login)?)?;
-    script.push_back(Event::command(alloc, query)?)?;
+    script.push_back(login(alloc)?)?;
+    script.push_back(query(alloc)?)?;
     script.push_back(Event::command(alloc, Command::Quit)?)?;
     Ok(script)
 }
@@ -135,18 +145,50 @@ fn pass<W: Write>(
     Ok(())
 }
 
+/// A client, a server and the proxy between them.
+#[derive(Drop)]
+struct ThreeSides {
+    client: Connection,
+    server: Connection,
+    proxy: Connection,
+}
+
+/// Lets the server and the client say something, and passes it on.
+fn talk_on<W: Write>(
+    alloc: Global,
+    talk: &mut ThreeSides,
+    script: &mut VecDeque<Event>,
+    out: &mut W,
+) -> anyhow::Result<()> {
+    let mut queue = Vec::new(alloc);
+    answer(alloc, &mut talk.server, &mut queue)?;
+    pass(
+        &mut talk.proxy,
+        Side::Server,
+        &mut queue,
+        &mut talk.client,
+        out,
+    )?;
+    ask(&mut talk.client, script, &mut queue)?;
+    pass(
+        &mut talk.proxy,
+        Side::Client,
+        &mut queue,
+        &mut talk.server,
+        out,
+    )
+}
+
 /// Prints what a client and a server say, as the proxy between them sees it.
 pub fn talk<W: Write>(alloc: Global, out: &mut W) -> anyhow::Result<()> {
-    let mut client = Connection::new(alloc, LIMITS);
-    let mut server = Connection::new(alloc, LIMITS);
-    let mut proxy = Connection::new(alloc, LIMITS);
     let mut script = script(alloc)?;
-    let mut queue = Vec::new(alloc);
+    let mut talk = ThreeSides {
+        client: Connection::new(alloc, LIMITS),
+        server: Connection::new(alloc, LIMITS),
+        proxy: Connection::new(alloc, LIMITS),
+    };
     for _ in 0..4 {
-        answer(alloc, &mut server, &mut queue)?;
-        pass(&mut proxy, Side::Server, &mut queue, &mut client, out)?;
-        ask(&mut client, &mut script, &mut queue)?;
-        pass(&mut proxy, Side::Client, &mut queue, &mut server, out)?;
+        talk_on(alloc, &mut talk, &mut script, out)?;
     }
     Ok(())
 }

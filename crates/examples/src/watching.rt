@@ -23,7 +23,28 @@ pub fn print_events<W: Write>(connection: &mut Connection, out: &mut W) -> io::R
     Ok(())
 }
 
-/// Prints what both sides of a recorded connection said, of which pieces come by turns.
+/// Reads both sides, of which pieces come by turns, and prints what they said.
+fn watch_both<C: Read, S: Read, W: Write>(
+    connection: &mut Connection,
+    client: &mut C,
+    server: &mut S,
+    out: &mut W,
+) -> anyhow::Result<()> {
+    let mut piece = [0; 64];
+    for _ in 0..u64::MAX {
+        let asked = client.read(&mut piece)?;
+        connection.feed(Side::Client, &piece[..asked])?;
+        let answered = server.read(&mut piece)?;
+        connection.feed(Side::Server, &piece[..answered])?;
+        print_events(connection, out)?;
+        if asked == 0 && answered == 0 {
+            break;
+        }
+    }
+    Ok(())
+}
+
+/// Prints what both sides of a recorded connection said, and how it ends.
 pub fn watch<C: Read, S: Read, W: Write>(
     alloc: Global,
     client: &mut C,
@@ -31,17 +52,7 @@ pub fn watch<C: Read, S: Read, W: Write>(
     out: &mut W,
 ) -> anyhow::Result<()> {
     let mut connection = Connection::new(alloc, LIMITS);
-    let mut piece = [0; 64];
-    for _ in 0..u64::MAX {
-        let asked = client.read(&mut piece)?;
-        connection.feed(Side::Client, &piece[..asked])?;
-        let answered = server.read(&mut piece)?;
-        connection.feed(Side::Server, &piece[..answered])?;
-        print_events(&mut connection, out)?;
-        if asked == 0 && answered == 0 {
-            break;
-        }
-    }
+    watch_both(&mut connection, client, server, out)?;
     connection.close(Side::Client);
     connection.close(Side::Server);
     print_events(&mut connection, out)?;
