@@ -23,7 +23,9 @@ def values(i):
 
 def counted(text):
     size = len(text)
-    return (bytes([size]) if size < 251 else b"\xfc" + struct.pack("<H", size)) + text
+    if size < 251:
+        return bytes([size]) + text
+    return (b"\xfc" + struct.pack("<H", size) if size < 65536 else b"\xfe" + struct.pack("<Q", size)) + text
 
 
 def escaped(text):
@@ -153,6 +155,8 @@ write("query", QUERY)
 write("named", NAMED)
 write("long", LONG)
 write_sets("sets", every)
+# Two sets, each of more bytes than a chunk has room for, so that their texts go as long data.
+write_sets("sets-long-data", [[1, b"nine MB." * 1_125_000, b"nine MB." * 1_125_000, 2]] * 2)
 write_sets("plain", with_name(lambda i: b"abcdefgh %d " % i * 70))
 write_sets("quotes", with_name(lambda i: b"'\\\"\n" * 250))
 write_sets("binary", with_name(noise))

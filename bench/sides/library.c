@@ -25,6 +25,7 @@ size_t mysql_bench_read_apart(Pointer, size_t, Pointer, size_t, Pointer, size_t,
 size_t mysql_bench_cells(Pointer, size_t, _Bool, _Bool, size_t);
 size_t mysql_bench_put_commands(Pointer, size_t, Pointer, size_t, Pointer, size_t, size_t);
 size_t mysql_bench_put_sets(Pointer, size_t, Pointer, size_t, Pointer, size_t, size_t, size_t, Pointer, size_t, size_t);
+size_t mysql_bench_put_sent(Pointer, size_t, Pointer, size_t, size_t, size_t, uint8_t, size_t, Pointer, size_t, Pointer, size_t, size_t);
 size_t mysql_bench_put_events(Pointer, size_t, Pointer, size_t, size_t);
 size_t mysql_bench_put_rows(Pointer, size_t, Pointer, size_t, size_t);
 int64_t mysql_bench_convert(Pointer, size_t, size_t, size_t);
@@ -79,10 +80,25 @@ static void read_connection(const char *what, int rounds) {
     MEASURE("apart", units, mysql_bench_read_apart(query.at, query.len, all.commands.at, all.commands.len, all.replies.at, all.replies.len, all.reply, PIECE, ENDS("-executions")))
 }
 
+#define OK_PACKET "\7\0\0\1\0\0\0\2\0\0\0"
+
+// Sets sent by a query that is kept, put packet by packet, and the reply to each command read; beside them the same sets
+// sent, which reads no reply. By text each set by a call, by the other roads all sets.
+static void put_sent(const char *what, int rounds) {
+    static const unsigned char OK[] = OK_PACKET;
+    _Bool text = ENDS("-text"), data = ENDS("-long-data");
+    uint8_t road = text ? 0 : ENDS("-bulk") ? 2 : 1;
+    Bytes query = load("query"), sets = load(data ? "sets-long-data" : "sets"), first = text ? (Bytes){(unsigned char *)OK, sizeof OK - 1} : load("prepared");
+    size_t count = data ? LONG_DATA_SETS : CONNECTION_COMMANDS, at_once = text ? 1 : count;
+    double units = (double)count * PUT_TIMES;
+    MEASURE("library", units, mysql_bench_put_sent(query.at, query.len, sets.at, sets.len, count, WIDTH, road, at_once, first.at, first.len, OK, sizeof OK - 1, PUT_TIMES))
+    MEASURE("sent", units, mysql_bench_send_kept(query.at, query.len, sets.at, sets.len, count, WIDTH, 0, road, at_once, PUT_TIMES))
+}
+
 // Commands put on a connection, and the reply to each read: an OK packet, or two of them, so that the replies' part is
 // known. Beside them the same sets sent by a query that is kept, which reads no reply.
 static void put_commands(const char *what, int rounds) {
-    static const unsigned char OK[] = "\7\0\0\1\0\0\0\2\0\0\0", OKS[] = "\7\0\0\1\0\0\0\12\0\0\0\7\0\0\2\0\0\0\2\0\0\0";
+    static const unsigned char OK[] = OK_PACKET, OKS[] = "\7\0\0\1\0\0\0\12\0\0\0\7\0\0\2\0\0\0\2\0\0\0";
     _Bool executions = ENDS("-executions");
     Bytes query = load("query"), sets = load("sets"), commands = executions ? repeated(load("prepare"), load("executes"), 1) : load("texts");
     double units = (double)CONNECTION_COMMANDS * PUT_TIMES;
@@ -156,6 +172,8 @@ static void run(const char *what, int rounds) {
         MEASURE("library", (double)CONVERTED * CONVERT_TIMES, mysql_bench_convert(values.at, values.len, CONVERTED, CONVERT_TIMES))
     } else if (BEGINS("put-rows")) {
         put_rows(what, rounds);
+    } else if (BEGINS("put-sets")) {
+        put_sent(what, rounds);
     } else if (BEGINS("put")) {
         put_commands(what, rounds);
     } else if (IS("connection-rows-lent")) {

@@ -20,8 +20,8 @@ mod sets;
 mod stored;
 mod to_writer;
 
-/// The limit of packets: payloads of at most 16777215 bytes are sent.
-pub const LIMIT: usize = 16777219;
+/// The limit of packets, as MySQL's servers have it by default: 64 MB.
+pub const LIMIT: usize = 67108864;
 
 /// The id of the statement.
 pub const STATEMENT: u32 = 1;

@@ -1,26 +1,30 @@
 //! Events that are put on a connection: commands, each with its reply read, and replies.
 
+ghost use Rattle.std.specs.Prelude.{◌<◌};
+
 use crate::kept::lists_of;
+use crate::sending::road_of;
+use crate::sets::sets_of;
 use crate::{LIMIT, STATEMENT};
 use bitflags::Flags;
 use mysql_connection::{
     Capabilities, CapabilityFlags, Connection, Event, Limits, MariadbCapabilities, ReplyEvent, Side,
 };
-use mysql_session::{Row, Value};
+use mysql_session::{Params, Query, Road, Row, Value};
 use std::alloc::{AllocError, Global};
 
-/// Packets of each side as large as elsewhere here, and 16 MB for what is kept.
+/// Packets of each side as large as elsewhere here, and as much for what is kept.
 const LIMITS: Limits = Limits {
     client: LIMIT,
     server: LIMIT,
-    held: 50331648,
+    held: 201326592,
 };
 
-/// A connection behind its login, of the protocol of 4.1 with EOF packets.
+/// A connection behind its login, of the protocol of 4.1 with EOF packets and MariaDB's bulk executions.
 fn logged_in(alloc: Global) -> Connection {
     let capabilities = Capabilities {
         protocol: CapabilityFlags::CLIENT_PROTOCOL_41,
-        mariadb: MariadbCapabilities::empty(),
+        mariadb: MariadbCapabilities::MARIADB_CLIENT_STMT_BULK_OPERATIONS,
     };
     Connection::after_login(alloc, LIMITS, capabilities)
 }
@@ -183,6 +187,114 @@ pub extern "C" fn mysql_bench_put_sets(
     let mut written: usize = 0;
     for _ in 0..times {
         written = put_sets(&mut connection, &sets, reply, &mut out);
+    }
+    written
+}
+
+/// Sends sets by a query that is kept, into a buffer that is emptied before. Answers whether it did.
+#[inline(never)]
+fn send_some(
+    alloc: Global,
+    query: &Query<'_>,
+    sets: &[Params],
+    road: Road,
+    packets: &mut Vec<u8>,
+) -> bool {
+    packets.clear();
+    query.send(alloc, sets, road, LIMIT, packets).is_ok()
+}
+
+/// Puts packets as far as they are due, into a buffer that is emptied before. Answers how many bytes
+/// were taken.
+#[inline(never)]
+fn put_front(connection: &mut Connection, packets: &[u8], out: &mut Vec<u8>) -> usize {
+    out.clear();
+    connection
+        .put_packets(Side::Client, packets, out)
+        .unwrap_or(0)
+}
+
+/// Puts packets on a connection, and reads the reply to each: to the first this one, to each other that.
+/// Answers the bytes that were put.
+fn put_all_packets(
+    connection: &mut Connection,
+    packets: &[u8],
+    first: &[u8],
+    reply: &[u8],
+    out: &mut Vec<u8>,
+) -> usize {
+    let mut said = first;
+    let mut left = packets;
+    let mut written: usize = 0;
+    for _ in 0..packets.len() {
+        if left.is_empty() {
+            return written;
+        }
+        let used = put_front(connection, left, out);
+        written = written.wrapping_add(out.len());
+        left = left.get(used..).unwrap_or(&[]);
+        let _read = reply_read(connection, said, said.len());
+        said = reply;
+    }
+    written
+}
+
+/// Sends sets, so many by a call, puts what was sent, and reads the reply to each command. Answers the
+/// bytes that were put.
+fn put_sent(
+    alloc: Global,
+    query: &Query<'_>,
+    sets: &[Params],
+    at_once: usize,
+    road: Road,
+    first: &[u8],
+    reply: &[u8],
+) -> usize
+    requires { 0 < at_once }
+{
+    let mut connection = logged_in(alloc);
+    let mut packets = Vec::new(alloc);
+    let mut out = Vec::new(alloc);
+    let mut written: usize = 0;
+    for some in sets.chunks(at_once) {
+        if !send_some(alloc, query, some, road, &mut packets) {
+            return 0;
+        }
+        let put = put_all_packets(&mut connection, packets.as_slice(), first, reply, &mut out);
+        written = written.wrapping_add(put);
+    }
+    written
+}
+
+/// Sends the sets that the bytes hold by one query, so many by a call, puts each command of them on a
+/// connection, and feeds and reads the reply to each.
+///
+/// The first command of a call has one reply, and each other another. All sets are put so many times,
+/// each time on a new connection. Answers the bytes of one time.
+#[unsafe(no_mangle)]
+pub extern "C" fn mysql_bench_put_sent(
+    alloc: Global,
+    query: &[u8],
+    bytes: &[u8],
+    count: usize,
+    width: usize,
+    road: u8,
+    at_once: usize,
+    first: &[u8],
+    reply: &[u8],
+    times: usize,
+) -> usize
+    requires { 0 < at_once }
+{
+    let Ok(sets) = sets_of(alloc, bytes, count, width, false) else {
+        return 0;
+    };
+    let Ok(query) = Query::new(alloc, query, STATEMENT) else {
+        return 0;
+    };
+    let mut written: usize = 0;
+    for _ in 0..times {
+        written = put_sent(alloc, &query, &sets, at_once, road_of(road), first, reply);
     }
     written
 }

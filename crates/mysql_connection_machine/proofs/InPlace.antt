@@ -86,7 +86,7 @@ framed_length before payload framed start id short at is =
 -- THE CONNECTION GOES ON
 
 -- behind packets that were appended
-gone : (w : World) (event : Event) (p before framed : List ℕ) (next count : ℕ) (after : Standing) →
+pub gone : (w : World) (event : Event) (p before framed : List ℕ) (next count : ℕ) (after : Standing) →
     framed ≡ before ++ packets_for event w.standing p → next ≡ number_after p (number_for event w.standing) →
     count ≡ length framed - length before → passed_by w (side_of event) next count after ≡ put_on w event p after
 gone w event p before framed next count after is number size =

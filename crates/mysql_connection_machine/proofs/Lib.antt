@@ -7,3 +7,5 @@ pub mod Reading
 pub mod Waiting
 pub mod Words
 pub mod InPlace
+pub mod Commands
+pub mod SentPackets

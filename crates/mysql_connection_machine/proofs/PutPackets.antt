@@ -1,18 +1,17 @@
 -- Packets that are put, one behind those before it.
-use Rattle.std.proofs.Common.{◌≡◌, ◌+◌, ◌-◌, ◌≤◌, ◌++◌, ◌∷◌, [], ℕ, Bool, true, false, List, Option, Some, None, Ok, drop, take, length, refl, subst, sym, ap, ◌∙◌, arith, length-drop}
+use Rattle.std.proofs.Common.{◌≡◌, ◌+◌, ◌-◌, ◌≤◌, ◌++◌, ◌∷◌, [], ℕ, true, List, Option, Some, None, Ok, drop, take, length, refl, subst, sym, ap, ◌∙◌, arith, length-drop}
 use Rattle.std.proofs.lemmas.List.{drop-drop, take_rest}
 use Rattle.std.specs.Prelude.{◌&&◌, slice_index_or}
 use Rattle.mysql_connection_agreement.specs.Puts.{is_free, is_turn}
-use Rattle.mysql_connection_packets.specs.FirstPacket.{Found, Whole, first_packet}
+use Rattle.mysql_connection_packets.specs.FirstPacket.{Whole, first_packet}
 use Rattle.mysql_connection_packets.specs.Laws.{PacketsTakeBytes, TakesBytes}
 use Rattle.mysql_connection_rules.specs.Standing.{Phase}
 use Rattle.mysql_connection_rules.specs.Streams.{Failure, Stream, World, limit_of}
 use Rattle.mysql_connection_rules.specs.declared.limits.Limits.{Limits}
 use Rattle.mysql_connection_rules.specs.declared.side.Side.{Side}
-use Rattle.mysql_connection_state.specs.declared.event.Event.{Event}
 use Rattle.mysql_connection_machine.specs.Machines.{Machine, stream_in, turn_by}
 use Rattle.mysql_connection_machine.specs.PuttingPackets.{PutsAll, PutsFirstBy, PutsOne, PutsUpTo, StandFirst, first_of}
-use Rattle.mysql_connection_machine.specs.PuttingPayloads.{PutsPayloadOn, is_due_of}
+use Rattle.mysql_connection_machine.specs.PuttingPayloads.{PutsWithoutEventOn, is_due_of}
 
 -- ---- one more
 
@@ -46,9 +45,9 @@ puts_more old mid new side (first ∷ payloads) payload before middle behind put
 one_limits : (old new : Machine) (side : Side) (payload before behind : List ℕ) →
     PutsOne old side payload before new behind → old.world.limits ≡ new.world.limits
 one_limits old new side payload before behind one =
-    let put = one.puts.0 in sym (ap (λ (w : World). w.limits) put.0.written.goes)
+    let put = one.puts.0 in sym (ap (λ (w : World). w.limits) put.1.written.goes)
 
-all_limits : (old new : Machine) (side : Side) (payloads : List (List ℕ)) (before behind : List ℕ) →
+pub all_limits : (old new : Machine) (side : Side) (payloads : List (List ℕ)) (before behind : List ℕ) →
     PutsAll old side payloads before new behind → old.world.limits ≡ new.world.limits
 all_limits old new side [] before behind puts = ap (λ (m : Machine). m.world.limits) puts.0
 all_limits old new side (payload ∷ payloads) before behind puts =
@@ -109,15 +108,15 @@ due_unfailed m side due = none_failed m.failure side (stream_in side m) m.world.
 
 -- its payload was put
 pub put_first_by : PacketsTakeBytes → (old new : Machine) (side : Side) (packets before behind payload : List ℕ)
-    (limit number used next : ℕ) (event : Event) → limit ≡ limit_of side old.world.limits →
+    (limit number used next : ℕ) → limit ≡ limit_of side old.world.limits →
     number ≡ slice_index_or packets 3 0 → first_packet limit number packets ≡ Whole payload next (drop used packets) →
-    used ≤ length packets → old.failure ≡ None → PutsPayloadOn old side payload before (Ok event) new behind →
+    used ≤ length packets → old.failure ≡ None → PutsWithoutEventOn old side payload before (Ok tt) new behind →
     PutsFirstBy old side packets before used new behind
-put_first_by law old new side packets before behind payload limit number used next event its_limit its_number found within going puts = record {
+put_first_by law old new side packets before behind payload limit number used next its_limit its_number found within going puts = record {
   payload = payload;
   number = next;
   found = ap (λ (l : ℕ). first_of l packets) (sym its_limit) ∙ ap (λ (n : ℕ). first_packet limit n packets) (sym its_number) ∙ found;
   header = took_four law limit number used next packets payload found;
   within = within;
-  one = record { going = going; event = event; puts = puts };
+  one = record { going = going; puts = puts };
 }

@@ -1,9 +1,8 @@
 -- What is put by its payload.
-use Rattle.std.proofs.Common.{◌≡◌, ◌<◌, ◌≤◌, ◌++◌, ℕ, Bool, true, false, List, Option, Some, None, Result, Ok, Err, length, refl, subst, sym, ap, ◌∙◌}
+use Rattle.std.proofs.Common.{◌≡◌, ◌<◌, ◌≤◌, ℕ, Bool, true, false, List, Option, None, Ok, Err, length, refl, subst, sym, ap, ◌∙◌}
 use Rattle.std.specs.Prelude.{◌&&◌}
 use Rattle.mysql_connection_agreement.specs.Laws.{PutsAreRead}
 use Rattle.mysql_connection_agreement.specs.Puts.{has_place, is_due, is_free, is_turn, same_side, step_for}
-use Rattle.mysql_connection_agreement.specs.Refusals.{Written}
 use Rattle.mysql_connection_peek.specs.Laws.{IsInTurn, PayloadsAreInTurn}
 use Rattle.mysql_connection_peek.specs.Peeks.{said_in}
 use Rattle.mysql_connection_rules.specs.Events.{Event, side_of}

@@ -1,11 +1,13 @@
 pub mod Buffers
 pub mod Inside
+pub mod Laws
 pub mod Machines
 pub mod Takes
 pub mod Endings
 pub mod Writing
 pub mod NextRows
 pub mod PuttingPayloads
+pub mod PuttingCommands
 pub mod PuttingExecutions
 pub mod PuttingPackets
 pub mod PuttingRows

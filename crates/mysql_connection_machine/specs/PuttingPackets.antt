@@ -7,9 +7,8 @@ use Rattle.mysql_connection_packets.specs.FirstPacket.{first_packet}
 use Rattle.mysql_connection_rules.specs.Streams.{limit_of}
 use Rattle.mysql_connection_rules.specs.declared.fault.Fault.TheVariants as faults
 use Rattle.mysql_connection_rules.specs.declared.side.Side.{Side}
-use Rattle.mysql_connection_state.specs.declared.event.Event.{Event}
 use Rattle.mysql_connection_machine.specs.Machines.{Machine}
-use Rattle.mysql_connection_machine.specs.PuttingPayloads.{PutsPayloadOn, RefusesPayload, is_due_of}
+use Rattle.mysql_connection_machine.specs.PuttingPayloads.{PutsWithoutEventOn, RefusesPayload, is_due_of}
 use Rattle.mysql_connection_machine.specs.declared.packets_refusal.PacketsRefusal.{PacketsRefusal}
 use Rattle.mysql_connection_machine.specs.declared.payload_refusal.PayloadRefusal.{PayloadRefusal}
 use Rattle.mysql_connection_machine.specs.declared.payload_refusal.PayloadRefusal.TheVariants as refusals
@@ -28,8 +27,7 @@ StandFirst limit packets (payload ∷ payloads) rest = (number : ℕ) × (behind
 pub record PutsOne (old : Machine) (side : Side) (payload before : List ℕ) (new : Machine)
     (behind : List ℕ) : Type 0 where
   pub going : old.failure ≡ None
-  pub event : Event
-  pub puts : PutsPayloadOn old side payload before (Ok event) new behind
+  pub puts : PutsWithoutEventOn old side payload before (Ok tt) new behind
 
 -- These payloads of the side were put, one after another.
 abbrev pub PutsAll : Machine → Side → List (List ℕ) → (before : List ℕ) → Machine → (behind : List ℕ) →
@@ -94,3 +92,10 @@ PutsFirst old side packets before (Ok None) new behind =
     (old ≡ new) × (before ≡ behind) × StopsAt old side packets
 PutsFirst old side packets before (Err cause) new behind =
     (old ≡ new) × (before ≡ behind) × RefusesFirst old side packets cause
+
+-- The command that stands first of a machine's packets was put, and so many bytes are its; or nothing has changed.
+abbrev pub PutsCommandOrStays : Machine → Side → List ℕ → (before : List ℕ) → Option ℕ → Machine → (behind : List ℕ) →
+    Type 0
+PutsCommandOrStays old side packets before (Some used) new behind =
+    PutsFirstBy old side packets before used new behind
+PutsCommandOrStays old side packets before None new behind = (old ≡ new) × (before ≡ behind)

@@ -1,6 +1,6 @@
 -- What a call that puts a payload on a connection answers.
 -- MySQL: Client/Server Protocol, "Connection Lifecycle" and "MySQL Packets".
-use Rattle.std.specs.Prelude.{◌≡◌, ◌≤◌, ◌<◌, ◌&&◌, ℕ, Bool, true, false, List, ◌++◌, length}
+use Rattle.std.specs.Prelude.{◌≡◌, ◌≤◌, ◌<◌, ◌&&◌, ℕ, Bool, true, false, List, length}
 use Rattle.std.specs.Prelude.{None, Result, Ok, Err}
 use Rattle.mysql_connection_agreement.specs.Puts.{is_free, is_turn}
 use Rattle.mysql_connection_agreement.specs.Refusals.{Written}
@@ -60,6 +60,22 @@ abbrev pub PutsPayloadOn : Machine → Side → List ℕ → (before : List ℕ)
     Machine → (behind : List ℕ) → Type 0
 PutsPayloadOn old side payload before result new behind =
     PutsPayloadOf (record { world = old.world; row = old.row }) side payload before result
+    (record { world = new.world; row = new.row }) behind × (new.failure ≡ None)
+
+-- A payload of the side was put, whatever it says, and no row is lent any more; or it was refused, and nothing has
+-- changed.
+abbrev pub PutsWithoutEvent : LendingWorld → Side → List ℕ → (before : List ℕ) → Result (Unit {0}) PayloadRefusal →
+    LendingWorld → (behind : List ℕ) → Type 0
+PutsWithoutEvent old side payload before (Ok done) new behind = (event : Event) ×
+    AppendsPayload old.world side payload event new.world before behind × (new.row ≡ None)
+PutsWithoutEvent old side payload before (Err cause) new behind =
+    (new ≡ old) × (behind ≡ before) × RefusesPayload old.world side payload cause
+
+-- The same of a machine that has found no fault, and finds none.
+abbrev pub PutsWithoutEventOn : Machine → Side → List ℕ → (before : List ℕ) → Result (Unit {0}) PayloadRefusal →
+    Machine → (behind : List ℕ) → Type 0
+PutsWithoutEventOn old side payload before result new behind =
+    PutsWithoutEvent (record { world = old.world; row = old.row }) side payload before result
     (record { world = new.world; row = new.row }) behind × (new.failure ≡ None)
 
 -- A payload of the side is due of a machine: of one that has failed none is.

@@ -7,7 +7,8 @@ ghost use Rattle.mysql_connection_machine.specs.Machines.{HoldsAtMost, TakesByte
 ghost use Rattle.mysql_connection_machine.specs.Machines.{ended};
 ghost use Rattle.mysql_connection_machine.specs.Machines.{failure_in, failure_view, new_machine};
 ghost use Rattle.mysql_connection_machine.specs.Machines.{room_left, statement_meant, stream_in, turn_in};
-ghost use Rattle.mysql_connection_machine.specs.PuttingPayloads.{PutsPayloadOn, is_due_of};
+ghost use Rattle.mysql_connection_machine.specs.PuttingPayloads.{PutsPayloadOn, PutsWithoutEventOn, is_due_of};
+ghost use Rattle.mysql_connection_machine.specs.PuttingPackets.{PutsCommandOrStays};
 ghost use Rattle.mysql_connection_machine.specs.PuttingExecutions.{PutsExecutionOn};
 ghost use Rattle.mysql_connection_machine.specs.PuttingRows.{PutsRowOn};
 ghost use Rattle.mysql_connection_machine.specs.Writing.{IsReadFrom, PutsOn};
@@ -437,6 +438,40 @@ impl Connection {
         // A byte, which the law wants to know.
         let _number = self.reader.state().number();
         self.reader.put_due_payload(side, payload, out)
+    }
+
+    // Puts the command that stands first of a side's packets, where its packet can go as it stands, and
+    // answers how many bytes it takes. `None` says nothing of it, and nothing has changed.
+    #[inline(always)]
+    pub(crate) fn put_first_command(
+        &mut self,
+        side: Side,
+        packets: &[u8],
+        out: &mut Vec<u8>,
+    ) -> Option<usize>
+        ensures { PutsCommandOrStays self.old side packets.now out.old.items result self.new
+            out.new.items }
+    {
+        held_stays();
+        match (self.fault, side) {
+            (None, Side::Client) => self.reader.put_first_command(packets, out),
+            _ => None,
+        }
+    }
+
+    // Puts a payload whose event nobody asks for, on a connection that has found no fault.
+    pub(crate) fn put_without_event(
+        &mut self,
+        side: Side,
+        payload: &[u8],
+        out: &mut Vec<u8>,
+    ) -> Result<(), PayloadRefusal>
+        requires { self.old.failure ≡ None }
+        ensures { PutsWithoutEventOn self.old side payload.now out.old.items result self.new
+            out.new.items }
+    {
+        held_stays();
+        self.reader.put_without_event(side, payload, out)
     }
 
     // The longest payload of a side.

@@ -43,7 +43,7 @@ impl StreamsReader {
     }
 
     // So many bytes more of a side's stream were read, which never waited, and this number is due.
-    fn pass(&mut self, side: Side, next: u8, count: usize)
+    pub(crate) fn pass(&mut self, side: Side, next: u8, count: usize)
         requires { (stream_of side self.old.world.unread).read + count ≤ u64.MAX }
         ensures { self.new ≡ lending_none
             (passed_by self.old.world side next count self.old.world.standing) }
@@ -195,8 +195,8 @@ impl StreamsReader {
     }
 }
 
-// The bytes behind a place.
-fn behind(bytes: &[u8], place: usize) -> &[u8]
+/// The bytes behind a place.
+pub fn behind(bytes: &[u8], place: usize) -> &[u8]
     requires { place ≤ length bytes.now }
     ensures { result.now ≡ drop place bytes.now }
 {

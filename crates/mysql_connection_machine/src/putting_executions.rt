@@ -72,7 +72,7 @@ fn append_execution(
 impl StreamsReader {
     // A command of the client's is due, and nothing of its stream waits.
     #[tactic(auto, using(crate::proofs::Phases::command_due))]
-    fn awaits_command(&self) -> bool
+    pub(crate) fn awaits_command(&self) -> bool
         ensures free { IsTrue result → is_free self.now.world.unread.client ≡ true }
         ensures phase { IsTrue result → self.now.world.standing.phase ≡ phases.Command }
     {

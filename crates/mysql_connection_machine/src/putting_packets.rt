@@ -22,6 +22,23 @@ impl Connection {
         ensures { PutsFirst self.old side packets.now out.old.items result self.new
             out.new.items }
     {
+        match self.put_first_command(side, packets, out) {
+            Some(used) => Ok(Some(used)),
+            None => self.put_first_packet(side, packets, out),
+        }
+    }
+
+    // The same, whatever the packet is.
+    #[inline(never)]
+    fn put_first_packet(
+        &mut self,
+        side: Side,
+        packets: &[u8],
+        out: &mut Vec<u8>,
+    ) -> Result<Option<usize>, PayloadRefusal>
+        ensures { PutsFirst self.old side packets.now out.old.items result self.new
+            out.new.items }
+    {
         packets_take_bytes();
         if !self.is_due(side) {
             return Ok(None);
@@ -34,7 +51,7 @@ impl Connection {
                 Err(PayloadRefusal::BadPayload(Fault::OutOfSync(number)))
             }
             FirstPacket::Whole { payload, used, .. } => {
-                self.put_payload(side, payload.as_slice(), out)?;
+                self.put_without_event(side, payload.as_slice(), out)?;
                 Ok(Some(used))
             }
         }

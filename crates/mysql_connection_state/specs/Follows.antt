@@ -3,6 +3,7 @@
 use Rattle.std.specs.Prelude.{◌≡◌, ◌+◌, ◌<◌, ◌≤◌, ℕ, List, Option, Some, None, Result, Ok, Err}
 use Rattle.std.specs.Prelude.{if◌then◌else◌}
 use Rattle.mysql_columns.specs.Columns.{ColumnDefinition}
+use Rattle.mysql_commands.specs.Commands.{Command, command_at}
 use Rattle.mysql_reply_events.specs.Behind.{behind}
 use Rattle.mysql_reply_events.specs.Events.{Event as ReplySaid, ReplySoFar}
 use Rattle.mysql_reply_events.specs.Reader.{GoesOn, ReaderState}
@@ -12,8 +13,8 @@ use Rattle.mysql_connection_rules.specs.Standing.{About, InReply, Phase, Standin
 use Rattle.mysql_connection_rules.specs.Standing.{phase_size}
 use Rattle.mysql_connection_rules.specs.Standing.About.{OfStatement}
 use Rattle.mysql_connection_rules.specs.Standing as phases
-use Rattle.mysql_connection_rules.specs.Steps.{about_after, changed_by, context_of, is_whole}
-use Rattle.mysql_connection_rules.specs.Steps.{reply_due}
+use Rattle.mysql_connection_rules.specs.Steps.{about_after, after_command, changed_by, context_of}
+use Rattle.mysql_connection_rules.specs.Steps.{is_whole, parameters_in_question, reply_due}
 use Rattle.mysql_connection_rules.specs.Steps.{reply_after, with_columns}
 use Rattle.mysql_connection_rules.specs.declared.exchange.Exchange.{Exchange}
 use Rattle.mysql_connection_statements.specs.Statements.{Statements}
@@ -47,6 +48,14 @@ abbrev pub Goes : ConnectionState → (after : Standing) → (room : ℕ) → Re
 Goes old after room (Ok done) new = (new.standing ≡ after) × (kept after ≤ room)
 Goes old after room (Err Held) new = (new ≡ old) × (room < kept after)
 Goes old after room (Err Memory) new = new ≡ old
+
+-- What a command's payload says, by what stands; and what stands behind it, whatever that is.
+abbrev pub command_said : Standing → List ℕ → Command
+command_said s payload =
+    command_at s.capabilities (parameters_in_question s.statements payload) payload
+
+abbrev pub after_said : Standing → List ℕ → Standing
+after_said s payload = after_command s payload (command_said s payload)
 
 -- Behind an execution of this statement that leaves all else as it is, its reply is due.
 abbrev pub after_settled : (id : ℕ) → Option (List ColumnDefinition) → Standing → Standing

@@ -1,7 +1,7 @@
 //! Commands: what each says, changes, and what is due behind it.
 
 ghost use Rattle.std.specs.Prelude.{◌≡◌, IfOk, None, OnErr, OnOk, option_map};
-ghost use Rattle.std.specs.Option.{option_and_then};
+ghost use Rattle.std.specs.Option.{option_and_then, option_copied};
 ghost use Rattle.mysql_auth.specs.Views.{plugin_view};
 ghost use Rattle.mysql_commands.specs.Commands.{command_at};
 ghost use Rattle.mysql_commands.specs.Views.{command_view};
@@ -25,12 +25,42 @@ use mysql_commands::{Command, Reply};
 use mysql_connection_rules::{Exchange, Fault, Reason};
 use mysql_connection_statements::Statements;
 use mysql_const::Capabilities;
+use mysql_executions::StatementParameters;
 use mysql_queries::ByteString;
 use mysql_reply_events::{EventReader, ReplyKind};
 use std::alloc::{AllocError, Global};
 use std::rc::RcSlice;
 
-// What a command says, by what is in force of the statement that it is about.
+// What is in force of the parameters of the statement that a command is about.
+fn parameters_in_question<'s>(
+    statements: &'s Statements,
+    payload: &[u8],
+) -> Option<&'s StatementParameters>
+    ensures { option_copied result ≡ steps.parameters_in_question statements.now payload.now }
+{
+    match statement_of(statements, id_in_question(statements, payload)) {
+        Some(statement) => Some(statement.parameters()),
+        None => None,
+    }
+}
+
+/// What a command says as it lies in its payload, by what is in force of the statement that it is about.
+pub fn command_in<'p>(
+    alloc: Global,
+    capabilities: Capabilities,
+    statements: &Statements,
+    payload: &'p [u8],
+) -> Result<Box<Command<'p>>, AllocError>
+    ensures { IfOk result (λ command. command_view command.value ≡
+        command_at capabilities (steps.parameters_in_question statements.now payload.now)
+        payload.now) }
+{
+    let parameters = parameters_in_question(statements, payload);
+    let command = Command::read(alloc, capabilities, parameters, payload)?;
+    Ok(Box::new(alloc, command)?)
+}
+
+// The same, in bytes of its own.
 fn command_of(
     alloc: Global,
     capabilities: Capabilities,
@@ -41,11 +71,7 @@ fn command_of(
         command_at capabilities (steps.parameters_in_question statements.now payload.now)
         payload.now) }
 {
-    let id = id_in_question(statements, payload);
-    let parameters = match statement_of(statements, id) {
-        Some(statement) => Some(statement.parameters()),
-        None => None,
-    };
+    let parameters = parameters_in_question(statements, payload);
     Command::read(alloc, capabilities, parameters, payload)?.into_owned(alloc)
 }
 
@@ -290,7 +316,7 @@ impl State {
     }
 
     // What a command changes, and what is due behind it; an empty payload is one too.
-    fn follow_command(&mut self, payload: &[u8], command: &Command) -> Result<(), AllocError>
+    fn go_on_behind(&mut self, payload: &[u8], command: &Command) -> Result<(), AllocError>
         ensures { OnOk result (self.new.standing ≡
             steps.after_command self.old.standing payload.now (command_view command.now)) }
     {
@@ -309,7 +335,7 @@ impl State {
     {
         let command = command_of(self.alloc, self.capabilities, &self.statements, payload)?;
         let command = boxed(self.alloc, command)?;
-        let done = self.follow_command(payload, &command);
+        let done = self.go_on_behind(payload, &command);
         said_if(Event::Command(command), done)
     }
 }

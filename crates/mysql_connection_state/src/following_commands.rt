@@ -9,9 +9,10 @@ ghost use Rattle.mysql_connection_rules.specs.Steps as steps;
 ghost use Rattle.mysql_connection_statements.specs.Statements.{Statement, counted, is_reset};
 ghost use Rattle.mysql_connection_statements.specs.Statements.{statement_at};
 ghost use Rattle.mysql_rows.specs.Views.{shared_columns};
-ghost use Rattle.mysql_connection_state.specs.Follows.{Goes};
+ghost use Rattle.mysql_connection_state.specs.Follows.{Goes, after_said};
 ghost use Rattle.mysql_reply_events.specs.declared.context.ReplyKind.TheVariants as kinds;
 
+use crate::commands::command_in;
 use crate::due::About;
 use crate::executions::{carried_types, id_in_question, refused_as, shared_columns_of};
 use crate::following::{FollowRefusal, fit};
@@ -198,6 +199,69 @@ impl State {
                 Ok(())
             }
             [number, body @ ..] => self.pass_by_number(*number, body, payload, command, room),
+        }
+    }
+
+    // A query was put: only its reply is due.
+    fn pass_query(&mut self, room: u128) -> Result<(), FollowRefusal>
+        ensures { Goes self.old (steps.reply_due kinds.Text None standing.Nothing self.old.standing)
+            room result self.new }
+    {
+        fit(self.statements.stored() as u128, room)?;
+        self.await_reply(ReplyKind::Text, None, About::Nothing);
+        Ok(())
+    }
+
+    // An execution was put, by its number: what it says beside the fields in front changes nothing, so
+    // that its values aren't read.
+    fn pass_unread(
+        &mut self,
+        number: u8,
+        body: &[u8],
+        payload: &[u8],
+        room: u128,
+    ) -> Result<(), FollowRefusal>
+        ensures { Goes self.old (steps.execution_of number body.now
+            (steps.id_in_question self.old.standing.statements payload.now)
+            (steps.statement_in_question self.old.standing.statements payload.now)
+            self.old.standing) room result self.new }
+    {
+        let id = id_in_question(&self.statements, payload);
+        self.pass_execution(number, body, id, room)
+    }
+
+    // A command was put, which is read.
+    #[inline(never)]
+    fn pass_read(&mut self, payload: &[u8], room: u128) -> Result<(), FollowRefusal>
+        ensures { Goes self.old (after_said self.old.standing payload.now) room result self.new }
+    {
+        let command = command_in(self.alloc, self.capabilities, &self.statements, payload)?;
+        self.pass_command(&command, payload, room)
+    }
+
+    /// Goes on behind a command that was put by this payload, whatever it says.
+    ///
+    /// So much room there is for what is kept. The number of the next packet stays as it is, as by
+    /// [`State::follow`].
+    ///
+    /// Promise: exactly that stands which reading the command would leave, or nothing changes (`Goes`,
+    /// `after_said`).
+    ///
+    /// # Errors
+    /// - `Held` where more would be kept than there is room for.
+    /// - `Memory`.
+    ///
+    /// After an error the state is as it was.
+    ///
+    /// MySQL: Client/Server Protocol, "Command Phase".
+    pub fn follow_command(&mut self, payload: &[u8], room: u128) -> Result<(), FollowRefusal>
+        ensures { Goes self.old (after_said self.old.standing payload.now) room result self.new }
+    {
+        match payload {
+            [3, ..] => self.pass_query(room),
+            [0x17, body @ ..] => self.pass_unread(0x17, body, payload, room),
+            [0xfa, body @ ..] => self.pass_unread(0xfa, body, payload, room),
+            _ => self.pass_read(payload, room),
         }
     }
 }

@@ -19,10 +19,13 @@ const PREPARED: &[u8] = b"\x0c\0\0\x01\0\x01\0\0\0\0\0\x02\0\0\0\0\
 
 const OK: &[u8] = b"\x07\0\0\x01\0\0\0\x02\0\0\0";
 
+// An execution of 7 and ab: with types.
+const FIRST: &[u8] =
+    b"\x1b\0\0\0\x17\x01\0\0\0\0\x01\0\0\0\0\x01\x08\0\xfd\0\x07\0\0\0\0\0\0\0\x02ab";
+
 // What is put of the values below, one execution after another.
 const EXECUTIONS: [&[u8]; 5] = [
-    // 7 and ab: with types.
-    b"\x1b\0\0\0\x17\x01\0\0\0\0\x01\0\0\0\0\x01\x08\0\xfd\0\x07\0\0\0\0\0\0\0\x02ab",
+    FIRST,
     // NULL and c, by the types of the first.
     b"\x0e\0\0\0\x17\x01\0\0\0\0\x01\0\0\0\x01\0\x01c",
     // x and c: a text in the place of a number.
@@ -90,7 +93,7 @@ fn say(connection: &mut Connection, side: Side, packets: &[u8], out: &mut Vec<u8
 fn prepared(alloc: Global, out: &mut Vec<u8>) -> Option<Connection> {
     let capabilities = Capabilities {
         protocol: CapabilityFlags::CLIENT_PROTOCOL_41,
-        mariadb: MariadbCapabilities(0),
+        mariadb: MariadbCapabilities::MARIADB_CLIENT_STMT_BULK_OPERATIONS,
     };
     let mut connection = Connection::after_login(alloc, LIMITS, capabilities);
     let is_said = say(
@@ -143,5 +146,42 @@ fn refused_executions(rt: HostRuntime) {
         assert.holds(say(&mut connection, Side::Client, b"\x01\0\0\0\x0e", &mut out));
         assert.holds(refusal(&mut connection, 1, &mut out) == Some(PutRefusal::NotDue));
         assert_bytes(&assert, out.as_slice(), b"\x01\0\0\0\x0e");
+    }
+}
+
+// Packets of a client's, each of which is put where all before it are, and what is put of them: a query numbered as
+// none is due, the first execution above, and a bulk execution of NULL and c, which carries the types of the third.
+const PACKETS: [(&[u8], &[u8]); 3] = [
+    (b"\x09\0\0\x07\x03SELECT 1", b"\x09\0\0\0\x03SELECT 1"),
+    (FIRST, FIRST),
+    (
+        b"\x0f\0\0\0\xfa\x01\0\0\0\x80\0\xfd\0\xfd\0\x01\0\x01c",
+        b"\x0f\0\0\0\xfa\x01\0\0\0\x80\0\xfd\0\xfd\0\x01\0\x01c",
+    ),
+];
+
+// An execution of x and c by the types of that bulk execution.
+const BEHIND_BULK: &[u8] = b"\x10\0\0\0\x17\x01\0\0\0\0\x01\0\0\0\0\0\x01x\x01c";
+
+#[test]
+fn types_of_packets_are_in_force(rt: HostRuntime) {
+    let assert = Asserting(&rt);
+    let mut out = Vec::new(rt.alloc());
+    let connection = prepared(rt.alloc(), &mut out);
+    assert.holds(connection.is_some());
+    if let Some(mut connection) = connection {
+        for (packets, wanted) in PACKETS {
+            out.clear();
+            assert.holds(say(&mut connection, Side::Client, packets, &mut out));
+            assert_bytes(&assert, out.as_slice(), wanted);
+            assert.holds(say(&mut connection, Side::Server, OK, &mut out));
+        }
+        out.clear();
+        let values = values(rt.alloc(), 2);
+        assert.holds(values.is_ok());
+        if let Ok(values) = values {
+            assert.holds(put(&mut connection, 1, &values, &mut out).is_ok());
+        }
+        assert_bytes(&assert, out.as_slice(), BEHIND_BULK);
     }
 }

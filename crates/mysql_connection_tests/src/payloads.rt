@@ -113,3 +113,44 @@ fn refused_payloads(rt: HostRuntime) {
     assert.holds(answer == Some(PayloadRefusal::Held));
     assert_bytes(&assert, out.as_slice(), b"\x01\0\0\0\x0e");
 }
+
+// Why the command of a packet isn't put, for want of memory asked once more.
+fn packet_refusal(
+    connection: &mut Connection,
+    packet: &[u8],
+    out: &mut Vec<u8>,
+) -> Option<PacketsRefusal> {
+    let put = match connection.put_packets(Side::Client, packet, out) {
+        Err(
+            PacketsRefusal {
+                used: _,
+                cause: PayloadRefusal::Memory,
+            },
+        ) => connection.put_packets(Side::Client, packet, out),
+        answer => answer,
+    };
+    put.err()
+}
+
+#[test]
+fn refused_packets(rt: HostRuntime) {
+    let assert = Asserting(&rt);
+    let mut out = Vec::new(rt.alloc());
+    let mut one = logged_in(rt.alloc(), 0);
+    let answer = packet_refusal(&mut one, b"\x09\0\0\0\x16SELECT 1", &mut out);
+    let held = PacketsRefusal {
+        used: 0,
+        cause: PayloadRefusal::Held,
+    };
+    assert.holds(answer == Some(held));
+    let answer = packet_refusal(&mut one, b"\x0b\0\0\0\x03SELECT 123", &mut out);
+    let too_large = PacketsRefusal {
+        used: 0,
+        cause: PayloadRefusal::TooLarge,
+    };
+    assert.holds(answer == Some(too_large));
+    assert_bytes(&assert, out.as_slice(), b"");
+    assert.holds(packet_refusal(&mut one, b"\x09\0\0\0\x03SELECT 1\x01", &mut out).is_none());
+    assert_bytes(&assert, out.as_slice(), b"\x09\0\0\0\x03SELECT 1");
+    assert.holds(one.is_due(Side::Server));
+}

@@ -1,0 +1,15 @@
+//! The law of packets that are put. The function has no code but the law that it rests on: its contract
+//! is the law.
+
+ghost use Rattle.mysql_connection_machine.specs.Laws.{SentPacketsArePut};
+
+use mysql_connection_packets::laws::framings_are_found;
+
+/// What [`Connection::put_packets`](crate::Connection::put_packets) takes of packets that were sent.
+///
+/// It takes the payloads that were sent, from the first on, up to one whose turn hasn't come.
+pub fn sent_packets_are_put()
+    ensures { SentPacketsArePut }
+{
+    framings_are_found();
+}
