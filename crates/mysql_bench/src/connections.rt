@@ -11,11 +11,11 @@ use mysql_connection::{Connection, ConnectionFault, LentEvent, Limits, Side};
 use mysql_session::{End, Receiver, ReplyEnd};
 use std::alloc::Global;
 
-/// Packets of each side as large as elsewhere here, and 16 MB for what is kept.
-const LIMITS: Limits = Limits {
+/// Packets of each side as large as elsewhere here, and as much for what is kept.
+pub const LIMITS: Limits = Limits {
     client: LIMIT,
     server: LIMIT,
-    held: 50331648,
+    held: 201326592,
 };
 
 /// What of both streams didn't come yet.

@@ -2,23 +2,17 @@
 
 ghost use Rattle.std.specs.Prelude.{◌<◌};
 
+use crate::connections::LIMITS;
 use crate::kept::lists_of;
 use crate::sending::road_of;
 use crate::sets::sets_of;
 use crate::{LIMIT, STATEMENT};
 use bitflags::Flags;
 use mysql_connection::{
-    Capabilities, CapabilityFlags, Connection, Event, Limits, MariadbCapabilities, ReplyEvent, Side,
+    Capabilities, CapabilityFlags, Connection, Event, MariadbCapabilities, ReplyEvent, Side,
 };
 use mysql_session::{Params, Query, Road, Row, Value};
 use std::alloc::{AllocError, Global};
-
-/// Packets of each side as large as elsewhere here, and as much for what is kept.
-const LIMITS: Limits = Limits {
-    client: LIMIT,
-    server: LIMIT,
-    held: 201326592,
-};
 
 /// A connection behind its login, of the protocol of 4.1 with EOF packets and MariaDB's bulk executions.
 fn logged_in(alloc: Global) -> Connection {
@@ -266,11 +260,11 @@ fn put_sent(
     written
 }
 
-/// Sends the sets that the bytes hold by one query, so many by a call, puts each command of them on a
-/// connection, and feeds and reads the reply to each.
+/// Sends the sets that the bytes hold by one query, so many by a call, and puts what was sent.
 ///
-/// The first command of a call has one reply, and each other another. All sets are put so many times,
-/// each time on a new connection. Answers the bytes of one time.
+/// Each command of it is put on a connection, and the reply to each is fed and read. The first command
+/// of a call has one reply, and each other another. All sets are put so many times, each time on a new
+/// connection. Answers the bytes of one time.
 #[unsafe(no_mangle)]
 pub extern "C" fn mysql_bench_put_sent(
     alloc: Global,

@@ -5,6 +5,7 @@ pub use mysql_command_writer::laws::read_commands_are_put;
 pub use mysql_connection_agreement::laws as agreement;
 pub use mysql_connection_contents::laws::connection_executions_are_received;
 pub use mysql_connection_deliveries::laws as deliveries;
+pub use mysql_connection_machine::laws::sent_packets_are_put;
 pub use mysql_connection_packets::laws as first_packets;
 pub use mysql_connection_peek::laws::payloads_are_in_turn;
 pub use mysql_connection_recoding::laws as recoding;

@@ -5,9 +5,9 @@ ghost use Rattle.mysql_connection_machine.specs.Laws.{SentPacketsArePut};
 
 use mysql_connection_packets::laws::framings_are_found;
 
-/// What [`Connection::put_packets`](crate::Connection::put_packets) takes of packets that were sent.
+/// Of packets that were sent the first payloads are put, up to one whose turn hasn't come.
 ///
-/// It takes the payloads that were sent, from the first on, up to one whose turn hasn't come.
+/// So does [`Connection::put_packets`](crate::Connection::put_packets).
 pub fn sent_packets_are_put()
     ensures { SentPacketsArePut }
 {

@@ -108,8 +108,9 @@ impl StreamsReader {
         }
     }
 
-    /// Puts the command that stands first of packets, where it is due and has one chunk, and answers
-    /// how many bytes it takes. `None` says nothing of it, and nothing has changed.
+    /// Puts the command that stands first of packets, where it is due and has one chunk.
+    ///
+    /// Answers how many bytes it takes. `None` says nothing of it, and nothing has changed.
     #[inline(always)]
     pub fn put_first_command(&mut self, packets: &[u8], out: &mut Vec<u8>) -> Option<usize>
         ensures { PutsFirstCommand self.old packets.now out.old.items result self.new

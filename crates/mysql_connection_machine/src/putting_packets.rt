@@ -28,7 +28,8 @@ impl Connection {
         }
     }
 
-    // The same, whatever the packet is.
+    // The same, whatever the packet is. A function of its own, so that a command of one chunk doesn't
+    // pay for what this one holds.
     #[inline(never)]
     fn put_first_packet(
         &mut self,
@@ -63,8 +64,10 @@ impl Connection {
     /// set with its long data, or a whole reply, is one call. Answers how many bytes of `packets` were
     /// taken: all, or those before the first packet whose turn hasn't come. What is cut off at the
     /// end is left. The packets' own numbers are looked at in the chunks of one payload alone: each is
-    /// framed anew, by the number that is due. A command that is laid out as none is put as `Other`,
-    /// which nothing tells here.
+    /// framed anew, by the number that is due. No event is made of a command, and none of its values is
+    /// read; one that is laid out as none is put as `Other`, which nothing tells here. Of packets that
+    /// were sent the first payloads are put, by the law
+    /// [`sent_packets_are_put`](crate::laws::sent_packets_are_put).
     ///
     ///     let used = connection.put_packets(Side::Client, packets, &mut output)?;
     ///     socket.write_all(&output)?;

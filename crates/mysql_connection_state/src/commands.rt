@@ -44,7 +44,7 @@ fn parameters_in_question<'s>(
     }
 }
 
-/// What a command says as it lies in its payload, by what is in force of the statement that it is about.
+/// What a command says, as it lies in its payload.
 pub fn command_in<'p>(
     alloc: Global,
     capabilities: Capabilities,
@@ -60,7 +60,7 @@ pub fn command_in<'p>(
     Ok(Box::new(alloc, command)?)
 }
 
-// The same, in bytes of its own.
+// The same in bytes of its own.
 fn command_of(
     alloc: Global,
     capabilities: Capabilities,
