@@ -17,8 +17,9 @@ use mysql_connection::{
 
 mod laws {
     use mysql_connection::laws::{
-        connection_executions_are_received, events_lead_on, payloads_are_in_turn,
-        read_commands_are_put, read_events_are_put, sent_packets_are_put, stored_is_the_sum,
+        connection_executions_are_received, events_lead_on, packets_are_spoken,
+        payloads_are_in_turn, read_commands_are_put, read_events_are_put, sent_packets_are_put,
+        stored_is_the_sum,
     };
 
     mod agreement {

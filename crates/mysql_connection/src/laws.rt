@@ -10,6 +10,7 @@ pub use mysql_connection_packets::laws as first_packets;
 pub use mysql_connection_peek::laws::payloads_are_in_turn;
 pub use mysql_connection_recoding::laws as recoding;
 pub use mysql_connection_rules::laws as runs;
+pub use mysql_connection_sent::laws::packets_are_spoken;
 pub use mysql_connection_statements::laws::stored_is_the_sum;
 pub use mysql_execution_contents::laws as contents;
 pub use mysql_execution_writer::laws as executions;

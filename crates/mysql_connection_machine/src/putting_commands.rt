@@ -85,8 +85,8 @@ impl StreamsReader {
         }
     }
 
-    // Appends a packet of one chunk, numbered as it is due, and goes on behind the command that it is.
-    // The packet's payload begins at its fourth byte.
+    // Appends a packet of one chunk, numbered as it is due, and goes on behind the command that it is. Its
+    // header takes four bytes.
     #[inline(always)]
     fn put_packet(&mut self, packet: &[u8], out: &mut Vec<u8>) -> Result<(), PutRefusal>
         requires phase { self.old.world.standing.phase ≡ phases.Command }
