@@ -243,18 +243,18 @@ fn put_sent(
     road: Road,
     first: &[u8],
     reply: &[u8],
+    packets: &mut Vec<u8>,
+    out: &mut Vec<u8>,
 ) -> usize
     requires { 0 < at_once }
 {
     let mut connection = logged_in(alloc);
-    let mut packets = Vec::new(alloc);
-    let mut out = Vec::new(alloc);
     let mut written: usize = 0;
     for some in sets.chunks(at_once) {
-        if !send_some(alloc, query, some, road, &mut packets) {
+        if !send_some(alloc, query, some, road, packets) {
             return 0;
         }
-        let put = put_all_packets(&mut connection, packets.as_slice(), first, reply, &mut out);
+        let put = put_all_packets(&mut connection, packets.as_slice(), first, reply, out);
         written = written.wrapping_add(put);
     }
     written
@@ -286,9 +286,22 @@ pub extern "C" fn mysql_bench_put_sent(
     let Ok(query) = Query::new(alloc, query, STATEMENT) else {
         return 0;
     };
+    let road = road_of(road);
+    let mut packets = Vec::new(alloc);
+    let mut out = Vec::new(alloc);
     let mut written: usize = 0;
     for _ in 0..times {
-        written = put_sent(alloc, &query, &sets, at_once, road_of(road), first, reply);
+        written = put_sent(
+            alloc,
+            &query,
+            &sets,
+            at_once,
+            road,
+            first,
+            reply,
+            &mut packets,
+            &mut out,
+        );
     }
     written
 }
