@@ -225,6 +225,9 @@ fn put_all_packets(
             return written;
         }
         let used = put_front(connection, left, out);
+        if used == 0 {
+            return 0;
+        }
         written = written.wrapping_add(out.len());
         left = left.get(used..).unwrap_or(&[]);
         let _read = reply_read(connection, said, said.len());

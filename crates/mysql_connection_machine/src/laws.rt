@@ -7,7 +7,7 @@ use mysql_connection_packets::laws::framings_are_found;
 
 /// Of packets that were sent the first payloads are put, up to one whose turn hasn't come.
 ///
-/// So does [`Connection::put_packets`](crate::Connection::put_packets).
+/// So [`Connection::put_packets`](crate::Connection::put_packets) does where it answers `Ok`.
 pub fn sent_packets_are_put()
     ensures { SentPacketsArePut }
 {

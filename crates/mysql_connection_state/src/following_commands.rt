@@ -258,7 +258,7 @@ impl State {
         ensures { Goes self.old (after_said self.old.standing payload.now) room result self.new }
     {
         match payload {
-            [3, ..] => self.pass_query(room),
+            [0x03, ..] => self.pass_query(room),
             [0x17, body @ ..] => self.pass_unread(0x17, body, payload, room),
             [0xfa, body @ ..] => self.pass_unread(0xfa, body, payload, room),
             _ => self.pass_read(payload, room),
