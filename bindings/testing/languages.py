@@ -14,7 +14,9 @@ VALGRIND = ["valgrind", "--quiet", "--error-exitcode=9", "--leak-check=full",
             "--show-leak-kinds=all", "--errors-for-leak-kinds=all"]
 
 
+TESTING = os.path.join(BINDINGS, "testing")
 RECORDINGS = os.path.join(ROOT, "crates", "connection_conformance", "data")
+CONVERSATIONS = sorted(glob.glob(os.path.join(RECORDINGS, "*.conversations")))
 # What a test in C is told: the recorded connections.
 WORDS = {"connections": sorted(it[:-len(".client")]
                                for it in glob.glob(os.path.join(RECORDINGS, "*.client")))}
@@ -33,6 +35,7 @@ class C:
         # A file with a header of its own is shared by the tests.
         self.shared = [it for it in files if os.path.exists(it[:-1] + "h")]
         self.tests = [it for it in files if it not in self.shared]
+        self.words = {**WORDS, "conversations": [os.path.join(room, "conversations")]}
 
     def build(self, compiler, sources, name):
         """Compiles and links a program, and returns its file."""
@@ -52,13 +55,16 @@ class C:
         """Builds a test in a way of its own, and runs it by itself or under a tool."""
         name = os.path.basename(file)[:-2]
         made = self.build([*compiler, "-g", *WRAPPED], [file, *self.shared], f"{name}.{kind}")
-        said = run([*tool, made, *WORDS.get(name, [])])
+        said = run([*tool, made, *self.words.get(name, [])])
         if not re.search(r"\b[1-9][0-9]* checks, 0 failed\n$", said):
             raise Failure(f"it didn't count its checks: {said}")
 
     def all(self):
         """Runs each test in each way, and builds the examples."""
         report, ways = self.report, []
+        words = ["python3", "-B", os.path.join(TESTING, "conversation_rows.py")]
+        words += [*self.words["conversations"], *CONVERSATIONS]
+        report.run("conversations for C", run, words)
         if has("gcc"):
             report.run("mysql_session.h, C99", self.header, C99)
             ways += [("C99", [*C99, "-O2"], [])]
@@ -88,13 +94,13 @@ def test_rust(report, library, room):
     if report.run("cargo build --examples", run, ["cargo", "build", "--offline", "--examples"],
                   **how):
         proxy = os.path.join(room, "target", "debug", "examples", "audit_proxy")
-        words = ["python3", os.path.join(BINDINGS, "testing", "recorded.py"), proxy, RECORDINGS]
+        words = ["python3", os.path.join(TESTING, "recorded.py"), proxy, RECORDINGS]
         report.run("recorded connections through the proxy", run, words)
 
 
 def three_machines(events, **how):
     """A client, a server and an auditor agree on random scripts; tells how many, and their seeds."""
-    words = ["python3", os.path.join(BINDINGS, "testing", "three_machines.py"), RECORDINGS]
+    words = ["python3", os.path.join(TESTING, "three_machines.py"), RECORDINGS]
     print("  " + run(words + (["--events", str(events)] if events else []), **how).strip()
           .replace("\n", "\n  "), flush=True)
 
@@ -110,11 +116,11 @@ def test_python(report, library, room, events=None):
                  *sorted(glob.glob(os.path.join(folder, "examples", "*.py")))]
         types = {**how["env"], "MYPYPATH": folder}
         report.run("types of Python", run, words, cwd=folder, env=types)
-    testing = os.path.join(BINDINGS, "testing")
-    words = ["python3", os.path.join(testing, "connections.py"), RECORDINGS,
-             os.path.join(testing, "payloads")]
-    report.run("payloads of connections", run, words, **how)
-    words = ["python3", os.path.join(testing, "codes.py"), "--check"]
+    for words in (["sessions"], ["values"], ["packets"], ["conversations", "--strange", "1000"]):
+        name, *others = words
+        words = ["python3", os.path.join(TESTING, name + ".py"), *others]
+        report.run(f"rows of {name}", run, words, **how)
+    words = ["python3", os.path.join(TESTING, "codes.py"), "--check"]
     report.run("the page of codes", run, words, **how)
     report.run("a client, a server and an auditor", three_machines, events, **how)
     for file in sorted(glob.glob(os.path.join(folder, "examples", "*.py"))):
@@ -176,10 +182,13 @@ class Programs:
 
 
 def test_documents(report, programs):
-    """Runs the programs of the documents; the README has one in each language."""
+    """Runs the programs of the documents, of which the README has one in each language, and looks at
+    their commands."""
     documents = [os.path.join(ROOT, "README.md"), os.path.join(BINDINGS, "README.md")]
     documents += sorted(glob.glob(os.path.join(BINDINGS, "*", "README.md")))
     documents += sorted(glob.glob(os.path.join(ROOT, "docs", "EXAMPLES_*.md")))
+    words = ["python3", os.path.join(TESTING, "commands.py")]
+    report.run("the commands of the documents", run, words)
     for file in documents:
         name, blocks = os.path.relpath(file, ROOT), blocks_of(file)
         for number, block in enumerate(blocks):

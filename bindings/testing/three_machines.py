@@ -17,6 +17,7 @@ import argparse
 import collections
 import glob
 import os
+import pathlib
 import random
 import sys
 
@@ -25,7 +26,7 @@ sys.path.insert(0, os.path.join(os.path.dirname(os.path.dirname(os.path.abspath(
 
 import mysql_session as ms  # noqa: E402  (found by the line above)
 from composing import LAST, Composer  # noqa: E402
-from connections import payloads_of, read_file  # noqa: E402
+from streams import framed, payloads_of  # noqa: E402
 
 EVENTS = 6000
 # A script's own end, where nothing ends the connection before.
@@ -62,15 +63,6 @@ def standing(connection):
 def statements(connection):
     """Returns the statements that a connection has, of those that scripts name."""
     return [connection.statement(it) for it in (1, 2, 3, 4, 5, 7, LAST)]
-
-
-def framed(payloads, first=0):
-    """Returns payloads as packets that go on from one another."""
-    packets = b""
-    for payload in payloads:
-        made, first = ms.put_packet(payload, first, 1 << 26)
-        packets += made
-    return packets
 
 
 def last_number(packets, before):
@@ -403,8 +395,10 @@ def say_long():
 def put_again(name):
     """Reads a recorded connection, puts each of its payloads, and compares the bytes; returns how
     many there are."""
-    streams = {side: read_file(f"{name}.{side.name.lower()}") for side in (CLIENT, SERVER)}
-    payloads = {side: payloads_of(stream) for side, stream in streams.items()}
+    streams = {side: pathlib.Path(f"{name}.{side.name.lower()}").read_bytes()
+               for side in (CLIENT, SERVER)}
+    payloads = {side: (payload for payload, _ in payloads_of(stream))
+                for side, stream in streams.items()}
     limits = {"client": 1 << 26, "server": 1 << 26, "held": 1 << 30}
     written = {side: b"" for side in streams}
     count = 0

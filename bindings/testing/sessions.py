@@ -1,0 +1,378 @@
+"""Rows of sessions: parameter sets sent, bound and recoded, streams audited, modes of servers.
+
+    sessions.py [FILE ..]
+
+Without a FILE it runs those of rows/sessions and of crates/conformance/data, which the program of
+crates/conformance reads too; rows.py says how rows are written, and a file's head what its rows
+are. Rows of calls that C hasn't are left out and counted: it has no floats, no values by names, and
+no receiver or writer of another language. Bytes are read in one piece, byte by byte and, where they
+are few, in pieces of each size; a fault has to stay.
+"""
+
+import json
+import os
+import re
+import sys
+
+sys.path.insert(0, os.path.join(os.path.dirname(os.path.dirname(os.path.abspath(__file__))),
+                                "python"))
+sys.dont_write_bytecode = True
+
+import mysql_session as ms
+from mysql_session import Code, EndKind, Mode, Road, Spelling
+from rows import Failure, Field, LeftOut, Report, compare, rows_of, words_for
+from streams import framed, pieces_of
+
+MODES = {"default": Mode(), "no-backslash-escapes": Mode(no_backslash_escapes=True),
+         "ansi-quotes": Mode(ansi_quotes=True), "both": Mode(True, True)}
+SPELLINGS = {"quoted": Spelling.QUOTED, "hexadecimal": Spelling.HEXADECIMAL}
+ROADS = {"text": Road.TEXT, "execute": Road.EXECUTE, "bulk": Road.BULK}
+ENDS = {EndKind.WHOLE: "whole", EndKind.UNFINISHED_PACKET: "unfinished packet",
+        EndKind.WAITING_PIECES: "waiting pieces"}
+KINDS = {"text": ms.ReplyKind.QUERY, "binary": ms.ReplyKind.EXECUTE,
+         "prepare": ms.ReplyKind.PREPARE}
+
+LONG = 32  # From how many bytes on equal ones are counted.
+SHORT = 100  # Up to how many bytes come in pieces of each size.
+MOST_PIECES = 20000  # Longer streams come in larger pieces than bytes.
+LIMIT = 1 << 24
+
+
+# ---- Values -------------------------------------------------------------------------------------
+
+
+def value_of(member):
+    """Returns the value of a member of a set in JSON; what C has not ends the row."""
+    if not isinstance(member, dict):
+        if isinstance(member, float):
+            raise LeftOut
+        return member
+    (name, what), = member.items()
+    if name == "bytes":
+        return Field(what).data
+    if name == "date":
+        return ms.DateFields(*what)
+    if name == "time":
+        return ms.TimeFields(bool(what[0]), *what[1:])
+    if name == "uint" and what >= 1 << 63:
+        return what
+    raise LeftOut
+
+
+def sets_of(field, query):
+    """Returns the sets of a field; values by names in the order of a query's places."""
+    names = re.findall(rb":([a-z_][a-z0-9_]*)", query)
+    sets = []
+    for given in json.loads(field.written):
+        if isinstance(given, dict):
+            if not names:
+                raise LeftOut
+            given = [given.get(name.decode(), LeftOut) for name in names]
+            if LeftOut in given:
+                raise LeftOut
+        elif names and given:
+            raise LeftOut
+        sets.append([value_of(it) for it in given])
+    return sets
+
+
+# ---- What is found ------------------------------------------------------------------------------
+
+
+def shown(data):
+    """Returns bytes as rows have them."""
+    count = ""
+    if len(data) >= LONG and data == data[:1] * len(data):
+        count, data = f"{len(data)} * ", data[:1]
+    if all(0x20 <= it < 0x7F and it != 0x22 for it in data):
+        return f'{count}"{data.decode()}"'
+    return count + "x" + data.hex()
+
+
+def set_lines(sets):
+    """Returns sets as rows have them, a line each."""
+    lines = []
+    for number, contents in enumerate(sets):
+        words = ["null" if it is None else shown(it) if isinstance(it, bytes) else str(it)
+                 for it in contents]
+        lines.append(" ".join([f"set {number}:", *words]))
+    return lines
+
+
+def camel(code, prefix):
+    """Returns a code's name as rows have it."""
+    return "".join(it.capitalize() for it in code.name[len(prefix):].split("_"))
+
+
+def end_line(end):
+    """Returns how a stream ends, as rows have it."""
+    if end.kind == EndKind.FAULT:
+        return f"end: fault {end.payload} {camel(end.fault, 'FAULT_')}"
+    return "end: " + ENDS[end.kind]
+
+
+def refusal_of(error):
+    """Returns why a call is refused, as rows have it."""
+    if error.code == Code.UNFINISHED:
+        name = "".join(it.capitalize() for it in ENDS[error.end].split())
+        return f"refused: Unfinished({name})"
+    if error.code.name.startswith("FAULT_"):
+        return f"refused: Stream({error.payload}, {camel(error.code, 'FAULT_')})"
+    name = camel(error.code, "REFUSED_" if error.code.name.startswith("REFUSED_") else "")
+    where = [str(it) for it in (error.set, error.place) if it is not None]
+    return f"refused: {name}" + (f"({', '.join(where)})" if where else "")
+
+
+def sizes_of(data):
+    """Returns the sizes of pieces in which bytes are read."""
+    if len(data) <= SHORT:
+        return range(1, max(1, len(data)) + 1)
+    return {len(data), len(data) // MOST_PIECES + 1}
+
+
+# ---- Streams of commands ------------------------------------------------------------------------
+
+
+def feed_staying(reader, data, size):
+    """Feeds a reader in pieces; the first fault has to be answered to each piece from then on."""
+    fault = None
+    for piece in pieces_of(data, size):
+        try:
+            reader.feed(piece)
+            if fault is not None:
+                raise Failure(f"{fault.name} doesn't stay")
+        except ms.MySQLSessionError as error:
+            if fault not in (None, error.code):
+                raise Failure(f"{fault.name} becomes {error.code}") from error
+            fault = error.code
+
+
+def audited(query, statement, limit, stream, size, mode):
+    """Returns what a stream says, as rows have it, by a receiver whose sets are taken at the end,
+    and by one whose sets are taken behind each piece."""
+    with ms.Receiver(query, statement, limit, mode=mode) as receiver:
+        feed_staying(receiver, stream, size)
+        end = receiver.end()
+        lines = set_lines(receiver.take()) + [end_line(end)]
+    with ms.Receiver(query, statement, limit, mode=mode) as receiver:
+        sets = []
+        for piece in pieces_of(stream, size):
+            try:
+                receiver.feed(piece)
+            except ms.MySQLSessionError:
+                pass
+            sets += receiver.take()
+        end = receiver.end()
+        compare(set_lines(sets + receiver.take()) + [end_line(end)], lines)
+    return lines
+
+
+def check_audit(query, statement, limit, stream, lines, mode=Mode()):
+    """Compares what a stream says with lines, the last of which may be about its fronts."""
+    stages = []
+    if lines and lines[-1].startswith("prefixes:"):
+        stages = [tuple(map(int, it.split(":"))) for it in lines[-1].split()[1:]]
+        lines = lines[:-1]
+    for size in sizes_of(stream):
+        found = audited(query, statement, limit, stream, size, mode)
+        compare(found, lines, f"in pieces of {size}")
+    for length in range(len(stream)) if stages else ():
+        behind = [sets for whole, sets in stages if whole <= length]
+        end = "whole" if length in dict(stages) else "unfinished packet"
+        wanted = lines[:behind[-1] if behind else 0] + ["end: " + end]
+        for size in {1, max(1, length)}:
+            found = audited(query, statement, limit, stream[:length], size, mode)
+            compare(found, wanted, f"its front of {length} bytes, in pieces of {size}")
+
+
+def run_audit(query, statement, limit, stream, *lines):
+    """Reads a stream of commands."""
+    check_audit(query.data, statement.number, limit.number, stream.data,
+                [it.written for it in lines])
+
+
+def run_send(road, query, statement, limit, sets, wanted, *lines):
+    """Sends sets, and reads them back where lines say so."""
+    query, statement, limit = query.data, statement.number, limit.number
+    road, sets = ROADS[road.text], sets_of(sets, query)
+    refused = wanted.written if wanted.text.startswith("refused:") else None
+    if refused and "Params" in refused:
+        raise LeftOut
+    try:
+        # A query of names is sent as the one with question marks that is prepared.
+        text = ms.positional(query) if b":" in query else query
+        stream = ms.send(text, sets, road, statement, limit)
+    except ms.MySQLSessionError as error:
+        compare(refusal_of(error), refused)
+        return
+    if refused:
+        raise Failure(f"it isn't {refused}")
+    compare(stream, wanted.data)
+    if lines:
+        check_audit(query, statement, limit, stream, [it.written for it in lines])
+
+
+def run_bind(query, sets, wanted):
+    """Binds the set of a field."""
+    query = query.data
+    refused = wanted.text.startswith("refused:")
+    if b":" in query:
+        raise LeftOut
+    try:
+        found = ms.bind_text(query, *sets_of(sets, query))
+    except ms.MySQLSessionError as error:
+        # Only one set is bound, which isn't counted.
+        compare(f"refused: {camel(error.code, 'REFUSED_')}"
+                + (f"({error.place})" if error.place is not None else ""), wanted.written)
+        return
+    compare(found, None if refused else wanted.data)
+
+
+def recoded(query, statement, limit, stream, size):
+    """Returns the executions of a stream in pieces of this size, or why there are none."""
+    try:
+        with ms.Recoder(query, statement, limit) as recoder:
+            found = [recoder.feed(it) for it in pieces_of(stream, size)]
+            return b"".join(found) + recoder.end()
+    except ms.MySQLSessionError as error:
+        return refusal_of(error)
+
+
+def run_recode(query, statement, limit, stream, wanted, *lines):
+    """Recodes a stream as executions."""
+    query, statement, limit = query.data, statement.number, limit.number
+    stream, refused = stream.data, wanted.text.startswith("refused:")
+    if refused and not {"PrepareTooLarge", "TooManyPlaces"} & set(wanted.words):
+        # A recoder says at once what speaks against its prepare.
+        if query.count(b"?") > 65535:
+            wanted = Field("refused: TooManyPlaces")
+        elif b":a ?" not in query and len(query) + 4 > limit:
+            wanted = Field("refused: PrepareTooLarge")
+    for size in sizes_of(stream):
+        compare(recoded(query, statement, limit, stream, size),
+                wanted.written if refused else wanted.data, f"in pieces of {size}")
+    if lines:
+        check_audit(query, statement, limit, wanted.data, [it.written for it in lines])
+
+
+# ---- Modes of servers ---------------------------------------------------------------------------
+
+
+def some_of(field, named):
+    """Returns what the words of a field name, all of them for `any`."""
+    words = field.words
+    return list(named.values()) if words == ["any"] else [named[it] for it in words]
+
+
+def run_text(modes, spellings, query, values, wanted, *lines):
+    """Writes a set as a text in each of these modes and spellings, and reads it back."""
+    query = query.data
+    values = [value_of(it) for it in json.loads(values.written)]
+    refused = wanted.text.startswith("refused:")
+    for mode in some_of(modes, MODES):
+        for spelling in some_of(spellings, SPELLINGS):
+            try:
+                text = ms.bind_text(query, values, mode=mode, spelling=spelling)
+            except ms.MySQLSessionError as error:
+                compare(refusal_of(error), wanted.written)
+                continue
+            compare(text, None if refused else wanted.data)
+            stream = ms.send(query, [values], Road.TEXT, mode=mode, spelling=spelling)
+            compare(stream, framed([b"\x03" + text]))
+            said = [it.written for it in lines]
+            check_audit(query, 1, LIMIT, stream, [*said, "end: whole"], mode)
+            # By a prepared statement the same is carried.
+            executed = ms.send(query, [values], Road.EXECUTE, mode=mode)
+            check_audit(query, 1, LIMIT, executed, [*said, "end: whole"], mode)
+
+
+def run_read(modes, query, text, *lines):
+    """Reads a text in each of these modes."""
+    for mode in some_of(modes, MODES):
+        check_audit(query.data, 1, LIMIT, framed([b"\x03" + text.data]),
+                    [it.written for it in lines], mode)
+
+
+def run_prepare(modes, query, wanted):
+    """Looks for the placeholders of a query in each of these modes."""
+    for mode in some_of(modes, MODES):
+        try:
+            found = shown(ms.positional(query.data, mode=mode))
+        except ms.MySQLSessionError as error:
+            found = refusal_of(error)
+        refused = wanted.text.startswith("refused:")
+        compare(found, wanted.written if refused else shown(wanted.data))
+
+
+def run_status(statuses, mode):
+    """Tells a server's mode by its status."""
+    for status in statuses.words:
+        compare(Mode.of(int(status, 16)), MODES[mode.text])
+
+
+def run_sql_mode(value, mode):
+    """Tells a server's mode by its variable."""
+    compare(Mode.of_sql_mode(value.data), MODES[mode.text])
+
+
+def run_collation(numbers, wanted):
+    """Says of collations whether texts may be quoted in them."""
+    for number in numbers.words:
+        compare("safe" if ms.is_safe_to_quote(int(number)) else "unsafe", wanted.text)
+
+
+# ---- Replies ------------------------------------------------------------------------------------
+
+
+def run_payloads(kind, capabilities, first, limit, payloads, columns, *lines):
+    """Reads a reply, which is listed by its payloads: how many columns it has, and its rows."""
+    kind, number = KINDS[kind.text], first.number
+    flags = sum(int(it, 16) for it in capabilities.words)
+    listed = []
+    for part in payloads.parts(";"):
+        times, _, payload = part.text.rpartition(" x ")
+        listed += [Field(payload, part.names).data] * int(times or 1)
+    stream = framed(listed, number)
+    for size in {len(stream), len(stream) // MOST_PIECES + 1}:
+        with ms.ReplyReader(kind, flags, number, limit.number) as reader:
+            feed_staying(reader, stream, size)
+            end = reader.end()
+            result, = reader.take()
+        compare(f"columns {len(result.columns)}", columns.written)
+        compare({it.type for it in result.columns}, {ms.ColumnType.LONGLONG})
+        found = [" ".join(["row:", f"{len(row)} x null"]) if set(row) == {None} else str(row)
+                 for row in result.rows]
+        found.append(f"end of rows: status {result.status:04x}" if result.ended else "goes on")
+        found.append("end: whole" if end.kind == EndKind.WHOLE else "end: unfinished")
+        compare(found, [it.written for it in lines])
+
+
+# ---- Files --------------------------------------------------------------------------------------
+
+RUNS = {"audit": run_audit, "send": run_send, "bind": run_bind, "recode": run_recode,
+        "text": run_text, "read": run_read, "prepare": run_prepare, "status": run_status,
+        "sql_mode": run_sql_mode, "collation": run_collation, "payloads": run_payloads}
+# Kinds of crates/conformance/data that C has no calls for, or that the tests in Python run.
+OTHERS = ("reply", "write", "contents", "query", "more", "objects", "held")
+
+
+def run_row(row):
+    """Runs a row, where C has its call."""
+    if row.head in OTHERS:
+        raise LeftOut
+    RUNS[row.head](*row.fields)
+
+
+def main():
+    words = words_for(__doc__, "crates/conformance/data/*.txt",
+                      "bindings/testing/rows/sessions/*.txt")
+    report = Report()
+    for file in words.parse_args().files:
+        for row in rows_of(file):
+            report.run(row.place, run_row, row)
+    print(f"{report.left_out} left out, of calls that C hasn't")
+    return report.end()
+
+
+if __name__ == "__main__":
+    sys.exit(main())
