@@ -1,10 +1,11 @@
 //! Attributes of a connection.
 
-use crate::support::{Asserting, assert_each_refused, assert_makes, assert_texts, one_text};
+use crate::copies::ATTRIBUTE;
+use crate::support::{Asserting, assert_reads, assert_texts, one_text};
 use mysql_fields::WireError;
 use mysql_login::ConnectAttributes;
 use std::alloc::{AllocError, Global};
-use tests_support::{Assert, assert_made, assert_reads_back, once_more, whole};
+use tests_support::{Assert, assert_made, once_more, whole};
 
 // Asserts that these bytes are attributes whose texts, one after another, are the wanted bytes.
 fn assert_read(assert: &impl Assert, alloc: Global, bytes: &[u8], wanted: &[u8]) {
@@ -21,24 +22,9 @@ const READ: [(&[u8], &[u8]); 2] = [
     (b"\x08\x01\xff\x011\x01\xfe\x012", b"\xef\xbf\xbd2"),
 ];
 
-#[test]
-fn texts_that_are_read(rt: HostRuntime) {
-    let assert = Asserting(&rt);
-    for (bytes, wanted) in READ {
-        assert_read(&assert, rt.alloc(), bytes, wanted);
-    }
-}
-
 // One attribute.
 fn attribute(alloc: Global) -> Result<ConnectAttributes<'static>, AllocError> {
     ConnectAttributes::from_texts(alloc, one_text(alloc, "key", "value")?)
-}
-
-const ATTRIBUTE: &[u8] = b"\x0a\x03key\x05value";
-
-// The attribute, which borrows its bytes.
-fn read(assert: &impl Assert, alloc: Global) -> ConnectAttributes<'static> {
-    whole::<ConnectAttributes, ()>(assert, alloc, (), ATTRIBUTE)
 }
 
 // The first total ends within a value, the second past the bytes, the third is the largest.
@@ -52,9 +38,12 @@ const OTHER_TOTALS: [(&[u8], WireError); 3] = [
 ];
 
 #[test]
-fn after_their_total(rt: HostRuntime) {
+fn attributes(rt: HostRuntime) {
     let assert = Asserting(&rt);
     let alloc = rt.alloc();
+    for (bytes, wanted) in READ {
+        assert_read(&assert, alloc, bytes, wanted);
+    }
     assert_made(
         &assert,
         alloc,
@@ -62,20 +51,5 @@ fn after_their_total(rt: HostRuntime) {
         attribute(alloc),
         ATTRIBUTE,
     );
-    assert_reads_back::<ConnectAttributes, ()>(&assert, alloc, (), ATTRIBUTE);
-    assert_each_refused::<ConnectAttributes>(&assert, alloc, &OTHER_TOTALS);
-}
-
-#[test]
-fn copies(rt: HostRuntime) {
-    let assert = Asserting(&rt);
-    let alloc = rt.alloc();
-    let all = read(&assert, alloc);
-    assert_makes(&assert, all.clone(alloc), all.clone(alloc), all);
-    assert_makes(
-        &assert,
-        read(&assert, alloc).into_owned(alloc),
-        read(&assert, alloc).into_owned(alloc),
-        read(&assert, alloc),
-    );
+    assert_reads::<ConnectAttributes>(&assert, alloc, ATTRIBUTE, 0, &OTHER_TOTALS);
 }

@@ -1,36 +1,25 @@
-//! Tests of `mysql_login` and the crates below it from outside: worked packets of logging in and of
-//! replication, sets of global transaction identifiers, and packets that are cut off at each byte.
+//! Tests of `mysql_login` and the crates below it from outside: what only Rattle has of packets of
+//! logging in and of replication, and of sets of global transaction identifiers. What such packets
+//! say, and which fronts of them are refused, stands in rows: bindings/testing/rows.
 #![tactic(auto)]
 
 #[cfg(test)]
 mod attributes;
 #[cfg(test)]
-mod authentication;
+mod copies;
 #[cfg(test)]
-mod change_of_user;
-#[cfg(test)]
-mod dumps;
-#[cfg(test)]
-mod gtid_blocks;
-#[cfg(test)]
-mod gtid_dumps;
+mod gtids;
 #[cfg(test)]
 mod handshakes;
 #[cfg(test)]
 mod headers;
 #[cfg(test)]
+mod made;
+#[cfg(test)]
+mod packets;
+#[cfg(test)]
 mod plugins;
-#[cfg(test)]
-mod registration;
-#[cfg(test)]
-mod requests;
 #[cfg(test)]
 mod responses;
 #[cfg(test)]
-mod sids;
-#[cfg(test)]
-mod ssl_requests;
-#[cfg(test)]
 mod support;
-#[cfg(test)]
-mod tags;

@@ -1,9 +1,9 @@
 //! Plugins and what they send.
 
-use crate::support::{Asserting, assert_makes, copy_of};
+use crate::support::Asserting;
 use mysql_auth::without_zero;
 use mysql_login::{AuthPlugin, AuthPluginData, parse_parsec_salt};
-use std::alloc::{AllocError, Global};
+use std::alloc::Global;
 use std::borrow::CowSlice;
 use tests_support::{Assert, assert_bytes, assert_equal, assert_same, assert_written, whole};
 
@@ -50,12 +50,9 @@ fn named_plugins(rt: HostRuntime) {
         assert_named(&assert, rt.alloc(), *with_zero, plugin);
     }
     drop(rows);
-}
-
-#[test]
-fn one_zero_is_taken_off(rt: HostRuntime) {
+    // One zero is taken off.
     let two_zeros = AuthPlugin::from_bytes(b"parsec\x00\x00");
-    assert_bytes(&Asserting(&rt), two_zeros.as_bytes(), b"parsec\x00");
+    assert_bytes(&assert, two_zeros.as_bytes(), b"parsec\x00");
     drop(two_zeros);
 }
 
@@ -71,14 +68,6 @@ const SALTS: [(&[u8], Option<(u32, &[u8; 18])>); 6] = [
     (b"P\x03abcdefghijklmnopq", None),
     (b"P\x03abcdefghijklmnopqrs", None),
 ];
-
-#[test]
-fn salts(rt: HostRuntime) {
-    let assert = Asserting(&rt);
-    for (packet, wanted) in SALTS {
-        assert_same(&assert, &parse_parsec_salt(packet), &wanted);
-    }
-}
 
 // Asserts that a plugin takes this payload or refuses it, and what the plugin is then.
 fn assert_data(
@@ -97,8 +86,11 @@ fn parsec() -> AuthPlugin<'static> {
 }
 
 #[test]
-fn data_of_a_packet(rt: HostRuntime) {
+fn salts(rt: HostRuntime) {
     let assert = Asserting(&rt);
+    for (packet, wanted) in SALTS {
+        assert_same(&assert, &parse_parsec_salt(packet), &wanted);
+    }
     assert_data(&assert, parsec(), b"P", false, parsec());
     let told = AuthPlugin::MariadbParsec {
         iterations: 8192,
@@ -112,24 +104,6 @@ fn data_of_a_packet(rt: HostRuntime) {
         false,
         AuthPlugin::MysqlNativePassword,
     );
-}
-
-#[test]
-fn plugins_owned(rt: HostRuntime) {
-    let assert = Asserting(&rt);
-    let alloc = rt.alloc();
-    let plugin = dialog();
-    assert_makes(&assert, plugin.clone(alloc), plugin.clone(alloc), plugin);
-    assert_makes(
-        &assert,
-        dialog().into_owned(alloc),
-        dialog().into_owned(alloc),
-        dialog(),
-    );
-}
-
-fn dialog() -> AuthPlugin<'static> {
-    AuthPlugin::from_bytes(b"dialog")
 }
 
 fn clear() -> AuthPluginData<'static> {
@@ -154,20 +128,4 @@ fn data_sent(rt: HostRuntime) {
         assert_written(&assert, rt.alloc(), sent, *bytes);
     }
     drop(rows);
-}
-
-#[test]
-fn data_owned(rt: HostRuntime) {
-    let assert = Asserting(&rt);
-    let alloc = rt.alloc();
-    assert_makes(
-        &assert,
-        clear().into_owned(alloc),
-        clear().into_owned(alloc),
-        clear(),
-    );
-    // A copy that owns its bytes gives them on without memory.
-    let sent = clear();
-    let copy = copy_of(&assert, sent.clone(alloc), sent.clone(alloc), sent);
-    assert_makes(&assert, copy.into_owned(alloc), Err(AllocError), clear());
 }

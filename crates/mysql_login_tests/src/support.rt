@@ -63,14 +63,14 @@ pub fn copy_of<T: Drop>(
     copy
 }
 
-/// What stands before a value is written.
+//// What stands before a value is written.
 const FRONT: &[u8] = b"front";
 
 /// Asserts that a value is written as these bytes behind what stands, which stays where memory is refused too.
-fn assert_written_behind<T: MySerialize>(
+pub fn assert_writes<T: MySerialize + Drop>(
     assert: &impl Assert,
     alloc: Global,
-    value: &T,
+    value: T,
     bytes: &[u8],
 ) {
     let mut out = once_more(
@@ -86,38 +86,18 @@ fn assert_written_behind<T: MySerialize>(
     assert_bytes(assert, out.get(FRONT.len()..).unwrap_or(&[]), bytes);
 }
 
-/// Asserts that a value is written as these bytes.
-pub fn assert_writes<T: MySerialize + Drop>(
+/// Asserts that bytes are read as a packet and written again. Each front shorter than `len` is cut
+/// off, and each of the other bytes is refused for its cause.
+pub fn assert_reads<'a, T: MySerialize + MyDeserialize<'a> + Readable<Ctx = ()> + Drop>(
     assert: &impl Assert,
     alloc: Global,
-    value: T,
-    bytes: &[u8],
-) {
-    assert_written_behind(assert, alloc, &value, bytes);
-}
-
-/// Asserts that a packet is written as these bytes, and read from them.
-///
-/// What is read is written as the same bytes, and each prefix shorter than `len` is cut off.
-pub fn assert_packet<'a, T: MySerialize + MyDeserialize<'a> + Readable<Ctx = ()> + Drop>(
-    assert: &impl Assert,
-    alloc: Global,
-    packet: T,
     bytes: &'a [u8],
     len: usize,
+    refused: &[(&'a [u8], WireError)],
 ) {
-    assert_written_behind(assert, alloc, &packet, bytes);
     assert_reads_back::<T, ()>(assert, alloc, (), bytes);
     assert_cut_off::<T, ()>(assert, alloc, (), bytes, 0, len);
-}
-
-/// Asserts that each of these bytes is refused for its cause.
-pub fn assert_each_refused<'a, T: MyDeserialize<'a> + Readable<Ctx = ()> + Drop>(
-    assert: &impl Assert,
-    alloc: Global,
-    rows: &[(&'a [u8], WireError)],
-) {
-    for (bytes, cause) in rows {
+    for (bytes, cause) in refused {
         assert_refused::<T, ()>(assert, alloc, (), *bytes, *cause);
     }
 }

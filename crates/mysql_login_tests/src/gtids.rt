@@ -1,9 +1,81 @@
-//! Sets of global transaction identifiers read from texts and printed.
+//! Sets of global transaction identifiers, as bytes and as texts, and tags of texts.
 
-use crate::support::Asserting;
-use mysql_login::{GnoInterval, Sid, SidError};
+use crate::support::{Asserting, assert_reads, assert_writes, set, tagged_set, untagged_set};
+use mysql_fields::WireError;
+use mysql_login::{GnoInterval, InvalidTag, Sid, SidBlock, SidError, Tag, UUID_LEN};
 use std::alloc::{AllocError, Global};
-use tests_support::{Assert, assert_bytes, assert_equal, assert_same, once_more};
+use std::borrow::{CowSlice, CowStr};
+use std::cmp::Ordering;
+use tests_support::{Assert, assert_bytes, assert_equal, assert_same, once_more, whole};
+
+// A set with the transactions 1 to 99.
+const SET: &[u8] =
+    b"aaaaaaaaaaaaaaaa\x01\x00\x00\x00\x00\x00\x00\x00\x01\x00\x00\x00\x00\x00\x00\x00\x64\x00\x00\x00\x00\x00\x00\x00";
+
+// More intervals than there are bytes.
+const MANY_INTERVALS: [(&[u8], WireError); 1] = [(
+    b"aaaaaaaaaaaaaaaa\xff\xff\xff\xff\xff\xff\xff\xff",
+    WireError::UnexpectedEof,
+)];
+
+// A block of two sets.
+const BLOCK: &[u8] =
+    b"\x00\x02\x00\x00\x00\x00\x00\x01aaaaaaaaaaaaaaaa\x06app\x01\x00\x00\x00\x00\x00\x00\x00\x01\
+    \x00\x00\x00\x00\x00\x00\x00\x64\x00\x00\x00\x00\x00\x00\x00bbbbbbbbbbbbbbbb\x00\x01\x00\x00\
+    \x00\x00\x00\x00\x00\x01\x00\x00\x00\x00\x00\x00\x00\x32\x00\x00\x00\x00\x00\x00\x00";
+
+// A set is written without its tag; a block of sets has the length that it tells.
+#[test]
+fn sets_and_blocks(rt: HostRuntime) {
+    let assert = Asserting(&rt);
+    let alloc = rt.alloc();
+    assert_reads::<Sid>(&assert, alloc, SET, SET.len(), &MANY_INTERVALS);
+    let read = whole::<Sid, ()>(&assert, alloc, (), SET);
+    assert_equal(
+        &assert,
+        read,
+        set(&assert, alloc, *b"aaaaaaaaaaaaaaaa", 100),
+    );
+    assert_writes(&assert, alloc, tagged_set(&assert, alloc), SET);
+    assert_reads::<SidBlock>(&assert, alloc, BLOCK, BLOCK.len(), &[]);
+    let sids = [tagged_set(&assert, alloc), untagged_set(&assert, alloc)];
+    let block = SidBlock(CowSlice::Borrowed(&sids));
+    assert_equal(&assert, block.byte_len() as usize, BLOCK.len());
+    assert_writes(&assert, alloc, block, BLOCK);
+    drop(sids);
+}
+
+// A tag makes a set another one.
+#[test]
+fn parts_of_sets(rt: HostRuntime) {
+    let assert = Asserting(&rt);
+    let alloc = rt.alloc();
+    let interval = whole::<GnoInterval, ()>(&assert, alloc, (), &SET[24..]);
+    assert_equal(&assert, (interval.start(), interval.end()), (1, 100));
+    assert_writes(&assert, alloc, interval, &SET[24..]);
+    assert_equal(&assert, GnoInterval::check_and_new(1, 100), Ok(interval));
+    // Of ends that are no interval's the start that isn't below the end is told first.
+    let rows = [
+        (5, 5, Err(SidError::StartNotBelowEnd)),
+        (0, 0, Err(SidError::StartNotBelowEnd)),
+        (0, 1, Err(SidError::ZeroGno)),
+    ];
+    for (start, end, wanted) in rows {
+        assert_equal(&assert, GnoInterval::check_and_new(start, end), wanted);
+    }
+    let (plain, tagged) = (
+        set(&assert, alloc, *b"aaaaaaaaaaaaaaaa", 100),
+        tagged_set(&assert, alloc),
+    );
+    assert.holds(plain != tagged);
+    assert_equal(&assert, plain.uuid(), *b"aaaaaaaaaaaaaaaa");
+    assert.holds(plain.tag().is_none());
+    assert_equal(&assert, tagged.tag().map(|tag| tag.as_str()), Some("app"));
+    drop(plain);
+    drop(tagged);
+}
+
+// ---- Texts ----
 
 // The set of a text.
 fn parsed(assert: &impl Assert, alloc: Global, text: &str) -> Sid<'static> {
@@ -14,9 +86,8 @@ fn printed(alloc: Global, sid: &Sid<'_>) -> Result<String, AllocError> {
     format!(in alloc; "{sid}")
 }
 
-// Asserts that a text is read as a set, which is printed as this text.
-fn assert_printed(assert: &impl Assert, alloc: Global, text: &str, wanted: &str) {
-    let sid = parsed(assert, alloc, text);
+// Asserts that a set is printed as this text.
+fn assert_prints(assert: &impl Assert, alloc: Global, sid: Sid<'static>, wanted: &str) {
     let found = once_more(assert, printed(alloc, &sid), printed(alloc, &sid));
     drop(sid);
     assert_bytes(assert, found.as_str().as_bytes(), wanted.as_bytes());
@@ -66,7 +137,8 @@ fn printed_sets(rt: HostRuntime) {
         ),
     ];
     for (text, wanted) in rows {
-        assert_printed(&assert, rt.alloc(), text, wanted);
+        let sid = parsed(&assert, rt.alloc(), text);
+        assert_prints(&assert, rt.alloc(), sid, wanted);
     }
 }
 
@@ -94,20 +166,20 @@ fn sets_of_any_intervals(rt: HostRuntime) {
         of_intervals(alloc, &intervals),
     );
     assert_same(&assert, &sid.intervals(), &intervals.as_slice());
-    let found = once_more(&assert, printed(alloc, &sid), printed(alloc, &sid));
-    drop(sid);
-    let wanted = b"61626364-6566-6768-696a-6b6c6d6e6f70:5-0:0-0:7-6:3-8";
-    assert_bytes(&assert, found.as_str().as_bytes(), wanted);
-}
-
-#[test]
-fn intervals_of_a_text(rt: HostRuntime) {
-    let assert = Asserting(&rt);
-    let text = "3E11FA47-71CA-11E1-9E33-C80AA9429562:1-5:10-15";
+    assert_prints(
+        &assert,
+        alloc,
+        sid,
+        "61626364-6566-6768-696a-6b6c6d6e6f70:5-0:0-0:7-6:3-8",
+    );
+    let sid = parsed(
+        &assert,
+        alloc,
+        "3E11FA47-71CA-11E1-9E33-C80AA9429562:1-5:10-15",
+    );
     let wanted = [GnoInterval::new(1, 6), GnoInterval::new(10, 16)];
-    let sid = parsed(&assert, rt.alloc(), text);
-    assert.holds(sid.tag().is_none());
     assert_same(&assert, &sid.intervals(), &wanted.as_slice());
+    assert.holds(sid.tag().is_none());
     drop(sid);
 }
 
@@ -214,5 +286,68 @@ fn refused_texts(rt: HostRuntime) {
     ];
     for (text, cause) in rows {
         assert_fault(&assert, rt.alloc(), text, cause);
+    }
+}
+
+// ---- Tags ----
+
+// A text as a tag, twice: by either call.
+pub fn tag<'a>(assert: &impl Assert, text: &'a str) -> Tag<'a> {
+    once_more(
+        assert,
+        Tag::try_from(text),
+        Tag::new(CowStr::Borrowed(text)),
+    )
+}
+
+#[test]
+fn tags(rt: HostRuntime) {
+    let assert = Asserting(&rt);
+    for text in ["_", "domain_1", "abcdefghijklmnopqrstuvwxyz123456"] {
+        let tag = tag(&assert, text);
+        assert.holds(tag.as_str() == text);
+        let made = Tag::new(CowStr::Borrowed(text)).ok();
+        assert_equal(&assert, made, Some(tag));
+    }
+    assert_equal(&assert, (Tag::MAX_LEN, UUID_LEN), (32, 16));
+}
+
+// Texts of tags in their order, which is that of their bytes.
+const IN_ORDER: [&str; 6] = ["_", "a", "a1", "a_", "aa", "b"];
+
+// Asserts how two texts are ordered as tags.
+fn assert_order(assert: &impl Assert, texts: (&str, &str), wanted: Ordering) {
+    let (one, other) = (tag(assert, texts.0), tag(assert, texts.1));
+    let found = (one.cmp(&other), one.partial_cmp(&other));
+    drop(one);
+    drop(other);
+    assert_equal(assert, found, (wanted, Some(wanted)));
+}
+
+#[test]
+fn tags_in_order(rt: HostRuntime) {
+    let assert = Asserting(&rt);
+    for at in 1..6 {
+        let (one, other) = (IN_ORDER[at - 1], IN_ORDER[at]);
+        assert_order(&assert, (one, other), Ordering::Less);
+        assert_order(&assert, (other, one), Ordering::Greater);
+        assert_order(&assert, (one, one), Ordering::Equal);
+    }
+}
+
+#[test]
+fn refused_tags(rt: HostRuntime) {
+    let assert = Asserting(&rt);
+    let rows = [
+        ("", InvalidTag::Empty),
+        ("abcdefghijklmnopqrstuvwxyzabcdefg", InvalidTag::TooLong(33)),
+        ("1tag", InvalidTag::InvalidFirstChar('1')),
+        ("tAg", InvalidTag::InvalidChar('A')),
+        ("t\u{e9}g", InvalidTag::InvalidChar('\u{e9}')),
+    ];
+    for (text, fault) in rows {
+        assert_equal(&assert, Tag::try_from(text).err(), Some(fault));
+        let found = Tag::new(CowStr::Borrowed(text)).err();
+        assert_equal(&assert, found, Some(fault));
     }
 }
