@@ -1,0 +1,34 @@
+//! Queries: their tokens, the server's mode, and texts over them.
+//!
+//! That `+5` is no number, which a wrong reader takes for one, is a law of `mysql_queries`
+//! (`content_of_a_spelling`).
+
+ghost use Rattle.mysql_session_witnesses.specs.Queries.{EachBitTellsItsMode, IdentifiersHaveNoEscapes};
+ghost use Rattle.mysql_session_witnesses.specs.Queries.{PiecesFollowLiteralsAtOnce};
+
+use mysql_queries::laws::tokens_of_a_text;
+
+/// In ANSI_QUOTES an identifier in double quotes has no escapes: `"\" ?` has a placeholder.
+///
+/// Excluded: a reader that takes double quotes for a string's in each mode.
+pub fn identifiers_have_no_escapes()
+    ensures { IdentifiersHaveNoEscapes }
+{
+    tokens_of_a_text();
+}
+
+/// The bit 200 of a status tells NO_BACKSLASH_ESCAPES, and 8000 ANSI_QUOTES.
+///
+/// Excluded: the two exchanged.
+pub fn each_bit_tells_its_mode()
+    ensures { EachBitTellsItsMode }
+{}
+
+/// `1x 2` is no text over the query `? ?`: a piece of the query follows its literal at once.
+///
+/// Excluded: a reader that looks for the piece further on.
+pub fn pieces_follow_literals_at_once()
+    ensures { PiecesFollowLiteralsAtOnce }
+{
+    tokens_of_a_text();
+}
