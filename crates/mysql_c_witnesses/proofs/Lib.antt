@@ -1,0 +1,3 @@
+pub mod AboutCommands
+pub mod AboutConnections
+pub mod AboutReplies

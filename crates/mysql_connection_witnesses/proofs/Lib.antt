@@ -1,0 +1,5 @@
+pub mod AboutSteps
+pub mod AboutStreams
+pub mod AboutPuts
+pub mod AboutReceiving
+pub mod AboutReplies
