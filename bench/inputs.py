@@ -9,7 +9,6 @@ ROWS = 1_000_000
 CELL_ROWS = 1_000
 BEFORE, BETWEEN, AFTER = b"INSERT INTO people (id, name, note, age) VALUES (", b", ", b")"
 QUERY = BEFORE + BETWEEN.join([b"?"] * 4) + AFTER
-NAMED = BEFORE + BETWEEN.join([b":a", b":b", b":c", b":d"]) + AFTER
 # Of both sides, logged in: long passwords, the protocol of 4.1, transactions, its passwords, plugins.
 CAPABILITIES = 0x8a201
 LONG = b"SELECT " + b", ".join(b"column%d" % i for i in range(800)) + b" FROM people WHERE id = ? AND name = ? AND note = ? AND age = ?"
@@ -152,7 +151,6 @@ def noise(i):
 os.makedirs(OUT, exist_ok=True)
 every = [values(i) for i in range(SETS)]
 write("query", QUERY)
-write("named", NAMED)
 write("long", LONG)
 write_sets("sets", every)
 # Two sets, each of more bytes than a chunk has room for, so that their texts go as long data.
@@ -169,7 +167,6 @@ send-text-listed text query sets 10000 100
 send-text-apart text query sets 10000 100
 send-text-kept text query sets 10000 100
 send-text-one text query sets 1 1000000
-send-text-named text named sets 10000 100
 send-text-long text long sets 10000 10
 send-text-plain text query plain 1000 100
 send-text-plain-listed text query plain 1000 100

@@ -12,7 +12,6 @@ BUILD, ROUNDS = sys.argv[1], int(sys.argv[2]) if len(sys.argv) > 2 else 5
 HERE = os.path.dirname(os.path.abspath(__file__))
 SIDES = {
     "library": ["./library"],
-    "through-c": ["./through_c"],
     "c": ["./hand_written"],
     "rust": ["./hand_written_rust"],
     "mariadb": ["./libmariadb"],
@@ -22,7 +21,6 @@ SIDES = {
 HAND = ["library", "c", "rust"]
 LISTS = [*HAND, "mariadb"]
 CLIENTS = [*LISTS, "go"]
-THROUGH_C = ["library", "through-c"]
 WORKLOADS = {
     "frame-16M": HAND,
     "frame-100": HAND,
@@ -32,8 +30,9 @@ WORKLOADS = {
     "send-text": [*CLIENTS, "python"],
     "send-text-listed": LISTS,
     "send-text-apart": HAND,
+    "send-text-one": ["library"],
+    "send-execute-one": ["library"],
     "send-text-kept": CLIENTS,
-    "send-text-named": ["library"],
     "send-text-long": CLIENTS,
     "send-text-plain": [*CLIENTS, "python"],
     "send-text-plain-listed": LISTS,
@@ -84,16 +83,6 @@ WORKLOADS = {
     "put-rows-binary": ["library"],
     "write-reply-text": ["library", "rust"],
     "write-reply-binary": ["library", "rust"],
-    "send-text-through-c": THROUGH_C,
-    "send-execute-through-c": THROUGH_C,
-    "send-bulk-through-c": THROUGH_C,
-    "send-text-apart-through-c": THROUGH_C,
-    "send-text-one-through-c": THROUGH_C,
-    "send-execute-one-through-c": THROUGH_C,
-    "receive-texts-taken-through-c": THROUGH_C,
-    "receive-executes-taken-through-c": THROUGH_C,
-    "reply-text-taken-through-c": THROUGH_C,
-    "reply-binary-taken-through-c": THROUGH_C,
     "cells-text-by-number": HAND,
     "cells-text-by-name": HAND,
     "cells-binary-by-number": HAND,
@@ -112,7 +101,9 @@ def once(side, workload):
     words = [*SIDES[side], "inputs", "1", workload]
     ran = subprocess.run(words, cwd=BUILD, capture_output=True, text=True)
     if ran.returncode:
-        print(f"# {workload}: {side} failed: {ran.stderr.strip()[-200:]}", flush=True)
+        # One line alone, since each that isn't a time begins with #; the last one says what failed.
+        *_, why = ["", *ran.stderr.strip().splitlines()]
+        print(f"# {workload}: {side} failed: {why[-200:]}", flush=True)
     for line in ran.stdout.splitlines():
         _, who, _, processor, check = line.split()
         if check == "0":

@@ -1,63 +1,61 @@
 // Runs the library's workloads: library INPUTS ROUNDS WORKLOAD..
-#include "measure.h"
+// By its interface for C; what that doesn't have, as a query that is kept and calls that take a type, goes by the exports of mysql_bench.
+#include "calls.h"
 
 typedef const unsigned char *Pointer;
 
-size_t mysql_bench_frame(Pointer, size_t, size_t, size_t);
-size_t mysql_bench_split(Pointer, size_t, size_t);
 size_t mysql_bench_places(Pointer, size_t, size_t);
-size_t mysql_bench_send(Pointer, size_t, Pointer, size_t, size_t, size_t, _Bool, uint8_t, size_t, size_t);
-size_t mysql_bench_send_kept(Pointer, size_t, Pointer, size_t, size_t, size_t, _Bool, uint8_t, size_t, size_t);
-size_t mysql_bench_send_to(Pointer, size_t, Pointer, size_t, size_t, size_t, _Bool, uint8_t, size_t);
+size_t mysql_bench_send_kept(Pointer, size_t, Pointer, size_t, size_t, size_t, uint8_t, size_t, size_t);
+size_t mysql_bench_send_to(Pointer, size_t, Pointer, size_t, size_t, size_t, uint8_t, size_t);
 size_t mysql_bench_send_more(Pointer, size_t, Pointer, size_t, size_t, size_t, size_t);
 size_t mysql_bench_send_values(Pointer, size_t, Pointer, size_t, size_t, size_t, uint8_t, size_t);
-size_t mysql_bench_receive(Pointer, size_t, Pointer, size_t, size_t);
-size_t mysql_bench_receive_taken(Pointer, size_t, Pointer, size_t, Pointer, size_t, size_t, size_t);
-size_t mysql_bench_recode(Pointer, size_t, Pointer, size_t);
-size_t mysql_bench_read_reply(Pointer, size_t, size_t, _Bool);
 size_t mysql_bench_lend_rows(Pointer, size_t, size_t, _Bool);
 size_t mysql_bench_store_rows(Pointer, size_t, size_t, _Bool);
 size_t mysql_bench_write_reply(Pointer, size_t, _Bool, _Bool, size_t);
-size_t mysql_bench_read_reply_taken(Pointer, size_t, Pointer, size_t, size_t, size_t, _Bool);
-size_t mysql_bench_read_connection(Pointer, size_t, Pointer, size_t, size_t);
 size_t mysql_bench_read_connection_lent(Pointer, size_t, Pointer, size_t, size_t);
-size_t mysql_bench_read_apart(Pointer, size_t, Pointer, size_t, Pointer, size_t, size_t, size_t, _Bool);
 size_t mysql_bench_cells(Pointer, size_t, _Bool, _Bool, size_t);
 size_t mysql_bench_put_commands(Pointer, size_t, Pointer, size_t, Pointer, size_t, size_t);
 size_t mysql_bench_put_sets(Pointer, size_t, Pointer, size_t, Pointer, size_t, size_t, size_t, Pointer, size_t, size_t);
-size_t mysql_bench_put_sent(Pointer, size_t, Pointer, size_t, size_t, size_t, uint8_t, size_t, Pointer, size_t, Pointer, size_t, size_t);
-size_t mysql_bench_put_events(Pointer, size_t, Pointer, size_t, size_t);
-size_t mysql_bench_put_rows(Pointer, size_t, Pointer, size_t, size_t);
+size_t mysql_bench_put_rows(Pointer, size_t, Pointer, size_t, Pointer, size_t, Pointer, size_t, size_t, size_t, _Bool, size_t);
 int64_t mysql_bench_convert(Pointer, size_t, size_t, size_t);
+
+#define OK_PACKET "\7\0\0\1\0\0\0\2\0\0\0"
+#define TWO_OK_PACKETS "\7\0\0\1\0\0\0\12\0\0\0\7\0\0\2\0\0\0\2\0\0\0"
+
+static Bytes of_text(const char *text, size_t len) { return (Bytes){(unsigned char *)text, len}; }
 
 static void send_sets(const char *what, Work work, int rounds) {
     Bytes query = load(work.query), sets = load(work.sets);
-    uint8_t road = strcmp(work.road, "text") == 0 ? 0 : strcmp(work.road, "execute") == 0 ? 1 : 2;
+    uint8_t road = strcmp(work.road, "text") == 0 ? MYSQL_SESSION_TEXT : strcmp(work.road, "execute") == 0 ? MYSQL_SESSION_EXECUTE : MYSQL_SESSION_BULK;
     double units = (double)work.count * work.times;
-    size_t at_once = BEGINS("send-text-apart") ? 1 : work.count;
-    // By bulk, and beside the interface for C, into one list too.
-    _Bool listed = ENDS("-listed") || BEGINS("send-text-apart") || road == 2 || strstr(what, "through-c");
-    _Bool by_name = strstr(what, "named") != 0;
-    if (ENDS("-kept") && road == 1) {
+    // By bulk too into one list.
+    _Bool listed = ENDS("-listed") || ENDS("-apart") || ENDS("-one") || road == MYSQL_SESSION_BULK;
+    if (ENDS("-kept") && road == MYSQL_SESSION_EXECUTE) {
         MEASURE("library", units, mysql_bench_send_more(query.at, query.len, sets.at, sets.len, work.count, WIDTH, work.times))
     } else if (ENDS("-kept")) {
-        MEASURE("library", units, mysql_bench_send_kept(query.at, query.len, sets.at, sets.len, work.count, WIDTH, by_name, road, 1, work.times))
+        MEASURE("library", units, mysql_bench_send_kept(query.at, query.len, sets.at, sets.len, work.count, WIDTH, road, 1, work.times))
     } else if (BEGINS("send-values")) {
         MEASURE("library", units, mysql_bench_send_values(query.at, query.len, sets.at, sets.len, work.count, WIDTH, road, work.times))
     } else if (listed) {
-        MEASURE("library", units, mysql_bench_send(query.at, query.len, sets.at, sets.len, work.count, WIDTH, by_name, road, at_once, work.times))
+        size_t at_once = ENDS("-apart") ? 1 : work.count;
+        mysql_session_handle *all = sets_of(load_values(work.sets, work.count * WIDTH), work.count, WIDTH, at_once);
+        MEASURE("library", units, send_all(all, work.count / at_once, query, road, work.times))
     } else {
-        MEASURE("library", units, mysql_bench_send_to(query.at, query.len, sets.at, sets.len, work.count, WIDTH, by_name, road, work.times))
+        MEASURE("library", units, mysql_bench_send_to(query.at, query.len, sets.at, sets.len, work.count, WIDTH, road, work.times))
     }
 }
 
 // Both streams of a connection, and their commands and replies alone; a reply has so many bytes.
 typedef struct { Bytes client, server, commands, replies; size_t reply; } Streams;
 
+static Bytes first_packet(Bytes stream) {
+    return (Bytes){stream.at, 4 + (stream.at[0] | stream.at[1] << 8)};
+}
+
 static Streams streams_of(const char *what) {
     _Bool rows = BEGINS("connection-rows"), executions = ENDS("-executions");
     Bytes none = {0}, commands = executions ? repeated(load("prepare"), load("executes"), 1) : load("texts");
-    if (rows) commands.len = 4 + (commands.at[0] | commands.at[1] << 8);
+    if (rows) commands = first_packet(commands);
     Bytes replies = load(rows ? "reply-text" : executions ? "replies-binary" : "replies-text");
     Bytes before = repeated(load("login-server"), executions ? load("prepared") : none, 1);
     Bytes client = repeated(load("login-client"), commands, 1), server = repeated(before, replies, 1);
@@ -69,60 +67,65 @@ static void lend_connection(const char *what, int rounds) {
     Bytes query = load("query");
     Streams all = streams_of(what);
     MEASURE("library", (double)ROWS, mysql_bench_read_connection_lent(all.client.at, all.client.len, all.server.at, all.server.len, PIECE))
-    MEASURE("apart", (double)ROWS, mysql_bench_receive_taken(query.at, query.len, all.commands.at, 0, all.commands.at, all.commands.len, 1, PIECE) + mysql_bench_lend_rows(all.replies.at, all.replies.len, PIECE, 0))
+    MEASURE("apart", (double)ROWS, receive(query, all.commands, PIECE, 1) + mysql_bench_lend_rows(all.replies.at, all.replies.len, PIECE, 0))
 }
 
 static void read_connection(const char *what, int rounds) {
     Bytes query = load("query");
     Streams all = streams_of(what);
     double units = ENDS("-rows") ? ROWS : CONNECTION_COMMANDS;
-    MEASURE("library", units, mysql_bench_read_connection(all.client.at, all.client.len, all.server.at, all.server.len, PIECE))
-    MEASURE("apart", units, mysql_bench_read_apart(query.at, query.len, all.commands.at, all.commands.len, all.replies.at, all.replies.len, all.reply, PIECE, ENDS("-executions")))
+    MEASURE("library", units, read_whole_connection(all.client, all.server, PIECE))
+    MEASURE("apart", units, read_apart(query, all.commands, all.replies, all.reply, PIECE, ENDS("-executions")))
 }
 
-#define OK_PACKET "\7\0\0\1\0\0\0\2\0\0\0"
-
-// Sets sent by a query that is kept, put packet by packet, and the reply to each command read; beside them the same sets
-// sent, which reads no reply. By text each set by a call, by the other roads all sets.
-static void put_sent(const char *what, int rounds) {
-    static const unsigned char OK[] = OK_PACKET;
+// Sets sent by a call, by text each by a call of its own, put packet by packet, and the reply to each command read; beside
+// them the same sets sent, which reads no reply.
+static void put_packets(const char *what, int rounds) {
     _Bool text = ENDS("-text"), data = ENDS("-long-data");
-    uint8_t road = text ? 0 : ENDS("-bulk") ? 2 : 1;
-    Bytes query = load("query"), sets = load(data ? "sets-long-data" : "sets"), first = text ? (Bytes){(unsigned char *)OK, sizeof OK - 1} : load("prepared");
+    uint8_t road = text ? MYSQL_SESSION_TEXT : ENDS("-bulk") ? MYSQL_SESSION_BULK : MYSQL_SESSION_EXECUTE;
+    Bytes query = load("query"), reply = of_text(OK_PACKET, sizeof OK_PACKET - 1), first = text ? reply : load("prepared");
     size_t count = data ? LONG_DATA_SETS : CONNECTION_COMMANDS, at_once = text ? 1 : count;
     double units = (double)count * PUT_TIMES;
-    MEASURE("library", units, mysql_bench_put_sent(query.at, query.len, sets.at, sets.len, count, WIDTH, road, at_once, first.at, first.len, OK, sizeof OK - 1, PUT_TIMES))
-    MEASURE("sent", units, mysql_bench_send_kept(query.at, query.len, sets.at, sets.len, count, WIDTH, 0, road, at_once, PUT_TIMES))
+    mysql_session_handle *sets = sets_of(load_values(data ? "sets-long-data" : "sets", count * WIDTH), count, WIDTH, at_once);
+    MEASURE("library", units, put_sent(sets, count / at_once, query, road, first, reply, PUT_TIMES))
+    MEASURE("sent", units, send_all(sets, count / at_once, query, road, PUT_TIMES))
 }
 
-// Commands put on a connection, and the reply to each read: an OK packet, or two of them, so that the replies' part is
-// known. Beside them the same sets sent by a query that is kept, which reads no reply.
+// Commands put on a connection as events, and the reply to each read: an OK packet, or two of them, so that the replies'
+// part is known. Beside them their payloads put, and the same sets sent by a query that is kept, which reads no reply.
 static void put_commands(const char *what, int rounds) {
-    static const unsigned char OK[] = OK_PACKET, OKS[] = "\7\0\0\1\0\0\0\12\0\0\0\7\0\0\2\0\0\0\2\0\0\0";
     _Bool executions = ENDS("-executions");
     Bytes query = load("query"), sets = load("sets"), commands = executions ? repeated(load("prepare"), load("executes"), 1) : load("texts");
+    Bytes ok = of_text(OK_PACKET, sizeof OK_PACKET - 1), two = of_text(TWO_OK_PACKETS, sizeof TWO_OK_PACKETS - 1), first = executions ? load("prepared") : ok;
     double units = (double)CONNECTION_COMMANDS * PUT_TIMES;
-    Bytes first = executions ? load("prepared") : (Bytes){(unsigned char *)OK, sizeof OK - 1};
-    MEASURE("library", units, mysql_bench_put_commands(commands.at, commands.len, first.at, first.len, OK, sizeof OK - 1, PUT_TIMES))
-    if (!executions) first = (Bytes){(unsigned char *)OKS, sizeof OKS - 1};
-    MEASURE("two-replies", units, mysql_bench_put_commands(commands.at, commands.len, first.at, first.len, OKS, sizeof OKS - 1, PUT_TIMES))
+    MEASURE("library", units, mysql_bench_put_commands(commands.at, commands.len, first.at, first.len, ok.at, ok.len, PUT_TIMES))
+    MEASURE("payloads", units, put_commands_of(commands, first, ok, PUT_TIMES))
+    if (!executions) first = two;
+    MEASURE("two-replies", units, mysql_bench_put_commands(commands.at, commands.len, first.at, first.len, two.at, two.len, PUT_TIMES))
     if (executions) {
-        MEASURE("sets", units, mysql_bench_put_sets(commands.at, commands.len, first.at, first.len, sets.at, sets.len, CONNECTION_COMMANDS, WIDTH, OK, sizeof OK - 1, PUT_TIMES))
+        MEASURE("sets", units, mysql_bench_put_sets(commands.at, commands.len, first.at, first.len, sets.at, sets.len, CONNECTION_COMMANDS, WIDTH, ok.at, ok.len, PUT_TIMES))
         MEASURE("sent", units, mysql_bench_send_more(query.at, query.len, sets.at, sets.len, CONNECTION_COMMANDS, WIDTH, PUT_TIMES))
     } else {
-        MEASURE("sent", units, mysql_bench_send_kept(query.at, query.len, sets.at, sets.len, CONNECTION_COMMANDS, WIDTH, 0, 0, 1, PUT_TIMES))
+        MEASURE("sent", units, mysql_bench_send_kept(query.at, query.len, sets.at, sets.len, CONNECTION_COMMANDS, WIDTH, 0, 1, PUT_TIMES))
     }
 }
 
-// A reply of many rows put on a connection event by event, and the same results written by one call.
+// The place behind the packets of a stream, so many of them.
+static size_t behind_packets(Bytes stream, size_t count) {
+    size_t at = 0;
+    for (size_t i = 0; i < count; i++) at += 4 + (stream.at[at] | stream.at[at + 1] << 8 | stream.at[at + 2] << 16);
+    return at;
+}
+
+// A reply of many rows put on a connection, each by its cells, and the same result written by one call.
 static void put_rows(const char *what, int rounds) {
     _Bool binary = ENDS("-binary");
-    Bytes none = {0}, stream = load(binary ? "cells-binary" : "cells-text"), one = load(binary ? "executes" : "texts");
-    one.len = 4 + (one.at[0] | one.at[1] << 8);
-    Bytes client = binary ? repeated(load("prepare"), one, 1) : one, server = repeated(binary ? load("prepared") : none, stream, 1);
+    Bytes none = {0}, stream = load(binary ? "cells-binary" : "cells-text"), command = first_packet(load(binary ? "executes" : "texts"));
+    Bytes prepare = binary ? load("prepare") : repeated(none, none, 0), prepared = binary ? load("prepared") : prepare;
+    // The packets before the rows: the count, the columns, and their end.
+    size_t from = behind_packets(stream, WIDTH + 2), to = behind_packets(stream, WIDTH + 2 + CELL_ROWS);
     double units = (double)CELL_ROWS * CELL_TIMES;
-    MEASURE("library", units, mysql_bench_put_rows(client.at, client.len, server.at, server.len, CELL_TIMES))
-    MEASURE("events", units, mysql_bench_put_events(client.at, client.len, server.at, server.len, CELL_TIMES))
+    MEASURE("library", units, mysql_bench_put_rows(prepare.at, prepare.len, prepared.at, prepared.len, command.at, command.len, stream.at, stream.len, from, to, binary, CELL_TIMES))
     MEASURE("written", units, mysql_bench_write_reply(stream.at, stream.len, binary, binary, CELL_TIMES))
 }
 
@@ -132,24 +135,24 @@ static void run(const char *what, int rounds) {
     size_t copies = bytewise ? BYTEWISE_COPIES : COPIES, piece = bytewise ? 1 : PIECE;
     if (IS("frame-16M")) {
         Bytes one = payload(16000000);
-        MEASURE("library", 1024e6, mysql_bench_frame(one.at, one.len, 64, 1))
+        MEASURE("library", 1024e6, frame(one, 64, 1))
     } else if (IS("frame-100")) {
         Bytes one = payload(100);
-        MEASURE("library", 1e9, mysql_bench_frame(one.at, one.len, 10000000, 65536))
+        MEASURE("library", 1e9, frame(one, 10000000, 65536))
     } else if (BEGINS("split")) {
         Bytes stream = IS("split-16M") ? framed(16000000, 64) : framed(100, 2560000);
-        MEASURE("library", (double)stream.len, mysql_bench_split(stream.at, stream.len, PIECE))
+        MEASURE("library", (double)stream.len, split(stream))
     } else if (IS("places")) {
         Bytes query = load("query");
         MEASURE("library", 1e6, mysql_bench_places(query.at, query.len, 1000000))
     } else if (BEGINS("receive")) {
         Bytes query = load("query"), stream = commands(what, copies);
         // Beside a reader from which sets are taken, the one that keeps them all.
-        if (taken) MEASURE("library", 1e4 * copies, mysql_bench_receive_taken(query.at, query.len, stream.at, 0, stream.at, stream.len, 1, piece))
-        MEASURE(taken ? "kept" : "library", 1e4 * copies, mysql_bench_receive(query.at, query.len, stream.at, stream.len, piece))
+        if (taken) MEASURE("library", 1e4 * copies, receive(query, stream, piece, 1))
+        MEASURE(taken ? "kept" : "library", 1e4 * copies, receive(query, stream, piece, 0))
     } else if (BEGINS("recode")) {
         Bytes query = load("query"), stream = commands(what, copies);
-        MEASURE("library", 1e4 * copies, mysql_bench_recode(query.at, query.len, stream.at, stream.len))
+        MEASURE("library", 1e4 * copies, recode(query, stream))
     } else if (BEGINS("reply") && ENDS("-lent")) {
         Bytes stream = load(binary ? "reply-binary" : "reply-text");
         MEASURE("library", (double)ROWS, mysql_bench_lend_rows(stream.at, stream.len, piece, binary))
@@ -158,8 +161,8 @@ static void run(const char *what, int rounds) {
         MEASURE("library", (double)ROWS, mysql_bench_store_rows(stream.at, stream.len, piece, binary))
     } else if (BEGINS("reply")) {
         Bytes stream = load(binary ? "reply-binary" : "reply-text");
-        if (taken) MEASURE("library", (double)ROWS, mysql_bench_read_reply_taken(stream.at, 0, stream.at, stream.len, 1, piece, binary))
-        MEASURE(taken ? "kept" : "library", (double)ROWS, mysql_bench_read_reply(stream.at, stream.len, piece, binary))
+        if (taken) MEASURE("library", (double)ROWS, read_reply(stream, piece, binary, 1))
+        MEASURE(taken ? "kept" : "library", (double)ROWS, read_reply(stream, piece, binary, 0))
     } else if (BEGINS("write-reply")) {
         Bytes stream = load("cells-binary");
         MEASURE("library", (double)CELL_ROWS * CELL_TIMES, mysql_bench_write_reply(stream.at, stream.len, 1, binary, CELL_TIMES))
@@ -173,7 +176,7 @@ static void run(const char *what, int rounds) {
     } else if (BEGINS("put-rows")) {
         put_rows(what, rounds);
     } else if (BEGINS("put-sets")) {
-        put_sent(what, rounds);
+        put_packets(what, rounds);
     } else if (BEGINS("put")) {
         put_commands(what, rounds);
     } else if (IS("connection-rows-lent")) {
@@ -188,6 +191,7 @@ static void run(const char *what, int rounds) {
 }
 
 int main(int argc, char **argv) {
+    if (mysql_session_abi() != MYSQL_SESSION_ABI) return 2;
     INPUTS = argv[1];
     for (int i = 3; i < argc; i++) run(argv[i], atoi(argv[2]));
     return 0;

@@ -38,13 +38,10 @@ typedef struct { char name[32], road[32], query[32], sets[32]; size_t count, tim
 
 __attribute__((unused)) static int find_work(const char *what, Work *work) {
     char path[4096];
-    // The same work through the interface for C.
-    const char *through = strstr(what, "-through-c");
-    size_t len = through ? (size_t)(through - what) : strlen(what);
     snprintf(path, sizeof path, "%s/works", INPUTS);
     FILE *file = fopen(path, "r");
     while (file && fscanf(file, "%31s %31s %31s %31s %zu %zu", work->name, work->road, work->query, work->sets, &work->count, &work->times) == 6)
-        if (strlen(work->name) == len && strncmp(work->name, what, len) == 0) return fclose(file), 1;
+        if (strcmp(work->name, what) == 0) return fclose(file), 1;
     if (file) fclose(file);
     return 0;
 }

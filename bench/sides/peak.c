@@ -1,17 +1,8 @@
 // The most memory that a call holds at a time, over the input's bytes and over what it holds when it has taken its last block, which
 // is what is kept and the reader's own; and that of readers from which what stands is taken behind each piece: peak INPUTS
 // Linked with --wrap, so that it counts each block with what malloc adds.
-#include "measure.h"
+#include "calls.h"
 #include <malloc.h>
-
-typedef const unsigned char *Pointer;
-
-size_t mysql_bench_receive(Pointer, size_t, Pointer, size_t, size_t);
-size_t mysql_bench_receive_taken(Pointer, size_t, Pointer, size_t, Pointer, size_t, size_t, size_t);
-size_t mysql_bench_read_reply(Pointer, size_t, size_t, _Bool);
-size_t mysql_bench_read_reply_taken(Pointer, size_t, Pointer, size_t, size_t, size_t, _Bool);
-size_t mysql_bench_split(Pointer, size_t, size_t);
-size_t mysql_bench_read_long_connection(Pointer, size_t, Pointer, size_t, Pointer, size_t, size_t, size_t);
 
 static size_t held, most, last, calls;
 
@@ -64,10 +55,10 @@ static Bytes filled(const char *front, size_t front_len, int byte, size_t count,
 static void commands_of_one_value(void) {
     Bytes query = {(void *)"SELECT ?", 8};
     Bytes stream = packet(0, filled("\3SELECT '", 9, 'a', 16000000, "'"));
-    PEAK("a text with a string of 16 MB, one piece", stream.len, mysql_bench_receive(query.at, query.len, stream.at, stream.len, stream.len));
-    PEAK("the same in pieces of 64 KiB", stream.len, mysql_bench_receive(query.at, query.len, stream.at, stream.len, PIECE));
+    PEAK("a text with a string of 16 MB, one piece", stream.len, receive(query, stream, stream.len, 0));
+    PEAK("the same in pieces of 64 KiB", stream.len, receive(query, stream, PIECE, 0));
     stream = packet(0, filled("\3SELECT 0x", 10, '7', 16000000, ""));
-    PEAK("a text with 16 MB of hexadecimal", stream.len, mysql_bench_receive(query.at, query.len, stream.at, stream.len, PIECE));
+    PEAK("a text with 16 MB of hexadecimal", stream.len, receive(query, stream, PIECE, 0));
 }
 
 // Streams that are as long as wanted: a front, and then a block again and again, which alone is held here.
@@ -81,14 +72,14 @@ static size_t length(Endless all, size_t times) { return all.front.len + times *
 static void receive_taken(const char *what, Endless all, size_t most_len) {
     for (size_t len = SHORTEST; len <= most_len; len *= 10) {
         size_t times = len / all.block.len + 1;
-        PEAK(what, length(all, times), mysql_bench_receive_taken(all.query.at, all.query.len, all.front.at, all.front.len, all.block.at, all.block.len, times, PIECE));
+        PEAK(what, length(all, times), receive_long(all.query, all.front, all.block, times, PIECE, 1));
     }
 }
 
 static void reply_taken(const char *what, Endless all, size_t most_len) {
     for (size_t len = SHORTEST; len <= most_len; len *= 10) {
         size_t times = len / all.block.len + 1;
-        PEAK(what, length(all, times), mysql_bench_read_reply_taken(all.front.at, all.front.len, all.block.at, all.block.len, times, PIECE, all.binary));
+        PEAK(what, length(all, times), read_reply_long(all.front, all.block, times, PIECE, all.binary, 1));
     }
 }
 
@@ -108,7 +99,7 @@ static Endless wide_executions(void) {
 static void wide_executions_kept(size_t times) {
     Endless all = wide_executions();
     Bytes stream = repeated(all.front, all.block, times);
-    PEAK("executes of 65535 NULLs without types", stream.len, mysql_bench_receive(all.query.at, all.query.len, stream.at, stream.len, PIECE));
+    PEAK("executes of 65535 NULLs without types", stream.len, receive(all.query, stream, PIECE, 0));
     free(stream.at);
 }
 
@@ -132,7 +123,7 @@ static void small_rows_kept(const char *what, unsigned char byte) {
     Bytes stream = repeated(all.front, all.block, 244);
     unsigned char end[9] = {5, 0, 0, 7, 0xfe, 0, 0, 2, 0};
     stream = repeated(stream, (Bytes){end, 9}, 1);
-    PEAK(what, stream.len, mysql_bench_read_reply(stream.at, stream.len, PIECE, 0));
+    PEAK(what, stream.len, read_reply(stream, PIECE, 0, 0));
     free(stream.at);
 }
 
@@ -153,7 +144,7 @@ static void wide_rows_kept(size_t times) {
     Bytes stream = repeated(all.front, all.block, times);
     unsigned char end[9] = {5, 0, 0, 2, 0xfe, 0, 0, 2, 0};
     stream = repeated(stream, (Bytes){end, 9}, 1);
-    PEAK("a reply of rows of 65535 NULLs", stream.len, mysql_bench_read_reply(stream.at, stream.len, PIECE, 1));
+    PEAK("a reply of rows of 65535 NULLs", stream.len, read_reply(stream, PIECE, 1, 0));
     free(stream.at);
 }
 
@@ -162,7 +153,7 @@ static void bulk_of_nulls(void) {
     static const char head[] = "\xfa\1\0\0\0\x80\0\x08\0";
     Bytes query = {(void *)"SELECT ?", 8}, front = packet(0, filled("\x16SELECT ?", 9, 0, 0, ""));
     Bytes block = packet(0, filled(head, 9, 1, 16000000, ""));
-    PEAK("one bulk request of 16 million NULLs, taken", front.len + block.len, mysql_bench_receive_taken(query.at, query.len, front.at, front.len, block.at, block.len, 1, PIECE));
+    PEAK("one bulk request of 16 million NULLs, taken", front.len + block.len, receive_long(query, front, block, 1, PIECE, 1));
 }
 
 // A statement's long data that no execution ever takes: what waits is held, also by a reader from which sets are taken.
@@ -171,7 +162,7 @@ static void waiting_pieces(void) {
     Bytes block = repeated(none, packet(0, filled("\x18\1\0\0\0\0", 6, 0, 1000, "")), 1000);
     size_t len = front.len + 64 * block.len;
     // Its end isn't whole, so that the count that is answered is 0.
-    PEAK("long data of 1000 bytes that waits, taken", len, mysql_bench_receive_taken(query.at, query.len, front.at, front.len, block.at, block.len, 64, PIECE));
+    PEAK("long data of 1000 bytes that waits, taken", len, receive_long(query, front, block, 64, PIECE, 1));
 }
 
 // A connection that logs in and asks for one reply, whose rows go on: events are taken and dropped.
@@ -181,7 +172,7 @@ static void connection_taken(const char *what, Endless rows, size_t most_len) {
     Bytes client = repeated(load("login-client"), command, 1), front = repeated(load("login-server"), rows.front, 1);
     for (size_t len = SHORTEST; len <= most_len; len *= 10) {
         size_t times = len / rows.block.len + 1;
-        PEAK(what, front.len + times * rows.block.len, mysql_bench_read_long_connection(client.at, client.len, front.at, front.len, rows.block.at, rows.block.len, times, PIECE));
+        PEAK(what, front.len + times * rows.block.len, read_long_connection(client, front, rows.block, times, PIECE));
     }
 }
 
@@ -201,25 +192,25 @@ int main(int argc, char **argv) {
     (void)argc;
     INPUTS = argv[1];
     Bytes query = load("query"), stream = commands("texts", 10);
-    PEAK("texts of 123 bytes, pieces of 64 KiB", stream.len, mysql_bench_receive(query.at, query.len, stream.at, stream.len, PIECE));
+    PEAK("texts of 123 bytes, pieces of 64 KiB", stream.len, receive(query, stream, PIECE, 0));
     stream = commands("executes", 10);
-    PEAK("executes of 85 bytes, pieces of 64 KiB", stream.len, mysql_bench_receive(query.at, query.len, stream.at, stream.len, PIECE));
+    PEAK("executes of 85 bytes, pieces of 64 KiB", stream.len, receive(query, stream, PIECE, 0));
     stream = commands("bulks", 10);
-    PEAK("bulk rows of 65 bytes, pieces of 64 KiB", stream.len, mysql_bench_receive(query.at, query.len, stream.at, stream.len, PIECE));
+    PEAK("bulk rows of 65 bytes, pieces of 64 KiB", stream.len, receive(query, stream, PIECE, 0));
     commands_of_one_value();
     wide_executions_kept(13);
     wide_executions_kept(64);
     stream = load("reply-text");
-    PEAK("a reply of rows of 46 bytes", stream.len, mysql_bench_read_reply(stream.at, stream.len, PIECE, 0));
+    PEAK("a reply of rows of 46 bytes", stream.len, read_reply(stream, PIECE, 0, 0));
     small_rows_kept("a reply of rows of four empty cells", 0);
     small_rows_kept("a reply of rows of four NULLs", 251);
     wide_rows_kept(2);
     stream = framed(16000000, 8);
-    PEAK("payloads of 16 MB split, pieces of 64 KiB", stream.len, mysql_bench_split(stream.at, stream.len, PIECE));
+    PEAK("payloads of 16 MB split, pieces of 64 KiB", stream.len, split(stream));
     stream = framed(100, 256000);
-    PEAK("payloads of 100 bytes split", stream.len, mysql_bench_split(stream.at, stream.len, PIECE));
+    PEAK("payloads of 100 bytes split", stream.len, split(stream));
     stream = framed(0, 2560000);
-    PEAK("empty payloads split", stream.len, mysql_bench_split(stream.at, stream.len, PIECE));
+    PEAK("empty payloads split", stream.len, split(stream));
     taken();
     return 0;
 }

@@ -1,12 +1,5 @@
 // Processor nanoseconds a byte over lengths of 10^3 to 10^8 bytes: scale INPUTS
-#include "measure.h"
-
-typedef const unsigned char *Pointer;
-
-size_t mysql_bench_send(Pointer, size_t, Pointer, size_t, size_t, size_t, _Bool, uint8_t, size_t, size_t);
-size_t mysql_bench_receive(Pointer, size_t, Pointer, size_t, size_t);
-size_t mysql_bench_recode(Pointer, size_t, Pointer, size_t);
-size_t mysql_bench_read_connection(Pointer, size_t, Pointer, size_t, size_t);
+#include "calls.h"
 
 enum { FEWEST = 1000, MOST = 100000000, LONGEST = 10000000, WORK = 100000000, WORK_BYTEWISE = 4000000 };
 
@@ -28,23 +21,17 @@ static void print(double before, size_t len, size_t times) {
         print(before_, len, times);                                        \
     } while (0)
 
-// A value of a set, a string of `len` bytes.
-static Bytes set_of_a_string(size_t len) {
-    Bytes set = {malloc(len + 5), len + 5};
-    unsigned char head[5] = {253, 0xfd, len, len >> 8, len >> 16};
-    memcpy(set.at, head, 5), memset(set.at + 5, 'a', len);
-    return set;
-}
-
 // A string sent by a road, by one call that does it often enough.
-static void sent(Bytes query, size_t len, uint8_t road) {
+static void sent(Bytes query, size_t len, uint32_t road) {
     if (len > LONGEST) { printf(" |"); return; }
-    Bytes set = set_of_a_string(len);
+    Bytes text = payload(len);
+    Value value = {.kind = TEXT, .at = text.at, .len = len};
+    mysql_session_handle *set = sets_of(&value, 1, 1, 1);
     size_t times = WORK / len;
     double before = now(CLOCK_PROCESS_CPUTIME_ID);
-    wrong += mysql_bench_send(query.at, query.len, set.at, set.len, 1, 1, 0, road, 1, times) == 0;
+    wrong += send_all(set, 1, query, road, times) == 0;
     print(before, len, times);
-    free(set.at);
+    mysql_session_free(set), free(set), free(text.at);
 }
 
 // A text query that carries it.
@@ -70,8 +57,8 @@ static void connection_of(size_t len) {
     Bytes command = load("texts"), rows = load("reply-text"), none = {0};
     command.len = 4 + (command.at[0] | command.at[1] << 8);
     Bytes client = repeated(load("login-client"), command, 1), server = repeated(load("login-server"), front_of(none, rows, len), 1);
-    COLUMN(LONGEST, WORK, mysql_bench_read_connection(client.at, client.len, server.at, server.len, PIECE));
-    COLUMN(LONGEST, WORK_BYTEWISE, mysql_bench_read_connection(client.at, client.len, server.at, server.len, 1));
+    COLUMN(LONGEST, WORK, read_whole_connection(client, server, PIECE));
+    COLUMN(LONGEST, WORK_BYTEWISE, read_whole_connection(client, server, 1));
     free(command.at), free(rows.at), free(client.at), free(server.at);
 }
 
@@ -82,12 +69,12 @@ static void row_of(size_t len) {
     printf("| %zu |", len);
     sent(one, len, 0);
     sent(one, len, 1);
-    COLUMN(LONGEST, WORK, mysql_bench_receive(one.at, one.len, text.at, text.len, PIECE));
-    COLUMN(LONGEST, WORK_BYTEWISE, mysql_bench_receive(one.at, one.len, text.at, text.len, 1));
-    COLUMN(MOST, WORK, mysql_bench_receive(query.at, query.len, texts.at, texts.len, PIECE));
-    COLUMN(MOST, WORK, mysql_bench_receive(query.at, query.len, commands.at, commands.len, PIECE));
-    COLUMN(LONGEST, WORK_BYTEWISE, mysql_bench_receive(query.at, query.len, commands.at, commands.len, 1));
-    COLUMN(MOST, WORK, mysql_bench_recode(query.at, query.len, commands.at, commands.len));
+    COLUMN(LONGEST, WORK, receive(one, text, PIECE, 0));
+    COLUMN(LONGEST, WORK_BYTEWISE, receive(one, text, 1, 0));
+    COLUMN(MOST, WORK, receive(query, texts, PIECE, 0));
+    COLUMN(MOST, WORK, receive(query, commands, PIECE, 0));
+    COLUMN(LONGEST, WORK_BYTEWISE, receive(query, commands, 1, 0));
+    COLUMN(MOST, WORK, recode(query, commands));
     connection_of(len);
     printf("\n");
     free(text.at), free(commands.at), free(texts.at);

@@ -14,7 +14,9 @@ __attribute__((unused)) static Value *load_values(const char *name, size_t count
         if (all[i].kind == NUMBER) memcpy(&all[i].number, at, 8), at += 8;
         if (all[i].kind == TEXT) {
             all[i].len = *at++;
-            if (all[i].len == 252) all[i].len = at[0] | at[1] << 8, at += 2;
+            // A longer length stands in the next 2, 3 or 8 bytes, little end first.
+            size_t more = all[i].len == 252 ? 2 : all[i].len == 253 ? 3 : all[i].len == 254 ? 8 : 0;
+            if (more) all[i].len = 0, memcpy(&all[i].len, at, more), at += more;
             all[i].at = at, at += all[i].len;
         }
     }

@@ -11,7 +11,7 @@ use std::alloc::Global;
 use std::fmt;
 
 /// An amount of money, which a column keeps as a whole number of cents.
-#[derive(Clone, Copy, Debug, PartialEq, Eq)]
+#[derive(Clone, Copy)]
 pub struct Cents(pub u64);
 
 impl fmt::Display for Cents {

@@ -5,13 +5,10 @@ ghost use Rattle.std.specs.Option.{option_map};
 ghost use Rattle.std.specs.String.{string_bytes};
 
 use crate::cents::Cents;
-use mysql_session::{
-    CapabilityFlags, FromRow, FromRowError, ReplyKind, ReplyResult, Row, RowConversionError,
-    from_row_opt, read_reply,
-};
+use mysql_session::{FromRow, Row, RowConversionError};
 use std::alloc::Global;
 use std::io;
-use std::io::{Read, Write};
+use std::io::Write;
 
 /// A row of goods.
 #[derive(Drop)]
@@ -43,47 +40,10 @@ fn say_good<W: Write>(good: &Good, out: &mut W) -> io::Result<()> {
     }
 }
 
-/// Prints a good, or why a row is none.
-fn say<W: Write>(good: Result<Good, FromRowError>, out: &mut W) -> io::Result<()> {
-    match &good {
+/// Prints a row as a good.
+pub fn say_row<W: Write>(alloc: Global, row: &Row, out: &mut W) -> io::Result<()> {
+    match &Good::from_row_ref_opt(alloc, row) {
         Ok(good) => say_good(good, out),
-        Err(error) => writeln!(out, "{error}"),
+        Err(_error) => writeln!(out, "no good"),
     }
-}
-
-/// The rows of a result.
-fn rows_of(alloc: Global, found: ReplyResult) -> Vec<Row> {
-    match found {
-        ReplyResult::Rows {
-            columns: _columns,
-            rows,
-            terminator: _terminator,
-        } => rows,
-        _other => Vec::new(alloc),
-    }
-}
-
-/// Prints each row as a good.
-fn say_rows<W: Write>(alloc: Global, rows: Vec<Row>, out: &mut W) -> anyhow::Result<()> {
-    for row in rows {
-        say(from_row_opt::<Good>(alloc, row)?, out)?;
-    }
-    Ok(())
-}
-
-/// Prints the goods of a server's reply to `SELECT name, price FROM goods`, which is all at hand.
-pub fn convert<R: Read, W: Write>(
-    alloc: Global,
-    stream: &mut R,
-    out: &mut W,
-) -> anyhow::Result<()> {
-    let capabilities = CapabilityFlags::CLIENT_PROTOCOL_41;
-    let mut bytes = Vec::new(alloc);
-    stream.read_to_end(&mut bytes)?;
-    let pieces = [bytes.as_slice()];
-    let reply = read_reply(alloc, ReplyKind::Text, capabilities, 1, 1 << 24, &pieces);
-    for result in reply.results {
-        say_rows(alloc, rows_of(alloc, result), out)?;
-    }
-    Ok(())
 }

@@ -1,24 +1,15 @@
 //! Short programs over the public calls, one in each file: they audit a captured stream, send a
-//! query, load rows in bulk, read a reply, make a struct of each row, log in, sort what a client
-//! sends, look on at what passes between a client and a server, answer in a server's place, let
-//! rows go that were looked at, keep a query, by which sets go to a connection, print what a client
-//! sends, watch a whole connection, and let a client and a server talk by a proxy.
+//! query, load rows in bulk, read a reply and make a struct of each row, watch a whole connection,
+//! and let a client and a server talk. docs/EXAMPLES.md has more.
 #![tactic(auto)]
 
-mod answering;
 mod auditing;
 mod cents;
 mod converting;
-mod keeping;
 mod loading;
-mod looking;
-mod printing;
-mod proxying;
 mod reading;
 mod running;
 mod sending;
-mod serving;
-mod sorting;
 mod talking;
 mod watching;
 

@@ -1,6 +1,7 @@
 //! Rows of a reply, read by the names of their columns.
 
 use crate::cents::Cents;
+use crate::converting;
 use mysql_session::{CapabilityFlags, Reply, ReplyKind, ReplyReader, ReplyResult, Row, RowExt};
 use std::alloc::Global;
 use std::io::{Read, Write};
@@ -27,6 +28,7 @@ fn say_result<W: Write>(alloc: Global, found: &ReplyResult, out: &mut W) -> anyh
         ReplyResult::Rows { rows, .. } => {
             for row in rows {
                 say_row(alloc, row, out)?;
+                converting::say_row(alloc, row, out)?;
             }
         }
         ReplyResult::Error(error) => writeln!(out, "{error}")?,

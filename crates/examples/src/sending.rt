@@ -17,18 +17,15 @@ fn sent(alloc: Global, query: &[u8], value: Value) -> anyhow::Result<Vec<u8>> {
 }
 
 /// Prints how many bytes are sent, or why nothing is.
-fn say<W: Write>(alloc: Global, query: &[u8], value: Value, out: &mut W) -> io::Result<()> {
-    match sent(alloc, query, value) {
+fn say<W: Write>(alloc: Global, query: &[u8], out: &mut W) -> io::Result<()> {
+    match sent(alloc, query, Value::Int(1)) {
         Ok(stream) => writeln!(out, "{} bytes", stream.len()),
         Err(refusal) => writeln!(out, "{refusal}"),
     }
 }
 
-/// Sends a query, and three that are refused.
+/// Sends a query, and one that is refused.
 pub fn send_both_roads<W: Write>(alloc: Global, out: &mut W) -> io::Result<()> {
-    say(alloc, b"SELECT :a", Value::Int(1), out)?;
-    say(alloc, b"SELECT :a, ?", Value::Int(1), out)?;
-    say(alloc, b"SELECT 1-:a", Value::Int(1), out)?;
-    say(alloc, b"SELECT :b", Value::Int(1), out)?;
-    say(alloc, b"SELECT :a", Value::Float(0), out)
+    say(alloc, b"SELECT :a", out)?;
+    say(alloc, b"SELECT :b", out)
 }

@@ -1,16 +1,14 @@
-//! A client, a server, and a proxy between them, each over a connection of its own; bytes go by
+//! A client and a server, each over a connection of its own, and who listens to both; bytes go by
 //! queues.
 
 use crate::watching::print_events;
 use mysql_connection::{
-    AuthenticationEvent, Command, Connection, Event, GreetingEvent, Limits, LoginResponse, Phase,
-    ReplyEvent, ResponseEvent, Side,
+    Capabilities, CapabilityFlags, Command, Connection, Event, Limits, MariadbCapabilities, Phase,
+    ReplyEvent, Side,
 };
-use mysql_login::{CapabilityFlags, Flags, HandshakePacket, HandshakeResponse};
-use mysql_session::{ByteString, OkPacket, StatusFlags};
+use mysql_session::{OkPacket, StatusFlags};
 use std::alloc::Global;
 use std::borrow::CowSlice;
-use std::collections::VecDeque;
 use std::io::Write;
 
 const LIMITS: Limits = Limits {
@@ -19,54 +17,11 @@ const LIMITS: Limits = Limits {
     held: 1 << 20,
 };
 
-/// What says that all went well.
-fn done() -> OkPacket<'static> {
-    OkPacket::new(
-        0,
-        None,
-        StatusFlags::SERVER_STATUS_AUTOCOMMIT,
-        0,
-        None,
-        None,
-    )
-}
-
-/// What both sides can do.
-fn capabilities() -> CapabilityFlags {
-    CapabilityFlags::CLIENT_PROTOCOL_41.union(CapabilityFlags::CLIENT_SECURE_CONNECTION)
-}
-
-/// The server's first packet.
-fn greeting() -> HandshakePacket<'static> {
-    HandshakePacket::new(
-        10,
-        CowSlice::Borrowed(b"8.0.0"),
-        1,
-        *b"01234567",
-        Some(CowSlice::Borrowed(b"890123456789\0")),
-        capabilities(),
-        45,
-        StatusFlags::SERVER_STATUS_AUTOCOMMIT,
-        None,
-    )
-}
-
-/// A login.
-fn login(alloc: Global) -> anyhow::Result<Event> {
-    let login = HandshakeResponse::new(
-        alloc,
-        Some(CowSlice::Borrowed(b"")),
-        (8, 0, 0),
-        Some(CowSlice::Borrowed(b"user")),
-        None,
-        None,
-        capabilities(),
-        None,
-        1 << 24,
-    )?;
-    let login = ResponseEvent::Login(LoginResponse::Whole(login));
-    Ok(Event::response(alloc, login)?)
-}
+/// What both sides can do: the protocol of 4.1, and nothing of MariaDB's own.
+const IN_FORCE: Capabilities = Capabilities {
+    protocol: CapabilityFlags(0x200),
+    mariadb: MariadbCapabilities(0),
+};
 
 /// A query.
 fn query(alloc: Global) -> anyhow::Result<Event> {
@@ -77,13 +32,11 @@ fn query(alloc: Global) -> anyhow::Result<Event> {
     Ok(Event::command(alloc, query)?)
 }
 
-/// What a client says: it logs in, asks, and quits.
-fn script(alloc: Global) -> anyhow::Result<VecDeque<Event>> {
-    let mut script = VecDeque::new(alloc);
-    script.push_back(login(alloc)?)?;
-    script.push_back(query(alloc)?)?;
-    script.push_back(Event::command(alloc, Command::Quit)?)?;
-    Ok(script)
+/// The answer that all went well.
+fn done(alloc: Global) -> anyhow::Result<Event> {
+    let status = StatusFlags::SERVER_STATUS_AUTOCOMMIT;
+    let done = OkPacket::new(0, None, status, 0, None, None);
+    Ok(Event::reply(alloc, ReplyEvent::Ok(done))?)
 }
 
 /// Reads what the other side said, of which only the turn matters here.
@@ -96,99 +49,89 @@ fn read_on(connection: &mut Connection) -> anyhow::Result<()> {
     Ok(())
 }
 
-/// A client: it reads what was answered, and says what comes next of its script.
-fn ask(
-    connection: &mut Connection,
-    script: &mut VecDeque<Event>,
-    to_server: &mut Vec<u8>,
-) -> anyhow::Result<()> {
+/// A client: it reads what was answered, and says what it has to say.
+fn ask(connection: &mut Connection, event: &Event, to_server: &mut Vec<u8>) -> anyhow::Result<()> {
     read_on(connection)?;
     if connection.turn() == Some(Side::Client) {
-        if let Some(event) = script.pop_front() {
-            connection.put(&event, to_server)?;
-        }
+        connection.put(event, to_server)?;
     }
     Ok(())
 }
 
-/// A server: it reads what was asked, and answers by what is due.
+/// A server: it reads what was asked, and answers where a reply is due.
 fn answer(
     alloc: Global,
     connection: &mut Connection,
     to_client: &mut Vec<u8>,
 ) -> anyhow::Result<()> {
     read_on(connection)?;
-    let event = match connection.phase() {
-        Phase::Greeting => Event::greeting(alloc, GreetingEvent::Greeting(greeting()))?,
-        Phase::Authentication => {
-            Event::authentication(alloc, AuthenticationEvent::Accepted(done()))?
+    match connection.phase() {
+        Phase::Reply => {
+            connection.put(&done(alloc)?, to_client)?;
+            Ok(())
         }
-        Phase::Reply => Event::reply(alloc, ReplyEvent::Ok(done()))?,
-        _ => return Ok(()),
-    };
-    connection.put(&event, to_client)?;
-    Ok(())
+        _ => Ok(()),
+    }
 }
 
-/// A proxy: it prints what a side says, and passes it on.
+/// Who listens: it prints what a side says, and passes it on.
 fn pass<W: Write>(
-    proxy: &mut Connection,
+    listening: &mut Connection,
     side: Side,
     queue: &mut Vec<u8>,
     other: &mut Connection,
     out: &mut W,
 ) -> anyhow::Result<()> {
-    proxy.feed(side, queue.as_slice())?;
-    print_events(proxy, out)?;
+    listening.feed(side, queue.as_slice())?;
+    print_events(listening, out)?;
     other.feed(side, queue.as_slice())?;
     queue.clear();
     Ok(())
 }
 
-/// A client, a server and the proxy between them.
+/// A client, a server, and who listens to both.
 #[derive(Drop)]
 struct ThreeSides {
     client: Connection,
     server: Connection,
-    proxy: Connection,
+    listening: Connection,
 }
 
-/// Lets the server and the client say something, and passes it on.
-fn talk_on<W: Write>(
-    alloc: Global,
-    talk: &mut ThreeSides,
-    script: &mut VecDeque<Event>,
-    out: &mut W,
-) -> anyhow::Result<()> {
-    let mut queue = Vec::new(alloc);
-    answer(alloc, &mut talk.server, &mut queue)?;
-    pass(
-        &mut talk.proxy,
-        Side::Server,
-        &mut queue,
-        &mut talk.client,
-        out,
-    )?;
-    ask(&mut talk.client, script, &mut queue)?;
-    pass(
-        &mut talk.proxy,
-        Side::Client,
-        &mut queue,
-        &mut talk.server,
-        out,
-    )
-}
-
-/// Prints what a client and a server say, as the proxy between them sees it.
-pub fn talk<W: Write>(alloc: Global, out: &mut W) -> anyhow::Result<()> {
-    let mut script = script(alloc)?;
-    let mut talk = ThreeSides {
-        client: Connection::new(alloc, LIMITS),
-        server: Connection::new(alloc, LIMITS),
-        proxy: Connection::new(alloc, LIMITS),
-    };
-    for _ in 0..4 {
-        talk_on(alloc, &mut talk, &mut script, out)?;
+impl ThreeSides {
+    /// Lets the client say something and the server answer, and passes both on.
+    fn talk_on<W: Write>(
+        &mut self,
+        alloc: Global,
+        event: &Event,
+        out: &mut W,
+    ) -> anyhow::Result<()> {
+        let mut queue = Vec::new(alloc);
+        ask(&mut self.client, event, &mut queue)?;
+        pass(
+            &mut self.listening,
+            Side::Client,
+            &mut queue,
+            &mut self.server,
+            out,
+        )?;
+        answer(alloc, &mut self.server, &mut queue)?;
+        pass(
+            &mut self.listening,
+            Side::Server,
+            &mut queue,
+            &mut self.client,
+            out,
+        )
     }
-    Ok(())
+}
+
+/// Prints what a client and a server say behind a login, as who listens sees it.
+pub fn talk<W: Write>(alloc: Global, out: &mut W) -> anyhow::Result<()> {
+    let mut sides = ThreeSides {
+        client: Connection::after_login(alloc, LIMITS, IN_FORCE),
+        server: Connection::after_login(alloc, LIMITS, IN_FORCE),
+        listening: Connection::after_login(alloc, LIMITS, IN_FORCE),
+    };
+    sides.talk_on(alloc, &query(alloc)?, out)?;
+    sides.talk_on(alloc, &Event::command(alloc, Command::Quit)?, out)
 }

@@ -1,32 +1,41 @@
-//! Cells of rows, by number and by name.
+//! Cells of rows, by number and by name; and results written.
 
-use crate::replies::{reply_of, rows_of};
-use mysql_session::{ColumnIndex, FromValue, Row, RowExt};
+use crate::LIMIT;
+use crate::rows::{CAPABILITIES, kind_of};
+use mysql_session::{
+    ColumnIndex, Reply, ReplyEnd, ReplyResult, Row, RowExt, read_reply, write_reply,
+};
 use std::alloc::Global;
 
-/// The size of the pieces in which a reply comes.
-const PIECE: usize = 65536;
-
-/// A copy of a cell, converted.
-fn cell<T: FromValue + Drop, I: ColumnIndex>(alloc: Global, row: &Row, index: I) -> Option<T> {
-    match row.get_opt(alloc, index) {
-        Ok(Some(Ok(value))) => Some(value),
-        _ => None,
+/// The rows of the first result, where the reply is whole.
+pub fn rows_of(reply: &Reply) -> &[Row] {
+    match (reply.end, reply.results.first()) {
+        (
+            ReplyEnd::Whole,
+            Some(
+                ReplyResult::Rows {
+                    columns: _,
+                    rows,
+                    terminator: _,
+                },
+            ),
+        ) => rows,
+        _ => &[],
     }
 }
 
-/// How many bytes a cell has.
+/// How many bytes a copy of a cell has.
 fn text_len<I: ColumnIndex>(alloc: Global, row: &Row, index: I) -> usize {
-    match cell::<Vec<u8>, I>(alloc, row, index) {
-        Some(bytes) => bytes.len(),
-        None => 0,
+    match row.get_opt::<Vec<u8>, I>(alloc, index) {
+        Ok(Some(Ok(bytes))) => bytes.len(),
+        _ => 0,
     }
 }
 
 /// The number in a cell, or 0.
 fn number<I: ColumnIndex>(alloc: Global, row: &Row, index: I) -> usize {
-    match cell::<Option<u64>, I>(alloc, row, index) {
-        Some(Some(number)) => number as usize,
+    match row.get_opt::<Option<u64>, I>(alloc, index) {
+        Ok(Some(Ok(Some(number)))) => number as usize,
         _ => 0,
     }
 }
@@ -62,10 +71,52 @@ pub extern "C" fn mysql_bench_cells(
     by_name: bool,
     times: usize,
 ) -> usize {
-    let reply = reply_of(alloc, stream, PIECE, binary);
+    let reply = read_reply(alloc, kind_of(binary), CAPABILITIES, 1, LIMIT, &[stream]);
     let mut sum = 0;
     for _ in 0..times {
         sum = sum_of_rows(alloc, rows_of(&reply), by_name);
     }
     sum
+}
+
+/// Reads a reply with its rows in binary or as text, and writes its results so many times.
+///
+/// The rows are written in binary or as text, into a buffer that is emptied before each. Answers
+/// the bytes of one time.
+#[unsafe(no_mangle)]
+pub extern "C" fn mysql_bench_write_reply(
+    alloc: Global,
+    stream: &[u8],
+    read_binary: bool,
+    binary: bool,
+    times: usize,
+) -> usize {
+    let reply = read_reply(
+        alloc,
+        kind_of(read_binary),
+        CAPABILITIES,
+        1,
+        LIMIT,
+        &[stream],
+    );
+    let kind = kind_of(binary);
+    let mut out = Vec::new(alloc);
+    for _ in 0..times {
+        out.clear();
+        if write_reply(
+            alloc,
+            kind,
+            CAPABILITIES,
+            1,
+            LIMIT,
+            &reply.results,
+            &[],
+            &mut out,
+        )
+        .is_err()
+        {
+            return 0;
+        }
+    }
+    out.len()
 }

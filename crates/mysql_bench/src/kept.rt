@@ -2,11 +2,9 @@
 
 ghost use Rattle.std.specs.Prelude.{◌<◌};
 
-use crate::sending::road_of;
-use crate::sets::{sets_of, values_of};
-use crate::{LIMIT, STATEMENT};
+use crate::sets::{lists_of, sets_of};
+use crate::{LIMIT, STATEMENT, road_of};
 use mysql_session::{Params, Query, Road, Value};
-use mysql_wire::{ParseBuf, WireError};
 use std::alloc::Global;
 
 /// Sends the sets, so many by a call, into a buffer that is emptied before each call. Answers the bytes.
@@ -41,14 +39,13 @@ pub extern "C" fn mysql_bench_send_kept(
     bytes: &[u8],
     count: usize,
     width: usize,
-    by_name: bool,
     road: u8,
     at_once: usize,
     times: usize,
 ) -> usize
     requires { 0 < at_once }
 {
-    let Ok(sets) = sets_of(alloc, bytes, count, width, by_name) else {
+    let Ok(sets) = sets_of(alloc, bytes, count, width) else {
         return 0;
     };
     let Ok(query) = Query::new(alloc, query, STATEMENT) else {
@@ -74,21 +71,6 @@ fn sent_behind(alloc: Global, query: &Query<'_>, sets: &[Vec<Value>], out: &mut 
         written = written.wrapping_add(out.len());
     }
     written
-}
-
-/// So many sets of so many values each.
-pub fn lists_of(
-    alloc: Global,
-    bytes: &[u8],
-    count: usize,
-    width: usize,
-) -> Result<Vec<Vec<Value>>, WireError> {
-    let mut buf = ParseBuf(bytes);
-    let mut sets = Vec::new(alloc);
-    for _ in 0..count {
-        sets.push(values_of(alloc, &mut buf, width)?)?;
-    }
-    Ok(sets)
 }
 
 /// Sends the sets that the bytes hold as executions of one query that was prepared before.

@@ -1,8 +1,7 @@
 //! Lists of objects sent.
 
-use crate::sending::road_of;
 use crate::sets::values_of;
-use crate::{LIMIT, STATEMENT};
+use crate::{LIMIT, STATEMENT, road_of};
 use mysql_session::{Road, ToValue, send_values};
 use mysql_wire::{ParseBuf, WireError};
 use std::alloc::Global;

@@ -1,8 +1,7 @@
 //! Parameter sets sent to a writer by a query that is kept.
 
-use crate::sending::road_of;
 use crate::sets::sets_of;
-use crate::{LIMIT, STATEMENT};
+use crate::{LIMIT, STATEMENT, road_of};
 use mysql_session::Query;
 use std::alloc::Global;
 use std::io;
@@ -33,11 +32,10 @@ pub extern "C" fn mysql_bench_send_to(
     bytes: &[u8],
     count: usize,
     width: usize,
-    by_name: bool,
     road: u8,
     times: usize,
 ) -> usize {
-    let Ok(sets) = sets_of(alloc, bytes, count, width, by_name) else {
+    let Ok(sets) = sets_of(alloc, bytes, count, width) else {
         return 0;
     };
     let Ok(query) = Query::new(alloc, query, STATEMENT) else {

@@ -13,11 +13,11 @@ ghost use Rattle.mysql_c_connection.specs.Values.{ShowsBulk, ShowsNamed, attribu
 ghost use Rattle.mysql_c_connection.specs.declared.object.Object.TheVariants.{Empty};
 ghost use Rattle.mysql_c_replies.specs.Shown.{ShowsColumn};
 
-use crate::events::both_words;
 use mysql_c_connection::{Handle, ShownConnectionEnd, ShownStanding};
 use mysql_c_connection_events::ShownEvent;
 use mysql_c_handles::Handle as BytesHandle;
 use mysql_c_replies::{ShownColumn, ShownValue};
+use mysql_const::{Capabilities, CapabilityFlags, MariadbCapabilities};
 use std::alloc::Global;
 use std::mem::replace;
 
@@ -53,7 +53,10 @@ pub extern "C" fn mysql_session_connection_after_login(
         (record { protocol = record { 0 = capabilities }; mariadb = record { 0 = mariadb } }))) }
     ensures kept { result ≢ 0 → (result ≡ 1) × (handle.new.object ≡ handle.old.object) }
 {
-    let capabilities = both_words(capabilities, mariadb);
+    let capabilities = Capabilities {
+        protocol: CapabilityFlags(capabilities),
+        mariadb: MariadbCapabilities(mariadb),
+    };
     mysql_c_connection::connection_after_login(alloc, handle, capabilities, client, server, held)
 }
 

@@ -13,7 +13,6 @@ ghost use Rattle.mysql_c_handles.specs.declared.object.Object.TheVariants.{Empty
 
 mod commands;
 mod connections;
-mod events;
 mod login;
 mod replies;
 
