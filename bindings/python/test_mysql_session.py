@@ -1,6 +1,6 @@
 """Tests of mysql_session: `make check`.
 
-The rows of replies are those of crates/conformance/data/replies.txt, with what they have to give.
+Rows of sessions and of replies are run by bindings/testing/sessions.py.
 Where the environment variable MYSQL_SESSION_LARGE is set, bytes of 2 and of 4 GiB come out too:
 that takes 9 GB of memory, and a minute.
 """
@@ -33,7 +33,6 @@ from mysql_session import Code, Column, ColumnType, EndKind, Mode, ReplyKind, Ro
 
 BINDINGS = pathlib.Path(__file__).resolve().parent.parent
 HEADER = BINDINGS / "c" / "mysql_session.h"
-REPLIES = BINDINGS.parent / "crates" / "conformance" / "data" / "replies.txt"
 RECORDINGS = BINDINGS.parent / "crates" / "connection_conformance" / "data"
 
 PROTOCOL_41 = int(ms.Capability.PROTOCOL_41)
@@ -620,127 +619,8 @@ class Recoding(Case):
 # ---- Replies ------------------------------------------------------------------------------------
 
 
-def rows_of(path: pathlib.Path) -> Tuple[List[List[str]], Dict[str, str]]:
-    """The rows of a file of replies in their fields, and what its names stand for."""
-    rows, names = [], {}
-    for line in path.read_text().splitlines():
-        if line.startswith("reply |"):
-            rows.append([field.strip() for field in line.split(" | ")])
-        elif " = " in line and not line.startswith("#"):
-            name, _, meaning = line.partition(" = ")
-            names[name] = meaning
-    return rows, names
-
-
-def stream_of(written: str, names: Dict[str, str]) -> bytes:
-    """Bytes that are written as hexadecimal digits, texts and names."""
-    stream = b""
-    for word in re.findall(r'"[^"]*"|\S+', written):
-        if word.startswith('"'):
-            stream += word[1:-1].encode()
-        elif word in names:
-            stream += stream_of(names[word], names)
-        else:
-            stream += bytes.fromhex(word)
-    return stream
-
-
-def quoted(data: bytes) -> str:
-    """Bytes as the rows have them."""
-    printable = all(32 <= it < 127 for it in data)
-    return f'"{data.decode()}"' if printable else "x" + data.hex()
-
-
-def column_line(word: str, column: Column) -> str:
-    kind = ColumnType(column.type).name
-    texts = [column.schema, column.table, column.org_table, column.name, column.org_name]
-    return (f"{word}: MYSQL_TYPE_{kind} charset {column.charset} length {column.length} "
-            f"flags {column.flags:04x} decimals {column.decimals} " + " ".join(map(quoted, texts)))
-
-
-def told(result: Any) -> str:
-    """What an OK packet tells: a text, and short changes of states."""
-    line = f" status {result.status:04x} warnings {result.warnings}"
-    if result.info:
-        line += " info " + quoted(result.info)
-    if result.states:
-        changes = b"".join(bytes([it.type, len(it.data)]) + it.data for it in result.states)
-        line += " changes x" + changes.hex()
-    return line
-
-
-def rows_lines(result: ms.Rows) -> List[str]:
-    lines = [column_line("column", it) for it in result.columns]
-    for row in result.rows:
-        cells = ["null" if it is None else quoted(it) if isinstance(it, bytes) else str(it)
-                 for it in row]
-        lines.append("row: " + " ".join(cells))
-    return lines + (["end of rows:" + told(result)] if result.ended else [])
-
-
-def result_lines(result: ms.Result) -> List[str]:
-    """A result as the rows of replies have it."""
-    if isinstance(result, ms.Rows):
-        return rows_lines(result)
-    if isinstance(result, ms.Prepared):
-        return ([f"prepared: id {result.statement} warnings {result.warnings}"]
-                + [column_line("parameter", it) for it in result.params]
-                + [column_line("column", it) for it in result.columns])
-    if isinstance(result, ms.ServerError):
-        state = f" {quoted(result.state)}" if result.state else ""
-        return [f"error: {result.code}{state} {quoted(result.message)}"]
-    if isinstance(result, ms.File):
-        return ["file: " + quoted(result.name)]
-    last = f" id {result.last_insert_id}" if result.last_insert_id else ""
-    return [f"ok: rows {result.affected_rows}{last}" + told(result)]
-
-
-def end_line(end: ms.End) -> str:
-    if end.fault is not None:
-        words = end.fault.name.replace("REPLY_", "").split("_")
-        return f"end: fault {end.payload} " + "".join(it.capitalize() for it in words)
-    return "end: whole" if end.kind == EndKind.WHOLE else "end: unfinished"
-
-
 class Replies(Case):
     """Replies that are read."""
-
-    KINDS = {"text": ReplyKind.QUERY, "binary": ReplyKind.EXECUTE, "prepare": ReplyKind.PREPARE}
-
-    def test_rows(self) -> None:
-        rows, names = rows_of(REPLIES)
-        self.assertGreater(len(rows), 70)
-        for row in rows:
-            _, kind, capabilities, first, limit, stream, *lines = row
-            flags = sum(int(names.get(it, it), 16) for it in capabilities.split())
-            wanted = [names.get(it, it) for it in lines
-                      if not it.startswith(("report:", "prefixes:"))]
-            read = [self.KINDS[kind], flags, int(first), int(limit)]
-            with self.subTest(row=" | ".join(row)):
-                self.check(read, stream_of(stream, names), wanted)
-
-    def check(self, read: List[int], stream: bytes, wanted: List[str]) -> None:
-        """The reply gives these lines, in one piece and byte by byte."""
-        kind, capabilities, first, limit = read
-        results, end = ms.read_reply(ReplyKind(kind), capabilities, stream, first, limit)
-        lines = [line for it in results for line in result_lines(it)] + [end_line(end)]
-        self.assertEqual(lines, wanted)
-        with ms.ReplyReader(ReplyKind(kind), capabilities, first, limit) as reader:
-            taken: List[ms.Result] = []
-            for piece in cut(stream, 1):
-                if self.feeds(reader, piece):
-                    taken += reader.take()
-            self.assertEqual(reader.end(), end)
-            self.assertEqual(self.joined(taken + reader.take()), results)
-
-    def feeds(self, reader: ms.ReplyReader, piece: bytes) -> bool:
-        """Feeds a reader; whether that is without a fault."""
-        try:
-            reader.feed(piece)
-        except ms.MySQLSessionError as error:
-            self.assertGreaterEqual(error.code, Code.REPLY_TOO_LARGE)
-            return False
-        return True
 
     def joined(self, results: List[ms.Result]) -> List[ms.Result]:
         """The results, with the rows of one result set together."""

@@ -14,8 +14,8 @@ A field is tokens, with blanks between them. Read as bytes they are
     N * TOKEN                  the token's bytes N times
     first N of ..              the first N bytes of all that follows
 
-(The program of crates/conformance, which also reads the rows in its data, knows no text in single
-quotes, and no `/`.) A row that fails is told with its file and line, what it wanted and what came;
+(The program of crates/conformance, which reads the rows in its data, knows no text in single quotes,
+and no `/`.) A row that fails is told with its file and line, what it wanted and what came;
 those behind it still run. A program's last line is `N passed, M failed`, and its status is 1 where
 a row failed, or none passed.
 """
@@ -43,10 +43,6 @@ class Failure(Exception):
     def __init__(self, why, place=""):
         super().__init__(why)
         self.place = place
-
-
-class LeftOut(Exception):
-    """The row is about something that the program hasn't."""
 
 
 # ---- Reading ------------------------------------------------------------------------------------
@@ -192,10 +188,10 @@ def refusal(call, *given, **named):
 
 
 class Report:
-    """Counts the rows that passed, failed and were left out, and tells each that failed."""
+    """Counts the rows that passed and failed, and tells each that failed."""
 
     def __init__(self):
-        self.passed = self.failed = self.left_out = 0
+        self.passed = self.failed = 0
 
     def read(self, files, read):
         """Returns what a call reads of files, each as a list; tells where one can't be read."""
@@ -211,8 +207,6 @@ class Report:
         """Runs a row by a call that raises where it fails."""
         try:
             check(*given)
-        except LeftOut:
-            self.left_out += 1
         except Failure as error:
             self.fail(error.place or place, error)
         except Exception as error:  # (whatever it is, the rows behind it still run)

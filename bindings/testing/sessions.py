@@ -1,12 +1,12 @@
-"""Rows of sessions: parameter sets sent, bound and recoded, streams audited, modes of servers.
+"""Rows of sessions: parameter sets sent, bound and recoded, streams audited, replies read, modes of
+servers.
 
     sessions.py [FILE ..]
 
-Without a FILE it runs those of rows/sessions and of crates/conformance/data, which the program of
-crates/conformance reads too; rows.py says how rows are written, and a file's head what its rows
-are. Rows of calls that C hasn't are left out and counted: it has no floats, no values by names, and
-no receiver or writer of another language. Bytes are read in one piece, byte by byte and, where they
-are few, in pieces of each size; a fault has to stay.
+Without a FILE it runs those of rows/sessions, and of replies those that crates/conformance reads too
+(crates/conformance/data/replies.txt), without their reports, for which C has no call. rows.py says
+how rows are written, and a file's head what its rows are. Bytes are read in one piece, byte by byte
+and, where they are few, in pieces of each size; a fault has to stay.
 """
 
 import json
@@ -20,7 +20,8 @@ sys.dont_write_bytecode = True
 
 import mysql_session as ms
 from mysql_session import Code, EndKind, Mode, Road, Spelling
-from rows import Failure, Field, LeftOut, Report, compare, rows_of, words_for
+from reply_lines import camel, reply_lines, shown
+from rows import Failure, Field, Report, compare, rows_of, words_for
 from streams import framed, pieces_of
 
 MODES = {"default": Mode(), "no-backslash-escapes": Mode(no_backslash_escapes=True),
@@ -32,7 +33,6 @@ ENDS = {EndKind.WHOLE: "whole", EndKind.UNFINISHED_PACKET: "unfinished packet",
 KINDS = {"text": ms.ReplyKind.QUERY, "binary": ms.ReplyKind.EXECUTE,
          "prepare": ms.ReplyKind.PREPARE}
 
-LONG = 32  # From how many bytes on equal ones are counted.
 SHORT = 100  # Up to how many bytes come in pieces of each size.
 MOST_PIECES = 20000  # Longer streams come in larger pieces than bytes.
 LIMIT = 1 << 24
@@ -42,51 +42,26 @@ LIMIT = 1 << 24
 
 
 def value_of(member):
-    """Returns the value of a member of a set in JSON; what C has not ends the row."""
+    """Returns the value of a member of a set in JSON."""
     if not isinstance(member, dict):
-        if isinstance(member, float):
-            raise LeftOut
         return member
     (name, what), = member.items()
     if name == "bytes":
         return Field(what).data
-    if name == "date":
-        return ms.DateFields(*what)
-    if name == "time":
-        return ms.TimeFields(bool(what[0]), *what[1:])
-    if name == "uint" and what >= 1 << 63:
-        return what
-    raise LeftOut
+    return ms.DateFields(*what) if name == "date" else ms.TimeFields(bool(what[0]), *what[1:])
 
 
 def sets_of(field, query):
     """Returns the sets of a field; values by names in the order of a query's places."""
-    names = re.findall(rb":([a-z_][a-z0-9_]*)", query)
+    names = [it.decode() for it in re.findall(rb":([a-z_][a-z0-9_]*)", query)]
     sets = []
     for given in json.loads(field.written):
-        if isinstance(given, dict):
-            if not names:
-                raise LeftOut
-            given = [given.get(name.decode(), LeftOut) for name in names]
-            if LeftOut in given:
-                raise LeftOut
-        elif names and given:
-            raise LeftOut
-        sets.append([value_of(it) for it in given])
+        values = [given[it] for it in names] if isinstance(given, dict) else given
+        sets.append([value_of(it) for it in values])
     return sets
 
 
 # ---- What is found ------------------------------------------------------------------------------
-
-
-def shown(data):
-    """Returns bytes as rows have them."""
-    count = ""
-    if len(data) >= LONG and data == data[:1] * len(data):
-        count, data = f"{len(data)} * ", data[:1]
-    if all(0x20 <= it < 0x7F and it != 0x22 for it in data):
-        return f'{count}"{data.decode()}"'
-    return count + "x" + data.hex()
 
 
 def set_lines(sets):
@@ -97,11 +72,6 @@ def set_lines(sets):
                  for it in contents]
         lines.append(" ".join([f"set {number}:", *words]))
     return lines
-
-
-def camel(code, prefix):
-    """Returns a code's name as rows have it."""
-    return "".join(it.capitalize() for it in code.name[len(prefix):].split("_"))
 
 
 def end_line(end):
@@ -130,59 +100,72 @@ def sizes_of(data):
     return {len(data), len(data) // MOST_PIECES + 1}
 
 
-# ---- Streams of commands ------------------------------------------------------------------------
+def check_reading(read, stream, lines, front_ends):
+    """Compares what bytes say, by a call that reads them in pieces, with lines, the last of which may
+    be about their fronts; those end in one of two ways: within a packet, and behind one."""
+    stages = {}
+    if lines[-1].startswith("prefixes:"):
+        stages = {int(it.partition(":")[0]): int(it.partition(":")[2])
+                  for it in lines[-1].split()[1:]}
+        lines = lines[:-1]
+    for size in sizes_of(stream):
+        compare(read(stream, size), of_calls(lines), f"in pieces of {size}")
+    for length in range(len(stream)) if stages else ():
+        standing = max((count for whole, count in stages.items() if whole <= length), default=0)
+        wanted = of_calls(lines[:standing]) + [front_ends[length in stages]]
+        for size in sizes_of(stream[:length]):
+            compare(read(stream[:length], size), wanted,
+                    f"its front of {length} bytes, in pieces of {size}")
 
 
-def feed_staying(reader, data, size):
-    """Feeds a reader in pieces; the first fault has to be answered to each piece from then on."""
+def of_calls(lines):
+    """Returns lines but for those of reports of progress, for which C has no call."""
+    return [it for it in lines if not it.startswith("report:")]
+
+
+def feed_staying(reader, data, size, taken=None):
+    """Feeds a reader in pieces; the first fault has to be answered to each piece from then on. Where
+    there is a list, empty pieces come behind each, and what stands is taken into it."""
     fault = None
     for piece in pieces_of(data, size):
-        try:
-            reader.feed(piece)
-            if fault is not None:
-                raise Failure(f"{fault.name} doesn't stay")
-        except ms.MySQLSessionError as error:
-            if fault not in (None, error.code):
-                raise Failure(f"{fault.name} becomes {error.code}") from error
-            fault = error.code
-
-
-def audited(query, statement, limit, stream, size, mode):
-    """Returns what a stream says, as rows have it, by a receiver whose sets are taken at the end,
-    and by one whose sets are taken behind each piece."""
-    with ms.Receiver(query, statement, limit, mode=mode) as receiver:
-        feed_staying(receiver, stream, size)
-        end = receiver.end()
-        lines = set_lines(receiver.take()) + [end_line(end)]
-    with ms.Receiver(query, statement, limit, mode=mode) as receiver:
-        sets = []
-        for piece in pieces_of(stream, size):
+        for fed in [piece] + [b""] * (0 if taken is None else 1 + size % 2):
             try:
-                receiver.feed(piece)
-            except ms.MySQLSessionError:
-                pass
-            sets += receiver.take()
-        end = receiver.end()
-        compare(set_lines(sets + receiver.take()) + [end_line(end)], lines)
+                reader.feed(fed)
+                if fault is not None:
+                    raise Failure(f"{fault.name} doesn't stay")
+            except ms.MySQLSessionError as error:
+                if fault not in (None, error.code):
+                    raise Failure(f"{fault.name} becomes {error.code}") from error
+                fault = error.code
+            if taken is not None and not fed:
+                taken += reader.take()
+
+
+def read_twice(make, lines_of, data, size):
+    """Returns what bytes say, by a reader from which it is taken at the end; of one from which it is
+    taken before the first piece and behind each the same has to come."""
+    with make() as reader:
+        feed_staying(reader, data, size)
+        end = reader.end()
+        lines = lines_of(reader.take(), end)
+    with make() as reader:
+        taken = reader.take()
+        feed_staying(reader, data, size, taken)
+        end = reader.end()
+        compare(lines_of(taken + reader.take(), end), lines, f"taken behind pieces of {size}")
     return lines
+
+
+# ---- Streams of commands ------------------------------------------------------------------------
 
 
 def check_audit(query, statement, limit, stream, lines, mode=Mode()):
     """Compares what a stream says with lines, the last of which may be about its fronts."""
-    stages = []
-    if lines and lines[-1].startswith("prefixes:"):
-        stages = [tuple(map(int, it.split(":"))) for it in lines[-1].split()[1:]]
-        lines = lines[:-1]
-    for size in sizes_of(stream):
-        found = audited(query, statement, limit, stream, size, mode)
-        compare(found, lines, f"in pieces of {size}")
-    for length in range(len(stream)) if stages else ():
-        behind = [sets for whole, sets in stages if whole <= length]
-        end = "whole" if length in dict(stages) else "unfinished packet"
-        wanted = lines[:behind[-1] if behind else 0] + ["end: " + end]
-        for size in {1, max(1, length)}:
-            found = audited(query, statement, limit, stream[:length], size, mode)
-            compare(found, wanted, f"its front of {length} bytes, in pieces of {size}")
+    def read(data, size):
+        return read_twice(lambda: ms.Receiver(query, statement, limit, mode=mode),
+                          lambda sets, end: set_lines(sets) + [end_line(end)], data, size)
+
+    check_reading(read, stream, lines, ["end: unfinished packet", "end: whole"])
 
 
 def run_audit(query, statement, limit, stream, *lines):
@@ -196,8 +179,6 @@ def run_send(road, query, statement, limit, sets, wanted, *lines):
     query, statement, limit = query.data, statement.number, limit.number
     road, sets = ROADS[road.text], sets_of(sets, query)
     refused = wanted.written if wanted.text.startswith("refused:") else None
-    if refused and "Params" in refused:
-        raise LeftOut
     try:
         # A query of names is sent as the one with question marks that is prepared.
         text = ms.positional(query) if b":" in query else query
@@ -216,8 +197,6 @@ def run_bind(query, sets, wanted):
     """Binds the set of a field."""
     query = query.data
     refused = wanted.text.startswith("refused:")
-    if b":" in query:
-        raise LeftOut
     try:
         found = ms.bind_text(query, *sets_of(sets, query))
     except ms.MySQLSessionError as error:
@@ -242,12 +221,6 @@ def run_recode(query, statement, limit, stream, wanted, *lines):
     """Recodes a stream as executions."""
     query, statement, limit = query.data, statement.number, limit.number
     stream, refused = stream.data, wanted.text.startswith("refused:")
-    if refused and not {"PrepareTooLarge", "TooManyPlaces"} & set(wanted.words):
-        # A recoder says at once what speaks against its prepare.
-        if query.count(b"?") > 65535:
-            wanted = Field("refused: TooManyPlaces")
-        elif b":a ?" not in query and len(query) + 4 > limit:
-            wanted = Field("refused: PrepareTooLarge")
     for size in sizes_of(stream):
         compare(recoded(query, statement, limit, stream, size),
                 wanted.written if refused else wanted.data, f"in pieces of {size}")
@@ -324,6 +297,17 @@ def run_collation(numbers, wanted):
 # ---- Replies ------------------------------------------------------------------------------------
 
 
+def run_reply(kind, capabilities, first, limit, stream, *lines):
+    """Reads a reply."""
+    flags = sum(int(it, 16) for it in capabilities.words)
+    given = KINDS[kind.text], flags, first.number, limit.number
+
+    def read(data, size):
+        return read_twice(lambda: ms.ReplyReader(*given), reply_lines, data, size)
+
+    check_reading(read, stream.data, [it.written for it in lines], ["end: unfinished"] * 2)
+
+
 def run_payloads(kind, capabilities, first, limit, payloads, columns, *lines):
     """Reads a reply, which is listed by its payloads: how many columns it has, and its rows."""
     kind, number = KINDS[kind.text], first.number
@@ -350,27 +334,23 @@ def run_payloads(kind, capabilities, first, limit, payloads, columns, *lines):
 # ---- Files --------------------------------------------------------------------------------------
 
 RUNS = {"audit": run_audit, "send": run_send, "bind": run_bind, "recode": run_recode,
-        "text": run_text, "read": run_read, "prepare": run_prepare, "status": run_status,
-        "sql_mode": run_sql_mode, "collation": run_collation, "payloads": run_payloads}
-# Kinds of crates/conformance/data that C has no calls for, or that the tests in Python run.
-OTHERS = ("reply", "write", "contents", "query", "more", "objects", "held")
+        "reply": run_reply, "payloads": run_payloads, "text": run_text, "read": run_read,
+        "prepare": run_prepare, "status": run_status, "sql_mode": run_sql_mode,
+        "collation": run_collation}
 
 
 def run_row(row):
-    """Runs a row, where C has its call."""
-    if row.head in OTHERS:
-        raise LeftOut
+    """Runs a row."""
     RUNS[row.head](*row.fields)
 
 
 def main():
-    words = words_for(__doc__, "crates/conformance/data/*.txt",
+    words = words_for(__doc__, "crates/conformance/data/replies.txt",
                       "bindings/testing/rows/sessions/*.txt")
     report = Report()
     for file in words.parse_args().files:
         for row in rows_of(file):
             report.run(row.place, run_row, row)
-    print(f"{report.left_out} left out, of calls that C hasn't")
     return report.end()
 
 

@@ -1,14 +1,13 @@
-//! Rows of data, each an input beside what it has to give, run through the public calls. The head
-//! of each file in `data` says how its rows are written.
+//! Rows of data, each an input beside what it has to give, run through those public calls that the
+//! library for C has none for. The head of each file in `data` says how its rows are written.
 #![tactic(auto)]
 
-mod contents;
-mod fields;
-mod reading;
-mod results;
+mod calls;
+mod lending;
+mod received;
+mod replies;
 mod rows;
 mod running;
-mod sending;
 mod sets;
 mod tokens;
 mod trouble;

@@ -1,133 +1,147 @@
-//! Parameter sets in JSON, as the program reads them, and values that JSON has no form for as objects of one member.
+//! Parameter sets, contents and objects of a field: `set` before each set, commas between values.
 
-use crate::fields::bytes_of;
-use crate::tokens::tokens_of;
+use crate::tokens::Token;
 use crate::trouble::Trouble;
-use mysql_session::{ByteString, Params, Value};
-use serde_json::{Map, Number, Value as Json};
+use mysql_session::{ByteString, Content, Params, Value};
+use row_fields::{bytes_of, number};
 use std::alloc::Global;
 use std::collections::HashMap;
+use std::time::Duration;
 
-/// The value that a whole number is: signed where it fits.
-fn whole(number: &Number) -> Option<Value> {
-    match number.as_i64() {
-        Some(signed) => Some(Value::Int(signed)),
-        None => Some(Value::UInt(number.as_u64()?)),
+/// The value that tokens are: `null`, `float`, `uint` with a number, a whole number, or bytes.
+fn value_of(alloc: Global, tokens: &[Token<'_>]) -> Result<Value, Trouble> {
+    match tokens {
+        [Token::Word("null")] => Ok(Value::NULL),
+        [Token::Word("float")] => Ok(Value::Float(0)),
+        [Token::Word("uint"), rest @ ..] => Ok(Value::UInt(number(rest)?)),
+        [Token::Word(word)] if let Ok(signed) = word.parse::<i64>() => Ok(Value::Int(signed)),
+        [Token::Word(word)] if let Ok(unsigned) = word.parse::<u64>() => Ok(Value::UInt(unsigned)),
+        _ => Ok(Value::Bytes(ByteString::from_vec(bytes_of(alloc, tokens)?))),
     }
 }
 
-/// The date or the time of these numbers, in the order of the protocol's fields.
-fn moment(fields: &[Json]) -> Option<Value> {
-    let mut n = [0u32; 7];
-    for (field, json) in n.iter_mut().zip(fields) {
-        *field = u32::try_from(json.as_u64()?).ok()?;
-    }
-    let [a, b, c, d, e, f, micros] = n;
-    let small = |number: u32| u8::try_from(number).ok();
-    if fields.len() == 7 {
-        let year = u16::try_from(a).ok()?;
-        return Some(Value::Date(
-            year,
-            small(b)?,
-            small(c)?,
-            small(d)?,
-            small(e)?,
-            small(f)?,
-            micros,
-        ));
-    }
-    Some(Value::Time(a == 1, b, small(c)?, small(d)?, small(e)?, f))
-}
-
-/// The value of an object: `bytes` with what a field of bytes is, `uint`, `float` and `double` with
-/// a number (a float's is that of its bits), `date` with seven numbers, `time` with six, of which
-/// the first is 1 where it is negative.
-fn special(alloc: Global, members: &Map<String, Json>) -> Result<Option<Value>, Trouble> {
-    let Some((name, member)) = members.iter().next() else {
-        return Ok(None);
-    };
-    Ok(match (name.as_bytes(), member) {
-        (b"bytes", Json::String(text)) => {
-            let tokens = tokens_of(alloc, text, &Vec::new(alloc))?;
-            Some(Value::Bytes(ByteString::from_vec(bytes_of(alloc, &tokens)?)))
-        }
-        (b"uint", Json::Number(number)) => number.as_u64().map(Value::UInt),
-        (b"float", Json::Number(number)) => match number.as_u64() {
-            Some(bits) => u32::try_from(bits).ok().map(Value::Float),
-            None => None,
-        },
-        (b"double", Json::Number(number)) => number.as_u64().map(Value::Double),
-        (b"date" | b"time", Json::Array(fields)) => moment(fields),
-        _ => None,
-    })
-}
-
-/// The value that a member of a set is.
-fn value_of(alloc: Global, member: &Json) -> Result<Value, Trouble> {
-    let value = match member {
-        Json::Null => Some(Value::NULL),
-        Json::Bool(is_true) => Some(Value::Int(i64::from(*is_true))),
-        Json::Number(number) => whole(number),
-        Json::String(text) => Some(Value::Bytes(ByteString::copy(alloc, text.as_bytes())?)),
-        Json::Object(members) => special(alloc, members)?,
-        Json::Array(_) => None,
-    };
-    value.ok_or(Trouble::Malformed("no value"))
-}
-
-/// The values that an array is.
-pub fn list_of(alloc: Global, members: &[Json]) -> Result<Vec<Value>, Trouble> {
+/// The values of a set.
+fn values_of(alloc: Global, set: &[Token<'_>]) -> Result<Vec<Value>, Trouble> {
     let mut values = Vec::new(alloc);
-    for member in members {
-        values.push(value_of(alloc, member)?)?;
+    for value in set.split(|token| matches!(token, Token::Word(","))) {
+        if !value.is_empty() {
+            values.push(value_of(alloc, value)?)?;
+        }
     }
     Ok(values)
 }
 
-/// The set that an object is.
-fn named_set(alloc: Global, members: &Map<String, Json>) -> Result<Params, Trouble> {
+/// The set of values behind their names, each `:` and the name; of none where `:` stands alone.
+fn named_set(alloc: Global, set: &[Token<'_>]) -> Result<Params, Trouble> {
     let mut values = HashMap::new(alloc);
-    for (name, member) in members {
-        let value = value_of(alloc, member)?;
-        let name = Vec::from_slice(alloc, name.as_bytes())?;
-        let _earlier = values.insert(name, value)?;
+    for part in set.split(|token| matches!(token, Token::Word(","))) {
+        if let [Token::Word(name), value @ ..] = part
+            && let Some(name) = name.strip_prefix(':')
+            && !value.is_empty()
+        {
+            let value = value_of(alloc, value)?;
+            let _earlier = values.insert(Vec::from_slice(alloc, name.as_bytes())?, value)?;
+        }
     }
     Ok(Params::Named(values))
 }
 
-/// The set that an array or an object is.
-fn set_of(alloc: Global, set: &Json) -> Result<Params, Trouble> {
+/// A set: no values, values by names, or values in order.
+fn set_of(alloc: Global, set: &[Token<'_>]) -> Result<Params, Trouble> {
     match set {
-        Json::Array(members) if members.is_empty() => Ok(Params::Empty),
-        Json::Array(members) => Ok(Params::Positional(list_of(alloc, members)?)),
-        Json::Object(members) => named_set(alloc, members),
-        _ => Err(Trouble::Malformed("a set is an array or an object")),
+        [] => Ok(Params::Empty),
+        [Token::Word(name), ..] if name.starts_with(':') => named_set(alloc, set),
+        _ => Ok(Params::Positional(values_of(alloc, set)?)),
     }
 }
 
-/// What a field in JSON lists.
-pub fn json_list(alloc: Global, text: &str) -> Result<Vec<Json>, Trouble> {
-    let json = match Json::from_str(alloc, text) {
-        Ok(json) => json,
-        Err(error) => {
-            return Err(if error.is_memory() {
-                Trouble::Memory
-            } else {
-                Trouble::Malformed("the sets are not in JSON")
-            });
-        }
-    };
-    match json {
-        Json::Array(list) => Ok(list),
-        _ => Err(Trouble::Malformed("the sets are no list")),
-    }
-}
-
-/// The parameter sets that a field in JSON lists.
-pub fn sets_of(alloc: Global, text: &str) -> Result<Vec<Params>, Trouble> {
+/// The parameter sets of a field.
+pub fn sets_of(alloc: Global, field: &[Token<'_>]) -> Result<Vec<Params>, Trouble> {
     let mut sets = Vec::new(alloc);
-    for set in &json_list(alloc, text)? {
+    for set in field
+        .split(|token| matches!(token, Token::Word("set")))
+        .skip(1)
+    {
         sets.push(set_of(alloc, set)?)?;
     }
     Ok(sets)
+}
+
+/// The lists of values of a field.
+pub fn lists_of(alloc: Global, field: &[Token<'_>]) -> Result<Vec<Vec<Value>>, Trouble> {
+    let mut lists = Vec::new(alloc);
+    for set in field
+        .split(|token| matches!(token, Token::Word("set")))
+        .skip(1)
+    {
+        lists.push(values_of(alloc, set)?)?;
+    }
+    Ok(lists)
+}
+
+/// The contents of values.
+fn contents_of_list(alloc: Global, values: Vec<Value>) -> Result<Vec<Content>, Trouble> {
+    let mut contents = Vec::new(alloc);
+    for value in values {
+        match value.into_content(alloc)? {
+            Some(content) => contents.push(content)?,
+            None => return Err(Trouble::Malformed("a float is no content")),
+        }
+    }
+    Ok(contents)
+}
+
+/// The contents of the sets of a field.
+pub fn contents_of(alloc: Global, field: &[Token<'_>]) -> Result<Vec<Vec<Content>>, Trouble> {
+    let mut all = Vec::new(alloc);
+    for values in lists_of(alloc, field)? {
+        all.push(contents_of_list(alloc, values)?)?;
+    }
+    Ok(all)
+}
+
+/// An object that is converted to a value.
+#[derive(Drop)]
+pub enum Object {
+    Nothing,
+    Text(String),
+    Unsigned(u64),
+    Signed(i64),
+    Time(Duration),
+}
+
+/// An object: `null`, a text, a number with a sign or behind `uint`, a duration behind `seconds` or
+/// `millis`.
+fn object_of(alloc: Global, object: &[Token<'_>]) -> Result<Object, Trouble> {
+    Ok(match object {
+        [Token::Word("null")] => Object::Nothing,
+        [Token::Text(text)] => Object::Text(String::from_str(alloc, text)?),
+        [Token::Word("uint"), rest @ ..] => Object::Unsigned(number::<u64>(rest)?),
+        [Token::Word("seconds"), rest @ ..] => Object::Time(Duration::from_secs(number(rest)?)),
+        [Token::Word("millis"), rest @ ..] => Object::Time(Duration::from_millis(number(rest)?)),
+        _ => Object::Signed(number::<i64>(object)?),
+    })
+}
+
+/// The objects of a list.
+fn objects_of(alloc: Global, list: &[Token<'_>]) -> Result<Vec<Object>, Trouble> {
+    let mut objects = Vec::new(alloc);
+    for object in list.split(|token| matches!(token, Token::Word(","))) {
+        if !object.is_empty() {
+            objects.push(object_of(alloc, object)?)?;
+        }
+    }
+    Ok(objects)
+}
+
+/// The lists of objects of a field.
+pub fn object_lists_of(alloc: Global, field: &[Token<'_>]) -> Result<Vec<Vec<Object>>, Trouble> {
+    let mut lists = Vec::new(alloc);
+    for list in field
+        .split(|token| matches!(token, Token::Word("set")))
+        .skip(1)
+    {
+        lists.push(objects_of(alloc, list)?)?;
+    }
+    Ok(lists)
 }

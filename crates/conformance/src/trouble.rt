@@ -1,6 +1,7 @@
 //! Why a row does not pass.
 
 use mysql_session::ReceiverError;
+use row_fields::FieldError;
 use std::alloc::{AllocError, AllocFailed};
 use thiserror::Error;
 
@@ -20,6 +21,15 @@ pub enum Trouble {
 impl From<AllocError> for Trouble {
     fn from(_e: AllocError) -> Trouble {
         Trouble::Memory
+    }
+}
+
+impl From<FieldError> for Trouble {
+    fn from(error: FieldError) -> Trouble {
+        match error {
+            FieldError::Memory => Trouble::Memory,
+            FieldError::Malformed(why) => Trouble::Malformed(why),
+        }
     }
 }
 

@@ -1,24 +1,18 @@
-//! Replies written again.
+//! Replies that are written, whole and part by part.
 
-use crate::contents::put_bytes;
-use crate::fields::bytes_of;
-use crate::results::reply_words;
-use crate::tokens::{Token, words_of};
+use crate::calls::refusal_of;
 use crate::trouble::Trouble;
 use mysql_session::{
     CapabilityFlags, Reply, ReplyEnd, ReplyFault, ReplyKind, ReplyRefusal, ReplyResult,
     ReplyWriter, read_reply, write_reply,
 };
-use std::alloc::Global;
+use std::alloc::{AllocError, Global};
 
 /// What a reply is read and written by.
 ///
 /// That is the command's kind, the capabilities, the number of the first packet, and the limit of a
 /// packet.
 pub type Sides = (ReplyKind, CapabilityFlags, u8, usize);
-
-/// What stands before a reply that is written.
-const FRONT: &[u8] = b"front";
 
 /// The reply of these bytes.
 pub fn reply_of(
@@ -31,6 +25,11 @@ pub fn reply_of(
         return Err(Trouble::Memory);
     }
     Ok(reply)
+}
+
+/// What a reply says.
+pub fn said(alloc: Global, reply: &Reply) -> Result<String, AllocError> {
+    format!(in alloc; "{reply:?}")
 }
 
 /// Writes a result part by part.
@@ -82,42 +81,26 @@ fn put_parts(
     Ok(())
 }
 
-/// The bytes that a reply is written as part by part, or why it is not.
-fn written_in_parts(
+/// Writes a reply part by part.
+fn write_parts(
     alloc: Global,
     (kind, capabilities, first_id, limit): Sides,
     reply: &Reply,
-) -> Result<Vec<u8>, ReplyRefusal> {
+    out: &mut Vec<u8>,
+) -> Result<(), ReplyRefusal> {
     let mut writer = ReplyWriter::new(alloc, kind, capabilities, first_id, limit);
-    let mut out = Vec::new(alloc);
-    put_parts(&mut writer, reply, &mut out)?;
-    writer.finish()?;
-    Ok(out)
+    put_parts(&mut writer, reply, out)?;
+    writer.finish()
 }
 
-/// Compares what a reply is written as part by part with these bytes, or with this refusal.
-fn check_parts(
-    alloc: Global,
-    sides: Sides,
-    reply: &Reply,
-    wanted: &Result<Vec<u8>, ReplyRefusal>,
-) -> Result<(), Trouble> {
-    match (written_in_parts(alloc, sides, reply), wanted) {
-        (Ok(found), Ok(bytes)) if found == *bytes => Ok(()),
-        (Err(ReplyRefusal::Memory), _) => Err(Trouble::Memory),
-        (Err(found), Err(refusal)) if found == *refusal => Ok(()),
-        _ => Err(Trouble::Malformed("part by part it is written in another way")),
-    }
-}
-
-/// The bytes that a reply is written as in one call, or why it is not.
-fn written_at_once(
+/// Writes a reply whole.
+fn write_whole(
     alloc: Global,
     (kind, capabilities, first_id, limit): Sides,
     reply: &Reply,
-) -> Result<Result<Vec<u8>, ReplyRefusal>, Trouble> {
-    let mut out = Vec::from_slice(alloc, FRONT)?;
-    let answer = write_reply(
+    out: &mut Vec<u8>,
+) -> Result<(), ReplyRefusal> {
+    write_reply(
         alloc,
         kind,
         capabilities,
@@ -125,131 +108,73 @@ fn written_at_once(
         limit,
         &reply.results,
         &reply.progress,
-        &mut out,
-    );
-    match answer {
-        Ok(()) => Ok(Ok(Vec::from_slice(alloc, out.get(FRONT.len()..).unwrap_or(&[]))?)),
-        Err(ReplyRefusal::Memory) => Err(Trouble::Memory),
-        Err(_) if out.as_slice() != FRONT => Err(Trouble::Malformed("a refusal appended bytes")),
-        Err(refusal) => Ok(Err(refusal)),
-    }
+        out,
+    )
 }
 
-/// The bytes that a reply is written as, or why it is not.
-///
-/// Part by part it is written in the same way.
+/// Writes a reply whole: why it is refused. Part by part it is written as the same bytes, or refused
+/// for the same.
 pub fn written(
     alloc: Global,
     sides: Sides,
     reply: &Reply,
-) -> Result<Result<Vec<u8>, ReplyRefusal>, Trouble> {
-    let found = written_at_once(alloc, sides, reply)?;
-    check_parts(alloc, sides, reply, &found)?;
-    Ok(found)
+    out: &mut Vec<u8>,
+) -> Result<String, Trouble> {
+    let mut parts = Vec::from_slice(alloc, out)?;
+    let refusal = refusal_of(alloc, write_whole(alloc, sides, reply, out))?;
+    let other = refusal_of(alloc, write_parts(alloc, sides, reply, &mut parts))?;
+    if refusal == other && (!refusal.is_empty() || parts == *out) {
+        return Ok(refusal);
+    }
+    if refusal.contains("Memory") || other.contains("Memory") {
+        return Err(Trouble::Memory);
+    }
+    Err(Trouble::Malformed("part by part it is written in another way"))
 }
 
-/// Compares what a reply is written as with what is wanted.
-fn check_found(alloc: Global, bytes: &[u8], wanted: &[Token<'_>]) -> Result<(), Trouble> {
-    if let [Token::Word("refused:"), ..] = wanted {
-        return Err(Trouble::Malformed("it is not refused"));
-    }
-    if bytes == bytes_of(alloc, wanted)?.as_slice() {
-        return Ok(());
-    }
-    let mut found = String::new(alloc);
-    put_bytes(&mut found, bytes)?;
-    Err(Trouble::Differs(found))
-}
-
-/// Compares why a reply is not written with what is wanted.
-fn check_refusal(
-    alloc: Global,
-    refusal: ReplyRefusal,
-    wanted: &[Token<'_>],
-) -> Result<(), Trouble> {
-    let found = format!(in alloc; " refused: {refusal:?} |")?;
-    if found == words_of(alloc, &[wanted])? {
-        return Ok(());
-    }
-    Err(Trouble::Differs(found))
-}
-
-/// Writes a reply, and compares the bytes or the refusal.
-fn check_written_as(
-    alloc: Global,
-    sides: Sides,
-    reply: &Reply,
-    wanted: &[Token<'_>],
-) -> Result<(), Trouble> {
-    match written(alloc, sides, reply)? {
-        Ok(bytes) => check_found(alloc, &bytes, wanted),
-        Err(refusal) => check_refusal(alloc, refusal, wanted),
+/// The bytes that a reply is written as.
+fn bytes_of(alloc: Global, sides: Sides, reply: &Reply) -> Result<Vec<u8>, Trouble> {
+    let mut out = Vec::new(alloc);
+    let refusal = written(alloc, sides, reply, &mut out)?;
+    if refusal.is_empty() {
+        Ok(out)
+    } else if refusal.contains("Memory") {
+        Err(Trouble::Memory)
+    } else {
+        Err(Trouble::Differs(refusal))
     }
 }
 
-/// Writes what a reply says that was read with packets of up to 32 MB, and compares the bytes.
-///
-/// It may be written for another kind. A refusal is compared too, at which nothing is appended.
-pub fn check_written(
-    alloc: Global,
-    read_kind: ReplyKind,
-    sides: Sides,
-    stream: &[u8],
-    wanted: &[Token<'_>],
-) -> Result<(), Trouble> {
-    let (_, capabilities, first_id, _) = sides;
-    let reply = reply_of(alloc, (read_kind, capabilities, first_id, 1 << 25), stream)?;
-    check_written_as(alloc, sides, &reply, wanted)
-}
-
-/// Compares what two replies say.
-fn check_same(alloc: Global, reply: &Reply, again: &Reply) -> Result<(), Trouble> {
-    let (wanted, found) = (reply_words(alloc, reply)?, reply_words(alloc, again)?);
-    if found.as_str() == wanted.as_str() {
-        return Ok(());
-    }
-    Err(Trouble::Differs(format!(in alloc; "written again: wanted{wanted}, found{found}")?))
-}
-
-/// Compares what a reply is written as with these bytes.
-fn check_bytes(alloc: Global, sides: Sides, reply: &Reply, bytes: &[u8]) -> Result<(), Trouble> {
-    match written(alloc, sides, reply)? {
-        Ok(once_more) if once_more.as_slice() == bytes => Ok(()),
-        _ => Err(Trouble::Malformed("a reply that was written is written in another way")),
-    }
-}
-
-/// Compares a reply with what was read of the bytes that it was written as.
-fn check_reread(
+/// Writes a reply that was read of bytes that a reply was written as: it says the same, and is
+/// written as the same bytes.
+fn check_same(
     alloc: Global,
     sides: Sides,
     reply: &Reply,
     again: &Reply,
     bytes: &[u8],
 ) -> Result<(), Trouble> {
-    check_same(alloc, reply, again)?;
-    check_bytes(alloc, sides, again, bytes)
-}
-
-/// Reads bytes that a reply was written as: they say the same, and are written as the same bytes.
-fn check_read(alloc: Global, sides: Sides, reply: &Reply, bytes: &[u8]) -> Result<(), Trouble> {
-    let again = reply_of(alloc, sides, bytes)?;
-    check_reread(alloc, sides, reply, &again, bytes)
-}
-
-/// Writes a reply again, where it is whole.
-fn check_reply(alloc: Global, sides: Sides, reply: &Reply) -> Result<(), Trouble> {
-    if !matches!(reply.end, ReplyEnd::Whole) {
-        return Ok(());
+    if said(alloc, reply)? != said(alloc, again)? {
+        return Err(Trouble::Differs(said(alloc, again)?));
     }
-    match written(alloc, sides, reply)? {
-        Ok(bytes) => check_read(alloc, sides, reply, &bytes),
-        Err(_) => Err(Trouble::Malformed("a reply that was read is not written")),
+    if bytes_of(alloc, sides, again)?.as_slice() != bytes {
+        return Err(Trouble::Malformed("a reply that was written is written in another way"));
     }
+    Ok(())
 }
 
 /// Writes a whole reply again: it reads as the same, and written once more it is the same bytes.
 pub fn check_again(alloc: Global, sides: Sides, stream: &[u8]) -> Result<(), Trouble> {
     let reply = reply_of(alloc, sides, stream)?;
-    check_reply(alloc, sides, &reply)
+    if !matches!(reply.end, ReplyEnd::Whole) {
+        return Ok(());
+    }
+    let bytes = bytes_of(alloc, sides, &reply)?;
+    check_same(
+        alloc,
+        sides,
+        &reply,
+        &reply_of(alloc, sides, &bytes)?,
+        &bytes,
+    )
 }

@@ -3,8 +3,10 @@
 use crate::troubles::Trouble;
 use mysql_connection_lines::{write_end, write_event, write_lent_row};
 use mysql_connection_machine::{Connection, ConnectionFault, End, FeedRefusal, LentEvent};
-use mysql_connection_rules::{Fault, Reason, Side};
+use mysql_connection_rules::{Fault, Limits, Reason, Side};
 use mysql_connection_state::{Event, Phase};
+use mysql_const::Capabilities;
+use std::alloc::Global;
 
 /// What comes next.
 #[derive(Clone, Copy)]
@@ -14,23 +16,27 @@ pub enum Next {
     Failed,
 }
 
-/// Feeds a piece, once more where memory is refused.
-fn feed_piece(connection: &mut Connection, side: Side, piece: &[u8]) -> Result<(), FeedRefusal> {
-    match connection.feed(side, piece) {
-        Err(FeedRefusal::Memory) => connection.feed(side, piece),
-        answer => answer,
+/// A connection at its greeting, or behind a login.
+pub fn begin(alloc: Global, limits: Limits, in_force: Option<Capabilities>) -> Connection {
+    match in_force {
+        Some(capabilities) => Connection::after_login(alloc, limits, capabilities),
+        None => Connection::new(alloc, limits),
     }
 }
 
-/// Feeds as much of a piece as there is room for, and returns how much. A longer one has to be
-/// refused, and to change nothing.
+/// Feeds as much of a piece as there is room for, once more where memory is refused, and returns how
+/// much. A longer one has to be refused, and to change nothing.
 pub fn feed(connection: &mut Connection, side: Side, piece: &[u8]) -> Result<usize, Trouble> {
     let front = piece.get(..connection.room(side)).unwrap_or(piece);
     let is_cut = front.len() < piece.len();
     if is_cut && !matches!(connection.feed(side, piece), Err(FeedRefusal::Held)) {
         return Err(Trouble::Feed);
     }
-    match feed_piece(connection, side, front) {
+    let fed = match connection.feed(side, front) {
+        Err(FeedRefusal::Memory) => connection.feed(side, front),
+        answer => answer,
+    };
+    match fed {
         Ok(()) => Ok(front.len()),
         Err(FeedRefusal::Memory) => Err(Trouble::Memory),
         Err(_) => Err(Trouble::Feed),
@@ -59,18 +65,6 @@ fn failed(failure: ConnectionFault) -> Result<Next, Trouble> {
     match failure.fault {
         Fault::Memory => Err(Trouble::Memory),
         _ => Ok(Next::Failed),
-    }
-}
-
-/// Appends the line of the event that comes next.
-fn put_next_kept(connection: &mut Connection, text: &mut Vec<u8>) -> Result<Next, Trouble> {
-    match connection.next_event() {
-        Ok(Some(event)) => match put_event(&event, text) {
-            Ok(()) => Ok(Next::Line),
-            Err(trouble) => Err(trouble),
-        },
-        Ok(None) => Ok(Next::Nothing),
-        Err(failure) => failed(failure),
     }
 }
 
@@ -108,16 +102,22 @@ pub fn put_next(
     text: &mut Vec<u8>,
 ) -> Result<Next, Trouble> {
     if lent {
-        put_next_lent(connection, text)
-    } else {
-        put_next_kept(connection, text)
+        return put_next_lent(connection, text);
+    }
+    match connection.next_event() {
+        Ok(Some(event)) => match put_event(&event, text) {
+            Ok(()) => Ok(Next::Line),
+            Err(trouble) => Err(trouble),
+        },
+        Ok(None) => Ok(Next::Nothing),
+        Err(failure) => failed(failure),
     }
 }
 
 /// Appends the lines of all events that come.
 pub fn put_lines(connection: &mut Connection, text: &mut Vec<u8>) -> Result<(), Trouble> {
     for _ in 0..u64::MAX {
-        if !matches!(put_next_kept(connection, text)?, Next::Line) {
+        if !matches!(put_next(connection, false, text)?, Next::Line) {
             break;
         }
     }
@@ -136,19 +136,11 @@ pub fn told_end(connection: &Connection) -> End {
     let client = connection.rest(Side::Client);
     let server = connection.rest(Side::Server);
     let is_read = client.is_empty() && server.is_empty();
-    let phase = connection.phase();
-    match connection.turn() {
-        Some(_) if is_read && phase == Phase::Command => End::Whole,
-        Some(side) => End::Unfinished(side),
-        None => over_end(phase, client),
-    }
-}
-
-/// How a connection stands of which nobody's payload is due, where so much of the client's is unread.
-fn over_end(phase: Phase, client: &[u8]) -> End {
-    match phase {
-        Phase::Over(Reason::Quit) if !client.is_empty() => End::Unread,
-        Phase::Over(reason) => End::Over(reason),
-        _ => End::Unread,
+    match (connection.turn(), connection.phase()) {
+        (Some(_), Phase::Command) if is_read => End::Whole,
+        (Some(side), _) => End::Unfinished(side),
+        (None, Phase::Over(Reason::Quit)) if !client.is_empty() => End::Unread,
+        (None, Phase::Over(reason)) => End::Over(reason),
+        (None, _) => End::Unread,
     }
 }

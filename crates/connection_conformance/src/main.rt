@@ -2,28 +2,34 @@
 //!
 //! Each argument names a recording: NAME.client and NAME.server are the bytes of both sides, and
 //! NAME.events has a line for each payload, in the order in which they are due, and one for the end.
-//! However the bytes arrive, these lines have to come, each as soon as its bytes are there.
+//! However the bytes arrive, these lines have to come, each as soon as its bytes are there. Or it is
+//! NAME.conversations, a file of conversations written by hand.
 #![tactic(auto)]
 
 mod calls;
+mod conversations;
 mod numbers;
 mod orders;
 mod readings;
 mod recordings;
 mod speaking;
 mod streams;
+mod talks;
 mod troubles;
 
-use crate::recordings::{Recording, Tally};
+use crate::recordings::{MANY, Recording, Tally};
 use std::process::ExitCode;
 use std::rt::Files;
 use std::{env, io};
 
 /// Reads a recording in all ways and prints how much was read: whether all was as it has to be.
 fn check<R: Files + AllocGlobal + Print>(rt: &R, name: &str, all: &mut Tally) -> io::Result<bool> {
+    if name.ends_with(".conversations") {
+        return conversations::check(rt, name, all);
+    }
     let mut recording = Recording::read(rt, name)?;
     let mut tally = Tally::new();
-    let checked = recording.check(rt.alloc(), &mut tally);
+    let checked = recording.check(rt.alloc(), MANY, &mut tally);
     all.add(tally);
     match checked {
         Ok(()) => println!(rt; "{name}: {tally}")?,

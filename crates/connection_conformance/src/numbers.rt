@@ -10,25 +10,16 @@ impl Numbers {
         Numbers(seed.wrapping_mul(0x9e37_79b9_7f4a_7c15) | 1)
     }
 
-    fn next(&mut self) -> u64 {
-        let mut number = self.0;
-        number ^= number << 13;
-        number ^= number >> 7;
-        number ^= number << 17;
-        self.0 = number;
-        number
-    }
-
     /// A number below this one; 0 where there is none.
     pub fn below(&mut self, bound: usize) -> usize {
         if bound == 0 {
             return 0;
         }
-        (self.next() % bound as u64) as usize
-    }
-
-    /// A byte that isn't 0.
-    pub fn bits(&mut self) -> u8 {
-        ((self.next() & 0xff) as u8).max(1)
+        let mut number = self.0;
+        number ^= number << 13;
+        number ^= number >> 7;
+        number ^= number << 17;
+        self.0 = number;
+        (number % bound as u64) as usize
     }
 }

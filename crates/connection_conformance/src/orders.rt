@@ -8,13 +8,16 @@ use mysql_connection_rules::Side;
 pub enum Order {
     /// This side's in one piece, and then the other's.
     First(Side),
-    /// This side's one by one, behind all of the other's.
+    /// This side's in steps, behind all of the other's.
     Behind(Side),
-    /// One of each side by turns.
+    /// A step of each side by turns.
     ByTurns,
     /// Random pieces of random sides, by the generator of this number.
     Random(u64),
 }
+
+/// In so many steps both streams come at most; those of fewer bytes come byte by byte.
+pub const STEPS: usize = 4096;
 
 /// The other side.
 fn other(side: Side) -> Side {
@@ -57,11 +60,11 @@ impl Order {
     }
 
     /// How many of a side's bytes come next, where so many are left.
-    fn count(self, side: Side, left: usize, numbers: &mut Numbers) -> usize {
+    fn count(self, side: Side, left: usize, step: usize, numbers: &mut Numbers) -> usize {
         match self {
             Order::First(_) => left,
             Order::Behind(behind) if behind != side => left,
-            Order::Behind(_) | Order::ByTurns => left.min(1),
+            Order::Behind(_) | Order::ByTurns => left.min(step),
             Order::Random(_) => {
                 let most = numbers.below(300);
                 left.min(numbers.below(most).saturating_add(1))
@@ -74,10 +77,11 @@ impl Order {
     pub fn piece(
         self,
         last: Side,
-        client: usize,
-        server: usize,
+        left: (usize, usize),
+        step: usize,
         numbers: &mut Numbers,
     ) -> (Side, usize) {
+        let (client, server) = left;
         let side = match self.side(last, numbers) {
             Side::Client if client == 0 => Side::Server,
             Side::Server if server == 0 => Side::Client,
@@ -87,6 +91,6 @@ impl Order {
             Side::Client => client,
             Side::Server => server,
         };
-        (side, self.count(side, left, numbers))
+        (side, self.count(side, left, step, numbers))
     }
 }

@@ -1,11 +1,12 @@
 //! A reading of both streams, each line of which is compared as it comes.
 
-use crate::calls::{Next, close, feed, put_end, put_lines, put_next, told_end};
-use crate::orders::Order;
+use crate::calls::{Next, begin, close, feed, put_end, put_lines, put_next, told_end};
+use crate::orders::{Order, STEPS};
 use crate::streams::Stream;
 use crate::troubles::{Failure, Part, Trouble};
 use mysql_connection_machine::{Connection, End};
 use mysql_connection_rules::{Fault, Limits, Side};
+use mysql_const::Capabilities;
 use std::alloc::Global;
 
 /// What is read, and how.
@@ -20,6 +21,8 @@ pub struct Task<'a> {
     /// Whether rows are lent, or are events as any other.
     pub lent: bool,
     pub limits: Limits,
+    /// What is in force behind a login, where it begins there.
+    pub in_force: Option<Capabilities>,
 }
 
 /// How far a reading has come.
@@ -41,14 +44,10 @@ pub struct Reading<'a> {
 
 /// The side whose payload a line is. Last words and the end come of no turn.
 fn side_of(line: &[u8]) -> Option<Side> {
-    if line.starts_with(b"server Farewell ") {
-        None
-    } else if line.starts_with(b"client ") {
-        Some(Side::Client)
-    } else if line.starts_with(b"server ") {
-        Some(Side::Server)
-    } else {
-        None
+    match line.first() {
+        Some(b'c') => Some(Side::Client),
+        Some(b's') if !line.starts_with(b"server Farewell ") => Some(Side::Server),
+        _ => None,
     }
 }
 
@@ -88,10 +87,9 @@ impl<'a> Reading<'a> {
         };
         self.lines = lines;
         self.taken = self.taken.saturating_add(1);
-        if line.starts_with(b"client ") {
-            self.client.take()
-        } else {
-            self.server.take()
+        match side_of(line) {
+            Some(Side::Client) => self.client.take(),
+            _ => self.server.take(),
         }
     }
 
@@ -146,7 +144,8 @@ impl<'a> Reading<'a> {
     }
 
     /// Feeds so many bytes of a side, or as many as there is room for, and returns which side's they
-    /// are. Where there is none, the side that is due is fed.
+    /// are. Where there is none, the side that is due is fed. Where nobody is due, all is fed that
+    /// is left: nothing comes of it.
     fn feed(
         &mut self,
         connection: &mut Connection,
@@ -158,7 +157,9 @@ impl<'a> Reading<'a> {
         } else {
             connection.turn().unwrap_or(side)
         };
+        let is_due = connection.turn().is_some();
         let stream = self.stream(side);
+        let count = if is_due { count } else { stream.left() };
         let fed = feed(connection, side, stream.piece(count))?;
         stream.feed(fed);
         self.pieces = self.pieces.saturating_add(u64::from(fed > 0));
@@ -173,16 +174,13 @@ impl<'a> Reading<'a> {
         order: Order,
     ) -> Result<(), Trouble> {
         let total = self.client.left().saturating_add(self.server.left());
+        let step = (total / STEPS).saturating_add(1);
         let mut numbers = order.numbers();
         let mut side = Side::Client;
         for _ in 0..total {
             let pieces = self.pieces;
-            let (next, count) = order.piece(
-                side,
-                self.client.left(),
-                self.server.left(),
-                &mut numbers,
-            );
+            let left = (self.client.left(), self.server.left());
+            let (next, count) = order.piece(side, left, step, &mut numbers);
             side = self.feed(connection, next, count)?;
             if self.pieces == pieces {
                 break;
@@ -203,13 +201,18 @@ impl<'a> Reading<'a> {
         }
     }
 
-    /// How the connection stands once both streams have ended.
-    fn finish(
+    /// Reads both streams, and how the connection stands once they have ended.
+    fn run(
         &mut self,
         connection: &mut Connection,
         line: &mut Vec<u8>,
-        part: Part,
+        task: &Task<'_>,
     ) -> Result<(), Trouble> {
+        self.feed_all(connection, line, task.order)?;
+        if matches!(task.part, Part::Fronts(..)) && connection.fault().is_none() {
+            // Were they closed, an error might be last words, and other bytes unasked for.
+            return Ok(());
+        }
         close(connection)?;
         self.take_lines(connection, line)?;
         let is_rest = self.client.is_rest(connection.rest(Side::Client))
@@ -218,29 +221,18 @@ impl<'a> Reading<'a> {
             return Err(Trouble::Rest);
         }
         let end = connection.finish();
-        match (part, connection.fault()) {
+        match (task.part, connection.fault()) {
             _ if !is_told(end, connection) => Err(Trouble::End),
-            (Part::Fronts(..), None) => Ok(()),
             (Part::Short, Some(failure)) if matches!(failure.fault, Fault::Held) => Ok(()),
             (Part::Short, _) => Err(Trouble::Held),
             _ => self.take_end(end, line),
         }
     }
-
-    fn run(
-        &mut self,
-        connection: &mut Connection,
-        line: &mut Vec<u8>,
-        task: &Task<'_>,
-    ) -> Result<(), Trouble> {
-        self.feed_all(connection, line, task.order)?;
-        self.finish(connection, line, task.part)
-    }
 }
 
 /// Reads it.
 fn read_once<'a>(alloc: Global, task: &Task<'a>) -> Result<Reading<'a>, Failure> {
-    let mut connection = Connection::new(alloc, task.limits);
+    let mut connection = begin(alloc, task.limits, task.in_force);
     let mut line = Vec::new(alloc);
     let mut reading = Reading::new(task);
     match reading.run(&mut connection, &mut line, task) {
@@ -263,23 +255,14 @@ pub fn read<'a>(alloc: Global, task: &Task<'a>) -> Result<Reading<'a>, Failure> 
     }
 }
 
-/// Appends the lines of both streams, each fed in one piece.
-fn put_all(
-    connection: &mut Connection,
-    task: &Task<'_>,
-    lines: &mut Vec<u8>,
-) -> Result<(), Trouble> {
-    feed(connection, Side::Client, task.client)?;
-    feed(connection, Side::Server, task.server)?;
-    close(connection)?;
-    put_lines(connection, lines)?;
-    put_end(connection.finish(), lines)
-}
-
 fn collect_once(alloc: Global, task: &Task<'_>, lines: &mut Vec<u8>) -> Result<(), Trouble> {
-    let mut connection = Connection::new(alloc, task.limits);
+    let mut connection = begin(alloc, task.limits, task.in_force);
     lines.clear();
-    put_all(&mut connection, task, lines)
+    feed(&mut connection, Side::Client, task.client)?;
+    feed(&mut connection, Side::Server, task.server)?;
+    close(&mut connection)?;
+    put_lines(&mut connection, lines)?;
+    put_end(connection.finish(), lines)
 }
 
 /// The lines of both streams in one piece, once more where memory is refused.

@@ -4,22 +4,26 @@ use crate::numbers::Numbers;
 use crate::orders::Order;
 use crate::readings::{Task, collect, read};
 use crate::speaking::say;
-use crate::streams::{longest_payload, packets_front};
+use crate::streams::packets_of;
 use crate::troubles::{Failure, Part};
 use mysql_connection_machine::Connection;
 use mysql_connection_rules::{Limits, Side};
+use mysql_const::Capabilities;
 use std::alloc::Global;
 use std::rt::Files;
 use std::{fmt, fs, io};
 
-/// How many pairs of fronts are read.
-const FRONTS: u64 = 16;
+/// How many pairs of fronts of a recording are read, and how many of its bytes are changed.
+pub const MANY: u64 = 8;
 
-/// How many bytes of a recording are changed: so many that this many bytes are read, within bounds.
-const CHANGED: usize = 100000;
+/// As many are of a conversation, and at least of any recording.
+pub const FEW: u64 = 2;
+
+/// Of a long recording fewer are: so many that this many bytes are read.
+const READ: usize = 50_000;
 
 /// The limits under which recordings are read.
-const LIMITS: Limits = Limits {
+pub const LIMITS: Limits = Limits {
     client: 1 << 24,
     server: 1 << 24,
     held: 1 << 27,
@@ -38,8 +42,9 @@ pub struct Tally {
     pub events: u64,
     pub readings: u64,
     pub pieces: u64,
-    /// How many events a client and a server said again.
+    /// How many events a client and a server said again, and how many of them by the same bytes.
     pub said: u64,
+    pub same: u64,
 }
 
 impl Tally {
@@ -50,6 +55,7 @@ impl Tally {
             readings: 0,
             pieces: 0,
             said: 0,
+            same: 0,
         }
     }
 
@@ -59,16 +65,16 @@ impl Tally {
         self.readings = self.readings.saturating_add(other.readings);
         self.pieces = self.pieces.saturating_add(other.pieces);
         self.said = self.said.saturating_add(other.said);
+        self.same = self.same.saturating_add(other.same);
     }
 
     /// Reads it, counts the reading, and returns the most that was kept.
     fn read(&mut self, alloc: Global, task: &Task<'_>) -> Result<usize, Failure> {
         let reading = read(alloc, task)?;
         self.add(Tally {
-            events: 0,
             readings: 1,
             pieces: reading.pieces,
-            said: 0,
+            ..Tally::new()
         });
         if let Part::Whole = task.part {
             self.events = reading.taken;
@@ -81,8 +87,8 @@ impl fmt::Display for Tally {
     fn fmt<W: fmt::Write>(&self, f: &mut fmt::Formatter<W>) -> fmt::Result {
         write!(
             f,
-            "{} events, {} readings in {} pieces, {} said again",
-            self.events, self.readings, self.pieces, self.said
+            "{} events, {} readings in {} pieces, {} said again, {} by the same bytes",
+            self.events, self.readings, self.pieces, self.said, self.same
         )
     }
 }
@@ -90,9 +96,11 @@ impl fmt::Display for Tally {
 /// A recorded connection: the bytes of both sides, and the lines of its events and of its end.
 #[derive(Drop)]
 pub struct Recording {
-    client: Vec<u8>,
-    server: Vec<u8>,
-    lines: Vec<u8>,
+    pub client: Vec<u8>,
+    pub server: Vec<u8>,
+    pub lines: Vec<u8>,
+    /// What is in force behind a login, where it begins there.
+    pub in_force: Option<Capabilities>,
 }
 
 /// The bytes of a file of a recording.
@@ -103,10 +111,13 @@ fn read_file<R: Files + AllocGlobal>(rt: &R, name: &str, kind: &str) -> io::Resu
 
 /// The least limits by which a recording is read, of which so much is kept.
 fn least_limits(alloc: Global, task: &Task<'_>, kept: usize) -> Limits {
+    let (client, _) = packets_of(task.client);
+    let (server, _) = packets_of(task.server);
+    let held = 0;
     let limits = Limits {
-        client: longest_payload(task.client),
-        server: longest_payload(task.server),
-        held: 0,
+        client,
+        server,
+        held,
     };
     let connection = Connection::new(alloc, limits);
     let client = connection.room(Side::Client);
@@ -122,44 +133,43 @@ fn front<'a>(stream: &'a [u8], numbers: &mut Numbers) -> &'a [u8] {
     let kind = numbers.below(3);
     let count = numbers.below(stream.len());
     let front = stream.get(..count).unwrap_or(stream);
+    let (_, whole) = packets_of(front);
     match kind {
         0 => stream,
         1 => front,
-        _ => packets_front(front),
+        _ => whole,
     }
 }
 
-/// Reads all of it in each order.
-fn read_in_orders(alloc: Global, task: Task<'_>, tally: &mut Tally) -> Result<usize, Failure> {
+/// Reads all of it in each of these orders, and returns the most that was kept.
+fn read_in_orders(
+    alloc: Global,
+    task: Task<'_>,
+    orders: &[Order],
+    tally: &mut Tally,
+) -> Result<usize, Failure> {
     let mut kept = 0;
-    for order in [
-        Order::First(Side::Client),
-        Order::First(Side::Server),
-        Order::Behind(Side::Client),
-        Order::Behind(Side::Server),
-        Order::ByTurns,
-        Order::Random(1),
-        Order::Random(2),
-        Order::Random(3),
-    ] {
+    for order in orders {
+        let order = *order;
         kept = tally.read(alloc, &Task { order, ..task })?;
     }
     Ok(kept)
 }
 
-/// Reads all of it with rows that are lent.
-fn read_lent(alloc: Global, task: Task<'_>, tally: &mut Tally) -> Result<(), Failure> {
-    for order in [Order::First(Side::Server), Order::ByTurns, Order::Random(4)] {
-        tally.read(
-            alloc,
-            &Task {
-                order,
-                lent: true,
-                ..task
-            },
-        )?;
-    }
-    Ok(())
+/// Reads all of it, also with rows that are lent, and returns the most that was kept.
+fn read_whole(alloc: Global, task: Task<'_>, tally: &mut Tally) -> Result<usize, Failure> {
+    let lent = Task { lent: true, ..task };
+    let orders = [Order::ByTurns, Order::Random(1)];
+    read_in_orders(alloc, lent, &orders, tally)?;
+    let orders = [
+        Order::First(Side::Client),
+        Order::First(Side::Server),
+        Order::Behind(Side::Client),
+        Order::Behind(Side::Server),
+        Order::ByTurns,
+        Order::Random(2),
+    ];
+    read_in_orders(alloc, task, &orders, tally)
 }
 
 /// Reads all of it under the least limits, and with a byte less to keep.
@@ -170,29 +180,18 @@ fn read_under_limits(
     tally: &mut Tally,
 ) -> Result<(), Failure> {
     let limits = least_limits(alloc, &task, kept);
-    for order in [
-        Order::First(Side::Client),
-        Order::First(Side::Server),
-        Order::Random(4),
-    ] {
-        tally.read(
-            alloc,
-            &Task {
-                order,
-                limits,
-                ..task
-            },
-        )?;
-    }
+    let orders = [Order::First(Side::Client), Order::Random(3)];
+    read_in_orders(alloc, Task { limits, ..task }, &orders, tally)?;
     if kept == 0 {
         return Ok(());
     }
+    let part = Part::Short;
     let held = limits.held.saturating_sub(1);
     let limits = Limits { held, ..limits };
     tally.read(
         alloc,
         &Task {
-            part: Part::Short,
+            part,
             limits,
             ..task
         },
@@ -200,14 +199,20 @@ fn read_under_limits(
     Ok(())
 }
 
-/// Reads fronts of both streams, every other one with rows that are lent.
-fn read_fronts(alloc: Global, task: Task<'_>, tally: &mut Tally) -> Result<(), Failure> {
-    let mut numbers = Numbers::new(5);
-    for seed in 0..FRONTS {
+/// Reads so many fronts of both streams, every other one with rows that are lent.
+fn read_fronts(
+    alloc: Global,
+    task: Task<'_>,
+    count: u64,
+    tally: &mut Tally,
+) -> Result<(), Failure> {
+    let mut numbers = Numbers::new(task.lines.len() as u64);
+    for seed in 0..count {
         let client = front(task.client, &mut numbers);
         let server = front(task.server, &mut numbers);
         let part = Part::Fronts(client.len(), server.len());
         let order = Order::Random(seed);
+        let lent = seed % 2 == 1;
         tally.read(
             alloc,
             &Task {
@@ -215,7 +220,7 @@ fn read_fronts(alloc: Global, task: Task<'_>, tally: &mut Tally) -> Result<(), F
                 client,
                 server,
                 order,
-                lent: seed % 2 == 1,
+                lent,
                 ..task
             },
         )?;
@@ -225,46 +230,24 @@ fn read_fronts(alloc: Global, task: Task<'_>, tally: &mut Tally) -> Result<(), F
 
 /// Has a client and a server say it again.
 fn say_again(alloc: Global, task: Task<'_>, tally: &mut Tally) -> Result<(), Failure> {
-    for seed in 6..8 {
-        match say(alloc, &task, seed) {
-            Ok(said) => tally.said = tally.said.saturating_add(said),
-            Err(trouble) => {
-                return Err(Failure {
-                    part: Part::Said,
-                    order: Order::Random(seed),
-                    trouble,
-                    lines: 0,
-                    pieces: 0,
-                });
-            }
+    let seed = 4;
+    match say(alloc, &task, seed) {
+        Ok(said) => {
+            tally.add(Tally {
+                said: said.events,
+                same: said.same,
+                ..Tally::new()
+            });
+            Ok(())
         }
+        Err(trouble) => Err(Failure {
+            part: Part::Said,
+            order: Order::Random(seed),
+            trouble,
+            lines: 0,
+            pieces: 0,
+        }),
     }
-    Ok(())
-}
-
-/// Reads streams of which a byte is changed, in pieces: the lines have to be those of one piece. For
-/// every other number rows are lent.
-fn read_in_pieces(
-    alloc: Global,
-    task: Task<'_>,
-    seed: u64,
-    tally: &mut Tally,
-) -> Result<(), Failure> {
-    for order in [
-        Order::First(Side::Server),
-        Order::ByTurns,
-        Order::Random(seed),
-    ] {
-        tally.read(
-            alloc,
-            &Task {
-                order,
-                lent: seed % 2 == 1,
-                ..task
-            },
-        )?;
-    }
-    Ok(())
 }
 
 impl Recording {
@@ -277,7 +260,23 @@ impl Recording {
             client,
             server,
             lines,
+            in_force: None,
         })
+    }
+
+    /// One of which nothing was said.
+    pub fn new(alloc: Global) -> Recording {
+        Recording {
+            client: Vec::new(alloc),
+            server: Vec::new(alloc),
+            lines: Vec::new(alloc),
+            in_force: None,
+        }
+    }
+
+    /// How many bytes both sides have.
+    pub fn len(&self) -> usize {
+        self.client.len().saturating_add(self.server.len())
     }
 
     /// All of it, in one piece.
@@ -290,11 +289,12 @@ impl Recording {
             order: Order::First(Side::Client),
             lent: false,
             limits: LIMITS,
+            in_force: self.in_force,
         }
     }
 
     /// A side's stream.
-    fn stream(&mut self, side: Side) -> &mut Vec<u8> {
+    pub fn stream(&mut self, side: Side) -> &mut Vec<u8> {
         match side {
             Side::Client => &mut self.client,
             Side::Server => &mut self.server,
@@ -308,7 +308,8 @@ impl Recording {
         }
     }
 
-    /// Reads it as it stands, of which a byte was changed.
+    /// Reads it as it stands, of which a byte was changed, in one piece and in an order: both have
+    /// to give the same lines. For every other number rows are lent.
     fn read_changed(
         &self,
         alloc: Global,
@@ -316,26 +317,30 @@ impl Recording {
         seed: u64,
         tally: &mut Tally,
     ) -> Result<(), Failure> {
-        let limits = LOW_LIMITS;
         let task = Task {
             part,
-            limits,
+            order: match seed % 3 {
+                0 => Order::First(Side::Server),
+                1 => Order::ByTurns,
+                _ => Order::Random(seed),
+            },
+            lent: seed % 2 == 1,
+            limits: LOW_LIMITS,
             ..self.task()
         };
         let mut lines = Vec::new(alloc);
-        match collect(alloc, &task, &mut lines) {
-            Ok(()) => {
-                let lines = lines.as_slice();
-                read_in_pieces(alloc, Task { lines, ..task }, seed, tally)
-            }
-            Err(trouble) => Err(Failure {
+        if let Err(trouble) = collect(alloc, &task, &mut lines) {
+            return Err(Failure {
                 part,
                 order: task.order,
                 trouble,
                 lines: 0,
                 pieces: 0,
-            }),
+            });
         }
+        let lines = lines.as_slice();
+        tally.read(alloc, &Task { lines, ..task })?;
+        Ok(())
     }
 
     /// Reads it with a byte changed, and changes it back.
@@ -347,31 +352,35 @@ impl Recording {
             Side::Server
         };
         let byte = numbers.below(self.stream(side).len());
-        let bits = numbers.bits();
+        let bits = ((numbers.below(255) & 0xff) as u8).saturating_add(1);
         self.turn(side, byte, bits);
         let answer = self.read_changed(alloc, Part::Changed(side, byte), seed, tally);
         self.turn(side, byte, bits);
         answer
     }
 
-    /// Reads it with bytes changed, one at a time.
-    fn read_changes(&mut self, alloc: Global, tally: &mut Tally) -> Result<(), Failure> {
-        let total = self.client.len().saturating_add(self.server.len());
-        let count = (CHANGED / total.max(1)).clamp(6, 60);
-        for seed in 0..count as u64 {
+    /// Reads it with so many bytes changed, one at a time.
+    fn read_changes(
+        &mut self,
+        alloc: Global,
+        count: u64,
+        tally: &mut Tally,
+    ) -> Result<(), Failure> {
+        let first = self.lines.len() as u64;
+        for seed in first..first.saturating_add(count) {
             self.change(alloc, seed, tally)?;
         }
         Ok(())
     }
 
-    /// Reads it in all ways.
-    pub fn check(&mut self, alloc: Global, tally: &mut Tally) -> Result<(), Failure> {
+    /// Reads it in all ways: of fronts and of changed bytes there are so many, or fewer.
+    pub fn check(&mut self, alloc: Global, most: u64, tally: &mut Tally) -> Result<(), Failure> {
+        let count = most.min((READ / self.len().max(1)) as u64).max(FEW);
         let task = self.task();
-        let kept = read_in_orders(alloc, task, tally)?;
-        read_lent(alloc, task, tally)?;
+        let kept = read_whole(alloc, task, tally)?;
         read_under_limits(alloc, task, kept, tally)?;
-        read_fronts(alloc, task, tally)?;
+        read_fronts(alloc, task, count, tally)?;
         say_again(alloc, task, tally)?;
-        self.read_changes(alloc, tally)
+        self.read_changes(alloc, count, tally)
     }
 }

@@ -1,9 +1,10 @@
 //! A recording said again: a client and a server put its events, each reads the other's, and an
 //! auditor reads between them.
 
-use crate::calls::{close, feed, put_event};
+use crate::calls::{begin, close, feed, put_event};
 use crate::numbers::Numbers;
 use crate::readings::Task;
+use crate::streams::packet_length;
 use crate::troubles::Trouble;
 use mysql_connection_machine::{Connection, PutRefusal};
 use mysql_connection_rules::{Fault, Side};
@@ -17,6 +18,33 @@ struct Speakers {
     client: Connection,
     server: Connection,
     auditor: Connection,
+}
+
+/// How many events were said again, and how many of them by the bytes by which they were said first.
+#[derive(Clone, Copy)]
+pub struct Said<'a> {
+    client: &'a [u8],
+    server: &'a [u8],
+    pub events: u64,
+    pub same: u64,
+}
+
+impl Said<'_> {
+    /// A packet of a side was said again by these bytes.
+    fn take(&mut self, side: Side, bytes: &[u8]) {
+        let left = match side {
+            Side::Client => self.client,
+            Side::Server => self.server,
+        };
+        let length = packet_length(left).unwrap_or(0);
+        let behind = left.get(length..).unwrap_or(&[]);
+        self.events = self.events.saturating_add(1);
+        self.same = self.same.saturating_add(u64::from(left.starts_with(bytes)));
+        match side {
+            Side::Client => self.client = behind,
+            Side::Server => self.server = behind,
+        }
+    }
 }
 
 /// Puts an event, once more where memory is refused.
@@ -80,17 +108,10 @@ impl Speakers {
     fn new(alloc: Global, task: &Task<'_>) -> Speakers {
         Speakers {
             alloc,
-            client: Connection::new(alloc, task.limits),
-            server: Connection::new(alloc, task.limits),
-            auditor: Connection::new(alloc, task.limits),
+            client: begin(alloc, task.limits, task.in_force),
+            server: begin(alloc, task.limits, task.in_force),
+            auditor: begin(alloc, task.limits, task.in_force),
         }
-    }
-
-    /// The client says no more.
-    fn end_client(&mut self) {
-        self.client.close(Side::Client);
-        self.server.close(Side::Client);
-        self.auditor.close(Side::Client);
     }
 
     /// Those who speak and who listen to an event of a side.
@@ -111,7 +132,10 @@ impl Speakers {
     ) -> Result<(), Trouble> {
         let side = event.side();
         if matches!(event, Event::Farewell(_)) && self.server.turn() == Some(Side::Client) {
-            self.end_client();
+            // The client says no more.
+            self.client.close(Side::Client);
+            self.server.close(Side::Client);
+            self.auditor.close(Side::Client);
         }
         let mut heard = Vec::new(self.alloc);
         out.clear();
@@ -130,8 +154,8 @@ impl Speakers {
 }
 
 /// Says all events of a recording, and returns how many.
-fn say_once(alloc: Global, task: &Task<'_>, seed: u64) -> Result<u64, Trouble> {
-    let mut source = Connection::new(alloc, task.limits);
+fn say_once<'a>(alloc: Global, task: &Task<'a>, seed: u64) -> Result<Said<'a>, Trouble> {
+    let mut source = begin(alloc, task.limits, task.in_force);
     feed(&mut source, Side::Client, task.client)?;
     feed(&mut source, Side::Server, task.server)?;
     close(&mut source)?;
@@ -139,25 +163,30 @@ fn say_once(alloc: Global, task: &Task<'_>, seed: u64) -> Result<u64, Trouble> {
     let mut numbers = Numbers::new(seed);
     let mut line = Vec::new(alloc);
     let mut out = Vec::new(alloc);
-    let mut said = 0u64;
+    let mut said = Said {
+        client: task.client,
+        server: task.server,
+        events: 0,
+        same: 0,
+    };
     for _ in 0..u64::MAX {
         line.clear();
         match source.next_event() {
             Ok(Some(event)) => {
                 put_event(&event, &mut line)?;
                 speakers.say(&event, line.as_slice(), &mut out, &mut numbers)?;
+                said.take(event.side(), out.as_slice());
             }
             Ok(None) => break,
             Err(failure) if matches!(failure.fault, Fault::Memory) => return Err(Trouble::Memory),
             Err(_) => break,
         }
-        said = said.saturating_add(1);
     }
     Ok(said)
 }
 
 /// Says all events of a recording, once more where memory is refused.
-pub fn say(alloc: Global, task: &Task<'_>, seed: u64) -> Result<u64, Trouble> {
+pub fn say<'a>(alloc: Global, task: &Task<'a>, seed: u64) -> Result<Said<'a>, Trouble> {
     match say_once(alloc, task, seed) {
         Err(Trouble::Memory) => say_once(alloc, task, seed),
         answer => answer,

@@ -11,7 +11,7 @@ pub struct Stream<'a> {
 
 /// How many bytes the packet that stands first takes, where its header is there. No packet of a
 /// recording is as long as a chunk, so that each is a payload.
-fn packet_length(bytes: &[u8]) -> Option<usize> {
+pub fn packet_length(bytes: &[u8]) -> Option<usize> {
     match bytes {
         [low, middle, high, _, ..] => {
             let length = u32::from_le_bytes([*low, *middle, *high, 0]);
@@ -21,8 +21,8 @@ fn packet_length(bytes: &[u8]) -> Option<usize> {
     }
 }
 
-/// The longest payload of a stream, by the headers of its packets.
-pub fn longest_payload(stream: &[u8]) -> usize {
+/// The longest payload of a stream, by the headers of its packets, and the packets that stand whole.
+pub fn packets_of(stream: &[u8]) -> (usize, &[u8]) {
     let mut left = stream;
     let mut longest = 0;
     for _ in 0..stream.len() {
@@ -35,23 +35,8 @@ pub fn longest_payload(stream: &[u8]) -> usize {
         };
         left = behind;
     }
-    longest
-}
-
-/// The packets of a stream that stand whole.
-pub fn packets_front(stream: &[u8]) -> &[u8] {
-    let mut left = stream;
-    for _ in 0..stream.len() {
-        let Some(length) = packet_length(left) else {
-            break;
-        };
-        let Some(behind) = left.get(length..) else {
-            break;
-        };
-        left = behind;
-    }
     let count = stream.len().saturating_sub(left.len());
-    stream.get(..count).unwrap_or(stream)
+    (longest, stream.get(..count).unwrap_or(stream))
 }
 
 impl<'a> Stream<'a> {

@@ -2,6 +2,7 @@
 
 use crate::orders::Order;
 use mysql_connection_rules::Side;
+use row_fields::FieldError;
 use std::alloc::AllocError;
 use std::{fmt, io};
 
@@ -25,16 +26,22 @@ pub enum Trouble {
     Turn,
     /// Other bytes are unread.
     Rest,
-    /// More is kept than the limit leaves.
+    /// More or less is held than has to be.
     Held,
     /// The end isn't how the connection stands.
     End,
     /// An event that was read isn't put again.
     Put,
+    /// More comes than the rows of a conversation say.
+    More,
+    /// A row of a conversation is none that is known.
+    Unknown,
+    /// The rows of a conversation have no end.
+    Unended,
 }
 
 impl Trouble {
-    fn text(self) -> &'static str {
+    pub fn text(self) -> &'static str {
         match self {
             Trouble::Memory => "memory is refused twice",
             Trouble::Feed => "a piece is refused or taken against what there is room for",
@@ -45,9 +52,21 @@ impl Trouble {
             Trouble::Fault => "there is a fault",
             Trouble::Turn => "another side is due",
             Trouble::Rest => "other bytes are unread",
-            Trouble::Held => "more is kept than the limit leaves",
+            Trouble::Held => "more or less is held than has to be",
             Trouble::End => "the end isn't how the connection stands",
             Trouble::Put => "an event that was read isn't put again",
+            Trouble::More => "more comes than the rows say",
+            Trouble::Unknown => "the row is none that is known",
+            Trouble::Unended => "the rows have no end",
+        }
+    }
+}
+
+impl From<FieldError> for Trouble {
+    fn from(error: FieldError) -> Trouble {
+        match error {
+            FieldError::Memory => Trouble::Memory,
+            FieldError::Malformed(_) => Trouble::Unknown,
         }
     }
 }

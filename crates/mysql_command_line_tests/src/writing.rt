@@ -1,13 +1,19 @@
-//! Outputs that fail.
+//! Outputs that take a byte at a time, that take nothing, and that can't be flushed.
 
-use crate::inputs::Input;
 use crate::outputs::{Output, Unflushed};
-use crate::runs::{Row, words_of};
 use crate::support::Asserting;
 use mysql_command_line::Status::{Done, Failed, Refused};
 use mysql_command_line::{Status, run};
-use std::alloc::Global;
-use tests_support::Assert;
+use std::alloc::{AllocError, Global};
+use tests_support::{Assert, once_more};
+
+/// The words, the input, what is printed, and the status.
+type Row = (
+    &'static [&'static str],
+    &'static [u8],
+    &'static [u8],
+    Status,
+);
 
 const ONE_BY_TEXT: &[u8] = b"\x09\0\0\0\x03SELECT 1";
 
@@ -63,58 +69,32 @@ const RUNS: &[Row] = &[
     ),
 ];
 
-/// How a run ends whose output takes so many bytes, and so many at once at most, and what the output says.
-fn outcome(
-    alloc: Global,
-    words: &[String],
-    row: Row,
-    left: usize,
-    most: usize,
-) -> (Status, Output<'static>) {
-    let (_, input, wanted, _) = row;
-    let mut output = Output::taking(wanted, left, most);
-    let status = run(alloc, words, &mut Input::whole(input), &mut output);
-    (status, output)
-}
-
-/// Whether a run fails whose output takes so many bytes, which are the front of what a good run
-/// prints. Else memory was refused.
-fn fails_after(alloc: Global, words: &[String], row: Row, left: usize) -> bool {
-    let (status, output) = outcome(alloc, words, row, left, usize::MAX);
-    status == Failed && output.is_front()
-}
-
-/// Asserts that a run fails wherever its output fails.
-fn assert_fails(assert: &impl Assert, alloc: Global, row: Row, words: &[String], len: usize) {
-    for left in 0..len {
-        let first = fails_after(alloc, words, row, left);
-        assert.holds(first || fails_after(alloc, words, row, left));
+fn owned(alloc: Global, words: &[&str]) -> Result<Vec<String>, AllocError> {
+    let mut all = Vec::new(alloc);
+    for word in words {
+        all.push(String::from_str(alloc, word)?)?;
     }
+    Ok(all)
 }
 
-#[test]
-fn an_output_that_fails(rt: HostRuntime) {
-    let assert = Asserting(&rt);
-    for row in RUNS {
-        let (words, _, wanted, _) = *row;
-        let words = words_of(&assert, rt.alloc(), words);
-        assert_fails(&assert, rt.alloc(), *row, words.as_slice(), wanted.len());
-    }
+/// The words of a row, as a program is given them.
+fn words_of(assert: &impl Assert, alloc: Global, row: Row) -> Vec<String> {
+    let (words, _, _, _) = row;
+    once_more(assert, owned(alloc, words), owned(alloc, words))
 }
 
-/// Whether a run answers whose output takes a byte at a time, up to just what it prints. Else memory was refused.
+/// Whether a run answers whose output takes a byte at a time. Else memory was refused.
 fn answers_by_bytes(alloc: Global, words: &[String], row: Row) -> bool {
-    let (_, _, wanted, wanted_status) = row;
-    let (status, output) = outcome(alloc, words, row, wanted.len(), 1);
-    status == wanted_status && output.is_whole()
+    let (_, mut input, wanted, status) = row;
+    let mut output = Output::taking(wanted, 1);
+    run(alloc, words, &mut input, &mut output) == status && output.is_whole()
 }
 
 #[test]
 fn an_output_that_takes_a_byte_at_a_time(rt: HostRuntime) {
     let assert = Asserting(&rt);
     for row in RUNS {
-        let (words, _, _, _) = *row;
-        let words = words_of(&assert, rt.alloc(), words);
+        let words = words_of(&assert, rt.alloc(), *row);
         let first = answers_by_bytes(rt.alloc(), words.as_slice(), *row);
         assert.holds(first || answers_by_bytes(rt.alloc(), words.as_slice(), *row));
     }
@@ -122,33 +102,31 @@ fn an_output_that_takes_a_byte_at_a_time(rt: HostRuntime) {
 
 /// Whether a run fails whose output takes no byte, and doesn't fail. Else memory was refused.
 fn fails_where_full(alloc: Global, words: &[String], row: Row) -> bool {
-    let (status, _) = outcome(alloc, words, row, usize::MAX, 0);
-    status == Failed
-}
-
-/// Whether a run fails whose output can't be flushed. Else memory was refused.
-fn fails_unflushed(alloc: Global, words: &[String], row: Row) -> bool {
-    let (_, input, _, _) = row;
-    run(alloc, words, &mut Input::whole(input), &mut Unflushed) == Failed
+    let (_, mut input, wanted, _) = row;
+    run(alloc, words, &mut input, &mut Output::taking(wanted, 0)) == Failed
 }
 
 #[test]
 fn an_output_that_takes_nothing(rt: HostRuntime) {
     let assert = Asserting(&rt);
     for row in RUNS {
-        let (words, _, _, _) = *row;
-        let words = words_of(&assert, rt.alloc(), words);
+        let words = words_of(&assert, rt.alloc(), *row);
         let first = fails_where_full(rt.alloc(), words.as_slice(), *row);
         assert.holds(first || fails_where_full(rt.alloc(), words.as_slice(), *row));
     }
+}
+
+/// Whether a run fails whose output can't be flushed. Else memory was refused.
+fn fails_unflushed(alloc: Global, words: &[String], row: Row) -> bool {
+    let (_, mut input, _, _) = row;
+    run(alloc, words, &mut input, &mut Unflushed) == Failed
 }
 
 #[test]
 fn an_output_that_is_not_flushed(rt: HostRuntime) {
     let assert = Asserting(&rt);
     for row in RUNS {
-        let (words, _, _, _) = *row;
-        let words = words_of(&assert, rt.alloc(), words);
+        let words = words_of(&assert, rt.alloc(), *row);
         let first = fails_unflushed(rt.alloc(), words.as_slice(), *row);
         assert.holds(first || fails_unflushed(rt.alloc(), words.as_slice(), *row));
     }

@@ -1,6 +1,4 @@
-//! A whole connection, read: in one piece and byte by byte, with memory refused.
-
-ghost use Rattle.std.specs.Prelude.{◌<◌};
+//! A whole connection, read with memory refused. That it is read in pieces too is shown by conversations.
 
 use crate::memory::Asserting;
 use mysql_connection::{Connection, End, Fault, FeedRefusal, LentEvent, Limits, Reason, Side};
@@ -109,41 +107,26 @@ pub fn feed(connection: &mut Connection, side: Side, piece: &[u8]) -> Result<(),
     }
 }
 
-// Reads both streams in pieces of a size, the client's first. Answers what was counted.
-fn read_pieces(connection: &mut Connection, size: usize, lent: bool) -> Result<Counts, Fault>
-    requires { 0 < size }
-{
-    let mut count: usize = 0;
-    let mut rows: usize = 0;
-    for piece in CLIENT.chunks(size) {
-        feed(connection, Side::Client, piece)?;
-    }
-    for piece in SERVER.chunks(size) {
-        feed(connection, Side::Server, piece)?;
-        let (more, lent_rows) = take(connection, lent)?;
-        count = count.wrapping_add(more);
-        rows = rows.wrapping_add(lent_rows);
-    }
-    Ok((count, rows))
+// Reads both streams, the client's first. Answers what was counted.
+fn read_streams(connection: &mut Connection, lent: bool) -> Result<Counts, Fault> {
+    feed(connection, Side::Client, CLIENT)?;
+    feed(connection, Side::Server, SERVER)?;
+    take(connection, lent)
 }
 
-// Reads the connection in pieces of a size. Answers what was counted, and how it ends.
-fn read(alloc: Global, size: usize, lent: bool) -> Result<(Counts, End), Fault>
-    requires { 0 < size }
-{
+// Reads the connection. Answers what was counted, and how it ends.
+fn read(alloc: Global, lent: bool) -> Result<(Counts, End), Fault> {
     let mut connection = Connection::new(alloc, LIMITS);
-    match read_pieces(&mut connection, size, lent) {
+    match read_streams(&mut connection, lent) {
         Ok(counts) => Ok((counts, connection.finish())),
         Err(fault) => Err(fault),
     }
 }
 
 // Reads it, once more where memory ran out.
-fn read_again(alloc: Global, size: usize, lent: bool) -> Result<(Counts, End), Fault>
-    requires { 0 < size }
-{
-    match read(alloc, size, lent) {
-        Err(Fault::Memory) => read(alloc, size, lent),
+fn read_again(alloc: Global, lent: bool) -> Result<(Counts, End), Fault> {
+    match read(alloc, lent) {
+        Err(Fault::Memory) => read(alloc, lent),
         answer => answer,
     }
 }
@@ -160,20 +143,10 @@ fn is_read<R: Abort>(assert: &Asserting<'_, R>, answer: Result<(Counts, End), Fa
 
 #[test]
 fn in_one_piece(rt: HostRuntime) {
-    is_read(&Asserting(&rt), read_again(rt.alloc(), 1000, false), 0);
-}
-
-#[test]
-fn byte_by_byte(rt: HostRuntime) {
-    is_read(&Asserting(&rt), read_again(rt.alloc(), 1, false), 0);
+    is_read(&Asserting(&rt), read_again(rt.alloc(), false), 0);
 }
 
 #[test]
 fn rows_are_lent(rt: HostRuntime) {
-    is_read(&Asserting(&rt), read_again(rt.alloc(), 1000, true), 1);
-}
-
-#[test]
-fn rows_are_lent_byte_by_byte(rt: HostRuntime) {
-    is_read(&Asserting(&rt), read_again(rt.alloc(), 1, true), 1);
+    is_read(&Asserting(&rt), read_again(rt.alloc(), true), 1);
 }

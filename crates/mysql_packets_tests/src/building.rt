@@ -13,15 +13,14 @@ use mysql_fields::MySerialize;
 use mysql_values::{ByteString, MissingNamedParameterError, Params, ParamsError};
 use std::alloc::{AllocError, Global};
 use std::collections::HashMap;
-use std::fmt::Debug;
-use tests_support::{Assert, assert_bytes, assert_copied, assert_equal, assert_written, once_more};
+use tests_support::{Assert, assert_bytes, assert_equal, assert_written, once_more};
 
 /// What a builder answers about a row.
 type Answer = Result<Option<Vec<Value>>, BulkExecuteRequestBuilderError>;
 
 /// What is wanted of it.
 #[derive(Clone, Copy)]
-enum Wanted {
+pub enum Wanted {
     Taken,
     /// The row comes back.
     Back,
@@ -58,7 +57,7 @@ fn added(
 }
 
 /// Asserts what is answered about a row.
-fn assert_adds(
+pub fn assert_adds(
     assert: &impl Assert,
     alloc: Global,
     builder: &mut ComStmtBulkExecuteRequestBuilder<'_>,
@@ -209,6 +208,11 @@ const BUILDERS: [(usize, &[Step]); 8] = [
     ),
 ];
 
+const WITH_RESULTS: &[Step] = &[
+    Step::Adds(SHORT, Wanted::Taken),
+    Step::Builds(b"\xfa\x01\0\0\0\xc0\0\xfd\0\0\x01x"),
+];
+
 #[test]
 fn rows_and_their_requests(rt: HostRuntime) {
     let assert = Asserting(&rt);
@@ -218,42 +222,9 @@ fn rows_and_their_requests(rt: HostRuntime) {
         let mut builder = ComStmtBulkExecuteRequestBuilder::new(alloc, 1, *limit);
         assert_steps(&assert, alloc, &mut builder, *steps);
     }
-}
-
-/// Asserts that a copy of a builder is equal to it, that an empty one isn't, and that its requests have a text.
-fn assert_copies(
-    assert: &impl Assert,
-    alloc: Global,
-    builder: &mut ComStmtBulkExecuteRequestBuilder<'_>,
-) {
-    let copy = builder.clone(alloc);
-    assert_copied(assert, builder, copy, builder.clone(alloc));
-    let empty = ComStmtBulkExecuteRequestBuilder::new(alloc, 1, 31).with_results();
-    assert.holds(*builder != empty);
-    let requests = builder.build_iter(Vec::new(alloc));
-    let text = once_more(assert, shown(alloc, &requests), shown(alloc, &requests));
-    assert.holds(text.as_str().starts_with("BulkRequests"));
-}
-
-/// What `Debug` writes of a value.
-fn shown<T: Debug>(alloc: Global, value: &T) -> Result<String, AllocError> {
-    format!(in alloc; "{value:?}")
-}
-
-/// A request that asks for the result of each row.
-#[test]
-fn with_results(rt: HostRuntime) {
-    let assert = Asserting(&rt);
-    let alloc = rt.alloc();
+    // A request that asks for the result of each row.
     let mut builder = ComStmtBulkExecuteRequestBuilder::new(alloc, 1, 31).with_results();
-    assert_adds(&assert, alloc, &mut builder, SHORT, Wanted::Taken);
-    assert_copies(&assert, alloc, &mut builder);
-    assert_builds(
-        &assert,
-        alloc,
-        &mut builder,
-        b"\xfa\x01\0\0\0\xc0\0\xfd\0\0\x01x",
-    );
+    assert_steps(&assert, alloc, &mut builder, WITH_RESULTS);
 }
 
 /// A set that gives a name a number.
@@ -298,19 +269,7 @@ fn missing(alloc: Global, name: &[u8]) -> Result<Answer, AllocError> {
     Ok(Err(BulkExecuteRequestBuilderError::Params(error)))
 }
 
-/// Asserts that sets which name `a` are taken, and that one without it is refused and changes nothing.
-fn assert_takes_sets(
-    assert: &impl Assert,
-    alloc: Global,
-    builder: &mut ComStmtBulkExecuteRequestBuilder<'_>,
-) {
-    assert_equal(assert, added_set(assert, alloc, builder, b"a", 1), Ok(None));
-    let wanted = once_more(assert, missing(alloc, b"a"), missing(alloc, b"a"));
-    assert_equal(assert, added_set(assert, alloc, builder, b"b", 7), wanted);
-    assert_equal(assert, added_set(assert, alloc, builder, b"a", 2), Ok(None));
-    assert_builds(assert, alloc, builder, TYPED_1_2);
-}
-
+/// Sets which name `a` are taken, and one without it is refused and changes nothing.
 #[test]
 fn sets_by_name(rt: HostRuntime) {
     let assert = Asserting(&rt);
@@ -318,7 +277,14 @@ fn sets_by_name(rt: HostRuntime) {
     let names = [name(&assert, alloc)];
     let builder = ComStmtBulkExecuteRequestBuilder::new(alloc, 1, 31);
     let mut builder = builder.with_named_params(Some(&names));
-    assert_takes_sets(&assert, alloc, &mut builder);
+    let found = added_set(&assert, alloc, &mut builder, b"a", 1);
+    assert_equal(&assert, found, Ok(None));
+    let found = added_set(&assert, alloc, &mut builder, b"b", 7);
+    let wanted = once_more(&assert, missing(alloc, b"a"), missing(alloc, b"a"));
+    assert_equal(&assert, found, wanted);
+    let found = added_set(&assert, alloc, &mut builder, b"a", 2);
+    assert_equal(&assert, found, Ok(None));
+    assert_builds(&assert, alloc, &mut builder, TYPED_1_2);
 }
 
 /// The bytes of requests, one after another.
@@ -361,26 +327,6 @@ fn iterated_sets(alloc: Global) -> Result<Vec<u8>, BulkExecuteRequestBuilderErro
 const REQUESTS_OF_1_2_3: &[u8] =
     b"\xfa\x01\0\0\0\x80\0\x08\0\0\x01\0\0\0\0\0\0\0\xfa\x01\0\0\0\0\0\0\x02\0\0\0\0\0\0\0\0\x03\0\0\0\0\0\0\0";
 
-/// Two rows fit a request without types alone.
-#[test]
-fn requests_of_three_rows(rt: HostRuntime) {
-    let assert = Asserting(&rt);
-    let found = once_more(&assert, iterated(rt.alloc()), iterated(rt.alloc()));
-    assert_bytes(&assert, found.as_slice(), REQUESTS_OF_1_2_3);
-}
-
-/// The sets of the same rows give the same requests.
-#[test]
-fn requests_of_three_sets(rt: HostRuntime) {
-    let assert = Asserting(&rt);
-    let found = once_more(
-        &assert,
-        iterated_sets(rt.alloc()),
-        iterated_sets(rt.alloc()),
-    );
-    assert_bytes(&assert, found.as_slice(), REQUESTS_OF_1_2_3);
-}
-
 /// The error that is the first of these requests, and whether it is the last item; None where the first is none.
 fn first_error(
     mut requests: BulkRequests<'_, '_>,
@@ -408,13 +354,6 @@ fn is_ended_by_an_error(assert: &impl Assert, alloc: Global) -> bool {
     true
 }
 
-#[test]
-fn an_error_is_the_last_item(rt: HostRuntime) {
-    let assert = Asserting(&rt);
-    let first = is_ended_by_an_error(&assert, rt.alloc());
-    assert.holds(first || is_ended_by_an_error(&assert, rt.alloc()));
-}
-
 const WITHOUT_THE_NAME: [(&[u8], i64); 3] = [(b"a", 1), (b"b", 7), (b"a", 3)];
 
 /// Asserts that a set without the name is the last item, and that the row before it stays: whether memory sufficed.
@@ -437,10 +376,17 @@ fn is_ended_by_a_set(assert: &impl Assert, alloc: Global, names: &[Vec<u8>]) -> 
     true
 }
 
+/// Two rows fit a request without types alone, and the sets of the same rows give the same requests.
 #[test]
-fn a_set_without_the_name_is_the_last_item(rt: HostRuntime) {
+fn requests_of_many(rt: HostRuntime) {
     let assert = Asserting(&rt);
     let alloc = rt.alloc();
+    let found = once_more(&assert, iterated(alloc), iterated(alloc));
+    assert_bytes(&assert, &found, REQUESTS_OF_1_2_3);
+    let found = once_more(&assert, iterated_sets(alloc), iterated_sets(alloc));
+    assert_bytes(&assert, &found, REQUESTS_OF_1_2_3);
+    let first = is_ended_by_an_error(&assert, alloc);
+    assert.holds(first || is_ended_by_an_error(&assert, alloc));
     let names = [name(&assert, alloc)];
     let first = is_ended_by_a_set(&assert, alloc, &names);
     assert.holds(first || is_ended_by_a_set(&assert, alloc, &names));

@@ -16,8 +16,8 @@ use mysql_const::{
 use mysql_fields::{ParseExt, WireError};
 use std::alloc::{AllocError, Global};
 use tests_support::{
-    Assert, assert_bytes, assert_copied, assert_equal, assert_made, assert_reads_back,
-    assert_written, first_of, once_more, whole,
+    Assert, assert_bytes, assert_copied, assert_equal, assert_made, assert_written, first_of,
+    once_more, whole,
 };
 
 const UNTYPED: StmtBulkExecuteFlags = StmtBulkExecuteFlags(0);
@@ -49,20 +49,6 @@ const BY_VALUES: [(&[Cells], &[u8]); 6] = [
         b"\xfa\x01\0\0\0\x80\0\x08\0\0\x01\0\0\0\0\0\0\0\0\x01x",
     ),
 ];
-
-#[test]
-fn types_of_values(rt: HostRuntime) {
-    let alloc = rt.alloc();
-    for (all, bytes) in &BY_VALUES {
-        assert_made(
-            &Asserting(&rt),
-            alloc,
-            request(alloc, *all),
-            request(alloc, *all),
-            *bytes,
-        );
-    }
-}
 
 /// Types without flags.
 fn types_of(
@@ -116,66 +102,6 @@ const BY_TYPES: [(Asked, usize, &[u8]); 3] = [
     ),
 ];
 
-#[test]
-fn types_that_are_given(rt: HostRuntime) {
-    let assert = Asserting(&rt);
-    let alloc = rt.alloc();
-    for (asked, sent, bytes) in &BY_TYPES {
-        let made = once_more(
-            &assert,
-            request_by_types(alloc, *asked),
-            request_by_types(alloc, *asked),
-        );
-        assert_equal(&assert, made.types().len(), *sent);
-        assert_written(&assert, alloc, &made, *bytes);
-    }
-}
-
-/// Why a request, or the same asked for once more, is refused.
-fn cause_of(first: Answer, second: Answer) -> Option<BulkExecuteRequestError> {
-    match first {
-        Err(BulkExecuteRequestError::Memory) => second.err(),
-        answer => answer.err(),
-    }
-}
-
-/// As many types as values are wanted where they are sent, and as many values in each row.
-const MIXED: [Asked; 3] = [
-    (TYPED, &[], &[ONE]),
-    (TYPED, TWO_LONGLONGS, &[ONE]),
-    (UNTYPED, &[], &[ONE, TWO_VALUES]),
-];
-
-#[test]
-fn mixed_numbers_of_values(rt: HostRuntime) {
-    let alloc = rt.alloc();
-    for asked in &MIXED {
-        let found = cause_of(
-            request_by_types(alloc, *asked),
-            request_by_types(alloc, *asked),
-        );
-        Asserting(&rt).holds(matches!(found, Some(BulkExecuteRequestError::MixedArity)));
-    }
-    let found = cause_of(
-        request(alloc, &[ONE, TWO_VALUES]),
-        request(alloc, &[ONE, TWO_VALUES]),
-    );
-    Asserting(&rt).holds(matches!(found, Some(BulkExecuteRequestError::MixedArity)));
-}
-
-#[test]
-fn no_rows(rt: HostRuntime) {
-    let alloc = rt.alloc();
-    let found = cause_of(request(alloc, &[]), request(alloc, &[]));
-    Asserting(&rt).holds(matches!(found, Some(BulkExecuteRequestError::NoParams)));
-    let asked: Asked = (TYPED, ONE_LONGLONG, &[]);
-    let found = cause_of(
-        request_by_types(alloc, asked),
-        request_by_types(alloc, asked),
-    );
-    Asserting(&rt).holds(matches!(found, Some(BulkExecuteRequestError::NoParams)));
-}
-
 /// A request that is made of values in one list, and whether it took them.
 fn flat_request(alloc: Global) -> Result<(ComStmtBulkExecuteRequest, bool), AllocError> {
     let mut values = Vec::new(alloc);
@@ -187,12 +113,73 @@ fn flat_request(alloc: Global) -> Result<(ComStmtBulkExecuteRequest, bool), Allo
 }
 
 #[test]
-fn values_in_one_list(rt: HostRuntime) {
+fn requests(rt: HostRuntime) {
     let assert = Asserting(&rt);
     let alloc = rt.alloc();
+    for (all, bytes) in &BY_VALUES {
+        assert_made(
+            &assert,
+            alloc,
+            request(alloc, *all),
+            request(alloc, *all),
+            *bytes,
+        );
+    }
+    for (asked, sent, bytes) in &BY_TYPES {
+        let made = once_more(
+            &assert,
+            request_by_types(alloc, *asked),
+            request_by_types(alloc, *asked),
+        );
+        assert_equal(&assert, made.types().len(), *sent);
+        assert_written(&assert, alloc, &made, *bytes);
+        drop(made);
+    }
     let (made, taken) = once_more(&assert, flat_request(alloc), flat_request(alloc));
     assert.holds(taken);
     assert_written(&assert, alloc, &made, TYPED_1_2);
+    drop(made);
+}
+
+/// Why a request, or the same asked for once more, is refused.
+fn cause_of(first: Answer, second: Answer) -> Option<BulkExecuteRequestError> {
+    match first {
+        Err(BulkExecuteRequestError::Memory) => second.err(),
+        answer => answer.err(),
+    }
+}
+
+/// What is asked for in vain, and whether no row is the cause: as many types as values are wanted
+/// where they are sent, as many values in each row, and rows.
+const IN_VAIN: [(Asked, bool); 4] = [
+    ((TYPED, &[], &[ONE]), false),
+    ((TYPED, TWO_LONGLONGS, &[ONE]), false),
+    ((UNTYPED, &[], &[ONE, TWO_VALUES]), false),
+    ((TYPED, ONE_LONGLONG, &[]), true),
+];
+
+#[test]
+fn no_requests_are_made(rt: HostRuntime) {
+    let assert = Asserting(&rt);
+    let alloc = rt.alloc();
+    for (asked, without_rows) in &IN_VAIN {
+        let found = cause_of(
+            request_by_types(alloc, *asked),
+            request_by_types(alloc, *asked),
+        );
+        if *without_rows {
+            assert.holds(matches!(found, Some(BulkExecuteRequestError::NoParams)));
+        } else {
+            assert.holds(matches!(found, Some(BulkExecuteRequestError::MixedArity)));
+        }
+    }
+    let found = cause_of(
+        request(alloc, &[ONE, TWO_VALUES]),
+        request(alloc, &[ONE, TWO_VALUES]),
+    );
+    assert.holds(matches!(found, Some(BulkExecuteRequestError::MixedArity)));
+    let found = cause_of(request(alloc, &[]), request(alloc, &[]));
+    assert.holds(matches!(found, Some(BulkExecuteRequestError::NoParams)));
 }
 
 /// Asserts that a request has one value, this number.
@@ -228,22 +215,6 @@ fn assert_parts(
 
 const ONE_AND_NULL: Cells = &[Given::Int(1), Given::Null];
 
-#[test]
-fn values_of_a_row(rt: HostRuntime) {
-    let assert = Asserting(&rt);
-    let alloc = rt.alloc();
-    let made = once_more(
-        &assert,
-        param_values(alloc, ONE_AND_NULL),
-        param_values(alloc, ONE_AND_NULL),
-    );
-    assert_written(&assert, alloc, &made, b"\0\x01\0\0\0\0\0\0\0\x01");
-    assert_copied(&assert, &made, made.clone(alloc), made.clone(alloc));
-    for value in made.as_slice() {
-        assert_copied(&assert, value, value.clone(alloc), value.clone(alloc));
-    }
-}
-
 const LONGLONG: [(ColumnType, ColumnFlags); 1] = [(
     ColumnType::MYSQL_TYPE_LONGLONG,
     ColumnFlags(0),
@@ -275,19 +246,35 @@ fn assert_null(assert: &impl Assert, alloc: Global, bytes: &[u8], indicator: Mar
     assert.holds(matches!(found.value(), Value::NULL));
 }
 
-/// Indicators 1 to 3 read no value: NULL, and for now what the column's default is and what is
-/// ignored. A value keeps them.
+/// A type with its flags. Indicators 1 to 3 read no value: NULL, and for now what the column's
+/// default is and what is ignored. A value keeps them.
 #[test]
-fn indicators_without_values(rt: HostRuntime) {
+fn types_and_values(rt: HostRuntime) {
     let assert = Asserting(&rt);
+    let alloc = rt.alloc();
+    let wanted = StmtBulkExecuteParamType::new(
+        ColumnType::MYSQL_TYPE_LONGLONG,
+        StmtExecuteParamFlags::UNSIGNED,
+    );
+    let read = whole::<StmtBulkExecuteParamType, ()>(&assert, alloc, (), b"\x08\x80");
+    assert_equal(&assert, read, wanted);
+    let made = StmtBulkExecuteParamType::from_value(&Value::UInt(2));
+    assert_equal(&assert, made, wanted);
+    assert_written(&assert, alloc, &made, b"\x08\x80");
+    let made = once_more(
+        &assert,
+        param_values(alloc, ONE_AND_NULL),
+        param_values(alloc, ONE_AND_NULL),
+    );
+    assert_written(&assert, alloc, &made, b"\0\x01\0\0\0\0\0\0\0\x01");
+    assert_copied(&assert, &made, made.clone(alloc), made.clone(alloc));
+    for value in made.as_slice() {
+        assert_copied(&assert, value, value.clone(alloc), value.clone(alloc));
+    }
     for (bytes, indicator) in &WITHOUT_VALUES {
-        let null = once_more(
-            &assert,
-            is_null(rt.alloc(), *bytes),
-            is_null(rt.alloc(), *bytes),
-        );
+        let null = once_more(&assert, is_null(alloc, *bytes), is_null(alloc, *bytes));
         assert.holds(null);
-        assert_null(&assert, rt.alloc(), *bytes, *indicator);
+        assert_null(&assert, alloc, *bytes, *indicator);
     }
 }
 
@@ -309,23 +296,6 @@ const FIRST_REQUESTS: [(&[u8], StmtBulkExecuteFlags, i64, usize); 2] = [
     // A request without types is read by those that are known.
     (b"\xfa\x01\0\0\0\0\0\0\x05\0\0\0\0\0\0\0", UNTYPED, 5, 0),
 ];
-
-#[test]
-fn requests_are_read_with_their_first_row(rt: HostRuntime) {
-    let assert = Asserting(&rt);
-    let alloc = rt.alloc();
-    for (bytes, flags, number, rest) in &FIRST_REQUESTS {
-        let (read, left) = once_more(
-            &assert,
-            first_request(alloc, *bytes),
-            first_request(alloc, *bytes),
-        );
-        assert_equal(&assert, left, *rest);
-        assert_parts(&assert, &read, *flags);
-        assert_number(&assert, &read, *number);
-        assert_copied(&assert, &read, read.clone(alloc), read.clone(alloc));
-    }
-}
 
 /// Why these bytes are no request, all of which are left; None where they are one.
 fn refusal(assert: &impl Assert, alloc: Global, bytes: &[u8]) -> Option<WireError> {
@@ -358,31 +328,28 @@ const NO_REQUESTS: [(&[u8], WireError); 3] = [
     ),
 ];
 
+/// A request is read with its first row.
 #[test]
-fn no_requests(rt: HostRuntime) {
-    for (bytes, cause) in &NO_REQUESTS {
-        let mut found = refusal(&Asserting(&rt), rt.alloc(), *bytes);
-        if found == Some(WireError::Memory) {
-            found = refusal(&Asserting(&rt), rt.alloc(), *bytes);
-        }
-        assert_equal(&Asserting(&rt), found, Some(*cause));
-    }
-}
-
-#[test]
-fn a_type_is_read(rt: HostRuntime) {
+fn requests_are_read(rt: HostRuntime) {
     let assert = Asserting(&rt);
-    let bytes = b"\x08\x80";
-    let read = whole::<StmtBulkExecuteParamType, ()>(&assert, rt.alloc(), (), bytes);
-    let wanted = StmtBulkExecuteParamType::new(
-        ColumnType::MYSQL_TYPE_LONGLONG,
-        StmtExecuteParamFlags::UNSIGNED,
-    );
-    assert_equal(&assert, read, wanted);
-    assert_equal(
-        &assert,
-        StmtBulkExecuteParamType::from_value(&Value::UInt(2)),
-        wanted,
-    );
-    assert_reads_back::<StmtBulkExecuteParamType, ()>(&assert, rt.alloc(), (), bytes);
+    let alloc = rt.alloc();
+    for (bytes, flags, number, rest) in &FIRST_REQUESTS {
+        let (read, left) = once_more(
+            &assert,
+            first_request(alloc, *bytes),
+            first_request(alloc, *bytes),
+        );
+        assert_equal(&assert, left, *rest);
+        assert_parts(&assert, &read, *flags);
+        assert_number(&assert, &read, *number);
+        assert_copied(&assert, &read, read.clone(alloc), read.clone(alloc));
+        drop(read);
+    }
+    for (bytes, cause) in &NO_REQUESTS {
+        let mut found = refusal(&assert, alloc, *bytes);
+        if found == Some(WireError::Memory) {
+            found = refusal(&assert, alloc, *bytes);
+        }
+        assert_equal(&assert, found, Some(*cause));
+    }
 }

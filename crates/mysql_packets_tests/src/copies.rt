@@ -1,8 +1,11 @@
 //! Copies that borrow nothing, of what can be copied or made to own its bytes and isn't elsewhere.
 
+use crate::building::{Wanted, assert_adds};
 use crate::given::{SHORT, row};
 use crate::support::Asserting;
-use mysql_bulk_builder::{BulkExecuteRequestBuilderError, BulkExecuteRequestError};
+use mysql_bulk_builder::{
+    BulkExecuteRequestBuilderError, BulkExecuteRequestError, ComStmtBulkExecuteRequestBuilder,
+};
 use mysql_packets::{ErrPacket, LocalInfilePacket, ProgressReport, ServerError, SqlState};
 use mysql_session_states::{
     Gtids, Schema, SessionStateChange, SessionStateInfo, SessionStateType, SystemVariable,
@@ -10,7 +13,7 @@ use mysql_session_states::{
 };
 use mysql_stmt::ComStmtSendLongData;
 use mysql_values::{ByteString, Content, MissingNamedParameterError, ParamsError};
-use std::alloc::Global;
+use std::alloc::{AllocError, Global};
 use std::borrow::CowSlice;
 use tests_support::{Assert, assert_copied, once_more};
 
@@ -124,4 +127,38 @@ fn cloned_errors(rt: HostRuntime) {
     assert_copied(&assert, &error, error.clone(alloc), error.clone(alloc));
     let error = BulkExecuteRequestBuilderError::Params(missing(&assert, alloc));
     assert_copied(&assert, &error, error.clone(alloc), error.clone(alloc));
+}
+
+/// What `Debug` writes of the requests of no rows.
+fn shown(
+    alloc: Global,
+    builder: &mut ComStmtBulkExecuteRequestBuilder<'_>,
+) -> Result<String, AllocError> {
+    let requests = builder.build_iter(Vec::new(alloc));
+    format!(in alloc; "{requests:?}")
+}
+
+/// A copy of a builder holds the same rows, and so differs from one that holds none.
+#[test]
+fn cloned_builders(rt: HostRuntime) {
+    let assert = Asserting(&rt);
+    let alloc = rt.alloc();
+    let mut builder = ComStmtBulkExecuteRequestBuilder::new(alloc, 1, 31).with_results();
+    assert_adds(&assert, alloc, &mut builder, SHORT, Wanted::Taken);
+    assert_copied(
+        &assert,
+        &builder,
+        builder.clone(alloc),
+        builder.clone(alloc),
+    );
+    let empty = ComStmtBulkExecuteRequestBuilder::new(alloc, 1, 31).with_results();
+    assert.holds(builder != empty);
+    drop(empty);
+    let text = once_more(
+        &assert,
+        shown(alloc, &mut builder),
+        shown(alloc, &mut builder),
+    );
+    drop(builder);
+    assert.holds(text.as_str().starts_with("BulkRequests"));
 }

@@ -12,6 +12,8 @@ pub enum Given {
     Null,
     Int(i64),
     UInt(u64),
+    Float(u32),
+    Double(u64),
     /// So many bytes `x`.
     Filled(usize),
 }
@@ -47,6 +49,8 @@ fn value(alloc: Global, given: Given) -> Result<Value, AllocError> {
         Given::Null => Ok(Value::NULL),
         Given::Int(number) => Ok(Value::Int(number)),
         Given::UInt(number) => Ok(Value::UInt(number)),
+        Given::Float(bits) => Ok(Value::Float(bits)),
+        Given::Double(bits) => Ok(Value::Double(bits)),
         Given::Filled(len) => Ok(Value::Bytes(filled(alloc, len)?)),
     }
 }

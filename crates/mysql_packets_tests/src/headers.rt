@@ -32,7 +32,7 @@ fn assert_constant<'a, T: MySerialize + MyDeserialize<'a> + Readable<Ctx = ()> +
 }
 
 #[test]
-fn of_replies(rt: HostRuntime) {
+fn constants(rt: HostRuntime) {
     let assert = Asserting(&rt);
     let alloc = rt.alloc();
     assert_constant::<ErrPacketHeader>(&assert, alloc, b"\xff", b"\xfe");
@@ -41,12 +41,6 @@ fn of_replies(rt: HostRuntime) {
     assert_constant::<StmtPacketStatus>(&assert, alloc, b"\0", b"\x01");
     assert_constant::<ColumnDefinitionCatalog>(&assert, alloc, b"\x03def", b"\x03deg");
     assert_constant::<FixedLengthFieldsLen>(&assert, alloc, b"\x0c", b"\x0d");
-}
-
-#[test]
-fn of_commands(rt: HostRuntime) {
-    let assert = Asserting(&rt);
-    let alloc = rt.alloc();
     assert_constant::<ComStmtExecuteHeader>(&assert, alloc, b"\x17", b"\x16");
     assert_constant::<IterationCount>(&assert, alloc, b"\x01\0\0\0", b"\x01\0\0\x01");
     assert_constant::<ComStmtSendLongDataHeader>(&assert, alloc, b"\x18", b"\x17");
@@ -56,7 +50,7 @@ fn of_commands(rt: HostRuntime) {
 }
 
 #[test]
-fn errors_of_replies(rt: HostRuntime) {
+fn errors(rt: HostRuntime) {
     let assert = Asserting(&rt);
     let alloc = rt.alloc();
     assert_prints(
@@ -95,12 +89,6 @@ fn errors_of_replies(rt: HostRuntime) {
     assert_prints(&assert, alloc, &InvalidFixedLengthFieldsLen, len);
     let number = "invalid length-encoded number";
     assert_prints(&assert, alloc, &InvalidLengthEncodedInteger, number);
-}
-
-#[test]
-fn errors_of_commands(rt: HostRuntime) {
-    let assert = Asserting(&rt);
-    let alloc = rt.alloc();
     let execute = "Invalid header for COM_STMT_EXECUTE";
     assert_prints(&assert, alloc, &InvalidComStmtExecuteHeader, execute);
     let count = "Invalid iteration count for COM_STMT_EXECUTE";

@@ -1,6 +1,7 @@
-//! Tests of `mysql_packets` and the crates below it from outside: columns, OK and error packets,
-//! session states, rows and commands of prepared statements, whole and cut off at each byte; and of
-//! the builder of bulk requests.
+//! Tests of `mysql_packets` and the crates below it from outside: what only Rattle has of columns, OK
+//! and error packets, session states, rows and commands of prepared statements; and the builder of
+//! bulk requests. What such packets say in a reply, and which fronts of them are refused, stands in
+//! rows: bindings/testing/rows.
 #![tactic(auto)]
 
 #[cfg(test)]

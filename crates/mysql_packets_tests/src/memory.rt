@@ -62,47 +62,31 @@ fn assert_appends<
 }
 
 #[test]
-fn errors(rt: HostRuntime) {
+fn packets(rt: HostRuntime) {
     let assert = Asserting(&rt);
     let alloc = rt.alloc();
-    for bytes in [NO_TABLES, PROGRESS] {
-        assert_appends::<ErrPacket, CapabilityFlags>(&assert, alloc, WITH_PROGRESS, bytes);
-    }
+    assert_appends::<ErrPacket, CapabilityFlags>(&assert, alloc, WITH_PROGRESS, NO_TABLES);
+    assert_appends::<ErrPacket, CapabilityFlags>(&assert, alloc, WITH_PROGRESS, PROGRESS);
     let body = b"#HY000No tables used";
     assert_appends::<ServerError, (u16, bool)>(&assert, alloc, (1096, true), body);
     assert_appends::<SqlState, ()>(&assert, alloc, (), b"#HY000");
     let report = b"\x01\x01\x0a\xcc\x5b\0\x0astage name";
     assert_appends::<ProgressReport, ()>(&assert, alloc, (), report);
-}
-
-#[test]
-fn other_packets(rt: HostRuntime) {
-    let assert = Asserting(&rt);
-    let alloc = rt.alloc();
     assert_appends::<Column, ()>(&assert, alloc, (), COLUMN);
     assert_appends::<LocalInfilePacket, ()>(&assert, alloc, (), b"\xfbfile_name");
     let prepared = b"\0\x01\0\0\0\x01\0\x02\0\0\0\0";
     assert_appends::<StmtPacket, ()>(&assert, alloc, (), prepared);
     let state = b"\x00\x0f\x0aautocommit\x03OFF";
     assert_appends::<SessionStateInfo, ()>(&assert, alloc, (), state);
+    let mut out = front(&assert, alloc);
+    if packet_to_chunks(7, b"SELECT 1", &mut out).is_err() {
+        assert_bytes(&assert, out.as_slice(), b"front");
+        assert.holds(packet_to_chunks(7, b"SELECT 1", &mut out).is_ok());
+    }
+    assert_behind(&assert, out.as_slice(), b"\x08\0\0\x07SELECT 1");
 }
 
-/// Asserts the same of an execution of the number 1.
-fn assert_execution(assert: &impl Assert, alloc: Global) {
-    let values = [Value::Int(1)];
-    let builder = ComStmtExecuteRequestBuilder::new(1);
-    let (request, _) = once_more(
-        assert,
-        builder.build(alloc, &values),
-        builder.build(alloc, &values),
-    );
-    assert_appended(
-        assert,
-        alloc,
-        &request,
-        b"\x17\x01\0\0\0\0\x01\0\0\0\0\x01\x08\0\x01\0\0\0\0\0\0\0",
-    );
-}
+const OF_ONE: &[u8] = b"\x17\x01\0\0\0\0\x01\0\0\0\0\x01\x08\0\x01\0\0\0\0\0\0\0";
 
 #[test]
 fn commands(rt: HostRuntime) {
@@ -112,7 +96,14 @@ fn commands(rt: HostRuntime) {
     assert_appended(&assert, alloc, &ComStmtReset::new(1), b"\x1a\x01\0\0\0");
     let piece = ComStmtSendLongData::new(1, 0, CowSlice::Borrowed(b"x"));
     assert_appended(&assert, alloc, &piece, b"\x18\x01\0\0\0\0\0x");
-    assert_execution(&assert, alloc);
+    let values = [Value::Int(1)];
+    let builder = ComStmtExecuteRequestBuilder::new(1);
+    let (request, _) = once_more(
+        &assert,
+        builder.build(alloc, &values),
+        builder.build(alloc, &values),
+    );
+    assert_appended(&assert, alloc, &request, OF_ONE);
 }
 
 #[test]
@@ -133,17 +124,6 @@ fn bulk_requests(rt: HostRuntime) {
     assert_appended(&assert, alloc, &values, b"\0\x01\0\0\0\0\0\0\0");
     let value = StmtBulkExecuteParamValue::new(Value::Int(1));
     assert_appended(&assert, alloc, &value, b"\0\x01\0\0\0\0\0\0\0");
-}
-
-#[test]
-fn chunks(rt: HostRuntime) {
-    let assert = Asserting(&rt);
-    let mut out = front(&assert, rt.alloc());
-    if packet_to_chunks(7, b"SELECT 1", &mut out).is_err() {
-        assert_bytes(&assert, out.as_slice(), b"front");
-        assert.holds(packet_to_chunks(7, b"SELECT 1", &mut out).is_ok());
-    }
-    assert_behind(&assert, out.as_slice(), b"\x08\0\0\x07SELECT 1");
 }
 
 /// The set that gives the name `a` 1.
@@ -178,21 +158,6 @@ fn is_bound(assert: &impl Assert, answer: Result<(), BindError>, out: &[u8]) -> 
     }
 }
 
-#[test]
-fn bound_texts(rt: HostRuntime) {
-    let assert = Asserting(&rt);
-    let alloc = rt.alloc();
-    let set = one(&assert, alloc);
-    for by_places in [false, true] {
-        let mut out = front(&assert, alloc);
-        let answer = bind(alloc, by_places, &set, &mut out);
-        if !is_bound(&assert, answer, &out) {
-            let answer = bind(alloc, by_places, &set, &mut out);
-            assert.holds(is_bound(&assert, answer, &out));
-        }
-    }
-}
-
 /// Asserts that the set that gives the name `a` 1 has that value for a query: whether memory sufficed.
 fn has_value(assert: &impl Assert, alloc: Global, names: &[Vec<u8>]) -> bool {
     match one(assert, alloc).into_values(alloc, Some(names)) {
@@ -208,9 +173,18 @@ fn has_value(assert: &impl Assert, alloc: Global, names: &[Vec<u8>]) -> bool {
 }
 
 #[test]
-fn values_of_a_set(rt: HostRuntime) {
+fn sets(rt: HostRuntime) {
     let assert = Asserting(&rt);
     let alloc = rt.alloc();
+    let set = one(&assert, alloc);
+    for by_places in [false, true] {
+        let mut out = front(&assert, alloc);
+        let answer = bind(alloc, by_places, &set, &mut out);
+        if !is_bound(&assert, answer, &out) {
+            let answer = bind(alloc, by_places, &set, &mut out);
+            assert.holds(is_bound(&assert, answer, &out));
+        }
+    }
     let names = [name(&assert, alloc)];
     let first = has_value(&assert, alloc, &names);
     assert.holds(first || has_value(&assert, alloc, &names));
@@ -268,7 +242,8 @@ fn assert_built(
     assert.holds(!builder.has_rows());
 }
 
-/// A row for which memory is refused isn't held, and those before it are.
+/// A row for which memory is refused isn't held, and those before it are; nor does it set how many
+/// values each row has.
 #[test]
 fn requests_without_a_row(rt: HostRuntime) {
     let assert = Asserting(&rt);
@@ -280,31 +255,13 @@ fn requests_without_a_row(rt: HostRuntime) {
     let second = is_added(&assert, alloc, &mut builder, TWO);
     let wanted = if second { TYPED_1_2 } else { TYPED_1 };
     assert_built(&assert, alloc, &mut builder, wanted);
-}
-
-/// Nor does it set how many values each row has.
-#[test]
-fn a_row_sets_no_length(rt: HostRuntime) {
-    let assert = Asserting(&rt);
-    let alloc = rt.alloc();
+    drop(builder);
     let mut builder = ComStmtBulkExecuteRequestBuilder::new(alloc, 1, 1000);
     let first = is_added(&assert, alloc, &mut builder, ONE);
     let next = if first { TWO } else { TWO_VALUES };
     let second = is_added(&assert, alloc, &mut builder, next);
     assert.holds(second || is_added(&assert, alloc, &mut builder, next));
-}
-
-/// The same row is taken once more.
-#[test]
-fn requests_with_each_row(rt: HostRuntime) {
-    let assert = Asserting(&rt);
-    let alloc = rt.alloc();
-    let mut builder = ComStmtBulkExecuteRequestBuilder::new(alloc, 1, 31);
-    let first = is_added(&assert, alloc, &mut builder, ONE);
-    assert.holds(first || is_added(&assert, alloc, &mut builder, ONE));
-    let second = is_added(&assert, alloc, &mut builder, TWO);
-    assert.holds(second || is_added(&assert, alloc, &mut builder, TWO));
-    assert_built(&assert, alloc, &mut builder, TYPED_1_2);
+    drop(builder);
 }
 
 /// Asserts that the cell `id` of a row is copied as 7: whether memory sufficed. The cell stays.

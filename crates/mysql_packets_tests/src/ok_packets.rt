@@ -13,7 +13,8 @@ use mysql_ok_packets::{
 use std::alloc::Global;
 use std::borrow::CowSlice;
 use tests_support::{
-    Assert, assert_bytes, assert_copied, assert_equal, assert_refused, once_more, whole,
+    Assert, assert_bytes, assert_copied, assert_cut_off, assert_equal, assert_refused, once_more,
+    whole,
 };
 
 const NONE: CapabilityFlags = CapabilityFlags::CLIENT_PROTOCOL_41;
@@ -114,11 +115,40 @@ const COMMON: [(CapabilityFlags, &[u8], Says); 6] = [
     ),
 ];
 
+/// A terminator's info follows its numbers.
+const TERMINATOR: &[u8] = b"\xfe\x00\x00\x00\x00\x00\x00\x02ok";
+
+const EOF: &[u8] = b"\xfe\x00\x00\x02\x00";
+
+/// Read as a terminator, a common OK packet is refused. The terminator of a binlog stream is read in
+/// the same way as one of rows.
 #[test]
-fn common(rt: HostRuntime) {
+fn kinds(rt: HostRuntime) {
+    let assert = Asserting(&rt);
+    let alloc = rt.alloc();
     for (capabilities, bytes, says) in &COMMON {
-        assert_kind::<CommonOkPacket>(&Asserting(&rt), rt.alloc(), *capabilities, *bytes, says);
+        assert_kind::<CommonOkPacket>(&assert, alloc, *capabilities, *bytes, says);
     }
+    // Behind the warnings nothing has to follow.
+    let len = CHANGED.len();
+    assert_cut_off::<OkPacketDeserializer<CommonOkPacket>, CapabilityFlags>(
+        &assert, alloc, TRACKED, CHANGED, 0, 7,
+    );
+    assert_cut_off::<OkPacketDeserializer<CommonOkPacket>, CapabilityFlags>(
+        &assert, alloc, TRACKED, CHANGED, 8, len,
+    );
+    let says: Says = (0, None, StatusFlags(0), 0, Some(b"ok"), None);
+    assert_kind::<ResultSetTerminator>(&assert, alloc, TRACKED, TERMINATOR, &says);
+    assert_refused::<OkPacketDeserializer<ResultSetTerminator>, CapabilityFlags>(
+        &assert,
+        alloc,
+        NONE,
+        DONE,
+        WireError::BadConstant,
+    );
+    let says: Says = (0, None, AUTOCOMMIT, 0, None, None);
+    assert_kind::<OldEofPacket>(&assert, alloc, NONE, EOF, &says);
+    assert_kind::<NetworkStreamTerminator>(&assert, alloc, NONE, EOF, &says);
 }
 
 /// Asserts what is read behind the header of a packet of the kind `T`, and how many bytes are left.
@@ -207,34 +237,6 @@ fn bodies(rt: HostRuntime) {
     assert_body::<NetworkStreamTerminator>(&assert, alloc, NONE, &EOF_BODY);
 }
 
-/// A terminator's info follows its numbers.
-const TERMINATOR: &[u8] = b"\xfe\x00\x00\x00\x00\x00\x00\x02ok";
-
-/// Read as a terminator, a common OK packet is refused.
-#[test]
-fn a_terminator(rt: HostRuntime) {
-    let assert = Asserting(&rt);
-    let says: Says = (0, None, StatusFlags(0), 0, Some(b"ok"), None);
-    assert_kind::<ResultSetTerminator>(&assert, rt.alloc(), TRACKED, TERMINATOR, &says);
-    assert_refused::<OkPacketDeserializer<ResultSetTerminator>, CapabilityFlags>(
-        &assert,
-        rt.alloc(),
-        NONE,
-        DONE,
-        WireError::BadConstant,
-    );
-}
-
-/// The terminator of a binlog stream is read in the same way as one of rows.
-#[test]
-fn eof_packets(rt: HostRuntime) {
-    let assert = Asserting(&rt);
-    let says: Says = (0, None, AUTOCOMMIT, 0, None, None);
-    let bytes = b"\xfe\x00\x00\x02\x00";
-    assert_kind::<OldEofPacket>(&assert, rt.alloc(), NONE, bytes, &says);
-    assert_kind::<NetworkStreamTerminator>(&assert, rt.alloc(), NONE, bytes, &says);
-}
-
 fn borrowed(bytes: Option<&'static [u8]>) -> Option<CowSlice<'static, u8>> {
     match bytes {
         Some(bytes) => Some(CowSlice::Borrowed(bytes)),
@@ -296,26 +298,20 @@ const MADE: [(Says, CapabilityFlags, StatusFlags, &[u8]); 6] = [
     ),
 ];
 
-/// Asserts how the packet of these fields is written.
-fn assert_made(
-    assert: &impl Assert,
-    alloc: Global,
-    row: &(Says, CapabilityFlags, StatusFlags, &'static [u8]),
-) {
-    let packet = made(&row.0);
-    assert_written_as::<CommonOkPacket>(assert, alloc, row.1, row.2, &packet, row.3);
-}
-
 #[test]
 fn made_and_written(rt: HostRuntime) {
-    for row in &MADE {
-        assert_made(&Asserting(&rt), rt.alloc(), row);
-    }
-}
-
-#[test]
-fn what_a_made_packet_says(rt: HostRuntime) {
     let assert = Asserting(&rt);
+    for (says, capabilities, status, bytes) in &MADE {
+        let packet = made(says);
+        assert_written_as::<CommonOkPacket>(
+            &assert,
+            rt.alloc(),
+            *capabilities,
+            *status,
+            &packet,
+            *bytes,
+        );
+    }
     assert_says(&assert, &made(&MADE[1].0), &MADE[0].0);
     assert.holds(has_named_status(AUTOCOMMIT));
     assert.holds(!has_named_status(StatusFlags(4)));
@@ -328,24 +324,6 @@ fn what_a_made_packet_says(rt: HostRuntime) {
         of_mariadb.mariadb_status_flags(),
         MariadbStatusFlags::SERVER_STATUS_ANSI_QUOTES,
     );
-}
-
-/// Each prefix is cut off, but those without session states that end behind the warnings or the info.
-#[test]
-fn cut_off(rt: HostRuntime) {
-    let assert = Asserting(&rt);
-    for len in 0..CHANGED.len() {
-        // Behind the warnings nothing has to follow.
-        if len != 7 {
-            assert_refused::<OkPacketDeserializer<CommonOkPacket>, CapabilityFlags>(
-                &assert,
-                rt.alloc(),
-                TRACKED,
-                &CHANGED[..len],
-                WireError::UnexpectedEof,
-            );
-        }
-    }
 }
 
 /// The packet that these bytes are, where session states are sent.
@@ -372,8 +350,9 @@ fn assert_states(assert: &impl Assert, alloc: Global, packet: &OkPacket, told: &
 
 /// Packets, and what their states are decoded to. The last is as MariaDB writes it, which leaves the
 /// inner length out.
-const WITH_STATES: [(&[u8], &[Told]); 6] = [
+const WITH_STATES: [(&[u8], &[Told]); 7] = [
     (DONE, &[]),
+    (WITH_INFO, &[]),
     (CHANGED, &[Told::Variables(&[(b"autocommit", b"OFF")])]),
     (
         b"\x00\x00\x00\x02\x40\x00\x00\x00\x07\x01\x05\x04test",
@@ -393,26 +372,31 @@ const WITH_STATES: [(&[u8], &[Told]); 6] = [
     ),
 ];
 
-#[test]
-fn states_of_packets(rt: HostRuntime) {
-    let assert = Asserting(&rt);
-    for (bytes, told) in &WITH_STATES {
-        let packet = tracked(&assert, rt.alloc(), *bytes);
-        assert_states(&assert, rt.alloc(), &packet, *told);
-    }
-}
-
 /// A state of a type without a name: the packet is read, and its states aren't.
+const YET_TO_COME: &[u8] = b"\x00\x00\x00\x02\x40\x00\x00\x00\x02\x06\x00";
+
 #[test]
-fn a_type_that_is_yet_to_come(rt: HostRuntime) {
+fn states(rt: HostRuntime) {
     let assert = Asserting(&rt);
     let alloc = rt.alloc();
-    let bytes = b"\x00\x00\x00\x02\x40\x00\x00\x00\x02\x06\x00";
-    let packet = tracked(&assert, alloc, bytes);
+    for (bytes, told) in &WITH_STATES {
+        let packet = tracked(&assert, alloc, *bytes);
+        assert_states(&assert, alloc, &packet, *told);
+        assert_copied(&assert, &packet, packet.clone(alloc), packet.clone(alloc));
+        assert_copied(
+            &assert,
+            &packet,
+            tracked(&assert, alloc, *bytes).into_owned(alloc),
+            tracked(&assert, alloc, *bytes).into_owned(alloc),
+        );
+        drop(packet);
+    }
+    let packet = tracked(&assert, alloc, YET_TO_COME);
     let mut found = packet.session_state_info(alloc).err();
     if found == Some(WireError::Memory) {
         found = packet.session_state_info(alloc).err();
     }
+    drop(packet);
     assert_equal(&assert, found, Some(WireError::UnknownValue));
 }
 
@@ -430,20 +414,4 @@ fn an_info_is_text(rt: HostRuntime) {
     let packet = tracked(&assert, alloc, DONE);
     let none = once_more(&assert, packet.info_str(alloc), packet.info_str(alloc));
     assert.holds(none.is_none());
-}
-
-#[test]
-fn copies(rt: HostRuntime) {
-    let assert = Asserting(&rt);
-    let alloc = rt.alloc();
-    for bytes in [DONE, CHANGED, WITH_INFO] {
-        let packet = tracked(&assert, alloc, bytes);
-        assert_copied(&assert, &packet, packet.clone(alloc), packet.clone(alloc));
-        assert_copied(
-            &assert,
-            &packet,
-            tracked(&assert, alloc, bytes).into_owned(alloc),
-            tracked(&assert, alloc, bytes).into_owned(alloc),
-        );
-    }
 }

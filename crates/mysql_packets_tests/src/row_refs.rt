@@ -1,17 +1,18 @@
-//! Rows that borrow their payloads, beside the same rows read with copies.
+//! Rows that borrow their payloads: what their cells convert to, beside the same cells copied. How they
+//! are read stands in rows.
 
 use crate::support::Asserting;
 use mysql_buf::ParseBuf;
 use mysql_const::{ColumnFlags, ColumnType};
 use mysql_convert::FromValueError;
 use mysql_field_lists::ServerSide;
-use mysql_fields::{Binary, ParseExt, Text, WireError};
+use mysql_fields::{ParseExt, Text, WireError};
 use mysql_packets::{Column, RowExt, RowRefExt};
-use mysql_row_refs::{RowError, RowFormat, RowReader, RowRef, ValueRef};
+use mysql_row_refs::{RowError, RowFormat, RowReader, ValueRef};
 use mysql_rows::{Row, RowDeserializer};
 use std::alloc::{AllocError, Global};
 use std::rc::RcSlice;
-use tests_support::{Assert, assert_equal, once_more};
+use tests_support::{Assert, once_more};
 
 /// The columns of these names, types and flags.
 pub fn columns_of(
@@ -32,118 +33,11 @@ pub const NO_FLAG: ColumnFlags = ColumnFlags(0);
 
 const UNSIGNED: ColumnFlags = ColumnFlags::UNSIGNED_FLAG;
 
-/// The row that a payload is, read with copies. Bytes behind it are refused as by a `RowReader`.
-fn read(
-    alloc: Global,
-    columns: RcSlice<Column>,
-    format: RowFormat,
-    payload: &[u8],
-) -> Result<Row, RowError> {
+/// The text row that a payload is, read with copies.
+fn read_text(alloc: Global, columns: RcSlice<Column>, payload: &[u8]) -> Result<Row, WireError> {
     let mut buf = ParseBuf(payload);
-    let row = match format {
-        RowFormat::Text => read_text(alloc, columns, &mut buf),
-        RowFormat::Binary => read_binary(alloc, columns, &mut buf),
-    };
-    match row {
-        Err(e) => Err(RowError::Unreadable(e)),
-        Ok(row) => {
-            if buf.is_empty() {
-                Ok(row)
-            } else {
-                Err(RowError::BytesLeft)
-            }
-        }
-    }
-}
-
-fn read_text(
-    alloc: Global,
-    columns: RcSlice<Column>,
-    buf: &mut ParseBuf,
-) -> Result<Row, WireError> {
     let row: RowDeserializer<ServerSide, Text> = buf.parse(alloc, columns)?;
     Ok(row.into_inner())
-}
-
-/// A binary row of a result set begins with 00.
-fn read_binary(
-    alloc: Global,
-    columns: RcSlice<Column>,
-    buf: &mut ParseBuf,
-) -> Result<Row, WireError> {
-    if let [first, ..] = buf.0
-        && *first != 0
-    {
-        return Err(WireError::BadConstant);
-    }
-    let row: RowDeserializer<ServerSide, Binary> = buf.parse(alloc, columns)?;
-    Ok(row.into_inner())
-}
-
-/// Asserts that a row by reference has the cells of a row that was read.
-fn assert_cells(
-    assert: &impl Assert,
-    alloc: Global,
-    row_ref: RowRef,
-    row: &Row,
-) -> Result<(), AllocError> {
-    assert_equal(assert, row_ref.len(), row.len());
-    for index in 0..row.len() {
-        match (row_ref.as_ref(index), row.as_ref(index)) {
-            (Some(found), Some(wanted)) => {
-                let copy = found.to_value(alloc)?;
-                assert.holds(copy == *wanted);
-            }
-            _ => assert.holds(false),
-        }
-    }
-    Ok(())
-}
-
-/// Asserts that a payload borrowed and the same payload copied are the same row, or that both are refused alike.
-fn assert_read_alike(
-    assert: &impl Assert,
-    alloc: Global,
-    columns: RcSlice<Column>,
-    reader: &mut RowReader,
-    format: RowFormat,
-    payload: &[u8],
-) -> Result<(), AllocError> {
-    match (reader.row(payload), read(alloc, columns, format, payload)) {
-        (_, Err(RowError::Unreadable(WireError::Memory))) => Err(AllocError),
-        (Ok(row_ref), Ok(row)) => assert_cells(assert, alloc, row_ref, &row),
-        (Err(found), Err(wanted)) => {
-            assert.holds(found == wanted);
-            Ok(())
-        }
-        _ => {
-            assert.holds(false);
-            Ok(())
-        }
-    }
-}
-
-/// Asserts it of each payload, one after another by one reader.
-fn assert_all_read_alike(
-    assert: &impl Assert,
-    alloc: Global,
-    kinds: &[(&[u8], ColumnType, ColumnFlags)],
-    format: RowFormat,
-    payloads: &[&[u8]],
-) -> Result<(), AllocError> {
-    let columns = columns_of(alloc, kinds)?;
-    let mut reader = RowReader::new(alloc, columns.clone()?, format)?;
-    for payload in payloads {
-        assert_read_alike(
-            assert,
-            alloc,
-            columns.clone()?,
-            &mut reader,
-            format,
-            *payload,
-        )?;
-    }
-    Ok(())
 }
 
 pub const TEXTS: [(&[u8], ColumnType, ColumnFlags); 3] = [
@@ -151,27 +45,6 @@ pub const TEXTS: [(&[u8], ColumnType, ColumnFlags); 3] = [
     (b"b", ColumnType::MYSQL_TYPE_VAR_STRING, NO_FLAG),
     (b"a", ColumnType::MYSQL_TYPE_LONGLONG, NO_FLAG),
 ];
-
-/// Rows, with NULL, an empty text, a number and an overlong length; rows that are cut off; a row with a byte behind.
-const TEXT_ROWS: [&[u8]; 8] = [
-    b"\xfb\x00\x0242",
-    b"\xfc\x01\x00x\x03abc\xfb",
-    b"",
-    b"\x015",
-    b"\x015\x02x",
-    b"\x015\xff",
-    b"\xfb\x00\x0242\x00",
-    b"\xfb\xfb\xfb",
-];
-
-#[test]
-fn text_rows(rt: HostRuntime) {
-    let assert = Asserting(&rt);
-    let alloc = rt.alloc();
-    let first = assert_all_read_alike(&assert, alloc, &TEXTS, RowFormat::Text, &TEXT_ROWS);
-    let second = assert_all_read_alike(&assert, alloc, &TEXTS, RowFormat::Text, &TEXT_ROWS);
-    once_more(&assert, first, second);
-}
 
 pub const WIDTHS: [(&[u8], ColumnType, ColumnFlags); 10] = [
     (b"a", ColumnType::MYSQL_TYPE_TINY, UNSIGNED),
@@ -190,26 +63,6 @@ pub const WIDTHS: [(&[u8], ColumnType, ColumnFlags); 10] = [
 pub const WIDE_ROW: &[u8] =
     b"\x00\x00\x08\xff\xfe\xff\x01\x02\x03\x84\xff\xff\xff\xff\xff\xff\xff\xff\x00\x00\x80\x3f\x00\
     \x00\x00\x00\x00\x00\xf0\x3f\x02hi\x07\xe8\x07\x02\x1d\x0c\x22\x38\x08\x01\x01\x00\x00\x00\x02\x03\x04";
-
-/// That row, rows that are cut off or begin with another byte, and a row with a byte behind.
-const BINARY_ROWS: [&[u8]; 7] = [
-    WIDE_ROW,
-    b"\x00\xfc\x0f",
-    b"",
-    b"\x00\x00",
-    b"\x00\xf8\x0f",
-    b"\x01\xfc\x0f",
-    b"\x00\xfc\x0f\x00",
-];
-
-#[test]
-fn binary_rows(rt: HostRuntime) {
-    let assert = Asserting(&rt);
-    let alloc = rt.alloc();
-    let first = assert_all_read_alike(&assert, alloc, &WIDTHS, RowFormat::Binary, &BINARY_ROWS);
-    let second = assert_all_read_alike(&assert, alloc, &WIDTHS, RowFormat::Binary, &BINARY_ROWS);
-    once_more(&assert, first, second);
-}
 
 /// Asserts that a conversion of a cell where it lies answers as that of the cell that was copied.
 fn assert_converted<T: PartialEq + Drop>(
@@ -233,10 +86,7 @@ fn assert_conversions(
 ) -> Result<(), AllocError> {
     let columns = columns_of(alloc, &TEXTS)?;
     let mut reader = RowReader::new(alloc, columns.clone()?, RowFormat::Text)?;
-    match (
-        reader.row(payload),
-        read(alloc, columns, RowFormat::Text, payload),
-    ) {
+    match (reader.row(payload), read_text(alloc, columns, payload)) {
         (Ok(row_ref), Ok(row)) => {
             for index in 0..4 {
                 assert_converted::<i8>(assert, row_ref.get_opt(index), row.get_opt(alloc, index)?);
@@ -269,17 +119,6 @@ const CONVERTED_ROWS: [&[u8]; 4] = [
     b"\x1418446744073709551615\x1418446744073709551616\x14-9223372036854775808",
 ];
 
-#[test]
-fn conversions(rt: HostRuntime) {
-    let assert = Asserting(&rt);
-    let alloc = rt.alloc();
-    for payload in &CONVERTED_ROWS {
-        let first = assert_conversions(&assert, alloc, *payload);
-        let second = assert_conversions(&assert, alloc, *payload);
-        once_more(&assert, first, second);
-    }
-}
-
 /// The bytes that a conversion gave.
 fn bytes_found<'p>(found: Option<Result<&'p [u8], ValueRef>>) -> &'p [u8] {
     match found {
@@ -304,7 +143,19 @@ pub fn text_found<'p>(found: Option<Result<&'p str, ValueRef>>) -> &'p [u8] {
     }
 }
 
-/// What stands in the first column of a name, and behind it.
+/// Payloads that are no rows, and why: cut off, a length that is none, a byte behind the last cell.
+const NO_ROWS: [(&[u8], RowError); 5] = [
+    (b"", RowError::Unreadable(WireError::UnexpectedEof)),
+    (b"\x015", RowError::Unreadable(WireError::UnexpectedEof)),
+    (
+        b"\x015\x02x",
+        RowError::Unreadable(WireError::UnexpectedEof),
+    ),
+    (b"\x015\xff", RowError::Unreadable(WireError::BadLength)),
+    (b"\xfb\x00\x0242\x00", RowError::BytesLeft),
+];
+
+/// What stands in the first column of a name, and behind it. What is no row is refused.
 fn named(assert: &impl Assert, alloc: Global) -> Result<(), AllocError> {
     let columns = columns_of(alloc, &TEXTS)?;
     let mut reader = RowReader::new(alloc, columns, RowFormat::Text)?;
@@ -317,13 +168,25 @@ fn named(assert: &impl Assert, alloc: Global) -> Result<(), AllocError> {
         }
         Err(_) => assert.holds(false),
     }
+    for (payload, cause) in &NO_ROWS {
+        match reader.row(*payload) {
+            Ok(_) => assert.holds(false),
+            Err(found) => assert.holds(found == *cause),
+        }
+    }
     Ok(())
 }
 
-/// Bytes are borrowed, and by its name the first column of that name.
+/// Conversions answer as those of the cells that were copied. Bytes are borrowed, and by its name
+/// the first column of that name.
 #[test]
-fn texts_by_name(rt: HostRuntime) {
+fn conversions(rt: HostRuntime) {
     let assert = Asserting(&rt);
     let alloc = rt.alloc();
+    for payload in &CONVERTED_ROWS {
+        let first = assert_conversions(&assert, alloc, *payload);
+        let second = assert_conversions(&assert, alloc, *payload);
+        once_more(&assert, first, second);
+    }
     once_more(&assert, named(&assert, alloc), named(&assert, alloc));
 }

@@ -1,5 +1,6 @@
-//! Rows, and what is taken of them.
+//! Rows by their own readers and calls. Those that a reply has are rows of bindings/testing/rows.
 
+use crate::given::{Cells, Given, row};
 use crate::support::Asserting;
 use mysql_buf::ParseBuf;
 use mysql_cells::Value;
@@ -14,15 +15,23 @@ use std::alloc::{AllocError, Global};
 use std::rc::RcSlice;
 use tests_support::{Assert, assert_copied, assert_equal, assert_same, once_more};
 
-fn column(alloc: Global, name: &[u8], kind: ColumnType) -> Result<Column, AllocError> {
-    Column::new(alloc, kind).with_name(name)
+/// Columns of these names, all of long numbers.
+fn columns(alloc: Global, names: &[&[u8]]) -> Result<RcSlice<Column>, AllocError> {
+    let mut columns = Vec::new(alloc);
+    for name in names {
+        let column = Column::new(alloc, ColumnType::MYSQL_TYPE_LONGLONG);
+        columns.push(column.with_name(*name)?)?;
+    }
+    RcSlice::from_vec(columns)
 }
 
 /// Two columns, `id` and `name`.
 fn two(alloc: Global) -> Result<RcSlice<Column>, AllocError> {
     let mut columns = Vec::new(alloc);
-    columns.push(column(alloc, b"id", ColumnType::MYSQL_TYPE_LONGLONG)?)?;
-    columns.push(column(alloc, b"name", ColumnType::MYSQL_TYPE_VAR_STRING)?)?;
+    let number = Column::new(alloc, ColumnType::MYSQL_TYPE_LONGLONG);
+    columns.push(number.with_name(b"id")?)?;
+    let text = Column::new(alloc, ColumnType::MYSQL_TYPE_VAR_STRING);
+    columns.push(text.with_name(b"name")?)?;
     RcSlice::from_vec(columns)
 }
 
@@ -50,35 +59,19 @@ pub fn row_of<'a, T: MyDeserialize<'a> + Readable<Ctx = RcSlice<Column>> + Drop>
     once_more(assert, first, second)
 }
 
-fn assert_cells(assert: &impl Assert, row: &Row, id: Option<i64>, name: Option<&[u8]>) {
-    assert_equal(assert, row.len(), 2);
-    assert.holds(row.is_whole());
-    assert_id(assert, row.as_ref(0), id);
-    assert_name(assert, row.as_ref(1), name);
-    assert.holds(row.as_ref(2).is_none());
-}
-
-fn assert_id(assert: &impl Assert, found: Option<&Value>, wanted: Option<i64>) {
-    match found {
-        Some(Value::Int(number)) => assert.holds(wanted == Some(*number)),
-        Some(Value::NULL) => assert.holds(wanted.is_none()),
-        _ => assert.holds(false),
+/// Asserts that a row has the values of these cells, and no more.
+fn assert_cells(assert: &impl Assert, alloc: Global, found: &Row, cells: Cells) {
+    let wanted = once_more(assert, row(alloc, cells), row(alloc, cells));
+    assert.holds(found.is_whole());
+    assert_equal(assert, found.len(), wanted.len());
+    for (place, value) in wanted.iter().enumerate() {
+        match found.as_ref(place) {
+            Some(cell) => assert_same(assert, cell, value),
+            None => assert.holds(false),
+        }
     }
+    assert.holds(found.as_ref(wanted.len()).is_none());
 }
-
-fn assert_name(assert: &impl Assert, found: Option<&Value>, wanted: Option<&[u8]>) {
-    match found {
-        Some(Value::Bytes(bytes)) => assert.holds(wanted == Some(bytes.as_slice())),
-        Some(Value::NULL) => assert.holds(wanted.is_none()),
-        _ => assert.holds(false),
-    }
-}
-
-/// A binary row of a server: a number and a text.
-const BINARY: &[u8] = b"\x00\x00\x05\0\0\0\0\0\0\0\x01x";
-
-/// The same with the number NULL: its bit is the third.
-const BINARY_NULL: &[u8] = b"\x00\x04\x01x";
 
 /// Of a client the bits begin with the first.
 const CLIENT_NULL: &[u8] = b"\x00\x01\x01x";
@@ -86,18 +79,52 @@ const CLIENT_NULL: &[u8] = b"\x00\x01\x01x";
 /// Any byte may come first.
 const OTHER_FIRST_BYTE: &[u8] = b"\xff\x00\x05\0\0\0\0\0\0\0\x01x";
 
-#[test]
-fn binary_rows(rt: HostRuntime) {
-    let assert = Asserting(&rt);
-    for bytes in [BINARY, OTHER_FIRST_BYTE] {
-        let row = row_of::<RowDeserializer<ServerSide, Binary>>(&assert, rt.alloc(), bytes);
-        assert_copied(&assert, &row, row.clone(rt.alloc()), row.clone(rt.alloc()));
-        assert_cells(&assert, &Row::from(row), Some(5), Some(b"x"));
+/// Text rows that are none, and why.
+const NO_TEXT_ROWS: [(&[u8], WireError); 3] = [
+    (b"", WireError::UnexpectedEof),
+    (b"\x015", WireError::UnexpectedEof),
+    (b"\x015\xff", WireError::BadLength),
+];
+
+/// Why bytes are no row; None where they are one.
+fn refusal_of<'a, T: MyDeserialize<'a> + Readable<Ctx = RcSlice<Column>> + Drop>(
+    assert: &impl Assert,
+    alloc: Global,
+    bytes: &'a [u8],
+) -> Option<WireError> {
+    let mut found = read::<T>(assert, alloc, bytes).err();
+    if found == Some(WireError::Memory) {
+        found = read::<T>(assert, alloc, bytes).err();
     }
-    let row = row_of::<RowDeserializer<ServerSide, Binary>>(&assert, rt.alloc(), BINARY_NULL);
-    assert_cells(&assert, &row.into_inner(), None, Some(b"x"));
-    let row = row_of::<RowDeserializer<ClientSide, Binary>>(&assert, rt.alloc(), CLIENT_NULL);
-    assert_cells(&assert, &row.into_inner(), None, Some(b"x"));
+    found
+}
+
+const FIVE_AND_X: Cells = &[Given::Int(5), Given::Filled(1)];
+
+const NULL_AND_X: Cells = &[Given::Null, Given::Filled(1)];
+
+#[test]
+fn read_alone(rt: HostRuntime) {
+    let assert = Asserting(&rt);
+    let alloc = rt.alloc();
+    let row = row_of::<RowDeserializer<ServerSide, Binary>>(&assert, alloc, OTHER_FIRST_BYTE);
+    assert_copied(&assert, &row, row.clone(alloc), row.clone(alloc));
+    let five = Row::from(row);
+    assert_cells(&assert, alloc, &five, FIVE_AND_X);
+    drop(five);
+    let row = row_of::<RowDeserializer<ClientSide, Binary>>(&assert, alloc, CLIENT_NULL);
+    let null = row.into_inner();
+    assert_cells(&assert, alloc, &null, NULL_AND_X);
+    drop(null);
+    for (bytes, cause) in &NO_TEXT_ROWS {
+        let found = refusal_of::<RowDeserializer<ServerSide, Text>>(&assert, alloc, *bytes);
+        assert_equal(&assert, found, Some(*cause));
+    }
+    for len in 0..OTHER_FIRST_BYTE.len() {
+        let front = &OTHER_FIRST_BYTE[..len];
+        let found = refusal_of::<RowDeserializer<ServerSide, Binary>>(&assert, alloc, front);
+        assert_equal(&assert, found, Some(WireError::UnexpectedEof));
+    }
 }
 
 fn assert_first_taken(assert: &impl Assert, row: &mut Row) {
@@ -134,7 +161,7 @@ fn assert_columns(assert: &impl Assert, columns: &[Column]) {
 fn assert_placed(assert: &impl Assert, row: &mut Row) {
     assert.holds(row.len() == 2);
     row.place(0, Value::Int(1));
-    assert_id(assert, row.as_ref(0), Some(1));
+    assert.holds(matches!(row.as_ref(0), Some(Value::Int(1))));
 }
 
 #[test]
@@ -157,65 +184,31 @@ pub fn copy_of<R: RowExt>(
     row.get_opt(alloc, name)
 }
 
-/// Why bytes are no row; None where they are one.
-fn refusal_of<'a, T: MyDeserialize<'a> + Readable<Ctx = RcSlice<Column>> + Drop>(
-    assert: &impl Assert,
-    alloc: Global,
-    bytes: &'a [u8],
-) -> Option<WireError> {
-    let mut found = read::<T>(assert, alloc, bytes).err();
-    if found == Some(WireError::Memory) {
-        found = read::<T>(assert, alloc, bytes).err();
-    }
-    found
-}
+/// The columns' names, and the values of a row.
+type Made = (&'static [&'static [u8]], Cells);
 
-/// Text rows that are none, and why.
-const NO_TEXT_ROWS: [(&[u8], WireError); 3] = [
-    (b"", WireError::UnexpectedEof),
-    (b"\x015", WireError::UnexpectedEof),
-    (b"\x015\xff", WireError::BadLength),
-];
+const SEVEN_AND_X: Made = (&[b"id", b"name"], &[Given::Int(7), Given::Filled(1)]);
 
-#[test]
-fn no_text_rows(rt: HostRuntime) {
-    for (bytes, cause) in &NO_TEXT_ROWS {
-        let found = refusal_of::<RowDeserializer<ServerSide, Text>>(
-            &Asserting(&rt),
-            rt.alloc(),
-            *bytes,
-        );
-        assert_equal(&Asserting(&rt), found, Some(*cause));
-    }
-}
+/// The first column of a name counts.
+const SAME_NAMES: Made = (&[b"id", b"id"], &[Given::Int(1), Given::Int(2)]);
 
-/// Each prefix of a binary row is cut off.
-#[test]
-fn cut_off(rt: HostRuntime) {
-    for len in 0..BINARY.len() {
-        let found = refusal_of::<RowDeserializer<ServerSide, Binary>>(
-            &Asserting(&rt),
-            rt.alloc(),
-            &BINARY[..len],
-        );
-        assert_equal(&Asserting(&rt), found, Some(WireError::UnexpectedEof));
-    }
-}
+const EMPTY: Made = (&[], &[]);
 
-/// The values 7 and the text `x`.
-fn seven_and_x(alloc: Global) -> Result<Vec<Value>, AllocError> {
-    let mut values = Vec::new(alloc);
-    values.push(Value::Int(7))?;
-    values.push(Value::Bytes(ByteString::copy(alloc, b"x")?))?;
-    Ok(values)
-}
-
-/// A row of them.
-fn whole_row(assert: &impl Assert, alloc: Global) -> Result<Row, AllocError> {
-    let columns = two(alloc)?;
-    let values = seven_and_x(alloc)?;
+/// The row of these names and values.
+fn made(assert: &impl Assert, alloc: Global, (names, cells): Made) -> Result<Row, AllocError> {
+    let columns = columns(alloc, names)?;
+    let values = row(alloc, cells)?;
     assert.holds(values.len() == columns.as_slice().len());
     new_row(alloc, values, columns)
+}
+
+/// The row, or the same row once more.
+fn row_made(assert: &impl Assert, alloc: Global, given: Made) -> Row {
+    once_more(
+        assert,
+        made(assert, alloc, given),
+        made(assert, alloc, given),
+    )
 }
 
 /// The number in the cell of this name, which is one: `get` wants a cell that converts, or none.
@@ -237,16 +230,12 @@ fn assert_indexed(assert: &impl Assert, row: &Row) {
 }
 
 #[test]
-fn a_whole_row(rt: HostRuntime) {
+fn whole_rows(rt: HostRuntime) {
     let assert = Asserting(&rt);
     let alloc = rt.alloc();
-    let row = once_more(
-        &assert,
-        whole_row(&assert, alloc),
-        whole_row(&assert, alloc),
-    );
+    let row = row_made(&assert, alloc, SEVEN_AND_X);
     assert.holds(!row.is_empty());
-    assert_cells(&assert, &row, Some(7), Some(b"x"));
+    assert_cells(&assert, alloc, &row, SEVEN_AND_X.1);
     assert_indexed(&assert, &row);
     let found = once_more(
         &assert,
@@ -254,6 +243,22 @@ fn a_whole_row(rt: HostRuntime) {
         number_named(alloc, &row, "id"),
     );
     assert_equal(&assert, found, Some(7));
+    assert_copied(&assert, &row, row.clone(alloc), row.clone(alloc));
+    let shared = once_more(&assert, row.columns(), row.columns());
+    assert_equal(&assert, shared.as_slice().len(), row.columns_ref().len());
+    drop(shared);
+    drop(row);
+    let same = row_made(&assert, alloc, SAME_NAMES);
+    let found = once_more(
+        &assert,
+        copy_of(alloc, &same, "id"),
+        copy_of(alloc, &same, "id"),
+    );
+    assert.holds(matches!(found, Some(Ok(1))));
+    drop(same);
+    let empty = row_made(&assert, alloc, EMPTY);
+    assert.holds(empty.is_empty() & empty.is_whole());
+    drop(empty);
 }
 
 /// Takes the number in the first cell, which is one: `take` wants a cell that converts, or none.
@@ -274,57 +279,36 @@ fn taken_or_again(assert: &impl Assert, alloc: Global, row: &mut Row) -> Option<
     }
 }
 
-#[test]
-fn a_number_is_taken_once(rt: HostRuntime) {
-    let assert = Asserting(&rt);
-    let alloc = rt.alloc();
-    let mut row = once_more(
-        &assert,
-        whole_row(&assert, alloc),
-        whole_row(&assert, alloc),
-    );
-    assert_equal(&assert, taken_or_again(&assert, alloc, &mut row), Some(7));
-    assert_equal(&assert, taken_or_again(&assert, alloc, &mut row), None);
-    let cells = row.unwrap_raw();
-    match cells.as_slice() {
-        [None, Some(Value::Bytes(bytes))] => assert.holds(bytes.as_slice() == b"x".as_slice()),
-        _ => assert.holds(false),
-    }
-}
-
 /// The values of a whole row.
 fn unwrapped(assert: &impl Assert, alloc: Global) -> Result<Vec<Value>, AllocError> {
-    let row = whole_row(assert, alloc)?;
+    let row = made(assert, alloc, SEVEN_AND_X)?;
     assert.holds(row.is_whole());
     row.unwrap(alloc)
 }
 
 #[test]
-fn values_of_a_row(rt: HostRuntime) {
+fn a_number_is_taken_once(rt: HostRuntime) {
     let assert = Asserting(&rt);
     let alloc = rt.alloc();
+    let mut taken = row_made(&assert, alloc, SEVEN_AND_X);
+    assert_equal(&assert, taken_or_again(&assert, alloc, &mut taken), Some(7));
+    assert_equal(&assert, taken_or_again(&assert, alloc, &mut taken), None);
+    let cells = taken.unwrap_raw();
+    match cells.as_slice() {
+        [None, Some(Value::Bytes(bytes))] => assert.holds(bytes.as_slice() == b"x".as_slice()),
+        _ => assert.holds(false),
+    }
     let found = once_more(
         &assert,
         unwrapped(&assert, alloc),
         unwrapped(&assert, alloc),
     );
-    let wanted = once_more(&assert, seven_and_x(alloc), seven_and_x(alloc));
-    assert_equal(&assert, found, wanted);
-}
-
-/// A copy of a row, and the columns that rows share.
-#[test]
-fn a_copy(rt: HostRuntime) {
-    let assert = Asserting(&rt);
-    let alloc = rt.alloc();
-    let row = once_more(
+    let wanted = once_more(
         &assert,
-        whole_row(&assert, alloc),
-        whole_row(&assert, alloc),
+        row(alloc, SEVEN_AND_X.1),
+        row(alloc, SEVEN_AND_X.1),
     );
-    assert_copied(&assert, &row, row.clone(alloc), row.clone(alloc));
-    let shared = once_more(&assert, row.columns(), row.columns());
-    assert_equal(&assert, shared.as_slice().len(), row.columns_ref().len());
+    assert_equal(&assert, found, wanted);
 }
 
 /// A row of which the first cell was taken.
@@ -343,7 +327,10 @@ fn a_row_without_a_cell(rt: HostRuntime) {
     let alloc = rt.alloc();
     let row = once_more(&assert, raw_row(&assert, alloc), raw_row(&assert, alloc));
     assert.holds(!row.is_whole() & row.as_ref(0).is_none());
-    assert_name(&assert, row.as_ref(1), Some(b"x"));
+    match row.as_ref(1) {
+        Some(Value::Bytes(bytes)) => assert.holds(bytes.as_slice() == b"x".as_slice()),
+        _ => assert.holds(false),
+    }
     // The value of the one was taken, and there is no column of the other name.
     for name in ["id", "no"] {
         let found = once_more(
@@ -353,55 +340,4 @@ fn a_row_without_a_cell(rt: HostRuntime) {
         );
         assert.holds(found.is_none());
     }
-}
-
-/// A row of 1 and 2 over two columns of one name.
-fn same_names(assert: &impl Assert, alloc: Global) -> Result<Row, AllocError> {
-    let mut columns = Vec::new(alloc);
-    columns.push(column(alloc, b"id", ColumnType::MYSQL_TYPE_LONGLONG)?)?;
-    columns.push(column(alloc, b"id", ColumnType::MYSQL_TYPE_LONGLONG)?)?;
-    let columns = RcSlice::from_vec(columns)?;
-    let mut values = Vec::new(alloc);
-    values.push(Value::Int(1))?;
-    values.push(Value::Int(2))?;
-    assert.holds(values.len() == columns.as_slice().len());
-    new_row(alloc, values, columns)
-}
-
-/// The first column of a name counts.
-#[test]
-fn two_columns_of_one_name(rt: HostRuntime) {
-    let assert = Asserting(&rt);
-    let alloc = rt.alloc();
-    let row = once_more(
-        &assert,
-        same_names(&assert, alloc),
-        same_names(&assert, alloc),
-    );
-    let found = once_more(
-        &assert,
-        copy_of(alloc, &row, "id"),
-        copy_of(alloc, &row, "id"),
-    );
-    assert.holds(matches!(found, Some(Ok(1))));
-}
-
-/// A row without columns.
-fn empty_row(assert: &impl Assert, alloc: Global) -> Result<Row, AllocError> {
-    let columns = RcSlice::from_vec(Vec::new(alloc))?;
-    let values = Vec::new(alloc);
-    assert.holds(values.len() == columns.as_slice().len());
-    new_row(alloc, values, columns)
-}
-
-#[test]
-fn an_empty_row(rt: HostRuntime) {
-    let assert = Asserting(&rt);
-    let alloc = rt.alloc();
-    let row = once_more(
-        &assert,
-        empty_row(&assert, alloc),
-        empty_row(&assert, alloc),
-    );
-    assert.holds(row.is_empty() & row.is_whole());
 }

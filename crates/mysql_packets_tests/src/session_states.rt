@@ -1,6 +1,6 @@
 //! Session states.
 
-use crate::support::{Asserting, assert_text};
+use crate::support::{Asserting, assert_reads, assert_text};
 use mysql_const::SessionStateType;
 use mysql_fields::WireError;
 use mysql_session_states::{
@@ -9,10 +9,7 @@ use mysql_session_states::{
 };
 use std::alloc::Global;
 use std::borrow::CowSlice;
-use tests_support::{
-    Assert, assert_bytes, assert_copied, assert_cut_off, assert_equal, assert_reads_back,
-    once_more, whole,
-};
+use tests_support::{Assert, assert_bytes, assert_copied, assert_equal, once_more, whole};
 
 /// What a state is decoded to.
 pub enum Told {
@@ -180,17 +177,7 @@ fn assert_state(assert: &impl Assert, alloc: Global, (bytes, kind, told): &State
     assert_equal(assert, state.data_type(), *kind);
     assert_equal(assert, bytes.get(2..), Some(state.data_ref()));
     assert_decoded(assert, alloc, &state, told);
-    assert_reads_back::<SessionStateInfo, ()>(assert, alloc, (), *bytes);
-    assert_cut_off::<SessionStateInfo, ()>(assert, alloc, (), *bytes, 0, bytes.len());
-}
-
-#[test]
-fn states(rt: HostRuntime) {
-    for states in &ALL {
-        for state in *states {
-            assert_state(&Asserting(&rt), rt.alloc(), state);
-        }
-    }
+    assert_reads::<SessionStateInfo, ()>(assert, alloc, (), *bytes, bytes.len(), &[]);
 }
 
 /// Asserts that copies of a state and of the change that it tells are equal to these.
@@ -206,6 +193,27 @@ fn assert_change_copied(assert: &impl Assert, alloc: Global, state: &SessionStat
         first.into_owned(alloc),
         second.into_owned(alloc),
     );
+}
+
+/// A schema and a tracked change, one after another.
+const TWO: &[u8] = b"\x01\x05\x04test\x02\x02\x011";
+
+#[test]
+fn states(rt: HostRuntime) {
+    let assert = Asserting(&rt);
+    let alloc = rt.alloc();
+    for states in &ALL {
+        for state in *states {
+            assert_state(&assert, alloc, state);
+        }
+    }
+    let states = once_more(&assert, states_of(alloc, TWO), states_of(alloc, TWO));
+    let mut bytes = Vec::new(alloc);
+    if put_states(&states, &mut bytes).is_err() {
+        assert_bytes(&assert, &bytes, b"");
+        assert.holds(put_states(&states, &mut bytes).is_ok());
+    }
+    assert_bytes(&assert, &bytes, TWO);
 }
 
 /// The state that tells a change is the one that the change was read of.
@@ -233,57 +241,23 @@ fn made_of_changes(rt: HostRuntime) {
     assert_equal(&assert, made, None);
 }
 
-/// A schema and a tracked change, one after another.
 #[test]
-fn one_after_another(rt: HostRuntime) {
+fn texts(rt: HostRuntime) {
     let assert = Asserting(&rt);
     let alloc = rt.alloc();
-    let wanted = b"\x01\x05\x04test\x02\x02\x011";
-    let states = once_more(&assert, states_of(alloc, wanted), states_of(alloc, wanted));
-    let mut bytes = Vec::new(alloc);
-    if put_states(&states, &mut bytes).is_err() {
-        assert_bytes(&assert, &bytes, b"");
-        assert.holds(put_states(&states, &mut bytes).is_ok());
-    }
-    assert_bytes(&assert, &bytes, wanted);
-}
-
-#[test]
-fn of_a_type_and_bytes(rt: HostRuntime) {
-    let assert = Asserting(&rt);
-    let schema = SessionStateType::SESSION_TRACK_SCHEMA;
-    let state = SessionStateInfo::new(schema, CowSlice::Borrowed(b"\x04test"));
-    assert_equal(&assert, state.data_type(), schema);
+    let kind = SessionStateType::SESSION_TRACK_SCHEMA;
+    let state = SessionStateInfo::new(kind, CowSlice::Borrowed(b"\x04test"));
+    assert_equal(&assert, state.data_type(), kind);
     assert_bytes(&assert, state.data_ref(), b"\x04test");
-}
-
-/// A change of another kind is text with its length before it.
-#[test]
-fn unsupported(rt: HostRuntime) {
-    let assert = Asserting(&rt);
-    let alloc = rt.alloc();
-    let bytes = b"\x03abc";
-    let read = whole::<Unsupported, ()>(&assert, alloc, (), bytes);
-    assert_bytes(&assert, read.as_bytes(), b"abc");
-    assert_text(&assert, read.as_str(alloc), read.as_str(alloc), "abc");
-    assert_reads_back::<Unsupported, ()>(&assert, alloc, (), bytes);
-    assert_cut_off::<Unsupported, ()>(&assert, alloc, (), bytes, 0, 4);
-}
-
-#[test]
-fn names_are_text(rt: HostRuntime) {
-    let assert = Asserting(&rt);
-    let alloc = rt.alloc();
+    // A change of another kind is text with its length before it.
+    assert_reads::<Unsupported, ()>(&assert, alloc, (), b"\x03abc", 4, &[]);
+    let other = Unsupported::new(CowSlice::Borrowed(b"abc"));
+    assert_bytes(&assert, other.as_bytes(), b"abc");
+    assert_text(&assert, other.as_str(alloc), other.as_str(alloc), "abc");
     let schema = Schema::new(CowSlice::Borrowed(b"test"));
     assert_text(&assert, schema.as_str(alloc), schema.as_str(alloc), "test");
     let gtids = Gtids::new(CowSlice::Borrowed(b"a:1"));
     assert_text(&assert, gtids.as_str(alloc), gtids.as_str(alloc), "a:1");
-}
-
-#[test]
-fn transactions_are_text(rt: HostRuntime) {
-    let assert = Asserting(&rt);
-    let alloc = rt.alloc();
     let state = TransactionState::new(CowSlice::Borrowed(b"T_______"));
     assert_text(
         &assert,
@@ -298,12 +272,6 @@ fn transactions_are_text(rt: HostRuntime) {
         begun.as_str(alloc),
         "START TRANSACTION;",
     );
-}
-
-#[test]
-fn variables_are_text(rt: HostRuntime) {
-    let assert = Asserting(&rt);
-    let alloc = rt.alloc();
     let name = CowSlice::Borrowed(b"autocommit");
     let variable = SystemVariable::new(name, CowSlice::Borrowed(b"OFF"));
     assert_text(

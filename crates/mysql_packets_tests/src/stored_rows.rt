@@ -110,37 +110,8 @@ const TEXT_ROWS: [&[u8]; 4] = [
     b"\x09something\x04else\x011",
 ];
 
-#[test]
-fn text_rows_kept(rt: HostRuntime) {
-    let assert = Asserting(&rt);
-    let alloc = rt.alloc();
-    let first = assert_stored(&assert, alloc, &TEXTS, RowFormat::Text, &TEXT_ROWS);
-    let second = assert_stored(&assert, alloc, &TEXTS, RowFormat::Text, &TEXT_ROWS);
-    once_more(&assert, first, second);
-}
-
 /// A row with a cell of each width, and one of NULLs alone.
 const BINARY_ROWS: [&[u8]; 3] = [WIDE_ROW, b"\x00\xfc\x0f", WIDE_ROW];
-
-#[test]
-fn binary_rows_kept(rt: HostRuntime) {
-    let assert = Asserting(&rt);
-    let alloc = rt.alloc();
-    let first = assert_stored(&assert, alloc, &WIDTHS, RowFormat::Binary, &BINARY_ROWS);
-    let second = assert_stored(&assert, alloc, &WIDTHS, RowFormat::Binary, &BINARY_ROWS);
-    once_more(&assert, first, second);
-}
-
-/// Rows without cells are counted.
-#[test]
-fn rows_without_cells(rt: HostRuntime) {
-    let assert = Asserting(&rt);
-    let alloc = rt.alloc();
-    let payloads: [&[u8]; 3] = [b"", b"", b""];
-    let first = assert_stored(&assert, alloc, &[], RowFormat::Text, &payloads);
-    let second = assert_stored(&assert, alloc, &[], RowFormat::Text, &payloads);
-    once_more(&assert, first, second);
-}
 
 /// What keeps rows under the columns that a row shares; none where there is no row.
 fn under_its_columns(
@@ -182,10 +153,20 @@ fn named(assert: &impl Assert, alloc: Global) -> Result<(), AllocError> {
     Ok(())
 }
 
-/// Cells of rows that are kept are found by number and name, and converted.
+/// Rows without cells are counted too. Cells are found by number and name, and converted.
 #[test]
-fn cells_kept_by_name(rt: HostRuntime) {
+fn rows_kept(rt: HostRuntime) {
     let assert = Asserting(&rt);
     let alloc = rt.alloc();
+    let first = assert_stored(&assert, alloc, &TEXTS, RowFormat::Text, &TEXT_ROWS);
+    let second = assert_stored(&assert, alloc, &TEXTS, RowFormat::Text, &TEXT_ROWS);
+    once_more(&assert, first, second);
+    let first = assert_stored(&assert, alloc, &WIDTHS, RowFormat::Binary, &BINARY_ROWS);
+    let second = assert_stored(&assert, alloc, &WIDTHS, RowFormat::Binary, &BINARY_ROWS);
+    once_more(&assert, first, second);
+    let payloads: [&[u8]; 3] = [b"", b"", b""];
+    let first = assert_stored(&assert, alloc, &[], RowFormat::Text, &payloads);
+    let second = assert_stored(&assert, alloc, &[], RowFormat::Text, &payloads);
+    once_more(&assert, first, second);
     once_more(&assert, named(&assert, alloc), named(&assert, alloc));
 }

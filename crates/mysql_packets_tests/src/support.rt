@@ -2,10 +2,13 @@
 
 ghost use Rattle.std.specs.Prelude.{◌≡◌, true};
 
+use mysql_fields::{MyDeserialize, MySerialize, Readable, WireError};
 use std::alloc::Global;
 use std::borrow::CowStr;
 use std::process::Abort;
-use tests_support::{Assert, assert_bytes, once_more};
+use tests_support::{
+    Assert, assert_bytes, assert_cut_off, assert_reads_back, assert_refused, once_more,
+};
 
 /// Ends a test by an assertion.
 #[derive(Drop)]
@@ -37,4 +40,26 @@ pub fn name(assert: &impl Assert, alloc: Global) -> Vec<u8> {
         Vec::from_slice(alloc, b"a"),
         Vec::from_slice(alloc, b"a"),
     )
+}
+
+/// Asserts that bytes are read as a packet and written again, and that others are refused.
+///
+/// Each front shorter than `len` is cut off, and each of the other bytes is refused for its cause.
+pub fn assert_reads<
+    'a,
+    T: MySerialize + MyDeserialize<'a> + Readable<Ctx = C> + Drop,
+    C: Copy + Drop,
+>(
+    assert: &impl Assert,
+    alloc: Global,
+    ctx: C,
+    bytes: &'a [u8],
+    len: usize,
+    refused: &[(&'a [u8], WireError)],
+) {
+    assert_reads_back::<T, C>(assert, alloc, ctx, bytes);
+    assert_cut_off::<T, C>(assert, alloc, ctx, bytes, 0, len);
+    for (bytes, cause) in refused {
+        assert_refused::<T, C>(assert, alloc, ctx, *bytes, *cause);
+    }
 }

@@ -1,21 +1,16 @@
 //! What stands where memory is refused: in readers that were fed byte by byte, and in front of what would be appended.
+//!
+//! What each front of the streams and replies says, with ample memory, stands in
+//! bindings/testing/rows/sessions.
 
-use crate::audits::{Want, WantedSet, are_sets};
-use crate::expected::{Expected, Report, is_wanted};
-use crate::sending::{Given, Set, all_params, front};
-use crate::support::Asserting;
+use crate::support::{Asserting, Given, QUERY, front, front_behind, sets_of};
 use mysql_session::{
     Audit, CapabilityFlags, Content, End, Params, Receiver, ReceiverError, RecodeError, Refusal,
-    Reply, ReplyEnd, ReplyFault, ReplyKind, ReplyReader, Road, StatusFlags, StreamFault, ToValue,
-    recode, send, send_contents, send_values,
+    Reply, ReplyEnd, ReplyFault, ReplyKind, ReplyReader, Road, StreamFault, ToValue, read_reply,
+    receive, recode, send, send_contents, send_values,
 };
 use std::alloc::{AllocError, Global};
 use tests_support::{Assert, assert_bytes, once_more};
-
-const QUERY: &[u8] = b"SELECT :a";
-
-/// How many bytes have to come until the next payload is whole, and the sets that stand before it.
-type Standing = (usize, &'static [WantedSet]);
 
 /// Feeds a stream byte by byte up to the byte at which memory is refused: how many bytes stand before it.
 fn taken(assert: &impl Assert, receiver: &mut Receiver, stream: &[u8]) -> Option<usize> {
@@ -30,52 +25,38 @@ fn taken(assert: &impl Assert, receiver: &mut Receiver, stream: &[u8]) -> Option
 }
 
 /// Whether the sets are those of the payloads before the one that is counted, which wasn't whole after so many bytes.
-fn is_front(audit: &Audit, taken: usize, standings: &[Standing]) -> bool {
-    for (payload, (end, sets)) in standings.iter().enumerate() {
-        if audit.end == End::Fault(payload as u64, StreamFault::Memory) {
-            return taken < *end && are_sets(audit.sets.as_slice(), sets);
-        }
-    }
-    false
-}
-
-/// Whether a stream ends whole, with the sets behind its last payload.
-fn is_whole(audit: &Audit, standings: &[Standing]) -> bool {
-    match standings.last() {
-        Some((_, sets)) => audit.end == End::Whole && are_sets(audit.sets.as_slice(), sets),
-        None => false,
+fn is_front(alloc: Global, stream: &[u8], taken: usize, audit: &Audit) -> bool {
+    let End::Fault(payloads, StreamFault::Memory) = audit.end else {
+        return false;
+    };
+    let Some(front) = front_behind(stream, taken, payloads) else {
+        return false;
+    };
+    match receive(alloc, QUERY, 1, 1000, &[front]) {
+        Ok(said) => audit.sets == said.sets,
+        Err(_) => false,
     }
 }
 
-/// Asserts what a stream says up to where memory is refused: whether it sufficed.
-fn is_read(
-    assert: &impl Assert,
-    mut receiver: Receiver,
-    stream: &[u8],
-    standings: &[Standing],
-) -> bool {
+/// Asserts what a receiver says of a stream up to where memory is refused: whether it sufficed.
+fn says(assert: &impl Assert, alloc: Global, mut receiver: Receiver, stream: &[u8]) -> bool {
     match taken(assert, &mut receiver, stream) {
         Some(taken) => {
             assert.holds(receiver.feed(stream) == Err(StreamFault::Memory));
-            assert.holds(is_front(&receiver.finish(), taken, standings));
+            assert.holds(is_front(alloc, stream, taken, &receiver.finish()));
             false
         }
         None => {
-            assert.holds(is_whole(&receiver.finish(), standings));
+            assert.holds(receiver.finish().end == End::Whole);
             true
         }
     }
 }
 
 /// The same of a stream of `SELECT :a`, by a new receiver.
-fn is_read_anew(
-    assert: &impl Assert,
-    alloc: Global,
-    stream: &[u8],
-    standings: &[Standing],
-) -> bool {
+fn is_read(assert: &impl Assert, alloc: Global, stream: &[u8]) -> bool {
     match Receiver::new(alloc, QUERY, 1, 1000) {
-        Ok(receiver) => is_read(assert, receiver, stream, standings),
+        Ok(receiver) => says(assert, alloc, receiver, stream),
         Err(error) => {
             assert.holds(error == ReceiverError::Memory);
             false
@@ -83,59 +64,23 @@ fn is_read_anew(
     }
 }
 
-const ONE: WantedSet = &[Want::Number(1)];
-
-const TWO: WantedSet = &[Want::Number(2)];
-
-const X: WantedSet = &[Want::Bytes(b"x")];
-
-/// Streams, and what stands before each of their payloads and behind the last.
-const STREAMS: [(&[u8], &[Standing]); 5] = [
-    (
-        b"\x09\0\0\0\x03SELECT 1",
-        &[(13, &[]), (usize::MAX, &[ONE])],
-    ),
-    (
-        b"\x09\0\0\0\x03SELECT 1\x09\0\0\0\x03SELECT 2\x0b\0\0\0\x03SELECT 'x'",
-        &[
-            (13, &[]),
-            (26, &[ONE]),
-            (41, &[ONE, TWO]),
-            (usize::MAX, &[ONE, TWO, X]),
-        ],
-    ),
-    (
-        b"\x09\0\0\0\x16SELECT ?\x16\0\0\0\x17\x01\0\0\0\0\x01\0\0\0\0\x01\x08\0\x01\0\0\0\0\0\0\0\
-        \x16\0\0\0\x17\x01\0\0\0\0\x01\0\0\0\0\x01\x08\0\x02\0\0\0\0\0\0\0",
-        &[
-            (13, &[]),
-            (39, &[]),
-            (65, &[ONE]),
-            (usize::MAX, &[ONE, TWO]),
-        ],
-    ),
-    (
-        b"\x09\0\0\0\x16SELECT ?\x08\0\0\0\x18\x01\0\0\0\0\0x\x0e\0\0\0\x17\x01\0\0\0\0\x01\0\0\0\x01\x01\x06\0",
-        &[(13, &[]), (25, &[]), (43, &[]), (usize::MAX, &[X])],
-    ),
-    (
-        b"\x09\0\0\0\x16SELECT ?\x1b\0\0\0\xfa\x01\0\0\0\x80\0\x08\0\0\x01\0\0\0\0\0\0\0\0\x02\0\0\0\0\0\0\0",
-        &[(13, &[]), (44, &[]), (usize::MAX, &[ONE, TWO])],
-    ),
+/// By text, several of them, by execute, with long data, and by bulk.
+const STREAMS: [&[u8]; 5] = [
+    b"\x09\0\0\0\x03SELECT 1",
+    b"\x09\0\0\0\x03SELECT 1\x09\0\0\0\x03SELECT 2\x0b\0\0\0\x03SELECT 'x'",
+    EXECUTIONS,
+    b"\x09\0\0\0\x16SELECT ?\x08\0\0\0\x18\x01\0\0\0\0\0x\x0e\0\0\0\x17\x01\0\0\0\0\x01\0\0\0\x01\x01\x06\0",
+    REQUEST,
 ];
 
 #[test]
 fn streams(rt: HostRuntime) {
     let assert = Asserting(&rt);
-    for (stream, standings) in &STREAMS {
-        let first = is_read_anew(&assert, rt.alloc(), stream, standings);
-        assert.holds(first || is_read_anew(&assert, rt.alloc(), stream, standings));
+    for stream in &STREAMS {
+        let first = is_read(&assert, rt.alloc(), stream);
+        assert.holds(first || is_read(&assert, rt.alloc(), stream));
     }
 }
-
-/// How many bytes of a reply have to come until the next payload is whole, and the reports and
-/// results that stand before it.
-type Stage = (usize, &'static [Report], &'static [Expected]);
 
 /// Feeds a reply byte by byte up to the byte at which memory is refused: how many bytes stand before it.
 fn taken_of_reply(assert: &impl Assert, reader: &mut ReplyReader, stream: &[u8]) -> Option<usize> {
@@ -149,118 +94,76 @@ fn taken_of_reply(assert: &impl Assert, reader: &mut ReplyReader, stream: &[u8])
     None
 }
 
-/// Whether reports and results are those of the payloads before the one that is counted, which
-/// wasn't whole after so many bytes.
-fn is_front_of_reply(reply: &Reply, taken: usize, stages: &[Stage]) -> bool {
-    for (payload, (end, reports, results)) in stages.iter().enumerate() {
-        let refused = ReplyEnd::Fault(payload as u64, ReplyFault::Memory);
-        if reply.end == refused {
-            return taken < *end && is_wanted(reply, (*reports, *results, refused));
-        }
-    }
-    false
+/// What a reply says, but for its end; None where memory was refused.
+fn said(alloc: Global, reply: &Reply) -> Option<String> {
+    format!(in alloc; "{:?} {:?}", reply.results, reply.progress).ok()
 }
 
-/// Whether a reply ends whole, with the reports and results behind its last payload.
-fn is_whole_reply(reply: &Reply, stages: &[Stage]) -> bool {
-    match stages.last() {
-        Some((_, reports, results)) => is_wanted(reply, (*reports, *results, ReplyEnd::Whole)),
-        None => false,
-    }
+/// Whether reports and results are those of the payloads before the one that is counted, which
+/// wasn't whole after so many bytes.
+fn is_front_of_reply(
+    alloc: Global,
+    capabilities: CapabilityFlags,
+    stream: &[u8],
+    taken: usize,
+    reply: &Reply,
+) -> bool {
+    let ReplyEnd::Fault(payloads, ReplyFault::Memory) = reply.end else {
+        return false;
+    };
+    let Some(front) = front_behind(stream, taken, payloads) else {
+        return false;
+    };
+    let wanted = read_reply(alloc, ReplyKind::Text, capabilities, 1, 1000, &[front]);
+    wanted.end == ReplyEnd::Unfinished && said(alloc, reply) == said(alloc, &wanted)
 }
 
 /// Asserts what a reply says up to where memory is refused: whether it sufficed.
 fn is_reply_read(
     assert: &impl Assert,
-    mut reader: ReplyReader,
+    alloc: Global,
+    capabilities: CapabilityFlags,
     stream: &[u8],
-    stages: &[Stage],
 ) -> bool {
+    let mut reader = ReplyReader::new(alloc, ReplyKind::Text, capabilities, 1, 1000);
     match taken_of_reply(assert, &mut reader, stream) {
         Some(taken) => {
             assert.holds(reader.feed(stream) == Err(ReplyFault::Memory));
-            assert.holds(is_front_of_reply(&reader.finish(), taken, stages));
+            let reply = reader.finish();
+            assert.holds(is_front_of_reply(alloc, capabilities, stream, taken, &reply));
             false
         }
         None => {
-            assert.holds(is_whole_reply(&reader.finish(), stages));
+            assert.holds(reader.finish().end == ReplyEnd::Whole);
             true
         }
     }
 }
 
-const DONE: Expected = Expected::Ok(1, StatusFlags(2));
-
-const MORE: Expected = Expected::Ok(0, StatusFlags(0x0a));
-
-const REPORTS: [Report; 1] = [(1, 10, 23500, b"stage name")];
-
-const NO_ROWS: Expected = Expected::Rows(1, &[], None);
-
-const ONE_ROW: Expected = Expected::Rows(1, &[&[Some(b"5")]], None);
-
-const ENDED_ROWS: Expected = Expected::Rows(1, &[&[Some(b"5")]], Some(StatusFlags(2)));
-
-const PROGRESS: CapabilityFlags = CapabilityFlags(0x2000_0200);
-
-/// No EOF packet follows the columns, and an OK packet ends the rows.
-const WITHOUT_EOF: CapabilityFlags = CapabilityFlags(0x100_0200);
-
-/// Replies to a text query, by the capabilities, and what stands before each of their payloads and behind the last.
-const REPLIES: [(CapabilityFlags, &[u8], &[Stage]); 3] = [
+/// Replies to a text query, by the capabilities: three OK packets; a report of progress; a column, a
+/// row and their end without EOF packets.
+const REPLIES: [(CapabilityFlags, &[u8]); 3] = [
     (
         CapabilityFlags::CLIENT_PROTOCOL_41,
         b"\x07\0\0\x01\0\0\0\x0a\0\0\0\x07\0\0\x02\0\0\0\x0a\0\0\0\x07\0\0\x03\0\x01\0\x02\0\0\0",
-        &[
-            (11, &[], &[]),
-            (22, &[], &[MORE]),
-            (33, &[], &[MORE, MORE]),
-            (usize::MAX, &[], &[MORE, MORE, DONE]),
-        ],
     ),
     (
-        PROGRESS,
+        CapabilityFlags(0x2000_0200),
         b"\x14\0\0\x01\xff\xff\xff\x01\x01\x0a\xcc\x5b\0\x0astage name\x07\0\0\x02\0\x01\0\x02\0\0\0",
-        &[
-            (24, &[], &[]),
-            (35, &REPORTS, &[]),
-            (usize::MAX, &REPORTS, &[DONE]),
-        ],
     ),
-    // One column of 31 bytes with its count, a row of 6, and an end of 11.
     (
-        WITHOUT_EOF,
+        CapabilityFlags(0x100_0200),
         b"\x01\0\0\x01\x01\x16\0\0\x02\x03def\0\0\0\0\0\x0c\x3f\0\x01\0\0\0\x08\0\0\0\0\0\x02\0\0\
         \x03\x015\x07\0\0\x04\xfe\0\0\x02\0\0\0",
-        &[
-            (5, &[], &[]),
-            (31, &[], &[]),
-            (37, &[], &[NO_ROWS]),
-            (48, &[], &[ONE_ROW]),
-            (usize::MAX, &[], &[ENDED_ROWS]),
-        ],
     ),
 ];
-
-/// The same by a new reader.
-fn is_reply_read_anew(
-    assert: &impl Assert,
-    alloc: Global,
-    capabilities: CapabilityFlags,
-    stream: &[u8],
-    stages: &[Stage],
-) -> bool {
-    let reader = ReplyReader::new(alloc, ReplyKind::Text, capabilities, 1, 1000);
-    is_reply_read(assert, reader, stream, stages)
-}
 
 #[test]
 fn replies(rt: HostRuntime) {
     let assert = Asserting(&rt);
-    for (capabilities, stream, stages) in &REPLIES {
-        let first = is_reply_read_anew(&assert, rt.alloc(), *capabilities, stream, stages);
-        let alloc = rt.alloc();
-        assert.holds(first || is_reply_read_anew(&assert, alloc, *capabilities, stream, stages));
+    for (capabilities, stream) in &REPLIES {
+        let first = is_reply_read(&assert, rt.alloc(), *capabilities, stream);
+        assert.holds(first || is_reply_read(&assert, rt.alloc(), *capabilities, stream));
     }
 }
 
@@ -290,17 +193,15 @@ fn is_appended<E: PartialEq + Drop>(
 const ROADS: [(Road, &[u8]); 3] = [
     (Road::Text, b"\x09\0\0\0\x03SELECT 1\x09\0\0\0\x03SELECT 2"),
     (Road::Execute, EXECUTIONS),
-    (
-        Road::Bulk,
-        b"\x09\0\0\0\x16SELECT ?\x1b\0\0\0\xfa\x01\0\0\0\x80\0\x08\0\0\x01\0\0\0\0\0\0\0\0\x02\0\0\0\0\0\0\0",
-    ),
+    (Road::Bulk, REQUEST),
 ];
 
 const EXECUTIONS: &[u8] =
     b"\x09\0\0\0\x16SELECT ?\x16\0\0\0\x17\x01\0\0\0\0\x01\0\0\0\0\x01\x08\0\x01\0\0\0\0\0\0\0\x16\
     \0\0\0\x17\x01\0\0\0\0\x01\0\0\0\0\x01\x08\0\x02\0\0\0\0\0\0\0";
 
-const SETS: [Set; 2] = [Set::A(Given::Int(1)), Set::A(Given::Int(2))];
+const REQUEST: &[u8] =
+    b"\x09\0\0\0\x16SELECT ?\x1b\0\0\0\xfa\x01\0\0\0\x80\0\x08\0\0\x01\0\0\0\0\0\0\0\0\x02\0\0\0\0\0\0\0";
 
 /// Sends sets with the limit 31 behind `front`: whether memory sufficed.
 fn is_sent(
@@ -318,7 +219,7 @@ fn is_sent(
 fn sent(rt: HostRuntime) {
     let assert = Asserting(&rt);
     let alloc = rt.alloc();
-    let sets = once_more(&assert, all_params(alloc, &SETS), all_params(alloc, &SETS));
+    let sets = sets_of(&assert, alloc, &[Given::Int(1), Given::Int(2)]);
     for wanted in &ROADS {
         let mut out = front(&assert, alloc);
         let first = is_sent(&assert, alloc, &sets, *wanted, &mut out);

@@ -3,7 +3,7 @@
 ghost use Rattle.std.specs.Prelude.{Bool, Some};
 ghost use Rattle.mysql_values.specs.Values.{is_null};
 
-use crate::support::{Asserting, Given, assert_value, byte_string, copied, made, string};
+use crate::support::{Asserting, Given, assert_value, byte_string, copied, made};
 use mysql_convert::{
     FromValue, FromValueError, Intermediate, ParseIr, ParseIrOpt, ToValue, ToValueError,
     from_value, from_value_opt, get_intermediate,
@@ -11,15 +11,8 @@ use mysql_convert::{
 use mysql_values::{Content, Value};
 use std::alloc::Global;
 use std::borrow::{CowSlice, CowStr};
-use std::convert::AsSlice;
 use std::time::Duration;
 use tests_support::{Assert, assert_equal, once_more};
-
-/// Asserts that a conversion was refused, and that the value came back.
-fn assert_handed_back(assert: &impl Assert, alloc: Global, error: FromValueError, given: Given) {
-    assert_value(assert, alloc, &error.0, given);
-    drop(error);
-}
 
 fn assert_answer_is<T: PartialEq + Drop>(
     assert: &impl Assert,
@@ -33,7 +26,8 @@ fn assert_answer_is<T: PartialEq + Drop>(
         Err(error) => {
             assert.holds(wanted.is_none());
             drop(wanted);
-            assert_handed_back(assert, alloc, error, given);
+            assert_value(assert, alloc, &error.0, given);
+            drop(error);
         }
     }
 }
@@ -113,15 +107,6 @@ impl FromValue for IsNull {
     }
 }
 
-#[test]
-fn a_type_of_a_caller(rt: HostRuntime) {
-    let a = Asserting(&rt);
-    let alloc = rt.alloc();
-    assert_converts(&a, alloc, Given::Null, Some(IsNull(true)));
-    assert_converts(&a, alloc, Given::Bytes(b"5"), Some(IsNull(false)));
-    assert_converts(&a, alloc, Given::Int(5), Some(Some(IsNull(false))));
-}
-
 /// Values that hold no number.
 const NO_NUMBERS: [Given; 13] = [
     Given::Null,
@@ -172,7 +157,7 @@ fn assert_range<T: FromValue + PartialEq + Copy + Drop>(
 }
 
 #[test]
-fn signed_integers(rt: HostRuntime) {
+fn integers(rt: HostRuntime) {
     let a = Asserting(&rt);
     let alloc = rt.alloc();
     assert_range(
@@ -226,12 +211,6 @@ fn signed_integers(rt: HostRuntime) {
             b"170141183460469231731687303715884105728",
         ],
     );
-}
-
-#[test]
-fn unsigned_integers(rt: HostRuntime) {
-    let a = Asserting(&rt);
-    let alloc = rt.alloc();
     assert_range(&a, alloc, 7u8, (b"-0", 0), (b"255", 255), [b"-1", b"256"]);
     assert_range(
         &a,
@@ -275,24 +254,6 @@ fn unsigned_integers(rt: HostRuntime) {
     );
 }
 
-/// Numbers of values that a type can't hold, or can.
-#[test]
-fn numbers_past_a_range(rt: HostRuntime) {
-    let a = Asserting(&rt);
-    let alloc = rt.alloc();
-    assert_converts::<u8>(&a, alloc, Given::Int(256), None);
-    assert_converts::<u64>(&a, alloc, Given::Int(-1), None);
-    assert_converts::<usize>(&a, alloc, Given::Int(-1), None);
-    assert_converts::<u16>(&a, alloc, Given::UInt(65536), None);
-    assert_converts::<u32>(&a, alloc, Given::Int(4294967296), None);
-    assert_converts::<i16>(&a, alloc, Given::Int(-32769), None);
-    assert_converts::<i32>(&a, alloc, Given::UInt(2147483648), None);
-    assert_converts::<isize>(&a, alloc, Given::UInt(9223372036854775808), None);
-    assert_converts::<i64>(&a, alloc, Given::UInt(9223372036854775808), None);
-    assert_converts(&a, alloc, Given::UInt(u64::MAX), Some(u64::MAX));
-    assert_converts(&a, alloc, Given::Int(i64::MIN), Some(i64::MIN));
-}
-
 const BOOLEANS: [(Given, Option<bool>); 9] = [
     (Given::Int(0), Some(false)),
     (Given::UInt(1), Some(true)),
@@ -304,26 +265,6 @@ const BOOLEANS: [(Given, Option<bool>); 9] = [
     (Given::Bytes(b"01"), None),
     (Given::Null, None),
 ];
-
-#[test]
-fn booleans(rt: HostRuntime) {
-    for (given, wanted) in BOOLEANS {
-        assert_converts(&Asserting(&rt), rt.alloc(), given, wanted);
-    }
-}
-
-#[test]
-fn options_and_arrays(rt: HostRuntime) {
-    let a = Asserting(&rt);
-    let alloc = rt.alloc();
-    assert_converts(&a, alloc, Given::Null, Some(Option::<i64>::None));
-    assert_converts(&a, alloc, Given::Bytes(b"5"), Some(Some(5i64)));
-    assert_converts::<Option<i64>>(&a, alloc, Given::Bytes(b"x"), None);
-    assert_converts(&a, alloc, Given::Bytes(b"ab"), Some([97u8, 98]));
-    assert_converts::<[u8; 2]>(&a, alloc, Given::Bytes(b"a"), None);
-    assert_converts::<[u8; 2]>(&a, alloc, Given::Bytes(b"abc"), None);
-    assert_converts::<[u8; 2]>(&a, alloc, Given::Null, None);
-}
 
 /// Values, and the nanoseconds of their durations; none where they are no duration.
 const DURATIONS: [(Given, Option<u64>); 26] = [
@@ -362,140 +303,242 @@ fn duration(nanos: Option<u64>) -> Option<Duration> {
     Some(Duration::from_nanos(nanos?))
 }
 
+/// Numbers that a type can't hold, or can; a caller's type; options, arrays, booleans and durations.
 #[test]
-fn durations(rt: HostRuntime) {
-    for (given, nanos) in DURATIONS {
-        assert_converts(&Asserting(&rt), rt.alloc(), given, duration(nanos));
+fn values_converted(rt: HostRuntime) {
+    let a = Asserting(&rt);
+    let alloc = rt.alloc();
+    assert_converts::<u8>(&a, alloc, Given::Int(256), None);
+    assert_converts::<u64>(&a, alloc, Given::Int(-1), None);
+    assert_converts::<usize>(&a, alloc, Given::Int(-1), None);
+    assert_converts::<u16>(&a, alloc, Given::UInt(65536), None);
+    assert_converts::<u32>(&a, alloc, Given::Int(4294967296), None);
+    assert_converts::<i16>(&a, alloc, Given::Int(-32769), None);
+    assert_converts::<i32>(&a, alloc, Given::UInt(2147483648), None);
+    assert_converts::<isize>(&a, alloc, Given::UInt(9223372036854775808), None);
+    assert_converts::<i64>(&a, alloc, Given::UInt(9223372036854775808), None);
+    assert_converts(&a, alloc, Given::UInt(u64::MAX), Some(u64::MAX));
+    assert_converts(&a, alloc, Given::Int(i64::MIN), Some(i64::MIN));
+    assert_converts(&a, alloc, Given::Null, Some(IsNull(true)));
+    assert_converts(&a, alloc, Given::Bytes(b"5"), Some(IsNull(false)));
+    assert_converts(&a, alloc, Given::Int(5), Some(Some(IsNull(false))));
+    assert_converts(&a, alloc, Given::Null, Some(Option::<i64>::None));
+    assert_converts(&a, alloc, Given::Bytes(b"5"), Some(Some(5i64)));
+    assert_converts::<Option<i64>>(&a, alloc, Given::Bytes(b"x"), None);
+    assert_converts(&a, alloc, Given::Bytes(b"ab"), Some([97u8, 98]));
+    assert_converts::<[u8; 2]>(&a, alloc, Given::Bytes(b"a"), None);
+    assert_converts::<[u8; 2]>(&a, alloc, Given::Bytes(b"abc"), None);
+    assert_converts::<[u8; 2]>(&a, alloc, Given::Null, None);
+    for (given, wanted) in BOOLEANS {
+        assert_converts(&a, alloc, given, wanted);
     }
-}
-
-/// No field of a time is checked. This one's duration has no value of its own, and undoing the
-/// conversion gives the time.
-#[test]
-fn the_longest_time(rt: HostRuntime) {
-    let assert = Asserting(&rt);
-    let longest = Given::Time(false, 4294967295, 255, 255, 255, 4294967295);
-    let wanted = Duration::new(371085175225849, 967295000);
-    assert_converts(&assert, rt.alloc(), longest, Some(wanted));
-    assert_undone::<Duration>(&assert, rt.alloc(), longest);
-    assert_too_long(&assert, rt.alloc(), wanted);
-}
-
-/// Asserts that a value is had again once its conversion is undone.
-fn assert_undone<T: FromValue>(assert: &impl Assert, alloc: Global, given: Given) {
-    let again = undone::<T>(assert, alloc, given);
-    assert_value(assert, alloc, &again, given);
-    drop(again);
+    for (given, nanos) in DURATIONS {
+        assert_converts(&a, alloc, given, duration(nanos));
+    }
 }
 
 type CowText = CowStr<'static, Global>;
 
 type CowBytes = CowSlice<'static, u8, Global>;
 
-/// Values, and the bytes and the text that they hold.
-const TEXTS: [(Given, Option<&[u8]>, Option<&[u8]>); 6] = [
-    (
-        Given::Bytes(b"h\xc3\xa9"),
-        Some(b"h\xc3\xa9"),
-        Some(b"h\xc3\xa9"),
-    ),
-    (Given::Bytes(b""), Some(b""), Some(b"")),
-    (Given::Bytes(b"\xff"), Some(b"\xff"), None),
-    (Given::Bytes(b"a\xff"), Some(b"a\xff"), None),
-    (Given::Int(5), None, None),
-    (Given::Null, None, None),
+/// Values, and whether they hold bytes and a text.
+const TEXTS: [(Given, bool, bool); 6] = [
+    (Given::Bytes(b"h\xc3\xa9"), true, true),
+    (Given::Bytes(b""), true, true),
+    (Given::Bytes(b"\xff"), true, false),
+    (Given::Bytes(b"a\xff"), true, false),
+    (Given::Int(5), false, false),
+    (Given::Null, false, false),
 ];
 
-/// Asserts the bytes that were found in a value.
-fn assert_found<T: AsSlice<u8> + Drop>(
+/// Asserts the value that something converts to.
+fn assert_gives<T: ToValue + Drop>(assert: &impl Assert, alloc: Global, x: T, wanted: Given) {
+    let value = once_more(assert, x.to_value(alloc), x.to_value(alloc));
+    drop(x);
+    assert_value(assert, alloc, &value, wanted);
+    drop(value);
+}
+
+/// Asserts that what was found in a value gives the value again, or that the value came back.
+fn assert_found<T: ToValue + Drop>(
     assert: &impl Assert,
     alloc: Global,
     found: Result<T, FromValueError>,
     given: Given,
-    wanted: Option<&[u8]>,
+    is_held: bool,
 ) {
+    assert.holds(found.is_ok() == is_held);
     match found {
-        Ok(bytes) => {
-            assert.holds(Some(bytes.as_slice()) == wanted);
-            drop(bytes);
-        }
+        Ok(x) => assert_gives(assert, alloc, x, given),
         Err(error) => {
-            assert.holds(wanted.is_none());
-            assert_handed_back(assert, alloc, error, given);
+            assert_value(assert, alloc, &error.0, given);
+            drop(error);
         }
     }
 }
 
-/// Asserts the bytes that a value and a copy of it hold, and that the value is had again.
-fn assert_holds<T: FromValue + AsSlice<u8> + Drop>(
+/// Asserts that a value, and a copy of it, holds something that gives the value again, as undoing the
+/// conversion does; or that none holds it.
+fn assert_holds<T: FromValue + ToValue + Drop>(
     assert: &impl Assert,
     alloc: Global,
     given: Given,
-    wanted: Option<&[u8]>,
+    is_held: bool,
 ) {
     let found = from_value_opt::<T>(made(assert, alloc, given));
-    assert_found(assert, alloc, found, given, wanted);
+    assert_found(assert, alloc, found, given, is_held);
     let found = converted_copy::<T>(assert, alloc, given);
-    assert_found(assert, alloc, found, given, wanted);
-    if wanted.is_some() {
-        assert_undone::<T>(assert, alloc, given);
+    assert_found(assert, alloc, found, given, is_held);
+    if is_held {
+        let again = undone::<T>(assert, alloc, given);
+        assert_value(assert, alloc, &again, given);
+        drop(again);
     }
 }
 
-/// Asserts the bytes that a value holds, by a type that may borrow.
-fn assert_holds_bytes(assert: &impl Assert, alloc: Global, given: Given, wanted: Option<&[u8]>) {
-    match from_value_opt::<CowBytes>(made(assert, alloc, given)) {
+// The prover's borrow checker doesn't cover `assert_holds` at a type with a lifetime. So `CowBytes` and `CowText` have
+// functions of their own.
+
+/// Asserts what `assert_found` does, of bytes by a type that may borrow.
+fn assert_bytes_found(
+    assert: &impl Assert,
+    alloc: Global,
+    found: Result<CowBytes, FromValueError>,
+    given: Given,
+    is_held: bool,
+) {
+    match found {
         Ok(bytes) => {
-            assert.holds(Some(bytes.as_slice()) == wanted);
+            assert.holds(is_held);
+            let value = once_more(assert, bytes.to_value(alloc), bytes.to_value(alloc));
             drop(bytes);
-            assert_undone::<CowBytes>(assert, alloc, given);
+            assert_value(assert, alloc, &value, given);
+            drop(value);
         }
         Err(error) => {
-            assert.holds(wanted.is_none());
-            assert_handed_back(assert, alloc, error, given);
+            assert.holds(!is_held);
+            assert_value(assert, alloc, &error.0, given);
+            drop(error);
         }
     }
 }
 
-/// Asserts the text that a value holds, by a type that may borrow.
-fn assert_holds_text(assert: &impl Assert, alloc: Global, given: Given, wanted: Option<&[u8]>) {
-    match from_value_opt::<CowText>(made(assert, alloc, given)) {
+/// The bytes that a copy of a value holds, by a type that may borrow.
+fn bytes_of_copy(
+    assert: &impl Assert,
+    alloc: Global,
+    value: &Value,
+) -> Result<CowBytes, FromValueError> {
+    match CowBytes::from_value_ref_opt(alloc, value) {
+        Ok(found) => found,
+        Err(_) => match CowBytes::from_value_ref_opt(alloc, value) {
+            Ok(found) => found,
+            Err(_) => {
+                assert.holds(false);
+                unreachable!()
+            }
+        },
+    }
+}
+
+/// Asserts what `assert_holds` does, of bytes by a type that may borrow.
+fn assert_holds_bytes(assert: &impl Assert, alloc: Global, given: Given, is_held: bool) {
+    let found = from_value_opt::<CowBytes>(made(assert, alloc, given));
+    assert_bytes_found(assert, alloc, found, given, is_held);
+    let value = made(assert, alloc, given);
+    let found = bytes_of_copy(assert, alloc, &value);
+    assert_bytes_found(assert, alloc, found, given, is_held);
+    drop(value);
+    if is_held {
+        let again = undone::<CowBytes>(assert, alloc, given);
+        assert_value(assert, alloc, &again, given);
+        drop(again);
+    }
+}
+
+/// Asserts what `assert_found` does, of a text by a type that may borrow.
+fn assert_text_found(
+    assert: &impl Assert,
+    alloc: Global,
+    found: Result<CowText, FromValueError>,
+    given: Given,
+    is_held: bool,
+) {
+    match found {
         Ok(text) => {
-            assert.holds(Some(text.as_str().as_bytes()) == wanted);
+            assert.holds(is_held);
+            let value = once_more(assert, text.to_value(alloc), text.to_value(alloc));
             drop(text);
-            assert_undone::<CowText>(assert, alloc, given);
+            assert_value(assert, alloc, &value, given);
+            drop(value);
         }
         Err(error) => {
-            assert.holds(wanted.is_none());
-            assert_handed_back(assert, alloc, error, given);
+            assert.holds(!is_held);
+            assert_value(assert, alloc, &error.0, given);
+            drop(error);
         }
     }
 }
 
-#[test]
-fn texts_that_values_hold(rt: HostRuntime) {
-    let assert = Asserting(&rt);
-    for (given, bytes, text) in TEXTS {
-        assert_holds::<Vec<u8>>(&assert, rt.alloc(), given, bytes);
-        assert_holds::<String>(&assert, rt.alloc(), given, text);
-        assert_holds_bytes(&assert, rt.alloc(), given, bytes);
-        assert_holds_text(&assert, rt.alloc(), given, text);
+/// The text that a copy of a value holds, by a type that may borrow.
+fn text_of_copy(
+    assert: &impl Assert,
+    alloc: Global,
+    value: &Value,
+) -> Result<CowText, FromValueError> {
+    match CowText::from_value_ref_opt(alloc, value) {
+        Ok(found) => found,
+        Err(_) => match CowText::from_value_ref_opt(alloc, value) {
+            Ok(found) => found,
+            Err(_) => {
+                assert.holds(false);
+                unreachable!()
+            }
+        },
     }
 }
 
-/// Any value is a value.
-#[test]
-fn values_that_values_hold(rt: HostRuntime) {
-    let assert = Asserting(&rt);
-    for given in [Given::Null, Given::Bytes(b"x"), Given::Float(1)] {
-        let value = from_value::<Value>(made(&assert, rt.alloc(), given));
-        assert_value(&assert, rt.alloc(), &value, given);
-        drop(value);
-        assert_undone::<Value>(&assert, rt.alloc(), given);
-        let copy = converted_copy::<Value>(&assert, rt.alloc(), given);
-        let wanted = Some(made(&assert, rt.alloc(), given));
-        assert_answer_is(&assert, rt.alloc(), copy, given, wanted);
+/// Asserts what `assert_holds` does, of a text by a type that may borrow.
+fn assert_holds_text(assert: &impl Assert, alloc: Global, given: Given, is_held: bool) {
+    let found = from_value_opt::<CowText>(made(assert, alloc, given));
+    assert_text_found(assert, alloc, found, given, is_held);
+    let value = made(assert, alloc, given);
+    let found = text_of_copy(assert, alloc, &value);
+    assert_text_found(assert, alloc, found, given, is_held);
+    drop(value);
+    if is_held {
+        let again = undone::<CowText>(assert, alloc, given);
+        assert_value(assert, alloc, &again, given);
+        drop(again);
     }
+}
+
+#[test]
+fn texts_and_values_that_values_hold(rt: HostRuntime) {
+    let a = Asserting(&rt);
+    let alloc = rt.alloc();
+    for (given, has_bytes, has_text) in TEXTS {
+        assert_holds::<Vec<u8>>(&a, alloc, given, has_bytes);
+        assert_holds::<String>(&a, alloc, given, has_text);
+        assert_holds_bytes(&a, alloc, given, has_bytes);
+        assert_holds_text(&a, alloc, given, has_text);
+    }
+    // Any value is a value.
+    for given in [Given::Null, Given::Bytes(b"x"), Given::Float(1)] {
+        assert_holds::<Value>(&a, alloc, given, true);
+        let value = from_value::<Value>(made(&a, alloc, given));
+        assert_value(&a, alloc, &value, given);
+        drop(value);
+    }
+    // No field of a time is checked. This one's duration has no value of its own, and undoing the conversion gives the
+    // time.
+    let longest = Given::Time(false, 4294967295, 255, 255, 255, 4294967295);
+    let wanted = Duration::new(371085175225849, 967295000);
+    assert_converts(&a, alloc, longest, Some(wanted));
+    let again = undone::<Duration>(&a, alloc, longest);
+    assert_value(&a, alloc, &again, longest);
+    drop(again);
+    assert_too_long(&a, alloc, wanted);
 }
 
 /// What was read, and the value that it was read from, by types of callers.
@@ -513,32 +556,6 @@ fn parsed_and_kept(rt: HostRuntime) {
     assert_equal(&assert, kept, Ok(Value::UInt(7)));
 }
 
-/// Asserts the value that something converts to.
-fn assert_gives<T: ToValue + Drop>(assert: &impl Assert, alloc: Global, x: T, wanted: Given) {
-    let value = once_more(assert, x.to_value(alloc), x.to_value(alloc));
-    drop(x);
-    assert_value(assert, alloc, &value, wanted);
-    drop(value);
-}
-
-#[test]
-fn values_of_integers(rt: HostRuntime) {
-    let a = Asserting(&rt);
-    let alloc = rt.alloc();
-    assert_gives(&a, alloc, -128i8, Given::Int(-128));
-    assert_gives(&a, alloc, -32768i16, Given::Int(-32768));
-    assert_gives(&a, alloc, 5i32, Given::Int(5));
-    assert_gives(&a, alloc, i64::MIN, Given::Int(i64::MIN));
-    assert_gives(&a, alloc, -1isize, Given::Int(-1));
-    assert_gives(&a, alloc, 255u8, Given::Int(255));
-    assert_gives(&a, alloc, 65535u16, Given::Int(65535));
-    assert_gives(&a, alloc, 4294967295u32, Given::Int(4294967295));
-    assert_gives(&a, alloc, 5u64, Given::UInt(5));
-    assert_gives(&a, alloc, 5usize, Given::UInt(5));
-    assert_gives(&a, alloc, true, Given::Int(1));
-    assert_gives(&a, alloc, false, Given::Int(0));
-}
-
 /// Numbers of 128 bits, and their values.
 const WIDE: [(i128, Given); 6] = [
     (9223372036854775807, Given::Int(i64::MAX)),
@@ -552,43 +569,6 @@ const WIDE: [(i128, Given); 6] = [
     ),
 ];
 
-#[test]
-fn values_of_wide_integers(rt: HostRuntime) {
-    let a = Asserting(&rt);
-    for (number, wanted) in WIDE {
-        assert_gives(&a, rt.alloc(), number, wanted);
-    }
-    let most = Given::Bytes(b"340282366920938463463374607431768211455");
-    assert_gives(&a, rt.alloc(), u128::MAX, most);
-    assert_gives(&a, rt.alloc(), 5u128, Given::Int(5));
-    assert_gives(&a, rt.alloc(), 1u128 << 63, Given::UInt(1 << 63));
-}
-
-#[test]
-fn values_of_lent_texts(rt: HostRuntime) {
-    let a = Asserting(&rt);
-    let alloc = rt.alloc();
-    let ab = Given::Bytes(b"ab");
-    assert_gives(&a, alloc, "ab", ab);
-    assert_gives(&a, alloc, b"ab".as_slice(), ab);
-    assert_gives(&a, alloc, [97u8, 98], ab);
-    assert_gives(&a, alloc, CowText::Borrowed("ab"), ab);
-    assert_gives(&a, alloc, CowBytes::Borrowed(b"ab"), ab);
-    assert_gives(&a, alloc, &[97u8, 98], ab);
-    assert_gives(&a, alloc, Some("ab"), ab);
-    assert_gives(&a, alloc, Option::<u8>::None, Given::Null);
-    assert_gives(&a, alloc, Value::UInt(5), Given::UInt(5));
-}
-
-#[test]
-fn values_of_owned_texts(rt: HostRuntime) {
-    let a = Asserting(&rt);
-    let alloc = rt.alloc();
-    let ab = Given::Bytes(b"ab");
-    assert_gives(&a, alloc, string(&a, alloc, "ab"), ab);
-    assert_gives(&a, alloc, copied(&a, alloc, b"ab"), ab);
-}
-
 /// Numbers that a command carries, and the values that are sent for them.
 const CARRIED: [(i128, Given); 5] = [
     (-9223372036854775808, Given::Int(i64::MIN)),
@@ -597,18 +577,6 @@ const CARRIED: [(i128, Given); 5] = [
     (9223372036854775808, Given::UInt(9223372036854775808)),
     (18446744073709551615, Given::UInt(u64::MAX)),
 ];
-
-#[test]
-fn values_of_contents(rt: HostRuntime) {
-    let a = Asserting(&rt);
-    let alloc = rt.alloc();
-    assert_gives(&a, alloc, Content::Null, Given::Null);
-    for (number, wanted) in CARRIED {
-        assert_gives(&a, alloc, Content::Number(number), wanted);
-    }
-    let bytes = byte_string(&a, alloc, b"ab");
-    assert_gives(&a, alloc, Content::Bytes(bytes), Given::Bytes(b"ab"));
-}
 
 /// Nanoseconds, and the time of that duration.
 const TIMES: [(u64, Given); 4] = [
@@ -624,16 +592,64 @@ fn assert_too_long(assert: &impl Assert, alloc: Global, duration: Duration) {
 }
 
 #[test]
-fn values_of_durations(rt: HostRuntime) {
-    let assert = Asserting(&rt);
+fn values_of_numbers(rt: HostRuntime) {
+    let a = Asserting(&rt);
     let alloc = rt.alloc();
+    assert_gives(&a, alloc, -128i8, Given::Int(-128));
+    assert_gives(&a, alloc, -32768i16, Given::Int(-32768));
+    assert_gives(&a, alloc, 5i32, Given::Int(5));
+    assert_gives(&a, alloc, i64::MIN, Given::Int(i64::MIN));
+    assert_gives(&a, alloc, -1isize, Given::Int(-1));
+    assert_gives(&a, alloc, 255u8, Given::Int(255));
+    assert_gives(&a, alloc, 65535u16, Given::Int(65535));
+    assert_gives(&a, alloc, 4294967295u32, Given::Int(4294967295));
+    assert_gives(&a, alloc, 5u64, Given::UInt(5));
+    assert_gives(&a, alloc, 5usize, Given::UInt(5));
+    assert_gives(&a, alloc, true, Given::Int(1));
+    assert_gives(&a, alloc, false, Given::Int(0));
+    for (number, wanted) in WIDE {
+        assert_gives(&a, alloc, number, wanted);
+    }
+    let most = Given::Bytes(b"340282366920938463463374607431768211455");
+    assert_gives(&a, alloc, u128::MAX, most);
+    assert_gives(&a, alloc, 5u128, Given::Int(5));
+    assert_gives(&a, alloc, 1u128 << 63, Given::UInt(1 << 63));
+    assert_gives(&a, alloc, Content::Null, Given::Null);
+    for (number, wanted) in CARRIED {
+        assert_gives(&a, alloc, Content::Number(number), wanted);
+    }
+}
+
+#[test]
+fn values_of_texts_and_durations(rt: HostRuntime) {
+    let a = Asserting(&rt);
+    let alloc = rt.alloc();
+    let ab = Given::Bytes(b"ab");
+    assert_gives(&a, alloc, "ab", ab);
+    assert_gives(&a, alloc, b"ab".as_slice(), ab);
+    assert_gives(&a, alloc, [97u8, 98], ab);
+    assert_gives(&a, alloc, CowText::Borrowed("ab"), ab);
+    assert_gives(&a, alloc, CowBytes::Borrowed(b"ab"), ab);
+    assert_gives(&a, alloc, &[97u8, 98], ab);
+    assert_gives(&a, alloc, Some("ab"), ab);
+    assert_gives(&a, alloc, Option::<u8>::None, Given::Null);
+    assert_gives(&a, alloc, Value::UInt(5), Given::UInt(5));
+    let text = once_more(
+        &a,
+        String::from_str(alloc, "ab"),
+        String::from_str(alloc, "ab"),
+    );
+    assert_gives(&a, alloc, text, ab);
+    assert_gives(&a, alloc, copied(&a, alloc, b"ab"), ab);
+    let bytes = byte_string(&a, alloc, b"ab");
+    assert_gives(&a, alloc, Content::Bytes(bytes), ab);
     for (nanos, time) in TIMES {
-        assert_gives(&assert, alloc, Duration::from_nanos(nanos), time);
+        assert_gives(&a, alloc, Duration::from_nanos(nanos), time);
     }
     // 2^32 days but 501 nanoseconds, and but 500, which round to another microsecond.
     let longest = Given::Time(false, 4294967295, 23, 59, 59, 999999);
     let short = Duration::new(371085174374399, 999999499);
-    assert_gives(&assert, alloc, short, longest);
-    assert_too_long(&assert, alloc, Duration::new(371085174374399, 999999500));
-    assert_too_long(&assert, alloc, Duration::new(u64::MAX, 999999999));
+    assert_gives(&a, alloc, short, longest);
+    assert_too_long(&a, alloc, Duration::new(371085174374399, 999999500));
+    assert_too_long(&a, alloc, Duration::new(u64::MAX, 999999999));
 }

@@ -1,31 +1,27 @@
-//! Tests of `mysql_values` and `mysql_convert` from outside: worked rows of placeholders, literals,
-//! parameters, texts and conversions.
+//! Tests of `mysql_values`, `mysql_convert` and `mysql_from_row` from outside, as far as no row of data says it:
+//! traits of conversions, and calls that neither a stream nor the library for C shows. Literals,
+//! texts, cells, modes, and sets of values in order stand in bindings/testing/rows, sets of values
+//! by names in the data of `conformance`.
 //!
 //! At most one allocation of a run is refused. So a call that answers that memory was refused is
 //! made once more, and then has to answer.
+//!
+//! A function costs the prover seconds whatever it asserts, a row of a table nothing.
 #![tactic(auto)]
 
 #[cfg(test)]
-mod binding;
-#[cfg(test)]
 mod cells;
-#[cfg(test)]
-mod contents;
 #[cfg(test)]
 mod conversions;
 #[cfg(test)]
 mod literals;
 #[cfg(test)]
-mod modes;
-#[cfg(test)]
 mod parameter_sets;
 #[cfg(test)]
-mod params;
+mod queries;
 #[cfg(test)]
-mod placeholders;
-#[cfg(test)]
-mod reading;
-#[cfg(test)]
-mod sql_texts;
+mod rows;
 #[cfg(test)]
 mod support;
+#[cfg(test)]
+mod values;

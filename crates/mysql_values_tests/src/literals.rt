@@ -66,14 +66,11 @@ fn assert_read(
 
 #[test]
 fn literals(rt: HostRuntime) {
-    for (text, wanted, bytes) in LITERALS {
-        assert_read(&Asserting(&rt), rt.alloc(), text, wanted, bytes);
-    }
-}
-
-#[test]
-fn a_string_that_nothing_closes(rt: HostRuntime) {
     let assert = Asserting(&rt);
+    for (text, wanted, bytes) in LITERALS {
+        assert_read(&assert, rt.alloc(), text, wanted, bytes);
+    }
+    // A string that nothing closes.
     let mut buf = copied(&assert, rt.alloc(), b"before");
     assert_equal(&assert, literal_of(b"'open", &mut buf), Ok(None));
 }

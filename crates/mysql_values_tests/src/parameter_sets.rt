@@ -3,7 +3,7 @@
 ghost use Rattle.std.specs.Prelude.{Some};
 ghost use Rattle.mysql_values.specs.Value.TheVariants.{UInt};
 
-use crate::support::{Asserting, Given, Set, byte_string, copied, made_set, string};
+use crate::support::{Asserting, Given, Set, byte_string, copied, made_set};
 use mysql_convert::{IntoParams, SetError, ToValue, ToValueError};
 use mysql_values::Value;
 use std::alloc::Global;
@@ -70,78 +70,11 @@ fn tuples(rt: HostRuntime) {
 
 const BOOLEANS: Set = Set::List(&[Given::Int(1), Given::Int(0)]);
 
-#[test]
-fn lists(rt: HostRuntime) {
-    let a = Asserting(&rt);
-    let alloc = rt.alloc();
-    assert_makes(&a, alloc, [true, false].as_slice(), BOOLEANS);
-    let none: [bool; 0] = [];
-    assert_makes(&a, alloc, none.as_slice(), Set::Empty);
-    assert_count(&a, alloc, copied(&a, alloc, &[1u8, 2, 3]), 3);
-    assert_makes(&a, alloc, copied::<u8>(&a, alloc, &[]), Set::Empty);
-}
-
-const TWO: Set = Set::Named(&[(b"a", Given::Int(1)), (b"b", Given::Int(2))]);
+const TWO: Set = Set::Named(&[("a", 1), ("b", 2)]);
 
 const NO_NAMES: Set = Set::Named(&[]);
 
-#[test]
-fn names(rt: HostRuntime) {
-    let a = Asserting(&rt);
-    let alloc = rt.alloc();
-    let from = copied(&a, alloc, &[("b", 2u8), ("a", 1)]);
-    assert_makes(&a, alloc, from, TWO);
-    let from = copied::<(&'static str, u8)>(&a, alloc, &[]);
-    assert_makes(&a, alloc, from, NO_NAMES);
-}
-
-/// Asserts why no set is made.
-fn assert_makes_none<P: IntoParams>(
-    assert: &impl Assert,
-    alloc: Global,
-    from: P,
-    wanted: SetError,
-) {
-    let first = from.to_params(alloc).err();
-    let second = from.into_params(alloc).err();
-    assert_answer(assert, first, second, Some(SetError::Memory), Some(wanted));
-}
-
-/// The first name that an earlier pair has, also where a name behind it comes twice.
-#[test]
-fn names_given_twice(rt: HostRuntime) {
-    let a = Asserting(&rt);
-    let alloc = rt.alloc();
-    let from = copied(&a, alloc, &[("a", 1u8), ("a", 2)]);
-    let wanted = SetError::Redefined(byte_string(&a, alloc, b"a"));
-    assert_makes_none(&a, alloc, from, wanted);
-    let from = copied(&a, alloc, &[("a", 1u8), ("b", 2), ("b", 3), ("a", 4)]);
-    let wanted = SetError::Redefined(byte_string(&a, alloc, b"b"));
-    assert_makes_none(&a, alloc, from, wanted);
-}
-
-/// Durations without a value: the least place; but a name given twice comes first.
-#[test]
-fn values_too_long(rt: HostRuntime) {
-    let a = Asserting(&rt);
-    let alloc = rt.alloc();
-    let short = Duration::new(1, 0);
-    let long = Duration::new(u64::MAX, 0);
-    assert_makes_none(
-        &a,
-        alloc,
-        [short, long, long].as_slice(),
-        SetError::TooLong(1),
-    );
-    assert_makes_none(&a, alloc, (1u8, "x", long, long), SetError::TooLong(2));
-    let behind = (1u8, 2u8, 3u8, 4u8, 5u8, 6u8, 7u8, Some(long));
-    assert_makes_none(&a, alloc, behind, SetError::TooLong(7));
-    let from = copied(&a, alloc, &[("a", short), ("b", long), ("c", long)]);
-    assert_makes_none(&a, alloc, from, SetError::TooLong(1));
-    let from = copied(&a, alloc, &[("a", short), ("b", long), ("a", long)]);
-    let wanted = SetError::Redefined(byte_string(&a, alloc, b"a"));
-    assert_makes_none(&a, alloc, from, wanted);
-}
+const OBJECTS: Set = Set::List(&[Given::UInt(7), Given::Bytes(b"x"), Given::Null]);
 
 /// A type of this crate that converts to a number.
 #[derive(Drop)]
@@ -159,17 +92,66 @@ fn boxed<T: Drop>(assert: &impl Assert, alloc: Global, first: T, second: T) -> B
     once_more(assert, Box::new(alloc, first), Box::new(alloc, second))
 }
 
-const OBJECTS: Set = Set::List(&[Given::UInt(7), Given::Bytes(b"x"), Given::Null]);
-
 #[test]
-fn boxed_objects(rt: HostRuntime) {
+fn lists_names_and_objects(rt: HostRuntime) {
     let a = Asserting(&rt);
     let alloc = rt.alloc();
+    assert_makes(&a, alloc, [true, false].as_slice(), BOOLEANS);
+    let none: [bool; 0] = [];
+    assert_makes(&a, alloc, none.as_slice(), Set::Empty);
+    assert_count(&a, alloc, copied(&a, alloc, &[1u8, 2, 3]), 3);
+    assert_makes(&a, alloc, copied::<u8>(&a, alloc, &[]), Set::Empty);
+    let from = copied(&a, alloc, &[("b", 2u8), ("a", 1)]);
+    assert_makes(&a, alloc, from, TWO);
+    let from = copied::<(&'static str, u8)>(&a, alloc, &[]);
+    assert_makes(&a, alloc, from, NO_NAMES);
     let objects: [Box<dyn ToValue + Drop>; 3] = [
         boxed(&a, alloc, Id(7), Id(7)),
-        boxed(&a, alloc, string(&a, alloc, "x"), string(&a, alloc, "x")),
+        boxed(&a, alloc, copied(&a, alloc, b"x"), copied(&a, alloc, b"x")),
         boxed(&a, alloc, Option::<i8>::None, None),
     ];
     assert_makes(&a, alloc, objects.as_slice(), OBJECTS);
     drop(objects);
+}
+
+/// Asserts why no set is made.
+fn assert_makes_none<P: IntoParams>(
+    assert: &impl Assert,
+    alloc: Global,
+    from: P,
+    wanted: SetError,
+) {
+    let first = from.to_params(alloc).err();
+    let second = from.into_params(alloc).err();
+    assert_answer(assert, first, second, Some(SetError::Memory), Some(wanted));
+}
+
+/// The first name that an earlier pair has, also where a name behind it comes twice; durations without
+/// a value by the least place, but a name given twice comes first.
+#[test]
+fn no_sets(rt: HostRuntime) {
+    let a = Asserting(&rt);
+    let alloc = rt.alloc();
+    let from = copied(&a, alloc, &[("a", 1u8), ("a", 2)]);
+    let wanted = SetError::Redefined(byte_string(&a, alloc, b"a"));
+    assert_makes_none(&a, alloc, from, wanted);
+    let from = copied(&a, alloc, &[("a", 1u8), ("b", 2), ("b", 3), ("a", 4)]);
+    let wanted = SetError::Redefined(byte_string(&a, alloc, b"b"));
+    assert_makes_none(&a, alloc, from, wanted);
+    let short = Duration::new(1, 0);
+    let long = Duration::new(u64::MAX, 0);
+    assert_makes_none(
+        &a,
+        alloc,
+        [short, long, long].as_slice(),
+        SetError::TooLong(1),
+    );
+    assert_makes_none(&a, alloc, (1u8, "x", long, long), SetError::TooLong(2));
+    let behind = (1u8, 2u8, 3u8, 4u8, 5u8, 6u8, 7u8, Some(long));
+    assert_makes_none(&a, alloc, behind, SetError::TooLong(7));
+    let from = copied(&a, alloc, &[("a", short), ("b", long), ("c", long)]);
+    assert_makes_none(&a, alloc, from, SetError::TooLong(1));
+    let from = copied(&a, alloc, &[("a", short), ("b", long), ("a", long)]);
+    let wanted = SetError::Redefined(byte_string(&a, alloc, b"a"));
+    assert_makes_none(&a, alloc, from, wanted);
 }

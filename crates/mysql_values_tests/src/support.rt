@@ -6,9 +6,9 @@
 
 ghost use Rattle.std.specs.Prelude.{◌≡◌, true};
 
-use mysql_values::{ByteString, Content, Params, ParsedNamedParams, Value};
+use mysql_convert::IntoParams;
+use mysql_values::{ByteString, Params, Value};
 use std::alloc::{AllocError, Global};
-use std::collections::HashMap;
 use std::process::Abort;
 use tests_support::{Assert, assert_same, once_more};
 
@@ -30,22 +30,10 @@ pub fn copied<T: Copy + Drop>(assert: &impl Assert, alloc: Global, items: &[T]) 
     once_more(assert, first, Vec::from_slice(alloc, items))
 }
 
-/// This text, owned.
-pub fn string(assert: &impl Assert, alloc: Global, text: &str) -> String {
-    let first = String::from_str(alloc, text);
-    once_more(assert, first, String::from_str(alloc, text))
-}
-
 /// These bytes, owned.
 pub fn byte_string(assert: &impl Assert, alloc: Global, bytes: &[u8]) -> ByteString {
     let first = ByteString::copy(alloc, bytes);
     once_more(assert, first, ByteString::copy(alloc, bytes))
-}
-
-/// A query that is parsed.
-pub fn parsed<'a>(assert: &impl Assert, alloc: Global, query: &'a [u8]) -> ParsedNamedParams<'a> {
-    let first = ParsedNamedParams::parse(alloc, query);
-    once_more(assert, first, ParsedNamedParams::parse(alloc, query))
 }
 
 /// A value of a table.
@@ -95,7 +83,8 @@ pub fn assert_value(assert: &impl Assert, alloc: Global, found: &Value, wanted: 
 pub enum Set {
     Empty,
     List(&'static [Given]),
-    Named(&'static [(&'static [u8], Given)]),
+    /// Names, and numbers that they have.
+    Named(&'static [(&'static str, i64)]),
 }
 
 fn list(alloc: Global, given: &[Given]) -> Result<Vec<Value>, AllocError> {
@@ -106,61 +95,18 @@ fn list(alloc: Global, given: &[Given]) -> Result<Vec<Value>, AllocError> {
     Ok(values)
 }
 
-/// Gives a name a value.
-fn insert(
-    alloc: Global,
-    values: &mut HashMap<Vec<u8>, Value>,
-    name: &[u8],
-    given: Given,
-) -> Result<(), AllocError> {
-    let value = value(alloc, given)?;
-    let name = Vec::from_slice(alloc, name)?;
-    let answer = values.insert(name, value);
-    let is_ok = answer.is_ok();
-    drop(answer);
-    if is_ok { Ok(()) } else { Err(AllocError) }
-}
-
-fn entries(alloc: Global, given: &[(&[u8], Given)]) -> Result<HashMap<Vec<u8>, Value>, AllocError> {
-    let mut values = HashMap::new(alloc);
-    for (name, one) in given {
-        insert(alloc, &mut values, name, *one)?;
-    }
-    Ok(values)
-}
-
 fn params(alloc: Global, set: Set) -> Result<Params, AllocError> {
     match set {
         Set::Empty => Ok(Params::Empty),
         Set::List(given) => Ok(Params::Positional(list(alloc, given)?)),
-        Set::Named(given) => Ok(Params::Named(entries(alloc, given)?)),
+        Set::Named(given) => match Vec::from_slice(alloc, given)?.into_params(alloc) {
+            Ok(made) => Ok(made),
+            Err(_) => Err(AllocError),
+        },
     }
 }
 
 /// The set itself.
 pub fn made_set(assert: &impl Assert, alloc: Global, set: Set) -> Params {
     once_more(assert, params(alloc, set), params(alloc, set))
-}
-
-/// A content that is expected.
-#[derive(Clone, Copy)]
-pub enum Want {
-    Null,
-    Number(i128),
-    Bytes(&'static [u8]),
-}
-
-/// Whether a content is the expected one.
-pub fn meets(content: &Content, want: Want) -> bool {
-    match content {
-        Content::Null => matches!(want, Want::Null),
-        Content::Number(number) => match want {
-            Want::Number(wanted) => *number == wanted,
-            _ => false,
-        },
-        Content::Bytes(bytes) => match want {
-            Want::Bytes(wanted) => bytes.as_slice() == wanted,
-            _ => false,
-        },
-    }
 }

@@ -1,163 +1,376 @@
-//! Constants, values by their numbers, and one of two values.
-
-ghost use Rattle.std.proofs.Common.{lit<};
-ghost use Rattle.std.specs.Prelude.{[], refl, ◌∷◌};
+//! Values by their numbers, and sets of flags by their bits.
 
 use crate::support::Asserting;
-use mysql_buf::ParseBuf;
+use bitflags::Flags;
 use mysql_const::{
-    BinlogDumpFlags, ColumnType, Command, GeometryType, ItemResult, MariadbBulkIndicator,
-    SessionStateType, StatusFlags,
+    BinlogDumpFlags, CapabilityFlags, ColumnFlags, ColumnType, Command, CursorType, GeometryType,
+    ItemResult, MariadbBulkIndicator, MariadbCapabilities, SessionStateType, StatusFlags,
+    StmtBulkExecuteFlags, StmtExecuteParamFlags, StmtExecuteParamsFlags, UnknownColumnType,
+    UnknownCommand, UnknownCursorType, UnknownGeometryType, UnknownItemResultType,
+    UnknownMariadbBulkIndicator, UnknownSessionStateType, UnknownStatusFlags,
+    UnknownStmtBulkExecuteFlags,
 };
-use mysql_field_constants::{
-    Const, ConstBytes, ConstBytesValue, ConstU8, ConstU32, ConstValue, Either, RawConst, RawFlags,
-    Skip,
-};
-use mysql_fields::{IntRepr, LeU16, ParseExt, RawInt, WireError};
-use std::alloc::Global;
-use std::fmt::Debug;
 use std::test::*;
-use tests_support::{
-    Assert, assert_equal, assert_reads_back, assert_same, assert_written, first_of, once_more,
-    whole,
-};
+use tests_support::{Assert, once_more};
 
-/// The catalog's name after its length.
-struct Catalog;
+// MySQL: Client/Server Protocol, "Command Phase" (enum_server_command); MariaDB: "COM_STMT_BULK_EXECUTE".
+const COMMANDS: [(Command, u8); 34] = [
+    (Command::COM_SLEEP, 0),
+    (Command::COM_QUIT, 1),
+    (Command::COM_INIT_DB, 2),
+    (Command::COM_QUERY, 3),
+    (Command::COM_FIELD_LIST, 4),
+    (Command::COM_CREATE_DB, 5),
+    (Command::COM_DROP_DB, 6),
+    (Command::COM_REFRESH, 7),
+    (Command::COM_DEPRECATED_1, 8),
+    (Command::COM_STATISTICS, 9),
+    (Command::COM_PROCESS_INFO, 10),
+    (Command::COM_CONNECT, 11),
+    (Command::COM_PROCESS_KILL, 12),
+    (Command::COM_DEBUG, 13),
+    (Command::COM_PING, 14),
+    (Command::COM_TIME, 15),
+    (Command::COM_DELAYED_INSERT, 16),
+    (Command::COM_CHANGE_USER, 17),
+    (Command::COM_BINLOG_DUMP, 18),
+    (Command::COM_TABLE_DUMP, 19),
+    (Command::COM_CONNECT_OUT, 20),
+    (Command::COM_REGISTER_SLAVE, 21),
+    (Command::COM_STMT_PREPARE, 22),
+    (Command::COM_STMT_EXECUTE, 23),
+    (Command::COM_STMT_SEND_LONG_DATA, 24),
+    (Command::COM_STMT_CLOSE, 25),
+    (Command::COM_STMT_RESET, 26),
+    (Command::COM_SET_OPTION, 27),
+    (Command::COM_STMT_FETCH, 28),
+    (Command::COM_DAEMON, 29),
+    (Command::COM_BINLOG_DUMP_GTID, 30),
+    (Command::COM_RESET_CONNECTION, 31),
+    (Command::COM_END, 32),
+    (Command::COM_STMT_BULK_EXECUTE, 0xfa),
+];
 
-impl ConstBytesValue<4> for Catalog {
-    const VALUE: [u8; 4] = [3, 100, 101, 102];
+// MySQL: Client/Server Protocol, "Column Definition" (enum_field_types).
+const COLUMN_TYPES: [(ColumnType, u8); 34] = [
+    (ColumnType::MYSQL_TYPE_DECIMAL, 0),
+    (ColumnType::MYSQL_TYPE_TINY, 1),
+    (ColumnType::MYSQL_TYPE_SHORT, 2),
+    (ColumnType::MYSQL_TYPE_LONG, 3),
+    (ColumnType::MYSQL_TYPE_FLOAT, 4),
+    (ColumnType::MYSQL_TYPE_DOUBLE, 5),
+    (ColumnType::MYSQL_TYPE_NULL, 6),
+    (ColumnType::MYSQL_TYPE_TIMESTAMP, 7),
+    (ColumnType::MYSQL_TYPE_LONGLONG, 8),
+    (ColumnType::MYSQL_TYPE_INT24, 9),
+    (ColumnType::MYSQL_TYPE_DATE, 10),
+    (ColumnType::MYSQL_TYPE_TIME, 11),
+    (ColumnType::MYSQL_TYPE_DATETIME, 12),
+    (ColumnType::MYSQL_TYPE_YEAR, 13),
+    (ColumnType::MYSQL_TYPE_NEWDATE, 14),
+    (ColumnType::MYSQL_TYPE_VARCHAR, 15),
+    (ColumnType::MYSQL_TYPE_BIT, 16),
+    (ColumnType::MYSQL_TYPE_TIMESTAMP2, 17),
+    (ColumnType::MYSQL_TYPE_DATETIME2, 18),
+    (ColumnType::MYSQL_TYPE_TIME2, 19),
+    (ColumnType::MYSQL_TYPE_TYPED_ARRAY, 20),
+    (ColumnType::MYSQL_TYPE_VECTOR, 242),
+    (ColumnType::MYSQL_TYPE_UNKNOWN, 243),
+    (ColumnType::MYSQL_TYPE_JSON, 245),
+    (ColumnType::MYSQL_TYPE_NEWDECIMAL, 246),
+    (ColumnType::MYSQL_TYPE_ENUM, 247),
+    (ColumnType::MYSQL_TYPE_SET, 248),
+    (ColumnType::MYSQL_TYPE_TINY_BLOB, 249),
+    (ColumnType::MYSQL_TYPE_MEDIUM_BLOB, 250),
+    (ColumnType::MYSQL_TYPE_LONG_BLOB, 251),
+    (ColumnType::MYSQL_TYPE_BLOB, 252),
+    (ColumnType::MYSQL_TYPE_VAR_STRING, 253),
+    (ColumnType::MYSQL_TYPE_STRING, 254),
+    (ColumnType::MYSQL_TYPE_GEOMETRY, 255),
+];
 
-    ghost VALUE = { 3 ∷ 100 ∷ 101 ∷ 102 ∷ [] };
+// The kinds of geometry, as MySQL numbers them.
+const GEOMETRY_TYPES: [(GeometryType, u8); 8] = [
+    (GeometryType::GEOM_GEOMETRY, 0),
+    (GeometryType::GEOM_POINT, 1),
+    (GeometryType::GEOM_LINESTRING, 2),
+    (GeometryType::GEOM_POLYGON, 3),
+    (GeometryType::GEOM_MULTIPOINT, 4),
+    (GeometryType::GEOM_MULTILINESTRING, 5),
+    (GeometryType::GEOM_MULTIPOLYGON, 6),
+    (GeometryType::GEOM_GEOMETRYCOLLECTION, 7),
+];
 
-    ghost value_len = { refl };
+// MySQL: Client/Server Protocol, "OK_Packet" (enum_session_state_type).
+const SESSION_STATE_TYPES: [(SessionStateType, u8); 6] = [
+    (SessionStateType::SESSION_TRACK_SYSTEM_VARIABLES, 0),
+    (SessionStateType::SESSION_TRACK_SCHEMA, 1),
+    (SessionStateType::SESSION_TRACK_STATE_CHANGE, 2),
+    (SessionStateType::SESSION_TRACK_GTIDS, 3),
+    (
+        SessionStateType::SESSION_TRACK_TRANSACTION_CHARACTERISTICS,
+        4,
+    ),
+    (SessionStateType::SESSION_TRACK_TRANSACTION_STATE, 5),
+];
 
-    ghost fits = { lit< tt };
+// MariaDB: Client/Server Protocol, "COM_STMT_BULK_EXECUTE".
+const BULK_INDICATORS: [(MariadbBulkIndicator, u8); 4] = [
+    (MariadbBulkIndicator::BULK_INDICATOR_NONE, 0),
+    (MariadbBulkIndicator::BULK_INDICATOR_NULL, 1),
+    (MariadbBulkIndicator::BULK_INDICATOR_DEFAULT, 2),
+    (MariadbBulkIndicator::BULK_INDICATOR_IGNORE, 3),
+];
+
+// MySQL's kinds of results of an item (Item_result).
+const ITEM_RESULTS: [(ItemResult, i8); 6] = [
+    (ItemResult::INVALID_RESULT, -1),
+    (ItemResult::STRING_RESULT, 0),
+    (ItemResult::REAL_RESULT, 1),
+    (ItemResult::INT_RESULT, 2),
+    (ItemResult::ROW_RESULT, 3),
+    (ItemResult::DECIMAL_RESULT, 4),
+];
+
+// MySQL: Client/Server Protocol, "Status Flags".
+const STATUS: [(StatusFlags, u16); 14] = [
+    (StatusFlags::SERVER_STATUS_IN_TRANS, 1),
+    (StatusFlags::SERVER_STATUS_AUTOCOMMIT, 2),
+    (StatusFlags::SERVER_MORE_RESULTS_EXISTS, 8),
+    (StatusFlags::SERVER_STATUS_NO_GOOD_INDEX_USED, 0x10),
+    (StatusFlags::SERVER_STATUS_NO_INDEX_USED, 0x20),
+    (StatusFlags::SERVER_STATUS_CURSOR_EXISTS, 0x40),
+    (StatusFlags::SERVER_STATUS_LAST_ROW_SENT, 0x80),
+    (StatusFlags::SERVER_STATUS_DB_DROPPED, 0x100),
+    (StatusFlags::SERVER_STATUS_NO_BACKSLASH_ESCAPES, 0x200),
+    (StatusFlags::SERVER_STATUS_METADATA_CHANGED, 0x400),
+    (StatusFlags::SERVER_QUERY_WAS_SLOW, 0x800),
+    (StatusFlags::SERVER_PS_OUT_PARAMS, 0x1000),
+    (StatusFlags::SERVER_STATUS_IN_TRANS_READONLY, 0x2000),
+    (StatusFlags::SERVER_SESSION_STATE_CHANGED, 0x4000),
+];
+
+// MySQL: Client/Server Protocol, "Capabilities Flags".
+const CAPABILITIES: [(CapabilityFlags, u32); 32] = [
+    (CapabilityFlags::CLIENT_LONG_PASSWORD, 1 << 0),
+    (CapabilityFlags::CLIENT_FOUND_ROWS, 1 << 1),
+    (CapabilityFlags::CLIENT_LONG_FLAG, 1 << 2),
+    (CapabilityFlags::CLIENT_CONNECT_WITH_DB, 1 << 3),
+    (CapabilityFlags::CLIENT_NO_SCHEMA, 1 << 4),
+    (CapabilityFlags::CLIENT_COMPRESS, 1 << 5),
+    (CapabilityFlags::CLIENT_ODBC, 1 << 6),
+    (CapabilityFlags::CLIENT_LOCAL_FILES, 1 << 7),
+    (CapabilityFlags::CLIENT_IGNORE_SPACE, 1 << 8),
+    (CapabilityFlags::CLIENT_PROTOCOL_41, 1 << 9),
+    (CapabilityFlags::CLIENT_INTERACTIVE, 1 << 10),
+    (CapabilityFlags::CLIENT_SSL, 1 << 11),
+    (CapabilityFlags::CLIENT_IGNORE_SIGPIPE, 1 << 12),
+    (CapabilityFlags::CLIENT_TRANSACTIONS, 1 << 13),
+    (CapabilityFlags::CLIENT_RESERVED, 1 << 14),
+    (CapabilityFlags::CLIENT_SECURE_CONNECTION, 1 << 15),
+    (CapabilityFlags::CLIENT_MULTI_STATEMENTS, 1 << 16),
+    (CapabilityFlags::CLIENT_MULTI_RESULTS, 1 << 17),
+    (CapabilityFlags::CLIENT_PS_MULTI_RESULTS, 1 << 18),
+    (CapabilityFlags::CLIENT_PLUGIN_AUTH, 1 << 19),
+    (CapabilityFlags::CLIENT_CONNECT_ATTRS, 1 << 20),
+    (
+        CapabilityFlags::CLIENT_PLUGIN_AUTH_LENENC_CLIENT_DATA,
+        1 << 21,
+    ),
+    (
+        CapabilityFlags::CLIENT_CAN_HANDLE_EXPIRED_PASSWORDS,
+        1 << 22,
+    ),
+    (CapabilityFlags::CLIENT_SESSION_TRACK, 1 << 23),
+    (CapabilityFlags::CLIENT_DEPRECATE_EOF, 1 << 24),
+    (CapabilityFlags::CLIENT_OPTIONAL_RESULTSET_METADATA, 1 << 25),
+    (CapabilityFlags::CLIENT_ZSTD_COMPRESSION_ALGORITHM, 1 << 26),
+    (CapabilityFlags::CLIENT_QUERY_ATTRIBUTES, 1 << 27),
+    (CapabilityFlags::MULTI_FACTOR_AUTHENTICATION, 1 << 28),
+    (CapabilityFlags::CLIENT_PROGRESS_OBSOLETE, 1 << 29),
+    (CapabilityFlags::CLIENT_SSL_VERIFY_SERVER_CERT, 1 << 30),
+    (CapabilityFlags::CLIENT_REMEMBER_OPTIONS, 1 << 31),
+];
+
+// MariaDB: Client/Server Protocol, "Capabilities".
+const MARIADB_CAPABILITIES: [(MariadbCapabilities, u32); 6] = [
+    (MariadbCapabilities::MARIADB_CLIENT_PROGRESS, 1),
+    (MariadbCapabilities::MARIADB_CLIENT_COM_MULTI, 2),
+    (MariadbCapabilities::MARIADB_CLIENT_STMT_BULK_OPERATIONS, 4),
+    (MariadbCapabilities::MARIADB_CLIENT_EXTENDED_METADATA, 8),
+    (MariadbCapabilities::MARIADB_CLIENT_CACHE_METADATA, 0x10),
+    (MariadbCapabilities::MARIADB_CLIENT_BULK_UNIT_RESULTS, 0x20),
+];
+
+// MySQL: Client/Server Protocol, "Column Definition Flags".
+const COLUMN: [(ColumnFlags, u16); 16] = [
+    (ColumnFlags::NOT_NULL_FLAG, 1 << 0),
+    (ColumnFlags::PRI_KEY_FLAG, 1 << 1),
+    (ColumnFlags::UNIQUE_KEY_FLAG, 1 << 2),
+    (ColumnFlags::MULTIPLE_KEY_FLAG, 1 << 3),
+    (ColumnFlags::BLOB_FLAG, 1 << 4),
+    (ColumnFlags::UNSIGNED_FLAG, 1 << 5),
+    (ColumnFlags::ZEROFILL_FLAG, 1 << 6),
+    (ColumnFlags::BINARY_FLAG, 1 << 7),
+    (ColumnFlags::ENUM_FLAG, 1 << 8),
+    (ColumnFlags::AUTO_INCREMENT_FLAG, 1 << 9),
+    (ColumnFlags::TIMESTAMP_FLAG, 1 << 10),
+    (ColumnFlags::SET_FLAG, 1 << 11),
+    (ColumnFlags::NO_DEFAULT_VALUE_FLAG, 1 << 12),
+    (ColumnFlags::ON_UPDATE_NOW_FLAG, 1 << 13),
+    (ColumnFlags::PART_KEY_FLAG, 1 << 14),
+    (ColumnFlags::NUM_FLAG, 1 << 15),
+];
+
+// MySQL: Client/Server Protocol, "COM_STMT_EXECUTE" (enum_cursor_type).
+const CURSOR_TYPES: [(CursorType, u8); 4] = [
+    (CursorType::CURSOR_TYPE_NO_CURSOR, 0),
+    (CursorType::CURSOR_TYPE_READ_ONLY, 1),
+    (CursorType::CURSOR_TYPE_FOR_UPDATE, 2),
+    (CursorType::CURSOR_TYPE_SCROLLABLE, 4),
+];
+
+// MySQL: Client/Server Protocol, "COM_STMT_EXECUTE" (new_params_bind_flag).
+const EXECUTE_PARAMS: [(StmtExecuteParamsFlags, u8); 1] = [(
+    StmtExecuteParamsFlags::NEW_PARAMS_BOUND,
+    1,
+)];
+
+// The same (parameter_type).
+const EXECUTE_PARAM: [(StmtExecuteParamFlags, u8); 1] = [(StmtExecuteParamFlags::UNSIGNED, 128)];
+
+// MariaDB: Client/Server Protocol, "COM_STMT_BULK_EXECUTE".
+const BULK: [(StmtBulkExecuteFlags, u16); 2] = [
+    (StmtBulkExecuteFlags::SEND_UNIT_RESULTS, 64),
+    (StmtBulkExecuteFlags::SEND_TYPES_TO_SERVER, 128),
+];
+
+// MySQL: Client/Server Protocol, "COM_BINLOG_DUMP", "COM_BINLOG_DUMP_GTID".
+const DUMP: [(BinlogDumpFlags, u16); 3] = [
+    (BinlogDumpFlags::BINLOG_DUMP_NON_BLOCK, 1),
+    (BinlogDumpFlags::BINLOG_THROUGH_POSITION, 2),
+    (BinlogDumpFlags::BINLOG_THROUGH_GTID, 4),
+];
+
+// The types of numbers. DECIMAL, YEAR and BIT are not among them.
+const NUMERIC: [ColumnType; 8] = [
+    ColumnType::MYSQL_TYPE_TINY,
+    ColumnType::MYSQL_TYPE_SHORT,
+    ColumnType::MYSQL_TYPE_INT24,
+    ColumnType::MYSQL_TYPE_LONG,
+    ColumnType::MYSQL_TYPE_LONGLONG,
+    ColumnType::MYSQL_TYPE_NEWDECIMAL,
+    ColumnType::MYSQL_TYPE_FLOAT,
+    ColumnType::MYSQL_TYPE_DOUBLE,
+];
+
+// The types of texts. The three other blobs are not among them.
+const CHARACTER: [ColumnType; 4] = [
+    ColumnType::MYSQL_TYPE_STRING,
+    ColumnType::MYSQL_TYPE_VAR_STRING,
+    ColumnType::MYSQL_TYPE_VARCHAR,
+    ColumnType::MYSQL_TYPE_BLOB,
+];
+
+// Whether a type is of the kinds that its number says: 247 is ENUM, 248 SET, 255 GEOMETRY and 242 VECTOR.
+fn has_kinds(column_type: ColumnType, number: u8) -> bool {
+    (column_type.is_numeric_type() == NUMERIC.contains(&column_type))
+        & (column_type.is_character_type() == CHARACTER.contains(&column_type))
+        & (column_type.is_enum_type() == (number == 247))
+        & (column_type.is_set_type() == (number == 248))
+        & (column_type.is_enum_or_set_type() == ((number == 247) | (number == 248)))
+        & (column_type.is_geometry_type() == (number == 255))
+        & (column_type.is_vector_type() == (number == 242))
 }
 
-/// Names a header.
-struct Header;
-
-#[test]
-fn constants_read_back(rt: HostRuntime) {
-    let assert = Asserting(&rt);
-    let alloc = rt.alloc();
-    assert_reads_back::<ConstU8<Header, 0xfe>, ()>(&assert, alloc, (), &[0xfe]);
-    assert_reads_back::<ConstU32<Header, 1>, ()>(&assert, alloc, (), &[1, 0, 0, 0]);
-    assert_reads_back::<ConstBytes<Catalog, 4>, ()>(&assert, alloc, (), b"\x03def");
-    assert_reads_back::<Skip<2>, ()>(&assert, alloc, (), &[0, 0]);
-    // Whatever is skipped, zeros are written.
-    let skipped = whole::<Skip<2>, ()>(&assert, alloc, (), &[7, 0xff]);
-    assert_written(&assert, alloc, &skipped, &[0, 0]);
-}
-
-/// A number of one byte or of two.
-type OneOfTwo = Either<RawInt<u8>, RawInt<LeU16>>;
-
-// Whether it is a number of one byte, and which.
-fn short_number(read: OneOfTwo) -> Option<u8> {
-    match read {
-        Either::Left(number) => Some(number.0),
-        Either::Right(_) => None,
+// Asserts of each row of a table that the value has its number, and the number its value.
+fn assert_numbered<
+    Value: Copy + PartialEq + TryFrom<Number, Error = Unknown> + Drop,
+    Number: Copy + PartialEq + From<Value> + Drop,
+    Unknown: Drop,
+>(assert: &impl Assert, rows: &[(Value, Number)]) {
+    for (value, number) in rows {
+        assert.holds(Number::from(*value) == *number);
+        assert.holds(Value::try_from(*number).ok() == Some(*value));
     }
 }
 
 #[test]
-fn one_of_two(rt: HostRuntime) {
+fn values_and_numbers(rt: HostRuntime) {
     let assert = Asserting(&rt);
-    let one: OneOfTwo = Either::Right(RawInt::new(9));
-    assert_written(&assert, rt.alloc(), &one, &[9, 0]);
-    let mut buf = ParseBuf(&[7, 8]);
-    // A number asks for no memory.
-    let read = buf.parse::<OneOfTwo>(rt.alloc(), Either::Left(()));
-    let read = once_more(&assert, read, Err(WireError::Memory));
-    assert_equal(&assert, short_number(read), Some(7));
-    assert_equal(&assert, buf.len(), 1);
+    assert_numbered(&assert, &COMMANDS);
+    assert_numbered(&assert, &COLUMN_TYPES);
+    assert_numbered(&assert, &GEOMETRY_TYPES);
+    assert_numbered(&assert, &SESSION_STATE_TYPES);
+    assert_numbered(&assert, &BULK_INDICATORS);
+    assert_numbered(&assert, &ITEM_RESULTS);
+    assert_numbered(&assert, &STATUS);
+    assert_numbered(&assert, &CAPABILITIES);
+    assert_numbered(&assert, &MARIADB_CAPABILITIES);
+    assert_numbered(&assert, &COLUMN);
+    assert_numbered(&assert, &CURSOR_TYPES);
+    assert_numbered(&assert, &EXECUTE_PARAMS);
+    assert_numbered(&assert, &EXECUTE_PARAM);
+    assert_numbered(&assert, &BULK);
+    assert_numbered(&assert, &DUMP);
+    for (column_type, number) in COLUMN_TYPES {
+        assert.holds(has_kinds(column_type, number));
+    }
 }
 
-#[test]
-fn the_held_of_two(rt: HostRuntime) {
-    let assert = Asserting(&rt);
-    let left: Either<u8, u16> = Either::Left(1);
-    assert_equal(&assert, left.unwrap_left(), 1);
-    let right: Either<u8, u16> = Either::Right(2);
-    assert_equal(&assert, right.unwrap_right(), 2);
-}
-
-// Representations are equal where what they hold is.
-#[test]
-fn representations_compared(rt: HostRuntime) {
-    let are_compared = (RawInt::<LeU16>::new(5) == RawInt::new(5))
-        & (RawInt::<LeU16>::new(5) != RawInt::default())
-        & (ConstU8::<Header, 1>::new() == ConstU8::default())
-        & (RawConst::<u8, Command>::new(14) != RawConst::default())
-        & (Const::<Command, u8>::new(Command::COM_PING).get() == Command::COM_PING);
-    Asserting(&rt).holds(are_compared);
-}
-
-#[test]
-fn flags_with_an_unknown_bit(rt: HostRuntime) {
-    let assert = Asserting(&rt);
-    let mut buf = ParseBuf(&[2, 0x80, 9]);
-    let flags = first_of::<RawFlags<StatusFlags, LeU16>, ()>(&assert, rt.alloc(), (), &mut buf);
-    assert_equal(&assert, flags.0, 0x8002);
-    assert_equal(&assert, flags.get(), StatusFlags::SERVER_STATUS_AUTOCOMMIT);
-    assert_written(&assert, rt.alloc(), &flags, &[2, 0x80]);
-    assert_equal(&assert, buf.len(), 1);
-}
-
-// Asserts that a value in a representation is written as these bytes, and that they are read as it.
-fn assert_by_number<T: ConstValue + PartialEq + Debug + Drop, U: IntRepr<Primitive = T::Number>>(
-    assert: &impl Assert,
-    alloc: Global,
-    value: T,
-    bytes: &[u8],
-) {
-    let value: Const<T, U> = Const::new(value);
-    assert_written(assert, alloc, &value, bytes);
-    assert_same(
-        assert,
-        &whole::<Const<T, U>, ()>(assert, alloc, (), bytes).0,
-        &value.0,
-    );
-}
-
-fn assert_value(assert: &impl Assert, alloc: Global, row: usize) {
+// Whether a number is refused, each by its own error, which carries it.
+fn number_is_refused(row: usize) -> bool {
     match row {
-        0 => assert_by_number::<Command, u8>(assert, alloc, Command::COM_PING, &[14]),
-        1 => {
-            let long = ColumnType::MYSQL_TYPE_LONGLONG;
-            assert_by_number::<ColumnType, u8>(assert, alloc, long, &[8])
-        }
-        2 => assert_by_number::<GeometryType, u8>(assert, alloc, GeometryType::GEOM_POINT, &[1]),
-        3 => assert_by_number::<ItemResult, i8>(assert, alloc, ItemResult::INVALID_RESULT, &[0xff]),
-        4 => {
-            let tracked = SessionStateType::SESSION_TRACK_SCHEMA;
-            assert_by_number::<SessionStateType, u8>(assert, alloc, tracked, &[1])
-        }
-        5 => {
-            let default = MariadbBulkIndicator::BULK_INDICATOR_DEFAULT;
-            assert_by_number::<MariadbBulkIndicator, u8>(assert, alloc, default, &[2])
-        }
-        6 => assert_by_number::<BinlogDumpFlags, LeU16>(assert, alloc, BinlogDumpFlags(5), &[5, 0]),
-        _ => assert_by_number::<StatusFlags, LeU16>(assert, alloc, StatusFlags(0x802), &[2, 8]),
+        0 => Command::try_from(33) == Err(UnknownCommand(33)),
+        1 => ColumnType::try_from(244) == Err(UnknownColumnType(244)),
+        2 => GeometryType::try_from(8) == Err(UnknownGeometryType(8)),
+        3 => SessionStateType::try_from(6) == Err(UnknownSessionStateType(6)),
+        4 => MariadbBulkIndicator::try_from(4) == Err(UnknownMariadbBulkIndicator(4)),
+        5 => ItemResult::try_from(-2) == Err(UnknownItemResultType(-2)),
+        6 => CursorType::try_from(8) == Err(UnknownCursorType(8)),
+        7 => StmtBulkExecuteFlags::try_from(1) == Err(UnknownStmtBulkExecuteFlags(1)),
+        8 => StatusFlags::try_from(0x8002) == Err(UnknownStatusFlags(0x8002)),
+        9 => u8::from(UnknownColumnType(244)) == 244,
+        10 => u8::from(UnknownGeometryType(8)) == 8,
+        _ => i8::from(UnknownItemResultType(-2)) == -2,
     }
 }
 
-#[test]
-fn values_by_their_numbers(rt: HostRuntime) {
-    for row in 0..8 {
-        assert_value(&Asserting(&rt), rt.alloc(), row);
+// Whether all flags of a set, or none, have their bits, and bits their flags.
+fn sets_have_bits(row: usize) -> bool {
+    match row {
+        0 => CapabilityFlags::all().bits() == 0xffff_ffff,
+        1 => MariadbCapabilities::all().bits() == 0x3f,
+        2 => StatusFlags::all().bits() == 0x7ffb,
+        3 => ColumnFlags::all().bits() == 0xffff,
+        4 => StmtBulkExecuteFlags::all().bits() == 192,
+        5 => BinlogDumpFlags::all().bits() == 7,
+        6 => BinlogDumpFlags::default().bits() == 0,
+        7 => CursorType::default() == CursorType::CURSOR_TYPE_NO_CURSOR,
+        _ => StatusFlags::from_bits(4) == None,
     }
 }
 
+// Whether bits of two flags are their union.
+fn bits_are_united() -> bool {
+    let both = StatusFlags::SERVER_STATUS_AUTOCOMMIT.union(StatusFlags::SERVER_MORE_RESULTS_EXISTS);
+    (u16::from(both) == 10) & (StatusFlags::try_from(10) == Ok(both))
+}
+
 #[test]
-fn a_number_without_a_command(rt: HostRuntime) {
+fn refusals_and_sets(rt: HostRuntime) {
     let assert = Asserting(&rt);
-    let mut buf = ParseBuf(&[33]);
-    let number = first_of::<RawConst<u8, Command>, ()>(&assert, rt.alloc(), (), &mut buf);
-    assert_equal(&assert, number.0, 33);
-    assert_equal(&assert, number.get(), Err(WireError::UnknownValue));
-    let ping: RawConst<u8, Command> = RawConst::new(14);
-    assert_equal(&assert, ping.get(), Ok(Command::COM_PING));
+    for row in 0..12 {
+        assert.holds(number_is_refused(row));
+    }
+    for row in 0..9 {
+        assert.holds(sets_have_bits(row));
+    }
+    assert.holds(bits_are_united());
+    let (number, bits) = (UnknownItemResultType(-2), UnknownStatusFlags(0x8002));
+    let alloc = rt.alloc();
+    let text = once_more(&assert, number.to_string(alloc), number.to_string(alloc));
+    assert.holds(text.as_str() == "unknown item result type -2");
+    let text = once_more(&assert, bits.to_string(alloc), bits.to_string(alloc));
+    assert.holds(text.as_str() == "unknown flags in the bits 1000000000000010 of StatusFlags");
 }

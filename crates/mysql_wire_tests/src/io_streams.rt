@@ -2,7 +2,7 @@
 
 use crate::support::Asserting;
 use mysql_buf::{ParseBuf, ReadMysqlExt, WriteMysqlExt};
-use std::alloc::Global;
+use std::alloc::{AllocError, Global};
 use std::io;
 use std::io::{ErrorKind, Read, Write};
 use std::test::*;
@@ -36,14 +36,6 @@ fn number_in<R: Read>(reader: &mut R) -> Result<u64, ErrorKind> {
     }
 }
 
-// The text that comes first, or the kind of the error.
-fn text_in(alloc: Global, mut source: &[u8]) -> Result<Vec<u8>, ErrorKind> {
-    match source.read_lenenc_str(alloc) {
-        Ok(text) => Ok(text),
-        Err(error) => Err(error.kind()),
-    }
-}
-
 // Streams, and the number that comes first or the kind of the error.
 const NUMBERS: [(&[u8], Result<u64, ErrorKind>); 11] = [
     (&[0xfa, 1], Ok(250)),
@@ -62,104 +54,76 @@ const NUMBERS: [(&[u8], Result<u64, ErrorKind>); 11] = [
 
 #[test]
 fn numbers_from_streams(rt: HostRuntime) {
+    let assert = Asserting(&rt);
     for (bytes, wanted) in &NUMBERS {
         let mut source = *bytes;
-        Asserting(&rt).holds(number_in(&mut source) == *wanted);
-        Asserting(&rt).holds(number_in(&mut ParseBuf(bytes)) == *wanted);
+        assert.holds(number_in(&mut source) == *wanted);
+        assert.holds(number_in(&mut ParseBuf(bytes)) == *wanted);
     }
-}
-
-#[test]
-fn a_number_from_a_broken_stream(rt: HostRuntime) {
     let found = number_in(&mut Broken { left: 2 });
-    Asserting(&rt).holds(found == Err(ErrorKind::ConnectionReset));
+    assert.holds(found == Err(ErrorKind::ConnectionReset));
 }
 
-// Why no text comes first.
-fn refusal(alloc: Global, bytes: &[u8]) -> Option<ErrorKind> {
-    text_in(alloc, bytes).err()
-}
-
-// Asserts that a text is refused for this cause; it is read once more where memory was refused.
-fn assert_refused(assert: &impl Assert, alloc: Global, bytes: &[u8], cause: ErrorKind) {
-    let mut found = refusal(alloc, bytes);
-    if found == Some(ErrorKind::OutOfMemory) {
-        found = refusal(alloc, bytes);
+// The text that comes first, or the kind of the error.
+fn text_in(alloc: Global, mut source: &[u8]) -> Result<Vec<u8>, ErrorKind> {
+    match source.read_lenenc_str(alloc) {
+        Ok(text) => Ok(text),
+        Err(error) => Err(error.kind()),
     }
-    assert.holds(found == Some(cause));
 }
 
-// Streams that begin with no text, and why.
-const REFUSED: [(&[u8], ErrorKind); 6] = [
-    (&[0xfb, 1, 2], ErrorKind::InvalidData),
-    (&[0xff], ErrorKind::InvalidData),
-    (&[0xff, 1, 2], ErrorKind::InvalidData),
+// Whether a stream begins with this text, or with none for this cause.
+fn begins_with(alloc: Global, source: &[u8], wanted: Result<&[u8], ErrorKind>) -> bool {
+    match text_in(alloc, source) {
+        Ok(text) => wanted == Ok(text.as_slice()),
+        Err(kind) => wanted == Err(kind),
+    }
+}
+
+// Streams, and the text that comes first or the kind of the error.
+const TEXTS: [(&[u8], Result<&[u8], ErrorKind>); 9] = [
+    (b"\x03abc", Ok(b"abc")),
+    (b"\x01a", Ok(b"a")),
+    (b"\x00a", Ok(b"")),
+    (&[0xfb, 1, 2], Err(ErrorKind::InvalidData)),
+    (&[0xff], Err(ErrorKind::InvalidData)),
+    (&[0xff, 1, 2], Err(ErrorKind::InvalidData)),
     (
         &[0xfe, 255, 255, 255, 255, 255, 255, 255, 255, 1, 2],
-        ErrorKind::UnexpectedEof,
+        Err(ErrorKind::UnexpectedEof),
     ),
-    (&[2, b'a'], ErrorKind::UnexpectedEof),
-    (&[0xfc, 1], ErrorKind::UnexpectedEof),
+    (&[2, b'a'], Err(ErrorKind::UnexpectedEof)),
+    (&[0xfc, 1], Err(ErrorKind::UnexpectedEof)),
 ];
 
-#[test]
-fn texts_refused(rt: HostRuntime) {
-    for (bytes, cause) in &REFUSED {
-        assert_refused(&Asserting(&rt), rt.alloc(), bytes, *cause);
+// These bytes, and `abcdefg` so many times.
+fn long(alloc: Global, front: &[u8], times: usize) -> Result<Vec<u8>, AllocError> {
+    let mut bytes = Vec::from_slice(alloc, front)?;
+    for _ in 0..times {
+        bytes.extend_from_slice(b"abcdefg")?;
     }
+    Ok(bytes)
 }
-
-// Asserts that a stream begins with this text; it is read once more where memory was refused.
-fn assert_text(assert: &impl Assert, alloc: Global, source: &[u8], wanted: &[u8]) {
-    let text = once_more(assert, text_in(alloc, source), text_in(alloc, source));
-    assert.holds(text.as_slice() == wanted);
-}
-
-// Streams, and the text that comes first.
-const TEXTS: [(&[u8], &[u8]); 3] = [(b"\x03abc", b"abc"), (b"\x01a", b"a"), (b"\x00a", b"")];
 
 #[test]
 fn texts_from_streams(rt: HostRuntime) {
-    for (source, text) in &TEXTS {
-        assert_text(&Asserting(&rt), rt.alloc(), source, text);
-    }
-}
-
-// `abcdefg` so many times.
-fn alphabet(assert: &impl Assert, alloc: Global, times: usize) -> Vec<u8> {
-    let letters: &[u8] = b"abcdefg";
-    let first = letters.repeat(alloc, times);
-    once_more(assert, first, letters.repeat(alloc, times))
-}
-
-// Bytes, and then those.
-fn joined(assert: &impl Assert, alloc: Global, front: &[u8], back: &[u8]) -> Vec<u8> {
-    let parts: [&[u8]; 2] = [front, back];
-    once_more(assert, parts.concat(alloc), parts.concat(alloc))
-}
-
-// A text is read in pieces of 4096 bytes.
-#[test]
-fn a_text_in_pieces_is_read(rt: HostRuntime) {
     let assert = Asserting(&rt);
     let alloc = rt.alloc();
-    let text = alphabet(&assert, alloc, 1500);
-    let source = joined(&assert, alloc, &[0xfc, 0x04, 0x29], text.as_slice());
-    assert_text(&assert, alloc, source.as_slice(), text.as_slice());
-}
-
-// The bytes end within the second piece.
-#[test]
-fn a_text_in_pieces_cut_off(rt: HostRuntime) {
-    let assert = Asserting(&rt);
-    let text = alphabet(&assert, rt.alloc(), 600);
-    let source = joined(&assert, rt.alloc(), &[0xfc, 0x69, 0x10], text.as_slice());
-    assert_refused(
-        &assert,
-        rt.alloc(),
+    for (source, wanted) in TEXTS {
+        assert.holds(begins_with(alloc, source, wanted) || begins_with(alloc, source, wanted));
+    }
+    // A text is read in pieces of 4096 bytes; the second one's bytes end within the second piece.
+    let front: &[u8] = &[0xfc, 0x04, 0x29];
+    let source = once_more(&assert, long(alloc, front, 1500), long(alloc, front, 1500));
+    let (source, text) = (
         source.as_slice(),
-        ErrorKind::UnexpectedEof,
+        Ok(source.as_slice().get(3..).unwrap_or(&[])),
     );
+    assert.holds(begins_with(alloc, source, text) || begins_with(alloc, source, text));
+    let front: &[u8] = &[0xfc, 0x69, 0x10];
+    let source = once_more(&assert, long(alloc, front, 600), long(alloc, front, 600));
+    let (source, cut) = (source.as_slice(), Err(ErrorKind::UnexpectedEof));
+    assert.holds(begins_with(alloc, source, cut) || begins_with(alloc, source, cut));
 }
 
 // Numbers, the bytes that they are written as, with zeros behind, and how many of them count.
@@ -176,27 +140,6 @@ fn write_number(out: &mut &mut [u8], number: u64) -> Option<u64> {
     out.write_lenenc_int(number).ok()
 }
 
-#[test]
-fn numbers_written_to_streams(rt: HostRuntime) {
-    for (number, bytes, count) in &WRITTEN {
-        let mut space = [0u8; 9];
-        let mut out: &mut [u8] = &mut space;
-        Asserting(&rt).holds(write_number(&mut out, *number) == Some(*count));
-        Asserting(&rt).holds(space == *bytes);
-    }
-}
-
-#[test]
-fn writing_counts_its_bytes(rt: HostRuntime) {
-    let assert = Asserting(&rt);
-    let mut space = [0u8; 8];
-    let mut out: &mut [u8] = &mut space;
-    assert.holds(out.write_lenenc_str(b"abc").ok() == Some(4));
-    assert.holds(write_number(&mut out, 65536) == Some(4));
-    assert.holds(write_number(&mut out, 1).is_none());
-    assert.holds(space == [3, b'a', b'b', b'c', 0xfd, 0, 0, 1]);
-}
-
 // Writes a text to a stream that has no bytes: how many bytes it was.
 fn write_text(out: &mut Vec<u8>, text: &[u8]) -> Option<u64> {
     let first = out.write_lenenc_str(text).ok();
@@ -208,23 +151,27 @@ fn write_text(out: &mut Vec<u8>, text: &[u8]) -> Option<u64> {
     out.write_lenenc_str(text).ok()
 }
 
-// Asserts that a text is written as these bytes.
-fn assert_long_text(assert: &impl Assert, alloc: Global, text: &[u8], bytes: &[u8]) {
+#[test]
+fn numbers_and_texts_written_to_streams(rt: HostRuntime) {
+    let assert = Asserting(&rt);
+    let alloc = rt.alloc();
+    for (number, bytes, count) in &WRITTEN {
+        let mut space = [0u8; 9];
+        let mut out: &mut [u8] = &mut space;
+        assert.holds(write_number(&mut out, *number) == Some(*count));
+        assert.holds(space == *bytes);
+    }
+    let mut space = [0u8; 8];
+    let mut out: &mut [u8] = &mut space;
+    assert.holds(out.write_lenenc_str(b"abc").ok() == Some(4));
+    assert.holds(write_number(&mut out, 65536) == Some(4));
+    assert.holds(write_number(&mut out, 1).is_none());
+    assert.holds(space == [3, b'a', b'b', b'c', 0xfd, 0, 0, 1]);
+    // A length past 65535 takes three bytes.
+    let front: &[u8] = &[0xfd, 0x05, 0x00, 0x01];
+    let wanted = once_more(&assert, long(alloc, front, 9363), long(alloc, front, 9363));
+    let text = wanted.as_slice().get(4..).unwrap_or(&[]);
     let mut out = Vec::new(alloc);
     assert.holds(write_text(&mut out, text) == Some(65545));
-    assert.holds(out.as_slice() == bytes);
-}
-
-// A length past 65535 takes three bytes.
-#[test]
-fn a_long_text_is_written(rt: HostRuntime) {
-    let assert = Asserting(&rt);
-    let text = alphabet(&assert, rt.alloc(), 9363);
-    let wanted = joined(
-        &assert,
-        rt.alloc(),
-        &[0xfd, 0x05, 0x00, 0x01],
-        text.as_slice(),
-    );
-    assert_long_text(&assert, rt.alloc(), text.as_slice(), wanted.as_slice());
+    assert.holds(out.as_slice() == wanted.as_slice());
 }

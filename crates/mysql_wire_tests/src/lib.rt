@@ -1,41 +1,33 @@
-//! Tests of the lower layers from outside: constants, numbers and texts in buffers and streams,
-//! representations of fields, and packets in chunks, in one piece and byte by byte.
+//! Tests of the lower layers from outside, as far as no row of data says it: constants, numbers and
+//! texts in buffers and streams, representations of fields, and the calls by which packets are cut
+//! and made. What packets a stream has stands in bindings/testing/rows/values/packets.txt.
 //!
 //! At most one allocation of a run is refused. So a call that answers that memory was refused is
 //! looked at for what has to stand then, and made once more; then it has to answer.
+//!
+//! A function costs the prover seconds whatever it asserts, a row of a table nothing. So each test
+//! goes over tables, and a table of types is a `match` by the number of its row.
 #![tactic(auto)]
 
 #[cfg(test)]
-mod bitmaps;
-#[cfg(test)]
-mod chunks;
+mod bits;
 #[cfg(test)]
 mod constants;
 #[cfg(test)]
-mod flags;
+mod fields;
 #[cfg(test)]
 mod io_streams;
 #[cfg(test)]
-mod large;
-#[cfg(test)]
 mod lists;
-#[cfg(test)]
-mod names;
 #[cfg(test)]
 mod numbers;
 #[cfg(test)]
-mod pieces;
+mod packets;
 #[cfg(test)]
-mod reading;
-#[cfg(test)]
-mod sizes;
-#[cfg(test)]
-mod streams;
+mod parts;
 #[cfg(test)]
 mod support;
 #[cfg(test)]
 mod texts;
 #[cfg(test)]
 mod widths;
-#[cfg(test)]
-mod writing;

@@ -1,7 +1,10 @@
-//! Numbers in their representations.
+//! Numbers in their representations, and numbers of the lengths that they take.
 
 use crate::support::Asserting;
-use mysql_buf::ParseBuf;
+use bytes::{BufMut, BytesMut};
+use mysql_buf::{
+    BufMutExt, ParseBuf, lenenc_int_len, read_varlen_uint, varlen_uint_size, write_varlen_uint,
+};
 use mysql_fields::{
     IntRepr, LeI16, LeI24, LeI32, LeI56, LeI64, LeU16, LeU24, LeU32, LeU32LowerHalf,
     LeU32UpperHalf, LeU48, LeU56, LeU64, LenEnc, ParseExt, RawInt, VarLen, WireError,
@@ -9,7 +12,9 @@ use mysql_fields::{
 use std::alloc::Global;
 use std::fmt::Debug;
 use std::test::*;
-use tests_support::{Assert, assert_equal, assert_same, assert_written, once_more, whole};
+use tests_support::{
+    Assert, assert_bytes, assert_equal, assert_same, assert_written, once_more, whole,
+};
 
 // Asserts that a number in a representation, through its bound, is written as these bytes, and that
 // they are read as it.
@@ -28,29 +33,21 @@ fn assert_number<T: IntRepr<Primitive = P>, P: Copy + PartialEq + Debug + Drop>(
     );
 }
 
+/// Bytes that count up.
+const UP: [u8; 8] = [1, 2, 3, 4, 5, 6, 7, 8];
+
 fn assert_unsigned(assert: &impl Assert, alloc: Global, row: usize) {
     match row {
         0 => assert_number::<u8, u8>(assert, alloc, 7, &[7]),
-        1 => assert_number::<LeU16, u16>(assert, alloc, 0x0201, &[1, 2]),
-        2 => assert_number::<LeU24, u32>(assert, alloc, 0x03_0201, &[1, 2, 3]),
-        3 => assert_number::<LeU32, u32>(assert, alloc, 0x0403_0201, &[1, 2, 3, 4]),
-        4 => assert_number::<LeU48, u64>(assert, alloc, 0x0605_0403_0201, &[1, 2, 3, 4, 5, 6]),
-        5 => {
-            let bytes = [1, 2, 3, 4, 5, 6, 7];
-            assert_number::<LeU56, u64>(assert, alloc, 0x07_0605_0403_0201, &bytes)
-        }
-        _ => {
-            let bytes = [1, 2, 3, 4, 5, 6, 7, 8];
-            assert_number::<LeU64, u64>(assert, alloc, 0x0807_0605_0403_0201, &bytes)
-        }
-    }
-}
-
-fn assert_halves_and_lengths(assert: &impl Assert, alloc: Global, row: usize) {
-    match row {
-        0 => assert_number::<LeU32LowerHalf, u32>(assert, alloc, 0x0605, &[5, 6]),
-        1 => assert_number::<LeU32UpperHalf, u32>(assert, alloc, 0x0403_0000, &[3, 4]),
-        2 => assert_number::<LenEnc, u64>(assert, alloc, 251, &[0xfc, 0xfb, 0]),
+        1 => assert_number::<LeU16, u16>(assert, alloc, 0x0201, &UP[..2]),
+        2 => assert_number::<LeU24, u32>(assert, alloc, 0x03_0201, &UP[..3]),
+        3 => assert_number::<LeU32, u32>(assert, alloc, 0x0403_0201, &UP[..4]),
+        4 => assert_number::<LeU48, u64>(assert, alloc, 0x0605_0403_0201, &UP[..6]),
+        5 => assert_number::<LeU56, u64>(assert, alloc, 0x07_0605_0403_0201, &UP[..7]),
+        6 => assert_number::<LeU64, u64>(assert, alloc, 0x0807_0605_0403_0201, &UP),
+        7 => assert_number::<LeU32LowerHalf, u32>(assert, alloc, 0x0605, &[5, 6]),
+        8 => assert_number::<LeU32UpperHalf, u32>(assert, alloc, 0x0403_0000, &[3, 4]),
+        9 => assert_number::<LenEnc, u64>(assert, alloc, 251, &[0xfc, 0xfb, 0]),
         _ => assert_number::<VarLen, u64>(assert, alloc, 128, &[1, 2]),
     }
 }
@@ -75,20 +72,12 @@ fn assert_signed(assert: &impl Assert, alloc: Global, row: usize) {
 #[test]
 fn numbers_read_back(rt: HostRuntime) {
     let assert = Asserting(&rt);
-    for row in 0..7 {
+    for row in 0..11 {
         assert_unsigned(&assert, rt.alloc(), row);
     }
     for row in 0..6 {
         assert_signed(&assert, rt.alloc(), row);
     }
-    for row in 0..4 {
-        assert_halves_and_lengths(&assert, rt.alloc(), row);
-    }
-}
-
-#[test]
-fn a_number_that_is_there(rt: HostRuntime) {
-    let assert = Asserting(&rt);
     let mut buf = ParseBuf(&[7, 8]);
     let first = buf.parse_unchecked::<RawInt<u8>>(rt.alloc(), ());
     // A number asks for no memory.
@@ -98,4 +87,93 @@ fn a_number_that_is_there(rt: HostRuntime) {
         &7,
     );
     assert_equal(&assert, buf.len(), 1);
+}
+
+/// Bytes, the length-encoded number that stands first, and how many are left.
+const LENENC: [(&[u8], Option<u64>, usize); 10] = [
+    (&[0xfa, 1], Some(250), 1),
+    // More bytes than are needed.
+    (&[0xfc, 5, 0], Some(5), 0),
+    (&[0xfd, 0, 0, 1], Some(65536), 0),
+    (&[0xfe, 0, 0, 0, 1, 0, 0, 0, 0], Some(16777216), 0),
+    // These bytes begin no number, and are taken as 0.
+    (&[0xfb], Some(0), 0),
+    (&[0xff], Some(0), 0),
+    (&[0xfb, 1], Some(0), 1),
+    (&[0xff, 1], Some(0), 1),
+    (&[0xfc, 5], None, 2),
+    (&[0xfe, 1, 2, 3, 4, 5, 6, 7], None, 8),
+];
+
+/// The same of numbers of variable length.
+const VARLEN: [(&[u8], Option<u64>, usize); 6] = [
+    (&[0xfe, 9], Some(127), 1),
+    (&[1, 2], Some(128), 0),
+    (&[0x7f, 0, 0, 0, 0, 0, 0, 1], Some(1 << 48), 0),
+    (&[0xff, 0, 0, 0, 0, 0, 0, 0, 1], Some(1 << 56), 0),
+    (&[3, 0], None, 2),
+    (&[], None, 0),
+];
+
+#[test]
+fn numbers_at_a_front(rt: HostRuntime) {
+    let assert = Asserting(&rt);
+    for (bytes, number, left) in LENENC {
+        let mut buf = ParseBuf(bytes);
+        assert.holds(buf.checked_eat_lenenc_int() == number);
+        assert_equal(&assert, buf.len(), left);
+    }
+    for (bytes, number, left) in VARLEN {
+        let mut buf = ParseBuf(bytes);
+        assert.holds(read_varlen_uint(&mut buf) == number);
+        assert_equal(&assert, buf.len(), left);
+    }
+}
+
+// Asserts which bytes a length-encoded number is, put through the bound. It is put once more where memory was refused.
+fn assert_lenenc<B: BufMut>(assert: &impl Assert, out: &mut B, number: u64, len: usize) {
+    assert.holds(out.put_lenenc_int(number).is_ok() || out.put_lenenc_int(number).is_ok());
+    assert_equal(assert, lenenc_int_len(number), len as u64);
+}
+
+// Asserts which bytes a number of variable length is. Where memory was refused nothing was written.
+fn assert_varlen(assert: &impl Assert, out: &mut Vec<u8>, number: u64, len: usize) {
+    if write_varlen_uint(out, number).is_err() {
+        assert.holds(out.is_empty());
+        assert.holds(write_varlen_uint(out, number).is_ok());
+    }
+    assert_equal(assert, varlen_uint_size(number), len);
+}
+
+/// Numbers, and the bytes that they are length-encoded.
+const LENENC_PUT: [(u64, &[u8]); 5] = [
+    (250, &[0xfa]),
+    (251, &[0xfc, 0xfb, 0]),
+    (65535, &[0xfc, 0xff, 0xff]),
+    (65536, &[0xfd, 0, 0, 1]),
+    (16777216, &[0xfe, 0, 0, 0, 1, 0, 0, 0, 0]),
+];
+
+/// The same of variable length.
+const VARLEN_PUT: [(u64, &[u8]); 5] = [
+    (127, &[0xfe]),
+    (128, &[1, 2]),
+    (16383, &[0xfd, 0xff]),
+    (16384, &[3, 0, 2]),
+    (1 << 56, &[0xff, 0, 0, 0, 0, 0, 0, 0, 1]),
+];
+
+#[test]
+fn numbers_put(rt: HostRuntime) {
+    let assert = Asserting(&rt);
+    for (number, bytes) in LENENC_PUT {
+        let mut out = BytesMut::new(rt.alloc());
+        assert_lenenc(&assert, &mut out, number, bytes.len());
+        assert_bytes(&assert, out.as_slice(), bytes);
+    }
+    for (number, bytes) in VARLEN_PUT {
+        let mut out = Vec::new(rt.alloc());
+        assert_varlen(&assert, &mut out, number, bytes.len());
+        assert_bytes(&assert, out.as_slice(), bytes);
+    }
 }

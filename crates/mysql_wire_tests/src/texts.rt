@@ -19,49 +19,31 @@ fn assert_text<T: BytesRepr>(assert: &impl Assert, alloc: Global, text: &[u8], b
     assert_written(assert, alloc, &value, bytes);
 }
 
-// Asserts of a representation with a length which bytes a text is written as.
-fn assert_after_a_length(assert: &impl Assert, alloc: Global, row: usize) {
+/// A text of 256 bytes.
+const LONG: [u8; 256] = [b'a'; 256];
+
+// Asserts which bytes a text is written as.
+fn assert_texts(assert: &impl Assert, alloc: Global, row: usize) {
     match row {
         0 => assert_text::<LenEnc>(assert, alloc, b"ab", b"\x02ab"),
         1 => assert_text::<U8Bytes>(assert, alloc, b"ab", b"\x02ab"),
         2 => assert_text::<U32Bytes>(assert, alloc, b"a", b"\x01\x00\x00\x00a"),
-        _ => assert_text::<VarLen>(assert, alloc, b"app", b"\x06app"),
-    }
-}
-
-// Asserts of a representation without a length which bytes a text is written as.
-fn assert_without_a_length(assert: &impl Assert, alloc: Global, row: usize) {
-    match row {
-        0 => assert_text::<NullBytes>(assert, alloc, b"a\x00b", b"a\x00"),
-        1 => assert_text::<EofBytes>(assert, alloc, b"ab", b"ab"),
-        2 => assert_text::<BareBytes<3>>(assert, alloc, b"abcd", b"abc"),
-        3 => assert_text::<FixedLengthText<4>>(assert, alloc, b"ab", b"ab\x00\x00"),
-        4 => assert_text::<FixedLengthText<1>>(assert, alloc, b"ab", b"a"),
-        5 => assert_text::<BareU8Bytes>(assert, alloc, b"ab", b"ab"),
+        3 => assert_text::<VarLen>(assert, alloc, b"app", b"\x06app"),
+        4 => assert_text::<NullBytes>(assert, alloc, b"a\x00b", b"a\x00"),
+        5 => assert_text::<EofBytes>(assert, alloc, b"ab", b"ab"),
+        6 => assert_text::<BareBytes<3>>(assert, alloc, b"abcd", b"abc"),
+        7 => assert_text::<FixedLengthText<4>>(assert, alloc, b"ab", b"ab\x00\x00"),
+        8 => assert_text::<FixedLengthText<1>>(assert, alloc, b"ab", b"a"),
+        9 => assert_text::<BareU8Bytes>(assert, alloc, b"ab", b"ab"),
         _ => assert_text::<BareU16Bytes>(assert, alloc, b"cd", b"cd"),
     }
 }
 
-// Asserts that of a text of 256 bytes, behind a length of one byte, the first 255 count and are written.
-fn assert_cut_at_its_bound(assert: &impl Assert, alloc: Global) {
-    let text = [b'a'; 256];
-    let mut bytes = [b'a'; 256];
-    bytes[0] = 255;
-    let value: RawBytes<U8Bytes> = RawBytes::from(text.as_slice());
-    assert_bytes(assert, value.as_bytes(), &text[..255]);
-    assert_written(assert, alloc, &value, &bytes);
-}
-
-#[test]
-fn texts_written(rt: HostRuntime) {
-    let assert = Asserting(&rt);
-    for row in 0..4 {
-        assert_after_a_length(&assert, rt.alloc(), row);
-    }
-    for row in 0..7 {
-        assert_without_a_length(&assert, rt.alloc(), row);
-    }
-    assert_cut_at_its_bound(&assert, rt.alloc());
+// Asserts what the bytes of a text that count are as characters.
+fn assert_shown<T: BytesRepr>(assert: &impl Assert, alloc: Global, text: &[u8], wanted: &str) {
+    let value: RawBytes<T> = RawBytes::from(text);
+    let shown = once_more(assert, value.as_str(alloc), value.as_str(alloc));
+    assert.holds(shown.as_str() == wanted);
 }
 
 // Asserts that a text may not have so many bytes, be they there or not.
@@ -71,11 +53,30 @@ fn assert_too_many<T: BytesRepr<Ctx = usize>>(assert: &impl Assert, alloc: Globa
 }
 
 #[test]
-fn texts_with_too_many_bytes(rt: HostRuntime) {
+fn texts_written_and_shown(rt: HostRuntime) {
     let assert = Asserting(&rt);
-    assert_too_many::<BareBytes<3>>(&assert, rt.alloc(), 4);
-    assert_too_many::<BareU8Bytes>(&assert, rt.alloc(), 256);
-    assert_too_many::<BareU16Bytes>(&assert, rt.alloc(), 65536);
+    let alloc = rt.alloc();
+    for row in 0..11 {
+        assert_texts(&assert, alloc, row);
+    }
+    // Of 256 bytes behind a length of one byte the first 255 count and are written.
+    let mut cut = LONG;
+    cut[0] = 255;
+    assert_text::<U8Bytes>(&assert, alloc, &LONG, &cut);
+    assert_bytes(
+        &assert,
+        RawBytes::<U8Bytes>::from(LONG.as_slice()).as_bytes(),
+        &LONG[..255],
+    );
+    assert_too_many::<BareBytes<3>>(&assert, alloc, 4);
+    assert_too_many::<BareU8Bytes>(&assert, alloc, 256);
+    assert_too_many::<BareU16Bytes>(&assert, alloc, 65536);
+    // Bytes that are no UTF-8 are replaced.
+    assert_shown::<LenEnc>(&assert, alloc, b"ab", "ab");
+    assert_shown::<LenEnc>(&assert, alloc, b"a\xc3\xa9", "a\u{e9}");
+    assert_shown::<LenEnc>(&assert, alloc, b"a\xffb", "a\u{fffd}b");
+    assert_shown::<BareBytes<3>>(&assert, alloc, b"abcd", "abc");
+    assert_shown::<BareBytes<2>>(&assert, alloc, b"a\xc3\xa9", "a\u{fffd}");
 }
 
 // Asserts that a text that was read is this one.
@@ -105,12 +106,7 @@ fn texts_read(rt: HostRuntime) {
     let text = first_of::<RawBytes<FixedLengthText<2>>, ()>(&assert, alloc, (), &mut buf);
     assert_is(&assert, text, b"jk");
     assert_bytes(&assert, buf.0, b"l");
-}
-
-#[test]
-fn bytes_as_they_stand(rt: HostRuntime) {
-    let assert = Asserting(&rt);
-    let alloc = rt.alloc();
+    // Bytes as they stand.
     let mut buf = ParseBuf(b"abcde");
     let slice = first_of::<&[u8], usize>(&assert, alloc, 2, &mut buf);
     assert_bytes(&assert, slice, b"ab");
@@ -118,31 +114,6 @@ fn bytes_as_they_stand(rt: HostRuntime) {
     assert_bytes(&assert, part.0, b"cd");
     assert_bytes(&assert, buf.0, b"e");
     assert_reads_back::<[u8; 3], ()>(&assert, alloc, (), &[1, 2, 3]);
-}
-
-// Asserts what the bytes of a text that count are as characters.
-fn assert_shown<T: BytesRepr>(assert: &impl Assert, alloc: Global, text: &[u8], wanted: &str) {
-    let value: RawBytes<T> = RawBytes::from(text);
-    let shown = once_more(assert, value.as_str(alloc), value.as_str(alloc));
-    assert.holds(shown.as_str() == wanted);
-}
-
-// Bytes that are no UTF-8 are replaced.
-fn assert_characters(assert: &impl Assert, alloc: Global, row: usize) {
-    match row {
-        0 => assert_shown::<LenEnc>(assert, alloc, b"ab", "ab"),
-        1 => assert_shown::<LenEnc>(assert, alloc, b"a\xc3\xa9", "a\u{e9}"),
-        2 => assert_shown::<LenEnc>(assert, alloc, b"a\xffb", "a\u{fffd}b"),
-        3 => assert_shown::<BareBytes<3>>(assert, alloc, b"abcd", "abc"),
-        _ => assert_shown::<BareBytes<2>>(assert, alloc, b"a\xc3\xa9", "a\u{fffd}"),
-    }
-}
-
-#[test]
-fn texts_as_characters(rt: HostRuntime) {
-    for row in 0..5 {
-        assert_characters(&Asserting(&rt), rt.alloc(), row);
-    }
 }
 
 // A text after its length.
@@ -155,28 +126,16 @@ fn is_text_ab(owned: RawBytes<'_, LenEnc>) -> bool {
 }
 
 #[test]
-fn owned_bytes_compared(rt: HostRuntime) {
+fn texts_owned_and_copied(rt: HostRuntime) {
     let assert = Asserting(&rt);
     let alloc = rt.alloc();
     let first = Vec::from_slice(alloc, b"ab");
     let bytes = once_more(&assert, first, Vec::from_slice(alloc, b"ab"));
     assert.holds(is_text_ab(RawBytes::from(bytes)));
-}
-
-#[test]
-fn owned_texts_compared(rt: HostRuntime) {
-    let assert = Asserting(&rt);
-    let alloc = rt.alloc();
     let first = text(b"ab").into_owned(alloc);
     let owned = once_more(&assert, first, text(b"ab").into_owned(alloc));
     assert.holds((owned.len() == 2) & !owned.is_empty());
     assert.holds(is_text_ab(owned));
-}
-
-#[test]
-fn texts_are_copied(rt: HostRuntime) {
-    let assert = Asserting(&rt);
-    let alloc = rt.alloc();
     let value = text(b"ab");
     assert_copied(&assert, &value, value.clone(alloc), value.clone(alloc));
     assert.holds(is_text_ab(value) & (text(b"") == RawBytes::default()));

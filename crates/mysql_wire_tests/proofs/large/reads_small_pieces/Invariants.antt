@@ -1,6 +1,0 @@
-use Rattle.mysql_wire.specs.Codec.{CanGoOn}
-use Rattle.mysql_wire_tests.proofs.large.reads_small_pieces.Given as goal
-
--- the packet isn't whole yet
-abbrev pub invariant-loop : goal.invariant-loop
-invariant-loop g l = CanGoOn l.codec l.dst.items

@@ -1,0 +1,9 @@
+//! The fields of rows of data: a line's tokens, the names that a file gives to them, and the bytes and
+//! numbers that they stand for.
+#![tactic(auto)]
+
+mod fields;
+mod tokens;
+
+pub use fields::{FieldError, bytes_of, number};
+pub use tokens::{Names, Token, tokens_of};
