@@ -5,12 +5,10 @@
 typedef const unsigned char *Pointer;
 
 size_t mysql_bench_places(Pointer, size_t, size_t);
-size_t mysql_bench_send_kept(Pointer, size_t, Pointer, size_t, size_t, size_t, uint8_t, size_t, size_t);
+size_t mysql_bench_send_kept(Pointer, size_t, Pointer, size_t, size_t, size_t, uint8_t, _Bool, size_t);
 size_t mysql_bench_send_to(Pointer, size_t, Pointer, size_t, size_t, size_t, uint8_t, size_t);
-size_t mysql_bench_send_more(Pointer, size_t, Pointer, size_t, size_t, size_t, size_t);
 size_t mysql_bench_send_values(Pointer, size_t, Pointer, size_t, size_t, size_t, uint8_t, size_t);
-size_t mysql_bench_lend_rows(Pointer, size_t, size_t, _Bool);
-size_t mysql_bench_store_rows(Pointer, size_t, size_t, _Bool);
+size_t mysql_bench_read_rows(Pointer, size_t, size_t, _Bool, _Bool);
 size_t mysql_bench_write_reply(Pointer, size_t, _Bool, _Bool, size_t);
 size_t mysql_bench_read_connection_lent(Pointer, size_t, Pointer, size_t, size_t);
 size_t mysql_bench_cells(Pointer, size_t, _Bool, _Bool, size_t);
@@ -30,10 +28,10 @@ static void send_sets(const char *what, Work work, int rounds) {
     double units = (double)work.count * work.times;
     // By bulk too into one list.
     _Bool listed = ENDS("-listed") || ENDS("-apart") || ENDS("-one") || road == MYSQL_SESSION_BULK;
-    if (ENDS("-kept") && road == MYSQL_SESSION_EXECUTE) {
-        MEASURE("library", units, mysql_bench_send_more(query.at, query.len, sets.at, sets.len, work.count, WIDTH, work.times))
-    } else if (ENDS("-kept")) {
-        MEASURE("library", units, mysql_bench_send_kept(query.at, query.len, sets.at, sets.len, work.count, WIDTH, road, 1, work.times))
+    if (ENDS("-kept")) {
+        // Executions of a statement that was prepared before.
+        _Bool prepared = road == MYSQL_SESSION_EXECUTE;
+        MEASURE("library", units, mysql_bench_send_kept(query.at, query.len, sets.at, sets.len, work.count, WIDTH, road, prepared, work.times))
     } else if (BEGINS("send-values")) {
         MEASURE("library", units, mysql_bench_send_values(query.at, query.len, sets.at, sets.len, work.count, WIDTH, road, work.times))
     } else if (listed) {
@@ -67,7 +65,7 @@ static void lend_connection(const char *what, int rounds) {
     Bytes query = load("query");
     Streams all = streams_of(what);
     MEASURE("library", (double)ROWS, mysql_bench_read_connection_lent(all.client.at, all.client.len, all.server.at, all.server.len, PIECE))
-    MEASURE("apart", (double)ROWS, receive(query, all.commands, PIECE, 1) + mysql_bench_lend_rows(all.replies.at, all.replies.len, PIECE, 0))
+    MEASURE("apart", (double)ROWS, receive(query, all.commands, PIECE, 1) + mysql_bench_read_rows(all.replies.at, all.replies.len, PIECE, 0, 0))
 }
 
 static void read_connection(const char *what, int rounds) {
@@ -104,9 +102,9 @@ static void put_commands(const char *what, int rounds) {
     MEASURE("two-replies", units, mysql_bench_put_commands(commands.at, commands.len, first.at, first.len, two.at, two.len, PUT_TIMES))
     if (executions) {
         MEASURE("sets", units, mysql_bench_put_sets(commands.at, commands.len, first.at, first.len, sets.at, sets.len, CONNECTION_COMMANDS, WIDTH, ok.at, ok.len, PUT_TIMES))
-        MEASURE("sent", units, mysql_bench_send_more(query.at, query.len, sets.at, sets.len, CONNECTION_COMMANDS, WIDTH, PUT_TIMES))
+        MEASURE("sent", units, mysql_bench_send_kept(query.at, query.len, sets.at, sets.len, CONNECTION_COMMANDS, WIDTH, MYSQL_SESSION_EXECUTE, 1, PUT_TIMES))
     } else {
-        MEASURE("sent", units, mysql_bench_send_kept(query.at, query.len, sets.at, sets.len, CONNECTION_COMMANDS, WIDTH, 0, 1, PUT_TIMES))
+        MEASURE("sent", units, mysql_bench_send_kept(query.at, query.len, sets.at, sets.len, CONNECTION_COMMANDS, WIDTH, MYSQL_SESSION_TEXT, 0, PUT_TIMES))
     }
 }
 
@@ -155,10 +153,10 @@ static void run(const char *what, int rounds) {
         MEASURE("library", 1e4 * copies, recode(query, stream))
     } else if (BEGINS("reply") && ENDS("-lent")) {
         Bytes stream = load(binary ? "reply-binary" : "reply-text");
-        MEASURE("library", (double)ROWS, mysql_bench_lend_rows(stream.at, stream.len, piece, binary))
+        MEASURE("library", (double)ROWS, mysql_bench_read_rows(stream.at, stream.len, piece, binary, 0))
     } else if (BEGINS("reply") && ENDS("-stored")) {
         Bytes stream = load(binary ? "reply-binary" : "reply-text");
-        MEASURE("library", (double)ROWS, mysql_bench_store_rows(stream.at, stream.len, piece, binary))
+        MEASURE("library", (double)ROWS, mysql_bench_read_rows(stream.at, stream.len, piece, binary, 1))
     } else if (BEGINS("reply")) {
         Bytes stream = load(binary ? "reply-binary" : "reply-text");
         if (taken) MEASURE("library", (double)ROWS, read_reply(stream, piece, binary, 1))

@@ -1,11 +1,10 @@
 //! Replies whose rows are lent, all of them or in turn with pieces of which they are kept.
 
-use crate::tokens::{Token, put_field};
-use crate::trouble::Trouble;
+use crate::rows::DIFFERS;
+use crate::tokens::put_field;
 use crate::writing::{Sides, reply_of, said};
-use mysql_session::{
-    ProgressReport, Reply, ReplyEnd, ReplyFault, ReplyReader, ReplyResult, Row, RowRef, Value,
-};
+use mysql_session::{Reply, ReplyEnd, ReplyFault, ReplyReader, ReplyResult, Row, RowRef, Value};
+use row_fields::{Token, Trouble};
 use std::alloc::{AllocError, Global};
 use std::str;
 
@@ -106,30 +105,29 @@ fn keep(reader: &mut ReplyReader, piece: &[u8], rows: &mut String) -> Result<(),
 /// How a reply comes: in pieces of this size, of which one and the next are lent or kept in turn.
 type Way = (usize, [bool; 2]);
 
-/// What a reply says that comes so, but for rows, which are written as they come.
+/// Has a reader read a reply that comes so, and writes its rows as they come.
 fn read_lent(
     alloc: Global,
-    (kind, capabilities, first_id, limit): Sides,
+    reader: &mut ReplyReader,
     stream: &[u8],
     (size, turns): Way,
     rows: &mut String,
-) -> Result<Reply, Trouble> {
-    let mut reader = ReplyReader::new(alloc, kind, capabilities, first_id, limit);
+) -> Result<(), Trouble> {
     let [mut is_lent, mut is_next_lent] = turns;
     for piece in stream.chunks(size.max(1)) {
         if is_lent {
-            lend(alloc, &mut reader, piece, rows)?;
+            lend(alloc, reader, piece, rows)?;
         } else {
-            keep(&mut reader, piece, rows)?;
+            keep(reader, piece, rows)?;
         }
         (is_lent, is_next_lent) = (is_next_lent, is_lent);
     }
-    Ok(reader.finish())
+    Ok(())
 }
 
-/// Writes the reports of progress.
-fn put_reports(words: &mut String, reports: &[ProgressReport<'_>]) -> Result<(), Trouble> {
-    for report in reports {
+/// Writes the reports of progress, and the end.
+fn put_rest(reply: &Reply, words: &mut String) -> Result<(), Trouble> {
+    for report in &reply.progress {
         let Ok(stage) = str::from_utf8(report.stage_info_ref()) else {
             return Err(Trouble::Malformed("a stage has no name"));
         };
@@ -140,58 +138,66 @@ fn put_reports(words: &mut String, reports: &[ProgressReport<'_>]) -> Result<(),
             report.stage()
         )?;
     }
-    Ok(())
-}
-
-/// The words of a reply: its reports, these of its rows, and its end.
-fn words_of_reply(alloc: Global, reply: &Reply, rows: &str) -> Result<String, Trouble> {
-    let mut words = String::new(alloc);
-    put_reports(&mut words, &reply.progress)?;
-    words.push_str(rows)?;
     match reply.end {
         ReplyEnd::Whole => words.push_str(" end: whole |")?,
         ReplyEnd::Unfinished => words.push_str(" end: unfinished |")?,
         ReplyEnd::Fault(_, ReplyFault::Memory) => return Err(Trouble::Memory),
         ReplyEnd::Fault(payload, fault) => write!(words, " end: fault {payload} {fault:?} |")?,
     }
-    Ok(words)
+    Ok(())
 }
 
-/// The words of those lines that begin with this word.
+/// Writes the words of those lines that begin with this word.
 fn put_lines(words: &mut String, lines: &[&[Token<'_>]], start: &str) -> Result<(), AllocError> {
     for line in lines {
         if let [Token::Word(word), ..] = *line
             && *word == start
         {
             put_field(words, line)?;
-            words.push_str(" |")?;
         }
     }
     Ok(())
 }
 
-/// Compares what a reply says that comes so with its lines and, where all its rows are lent, with
-/// what else it says in one piece.
-fn check_way(
+/// Compares what a reply says, whose rows are written, with its lines and, where all its rows were
+/// lent, with what else it says in one piece.
+fn check_reply(
     alloc: Global,
-    sides: Sides,
-    stream: &[u8],
-    way: Way,
+    reply: &Reply,
+    is_lent: bool,
     (wanted, others): (&str, &str),
+    words: &mut String,
 ) -> Result<(), Trouble> {
-    let mut rows = String::new(alloc);
-    let reply = read_lent(alloc, sides, stream, way, &mut rows)?;
-    let found = words_of_reply(alloc, &reply, &rows)?;
-    if found.as_str() != wanted {
-        let (size, _) = way;
-        return Err(Trouble::Differs(format!(in alloc;
-            "lent in pieces of {size}: wanted{wanted}, found{found}"
-        )?));
+    put_rest(reply, words)?;
+    if words.as_str() != wanted {
+        return Err(DIFFERS);
     }
-    if matches!(way, (_, [true, true])) && said(alloc, &reply)?.as_str() != others {
+    if is_lent && said(alloc, reply)?.as_str() != others {
         return Err(Trouble::Malformed("where rows are lent something else differs"));
     }
     Ok(())
+}
+
+/// Compares what a reply says that comes so with what is wanted.
+fn check_way(
+    alloc: Global,
+    (kind, capabilities, first_id, limit): Sides,
+    stream: &[u8],
+    way: Way,
+    wanted: (&str, &str),
+    words: &mut String,
+) -> Result<(), Trouble> {
+    words.clear();
+    let mut reader = ReplyReader::new(alloc, kind, capabilities, first_id, limit);
+    read_lent(alloc, &mut reader, stream, way, words)?;
+    let reply = reader.finish();
+    check_reply(
+        alloc,
+        &reply,
+        matches!(way, (_, [true, true])),
+        wanted,
+        words,
+    )
 }
 
 /// What a reply says in one piece, but for its rows.
@@ -204,37 +210,44 @@ fn said_beside_rows(alloc: Global, sides: Sides, stream: &[u8]) -> Result<String
     Ok(said(alloc, &reply)?)
 }
 
-/// Compares what a reply says in pieces of this size with what is wanted: all of its rows lent, and
-/// in turn lent or kept.
-fn check_size(
+/// Compares what a reply says with what is wanted: whole and in pieces of each size up to 100, all
+/// of its rows lent, and in turn lent or kept.
+fn check_ways(
     alloc: Global,
     sides: Sides,
     stream: &[u8],
-    size: usize,
     wanted: (&str, &str),
+    words: &mut String,
 ) -> Result<(), Trouble> {
-    for turns in [[true, true], [false, true], [true, false]] {
-        check_way(alloc, sides, stream, (size, turns), wanted)?;
+    let most = stream.len().min(100);
+    for size in 0..=most {
+        let size = if size == 0 { stream.len() } else { size };
+        for turns in [[true, true], [false, true], [true, false]] {
+            check_way(alloc, sides, stream, (size, turns), wanted, words)?;
+        }
     }
     Ok(())
 }
 
-/// Compares what a reply says whose rows are lent with those of its lines that are about reports,
-/// rows and the end: whole, and in pieces of each size up to 100.
+/// Compares what a reply says whose rows are lent with those of its lines that are about rows,
+/// reports and the end.
 pub fn check_lent(
     alloc: Global,
     sides: Sides,
     stream: &[u8],
     lines: &[&[Token<'_>]],
+    words: &mut String,
 ) -> Result<(), Trouble> {
     let mut wanted = String::new(alloc);
-    for start in ["report:", "row:", "end:"] {
+    for start in ["row:", "report:", "end:"] {
         put_lines(&mut wanted, lines, start)?;
     }
     let others = said_beside_rows(alloc, sides, stream)?;
-    let wanted = (wanted.as_str(), others.as_str());
-    for size in 1..=stream.len().min(100) {
-        check_size(alloc, sides, stream, size, wanted)?;
-    }
-    check_size(alloc, sides, stream, stream.len(), wanted)
+    check_ways(
+        alloc,
+        sides,
+        stream,
+        (wanted.as_str(), others.as_str()),
+        words,
+    )
 }

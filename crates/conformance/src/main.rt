@@ -10,7 +10,6 @@ mod rows;
 mod running;
 mod sets;
 mod tokens;
-mod trouble;
 mod writing;
 
 use std::io;

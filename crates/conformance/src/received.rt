@@ -1,91 +1,29 @@
-//! What queries that are kept tell, and what is received: whole streams, and what waits of a packet.
+//! What queries that are kept tell, and what waits of a packet that is received.
 
 use crate::calls::Statement;
-use crate::rows::unknown;
-use crate::sets::contents_of;
-use crate::tokens::{Token, words_of};
-use crate::trouble::Trouble;
-use mysql_session::{Audit, Content, End, Query, Receiver, Refusal, StreamFault, receive};
-use row_fields::{bytes_of, number};
+use crate::rows::{DIFFERS, UNKNOWN};
+use crate::tokens::check_words;
+use mysql_session::{Query, Receiver};
+use row_fields::{Token, Trouble, bytes_of, number};
 use std::alloc::Global;
 
 /// Compares how many placeholders a query has, or why none is made, with what is wanted.
 pub fn run_query(
     alloc: Global,
     (text, id, _): Statement<'_>,
-    wanted: &[Token<'_>],
-) -> Result<(), Trouble> {
-    let found = match Query::new(alloc, text, id) {
-        Ok(query) if query.text() == text && query.stmt_id() == id => {
-            format!(in alloc; " places {} |", query.place_count())?
-        }
-        Ok(_) => return Err(Trouble::Malformed("a query tells another text or id")),
-        Err(Refusal::Memory) => return Err(Trouble::Memory),
-        Err(refusal) => format!(in alloc; " refused: {refusal:?} |")?,
-    };
-    if found == words_of(alloc, &[wanted])? {
-        return Ok(());
-    }
-    Err(Trouble::Differs(found))
-}
-
-/// What a stream says that comes byte by byte, with an empty piece behind each, to the receiver of a
-/// query that is kept.
-fn received(
-    alloc: Global,
-    (query, id, limit): Statement<'_>,
-    stream: &[u8],
-) -> Result<Audit, Trouble> {
-    let Ok(query) = Query::new(alloc, query, id) else {
-        return Err(Trouble::Memory);
-    };
-    let mut receiver = query.receiver(alloc, limit.max(4))?;
-    for byte in stream.chunks(1) {
-        let _answer = receiver.feed(byte);
-        let _answer = receiver.feed(&[]);
-    }
-    Ok(receiver.finish())
-}
-
-/// Compares what a stream says with contents and an end.
-fn check_audit(
-    alloc: Global,
-    audit: &Audit,
-    sets: &[Vec<Content>],
-    end: &[&[Token<'_>]],
-) -> Result<(), Trouble> {
-    if matches!(audit.end, End::Fault(_, StreamFault::Memory)) {
-        return Err(Trouble::Memory);
-    }
-    let found = format!(in alloc; " end: {:?} |", audit.end)?;
-    if audit.sets.as_slice() == sets && found == words_of(alloc, end)? {
-        return Ok(());
-    }
-    Err(Trouble::Differs(format!(in alloc; "{audit:?}")?))
-}
-
-/// Compares what a stream says, in two halves with an empty piece between them, with what is
-/// wanted; and the same byte by byte.
-pub fn run_audit(
-    alloc: Global,
-    (query, id, limit): Statement<'_>,
-    stream: &[Token<'_>],
     wanted: &[&[Token<'_>]],
+    words: &mut String,
 ) -> Result<(), Trouble> {
-    let [sets, end @ ..] = wanted else {
-        return unknown();
+    let places = match Query::new(alloc, text, id) {
+        Ok(query) if query.text() == text && query.stmt_id() == id => Ok(query.place_count()),
+        Ok(_) => return Err(Trouble::Malformed("a query tells another text or id")),
+        Err(refusal) => Err(refusal),
     };
-    let sets = contents_of(alloc, sets)?;
-    let stream = bytes_of(alloc, stream)?;
-    let (front, back) = stream.split_at(stream.len() / 2);
-    let audit = receive(alloc, query, id, limit.max(4), &[front, &[], back])?;
-    check_audit(alloc, &audit, &sets, end)?;
-    check_audit(
-        alloc,
-        &received(alloc, (query, id, limit), &stream)?,
-        &sets,
-        end,
-    )
+    match places {
+        Ok(count) => write!(words, " places {count} |")?,
+        Err(refusal) => write!(words, " refused: {refusal:?} |")?,
+    }
+    check_words(alloc, words.as_str(), wanted)
 }
 
 /// How many bytes a receiver holds of a packet that comes in pieces of this size, behind an empty one.
@@ -94,17 +32,15 @@ fn held(
     (query, id, limit): Statement<'_>,
     packet: &[u8],
     size: usize,
-) -> Result<usize, Trouble> {
-    let mut receiver = Receiver::new(alloc, query, id, limit.max(4))?;
+) -> Option<usize> {
+    let Ok(mut receiver) = Receiver::new(alloc, query, id, limit.max(4)) else {
+        return None;
+    };
     let mut is_fed = receiver.feed(&[]).is_ok();
     for piece in packet.chunks(size.max(1)) {
         is_fed = receiver.feed(piece).is_ok();
     }
-    if is_fed {
-        Ok(receiver.kept())
-    } else {
-        Err(Trouble::Memory)
-    }
+    if is_fed { Some(receiver.kept()) } else { None }
 }
 
 /// In so many pieces a packet comes at most; one of fewer bytes comes byte by byte.
@@ -116,16 +52,21 @@ pub fn run_held(
     statement: Statement<'_>,
     packet: &[Token<'_>],
     wanted: &[&[Token<'_>]],
+    words: &mut String,
 ) -> Result<(), Trouble> {
     let [wanted] = wanted else {
-        return unknown();
+        return Err(UNKNOWN);
     };
-    let (packet, wanted) = (bytes_of(alloc, packet)?, number(wanted)?);
-    for size in [packet.len(), (packet.len() / MOST_PIECES).saturating_add(1)] {
-        let found = held(alloc, statement, &packet, size)?;
-        if found != wanted {
-            return Err(Trouble::Differs(format!(in alloc; "{found} bytes are held")?));
+    let wanted = number(wanted)?;
+    let packet = bytes_of(alloc, packet)?;
+    let whole = held(alloc, statement, &packet, packet.len());
+    let size = (packet.len() / MOST_PIECES).saturating_add(1);
+    match (whole, held(alloc, statement, &packet, size)) {
+        (Some(whole), Some(pieces)) if whole == wanted && pieces == wanted => Ok(()),
+        (Some(whole), Some(pieces)) => {
+            write!(words, " {whole} and {pieces} bytes are held")?;
+            Err(DIFFERS)
         }
+        _ => Err(Trouble::Memory),
     }
-    Ok(())
 }

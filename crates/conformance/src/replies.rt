@@ -2,12 +2,10 @@
 
 use crate::calls::{FRONT, check};
 use crate::lending::check_lent;
-use crate::rows::{Fields, unknown};
-use crate::tokens::Token;
-use crate::trouble::Trouble;
+use crate::rows::{Fields, UNKNOWN};
 use crate::writing::{Sides, check_again, reply_of, written};
 use mysql_session::{CapabilityFlags, ReplyKind};
-use row_fields::{bytes_of, number};
+use row_fields::{Token, Trouble, bytes_of, number};
 use std::alloc::Global;
 
 /// The kind of command that a reply answers.
@@ -16,7 +14,7 @@ fn kind_of(field: &[Token<'_>]) -> Result<ReplyKind, Trouble> {
         [Token::Word("text")] => Ok(ReplyKind::Text),
         [Token::Word("binary")] => Ok(ReplyKind::Binary),
         [Token::Word("prepare")] => Ok(ReplyKind::Prepare),
-        _ => Err(Trouble::Malformed("the kinds of replies are text, binary and prepare")),
+        _ => Err(UNKNOWN),
     }
 }
 
@@ -26,27 +24,38 @@ fn capabilities_of(field: &[Token<'_>]) -> Result<CapabilityFlags, Trouble> {
     for token in field {
         match token {
             Token::Word(word) if let Ok(more) = u32::from_str_radix(word, 16) => bits |= more,
-            _ => return Err(Trouble::Malformed("capabilities are hexadecimal numbers")),
+            _ => return Err(UNKNOWN),
         }
     }
     Ok(CapabilityFlags(bits))
 }
 
-/// Reads a reply whose rows are lent, and writes it again.
-pub fn run_reply(alloc: Global, fields: Fields<'_, '_>) -> Result<(), Trouble> {
-    let [kind, capabilities, first_id, limit, stream, lines @ ..] = fields else {
-        return unknown();
-    };
-    let capabilities = capabilities_of(capabilities)?;
-    let sides: Sides = (
+/// What a reply is read and written by.
+fn sides_of(
+    kind: &[Token<'_>],
+    capabilities: &[Token<'_>],
+    first_id: &[Token<'_>],
+    limit: &[Token<'_>],
+) -> Result<Sides, Trouble> {
+    Ok((
         kind_of(kind)?,
-        capabilities,
+        capabilities_of(capabilities)?,
         number(first_id)?,
         number(limit)?,
-    );
+    ))
+}
+
+/// Reads a reply whose rows are lent, and writes it again.
+pub fn run_reply(alloc: Global, fields: Fields<'_, '_>, words: &mut String) -> Result<(), Trouble> {
+    let [kind, capabilities, first_id, limit, stream, lines @ ..] = fields else {
+        return Err(UNKNOWN);
+    };
+    let sides = sides_of(kind, capabilities, first_id, limit)?;
     let stream = bytes_of(alloc, stream)?;
-    check_lent(alloc, sides, &stream, lines)?;
-    check_again(alloc, sides, &stream)
+    match check_lent(alloc, sides, &stream, lines, words) {
+        Ok(()) => check_again(alloc, sides, &stream, words),
+        Err(trouble) => Err(trouble),
+    }
 }
 
 /// Writes what a reply says, which was read as this kind with packets of up to 32 MB, and compares
@@ -55,37 +64,30 @@ fn check_written(
     alloc: Global,
     read_kind: ReplyKind,
     sides: Sides,
-    stream: &[u8],
+    stream: &[Token<'_>],
     wanted: &[&[Token<'_>]],
+    words: &mut String,
 ) -> Result<(), Trouble> {
     let (_, capabilities, first_id, _) = sides;
-    let reply = reply_of(alloc, (read_kind, capabilities, first_id, 1 << 25), stream)?;
+    let read_by = (read_kind, capabilities, first_id, 1 << 25);
     let mut out = Vec::from_slice(alloc, FRONT)?;
-    let refusal = written(alloc, sides, &reply, &mut out)?;
-    check(alloc, &out, &refusal, wanted)
+    let reply = reply_of(alloc, read_by, bytes_of(alloc, stream)?.as_slice())?;
+    match written(alloc, sides, &reply, &mut out, words) {
+        Ok(()) => check(alloc, &out, words, wanted),
+        Err(trouble) => Err(trouble),
+    }
 }
 
 /// Writes what a reply says as one of the same kind or of another.
-pub fn run_write(alloc: Global, fields: Fields<'_, '_>) -> Result<(), Trouble> {
-    let [
-        read_kind,
-        kind,
-        capabilities,
-        first_id,
-        limit,
-        stream,
-        wanted @ ..,
-    ] = fields
-    else {
-        return unknown();
+pub fn run_write(
+    alloc: Global,
+    read_kind: &[Token<'_>],
+    fields: Fields<'_, '_>,
+    words: &mut String,
+) -> Result<(), Trouble> {
+    let [kind, capabilities, first_id, limit, stream, wanted @ ..] = fields else {
+        return Err(UNKNOWN);
     };
-    let capabilities = capabilities_of(capabilities)?;
-    let sides: Sides = (
-        kind_of(kind)?,
-        capabilities,
-        number(first_id)?,
-        number(limit)?,
-    );
-    let stream = bytes_of(alloc, stream)?;
-    check_written(alloc, kind_of(read_kind)?, sides, &stream, wanted)
+    let sides = sides_of(kind, capabilities, first_id, limit)?;
+    check_written(alloc, kind_of(read_kind)?, sides, stream, wanted, words)
 }

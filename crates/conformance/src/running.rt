@@ -1,8 +1,7 @@
 //! Files of rows, line by line.
 
 use crate::rows::run_row;
-use crate::tokens::{Names, Token, tokens_of};
-use crate::trouble::Trouble;
+use row_fields::{Names, Token, Trouble, tokens_of};
 use std::alloc::Global;
 use std::env::Env;
 use std::io::Print;
@@ -10,9 +9,24 @@ use std::process::ExitCode;
 use std::rt::Files;
 use std::{env, fs, io};
 
+/// Runs the row of these tokens.
+fn run_tokens(alloc: Global, tokens: &[Token<'_>], words: &mut String) -> Result<(), Trouble> {
+    let mut fields = Vec::new(alloc);
+    for field in tokens.split(|token| matches!(token, Token::Word("|"))) {
+        fields.push(field)?;
+    }
+    run_row(alloc, &fields, words)
+}
+
 /// Runs a line: whether it is a row. A line `NAME = ..` gives a name to tokens; an empty one and
 /// one that begins with `#` say nothing.
-fn run_line<'a>(alloc: Global, line: &'a str, names: &mut Names<'a>) -> Result<bool, Trouble> {
+fn run_line<'a>(
+    alloc: Global,
+    line: &'a str,
+    names: &mut Names<'a>,
+    words: &mut String,
+) -> Result<bool, Trouble> {
+    words.clear();
     let tokens = tokens_of(alloc, line, names)?;
     match tokens.as_slice() {
         [] => Ok(false),
@@ -21,47 +35,33 @@ fn run_line<'a>(alloc: Global, line: &'a str, names: &mut Names<'a>) -> Result<b
             names.push((*name, Vec::from_slice(alloc, meaning)?))?;
             Ok(false)
         }
-        tokens => {
-            let mut fields = Vec::new(alloc);
-            for field in tokens.split(|token| matches!(token, Token::Word("|"))) {
-                fields.push(field)?;
-            }
-            run_row(alloc, &fields)?;
-            Ok(true)
-        }
-    }
-}
-
-/// Runs a line, once more where memory was refused.
-fn run_line_again<'a>(
-    alloc: Global,
-    line: &'a str,
-    names: &mut Names<'a>,
-) -> Result<bool, Trouble> {
-    match run_line(alloc, line, names) {
-        Err(Trouble::Memory) => run_line(alloc, line, names),
-        answer => answer,
+        tokens => match run_tokens(alloc, tokens, words) {
+            Ok(()) => Ok(true),
+            Err(trouble) => Err(trouble),
+        },
     }
 }
 
 /// How many rows passed, and how many failed.
 type Tally = (u64, u64);
 
-/// Prints why a row of a line fails.
-fn say_failed<R: Print>(rt: &R, name: &str, place: usize, trouble: Trouble) -> io::Result<()> {
-    println!(rt; "{name}, line {}: {trouble}", place.saturating_add(1))
-}
-
-/// Runs the lines of a text, and prints those that fail.
+/// Runs the lines of a text, each once more where memory was refused, and prints those that fail.
 fn run_lines<R: AllocGlobal + Print>(rt: &R, name: &str, text: &str) -> io::Result<Tally> {
-    let mut names = Vec::new(rt.alloc());
+    let (mut names, mut words) = (Vec::new(rt.alloc()), String::new(rt.alloc()));
     let (mut passed, mut failed) = (0u64, 0u64);
     for (place, line) in text.lines().enumerate() {
-        match run_line_again(rt.alloc(), line, &mut names) {
+        let mut ran = run_line(rt.alloc(), line, &mut names, &mut words);
+        if matches!(ran, Err(Trouble::Memory)) {
+            ran = run_line(rt.alloc(), line, &mut names, &mut words);
+        }
+        match ran {
             Ok(is_row) => passed = passed.saturating_add(u64::from(is_row)),
             Err(trouble) => {
                 failed = failed.saturating_add(1);
-                say_failed(rt, name, place, trouble)?;
+                println!(rt;
+                    "{name}, line {}: {trouble}{words}",
+                    place.saturating_add(1)
+                )?;
             }
         }
     }
@@ -76,7 +76,7 @@ fn run_file<R: Files + AllocGlobal + Print>(rt: &R, name: &str) -> io::Result<Ta
     Ok((passed, failed))
 }
 
-/// Runs the rows of the files that the process's words name, each once more where memory was refused.
+/// Runs the rows of the files that the process's words name.
 ///
 /// It prints those that fail, and how many there are; the status is 0 where none failed.
 pub fn run_files<R: Env + Files + AllocGlobal + Print>(rt: &R) -> io::Result<ExitCode> {

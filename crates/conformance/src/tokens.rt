@@ -1,9 +1,10 @@
 //! Tokens as words.
 
-pub use row_fields::{Names, Token, tokens_of};
+use crate::rows::DIFFERS;
+use row_fields::{Token, Trouble};
 use std::alloc::{AllocError, Global};
 
-/// Writes the words of a field, each behind a space.
+/// Writes the words of a field, each behind a space, and a bar.
 pub fn put_field(words: &mut String, field: &[Token<'_>]) -> Result<(), AllocError> {
     for token in field {
         match token {
@@ -11,15 +12,26 @@ pub fn put_field(words: &mut String, field: &[Token<'_>]) -> Result<(), AllocErr
             Token::Text(text) => write!(words, " \"{text}\"")?,
         }
     }
+    words.push_str(" |")
+}
+
+/// Writes the words of fields.
+pub fn put_fields(words: &mut String, fields: &[&[Token<'_>]]) -> Result<(), AllocError> {
+    for field in fields {
+        put_field(words, field)?;
+    }
     Ok(())
 }
 
-/// The words of fields, each with a bar behind it.
-pub fn words_of(alloc: Global, fields: &[&[Token<'_>]]) -> Result<String, AllocError> {
-    let mut words = String::new(alloc);
-    for field in fields {
-        put_field(&mut words, field)?;
-        words.push_str(" |")?;
+/// Compares words with fields. They say where memory was refused.
+pub fn check_words(alloc: Global, words: &str, fields: &[&[Token<'_>]]) -> Result<(), Trouble> {
+    let mut wanted = String::new(alloc);
+    put_fields(&mut wanted, fields)?;
+    if wanted.as_str() == words {
+        Ok(())
+    } else if words.contains("Memory") {
+        Err(Trouble::Memory)
+    } else {
+        Err(DIFFERS)
     }
-    Ok(words)
 }

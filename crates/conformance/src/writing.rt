@@ -1,11 +1,12 @@
 //! Replies that are written, whole and part by part.
 
-use crate::calls::refusal_of;
-use crate::trouble::Trouble;
+use crate::calls::tell;
+use crate::rows::DIFFERS;
 use mysql_session::{
     CapabilityFlags, Reply, ReplyEnd, ReplyFault, ReplyKind, ReplyRefusal, ReplyResult,
     ReplyWriter, read_reply, write_reply,
 };
+use row_fields::Trouble;
 use std::alloc::{AllocError, Global};
 
 /// What a reply is read and written by.
@@ -112,69 +113,71 @@ fn write_whole(
     )
 }
 
-/// Writes a reply whole: why it is refused. Part by part it is written as the same bytes, or refused
-/// for the same.
+/// Writes a reply whole, and why that is refused. Part by part it is written as the same bytes, or
+/// refused for the same.
 pub fn written(
     alloc: Global,
     sides: Sides,
     reply: &Reply,
     out: &mut Vec<u8>,
-) -> Result<String, Trouble> {
+    words: &mut String,
+) -> Result<(), Trouble> {
     let mut parts = Vec::from_slice(alloc, out)?;
-    let refusal = refusal_of(alloc, write_whole(alloc, sides, reply, out))?;
-    let other = refusal_of(alloc, write_parts(alloc, sides, reply, &mut parts))?;
-    if refusal == other && (!refusal.is_empty() || parts == *out) {
-        return Ok(refusal);
-    }
-    if refusal.contains("Memory") || other.contains("Memory") {
-        return Err(Trouble::Memory);
-    }
-    Err(Trouble::Malformed("part by part it is written in another way"))
-}
-
-/// The bytes that a reply is written as.
-fn bytes_of(alloc: Global, sides: Sides, reply: &Reply) -> Result<Vec<u8>, Trouble> {
-    let mut out = Vec::new(alloc);
-    let refusal = written(alloc, sides, reply, &mut out)?;
-    if refusal.is_empty() {
-        Ok(out)
-    } else if refusal.contains("Memory") {
+    let mut other = String::new(alloc);
+    tell(write_whole(alloc, sides, reply, out), words)?;
+    tell(write_parts(alloc, sides, reply, &mut parts), &mut other)?;
+    if words.contains("Memory") || other.contains("Memory") {
         Err(Trouble::Memory)
+    } else if *words == other && (!words.is_empty() || parts == *out) {
+        Ok(())
     } else {
-        Err(Trouble::Differs(refusal))
+        Err(DIFFERS)
     }
 }
 
-/// Writes a reply that was read of bytes that a reply was written as: it says the same, and is
-/// written as the same bytes.
-fn check_same(
+/// Whether two replies say the same.
+fn is_same(alloc: Global, one: &Reply, other: &Reply) -> Result<bool, AllocError> {
+    let one = said(alloc, one)?;
+    Ok(said(alloc, other)? == one)
+}
+
+/// Reads what a reply was written as: it says the same, and is written as the same bytes.
+fn check_bytes(
     alloc: Global,
     sides: Sides,
     reply: &Reply,
-    again: &Reply,
     bytes: &[u8],
+    words: &mut String,
 ) -> Result<(), Trouble> {
-    if said(alloc, reply)? != said(alloc, again)? {
-        return Err(Trouble::Differs(said(alloc, again)?));
+    let mut out = Vec::new(alloc);
+    let again = reply_of(alloc, sides, bytes)?;
+    if !is_same(alloc, reply, &again)? {
+        write!(words, " {again:?}")?;
+        return Err(DIFFERS);
     }
-    if bytes_of(alloc, sides, again)?.as_slice() != bytes {
-        return Err(Trouble::Malformed("a reply that was written is written in another way"));
+    match written(alloc, sides, &again, &mut out, words) {
+        Ok(()) if out.as_slice() == bytes => Ok(()),
+        Ok(()) => Err(Trouble::Malformed("a reply that was written is written in another way")),
+        Err(trouble) => Err(trouble),
     }
-    Ok(())
 }
 
 /// Writes a whole reply again: it reads as the same, and written once more it is the same bytes.
-pub fn check_again(alloc: Global, sides: Sides, stream: &[u8]) -> Result<(), Trouble> {
+pub fn check_again(
+    alloc: Global,
+    sides: Sides,
+    stream: &[u8],
+    words: &mut String,
+) -> Result<(), Trouble> {
     let reply = reply_of(alloc, sides, stream)?;
     if !matches!(reply.end, ReplyEnd::Whole) {
         return Ok(());
     }
-    let bytes = bytes_of(alloc, sides, &reply)?;
-    check_same(
-        alloc,
-        sides,
-        &reply,
-        &reply_of(alloc, sides, &bytes)?,
-        &bytes,
-    )
+    words.clear();
+    let mut bytes = Vec::new(alloc);
+    match written(alloc, sides, &reply, &mut bytes, words) {
+        Ok(()) if words.is_empty() => check_bytes(alloc, sides, &reply, &bytes, words),
+        Ok(()) => Err(DIFFERS),
+        Err(trouble) => Err(trouble),
+    }
 }

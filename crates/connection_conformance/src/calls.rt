@@ -60,38 +60,28 @@ pub fn put_event(event: &Event, text: &mut Vec<u8>) -> Result<(), Trouble> {
     Ok(())
 }
 
-/// What a fault leads to.
-fn failed(failure: ConnectionFault) -> Result<Next, Trouble> {
-    match failure.fault {
-        Fault::Memory => Err(Trouble::Memory),
-        _ => Ok(Next::Failed),
-    }
-}
-
 /// Appends the line of the row that is lent.
-fn put_row(connection: &Connection, text: &mut Vec<u8>) -> Result<(), Trouble> {
+fn put_row(connection: &Connection, text: &mut Vec<u8>) -> Result<Next, Trouble> {
     let Some(row) = connection.row() else {
         return Err(Trouble::Row);
     };
     write_lent_row(text, &row)?;
     text.extend_from_slice(b"\n")?;
-    Ok(())
+    Ok(Next::Line)
 }
 
-/// Appends the line of the event that comes next, of which a row is lent.
-fn put_next_lent(connection: &mut Connection, text: &mut Vec<u8>) -> Result<Next, Trouble> {
-    match connection.next_event_lent() {
-        Ok(Some(LentEvent::Row)) => match put_row(connection, text) {
-            Ok(()) => Ok(Next::Line),
-            Err(trouble) => Err(trouble),
-        },
-        Ok(Some(LentEvent::Event(event))) => match put_event(&event, text) {
-            Ok(()) if connection.row().is_some() => Err(Trouble::Row),
-            Ok(()) => Ok(Next::Line),
-            Err(trouble) => Err(trouble),
-        },
-        Ok(None) => Ok(Next::Nothing),
-        Err(failure) => failed(failure),
+/// Takes what comes next, of which a row is lent or is an event as any other.
+fn take_next(
+    connection: &mut Connection,
+    lent: bool,
+) -> Result<Option<LentEvent>, ConnectionFault> {
+    if lent {
+        return connection.next_event_lent();
+    }
+    match connection.next_event() {
+        Ok(Some(event)) => Ok(Some(LentEvent::Event(event))),
+        Ok(None) => Ok(None),
+        Err(failure) => Err(failure),
     }
 }
 
@@ -101,16 +91,16 @@ pub fn put_next(
     lent: bool,
     text: &mut Vec<u8>,
 ) -> Result<Next, Trouble> {
-    if lent {
-        return put_next_lent(connection, text);
-    }
-    match connection.next_event() {
-        Ok(Some(event)) => match put_event(&event, text) {
+    match take_next(connection, lent) {
+        Ok(Some(LentEvent::Row)) => put_row(connection, text),
+        Ok(Some(LentEvent::Event(event))) => match put_event(&event, text) {
+            Ok(()) if connection.row().is_some() => Err(Trouble::Row),
             Ok(()) => Ok(Next::Line),
             Err(trouble) => Err(trouble),
         },
         Ok(None) => Ok(Next::Nothing),
-        Err(failure) => failed(failure),
+        Err(failure) if matches!(failure.fault, Fault::Memory) => Err(Trouble::Memory),
+        Err(_) => Ok(Next::Failed),
     }
 }
 
@@ -131,16 +121,21 @@ pub fn put_end(end: End, text: &mut Vec<u8>) -> Result<(), Trouble> {
     Ok(())
 }
 
-/// How a connection stands that waits for more or is over, by what else it tells.
-pub fn told_end(connection: &Connection) -> End {
+/// Whether a connection that waits for more or is over stands as an end says, by what else it tells.
+pub fn is_told(end: End, connection: &Connection) -> bool {
     let client = connection.rest(Side::Client);
     let server = connection.rest(Side::Server);
     let is_read = client.is_empty() && server.is_empty();
-    match (connection.turn(), connection.phase()) {
+    let told = match (connection.turn(), connection.phase()) {
         (Some(_), Phase::Command) if is_read => End::Whole,
         (Some(side), _) => End::Unfinished(side),
         (None, Phase::Over(Reason::Quit)) if !client.is_empty() => End::Unread,
         (None, Phase::Over(reason)) => End::Over(reason),
         (None, _) => End::Unread,
+    };
+    match end {
+        End::Unread => false,
+        End::Fault(_) => true,
+        end => end == told,
     }
 }

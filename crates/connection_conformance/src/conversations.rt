@@ -1,16 +1,20 @@
-//! Conversations, which are rows of payloads, each with the event that it is. The head of each file says how they are
-//! written. Each is read row by row, and then in all ways in which a recording is.
+//! Conversations, which are rows of payloads, each with the event that it is. The head of each file
+//! says how they are written. Each is read in all ways in which a recording is, which have to give
+//! the same; `bindings/test` compares what they give with the rows.
 
-use crate::recordings::{FEW, Tally};
+use crate::orders::Order;
+use crate::recordings::{FEW, failure_of};
 use crate::talks::Talk;
-use crate::troubles::Trouble;
+use crate::tallies::{NOTHING, Tally};
+use crate::troubles::{Failure, Part as Reading, Trouble};
+use mysql_connection_rules::Side;
 use row_fields::{Names, tokens_of};
 use std::alloc::Global;
 use std::io::Print;
 use std::rt::Files;
-use std::{fs, io, str};
+use std::{fs, io};
 
-/// Streams above this are read by rows alone.
+/// Streams above this aren't read here.
 const LONG: usize = 100_000;
 
 /// What stands between two titles of a file.
@@ -53,83 +57,59 @@ fn take_lines<'a>(
     part: Part<'a>,
     names: &mut Names<'a>,
     talk: &mut Talk,
-) -> Result<(), Trouble> {
+) -> Result<(), Failure> {
     for line in part.text.lines().skip(1) {
         talk.line = talk.line.saturating_add(1);
-        take_line(alloc, line, names, talk)?;
+        if let Err(trouble) = take_line(alloc, line, names, talk) {
+            return Err(failure_of(Reading::Rows, Order::First(Side::Client), trouble));
+        }
     }
-    if talk.has_ended || part.is_head {
-        Ok(())
-    } else {
-        Err(Trouble::Unended)
-    }
+    Ok(())
 }
 
-/// Reads a conversation by its rows, once more where memory was refused. Prints why a row fails, and
-/// what came.
-fn read_rows<'a, R: AllocGlobal + Print>(
-    rt: &R,
+/// Reads a conversation in all ways, where what comes doesn't depend on which bytes come first.
+fn read_talk<'a>(
+    alloc: Global,
     part: Part<'a>,
     names: &mut Names<'a>,
     talk: &mut Talk,
-) -> io::Result<bool> {
-    let mut read = take_lines(rt.alloc(), part, names, talk);
-    if let Err(Trouble::Memory) = read {
-        *talk = Talk::new(rt.alloc(), talk.most);
-        read = take_lines(rt.alloc(), part, names, talk);
+    tally: &mut Tally,
+) -> Result<(), Failure> {
+    take_lines(alloc, part, names, talk)?;
+    if part.is_head || talk.depends_on_order || talk.told.len() > LONG {
+        return Ok(());
     }
-    if let Err(trouble) = read {
-        let line = part.line.saturating_add(talk.line);
-        let title = part.text.lines().next().unwrap_or("");
-        let came = str::from_utf8(talk.unnamed()).unwrap_or("");
-        println!(rt;
-            "{}, line {line}, {title}: {}: {came}",
-            part.file,
-            trouble.text()
-        )?;
-    }
-    Ok(read.is_ok())
+    talk.told.collect(alloc)?;
+    talk.told.check_once(alloc, FEW, tally)
 }
 
-/// Reads a conversation in all ways: whether all was as its rows say.
+/// Reads a conversation in all ways, once more where memory was refused: whether each gave the same.
+/// Prints why it doesn't.
 fn check_talk<'a, R: AllocGlobal + Print>(
     rt: &R,
     part: Part<'a>,
     names: &mut Names<'a>,
     tally: &mut Tally,
 ) -> io::Result<bool> {
-    let mut talk = Talk::new(rt.alloc(), usize::MAX);
-    if !read_rows(rt, part, names, &mut talk)? {
-        return Ok(false);
+    let (alloc, mut own) = (rt.alloc(), NOTHING);
+    let mut talk = Talk::new(alloc);
+    let mut read = read_talk(alloc, part, names, &mut talk, &mut own);
+    if matches!(read, Err(failure) if matches!(failure.trouble, Trouble::Memory)) {
+        own = NOTHING;
+        talk = Talk::new(alloc);
+        read = read_talk(alloc, part, names, &mut talk, &mut own);
     }
-    if part.is_head {
-        return Ok(true);
-    }
-    let mut own = Tally {
-        readings: 1,
-        events: talk.events,
-        ..Tally::new()
-    };
-    if talk.told.len() > LONG {
-        tally.add(own);
-        return Ok(true);
-    }
-    if talk.depends_on_order() {
-        own.readings = 2;
-        tally.add(own);
-        talk = Talk::new(rt.alloc(), 1);
-        return read_rows(rt, part, names, &mut talk);
-    }
-    let checked = talk.told.check(rt.alloc(), FEW, &mut own);
     tally.add(own);
-    if let Err(failure) = checked {
-        let title = part.text.lines().next().unwrap_or("");
-        println!(rt; "{}, line {}, {title}: {failure}", part.file, part.line)?;
-    }
-    Ok(checked.is_ok())
+    let line = part.line.saturating_add(talk.line);
+    let Err(failure) = read else {
+        return Ok(true);
+    };
+    let title = part.text.lines().next().unwrap_or("");
+    println!(rt; "{}, line {line}, {title}: {failure}", part.file)?;
+    Ok(false)
 }
 
-/// Reads the conversations of a file: how many there are, and how many were as their rows say.
+/// Reads the conversations of a file: how many there are, and of how many each reading gave the same.
 fn check_talks<R: AllocGlobal + Print>(
     rt: &R,
     file: &str,
@@ -156,14 +136,14 @@ fn check_talks<R: AllocGlobal + Print>(
     Ok((count, passed))
 }
 
-/// Reads the conversations of a file and prints how much was read: whether all was as their rows say.
+/// Reads the conversations of a file and prints how much was read: whether all readings gave the same.
 pub fn check<R: Files + AllocGlobal + Print>(
     rt: &R,
     name: &str,
     all: &mut Tally,
 ) -> io::Result<bool> {
     let text = fs::read_to_string(rt, name)?;
-    let mut tally = Tally::new();
+    let mut tally = NOTHING;
     let (count, passed) = check_talks(rt, name, &text, &mut tally)?;
     all.add(tally);
     println!(rt;

@@ -15,31 +15,44 @@ mod recordings;
 mod speaking;
 mod streams;
 mod talks;
+mod tallies;
 mod troubles;
 
-use crate::recordings::{MANY, Recording, Tally};
+use crate::recordings::{MANY, Recording};
+use crate::tallies::{NOTHING, Tally};
+use crate::troubles::Failure;
 use std::process::ExitCode;
 use std::rt::Files;
 use std::{env, io};
 
-/// Reads a recording in all ways and prints how much was read: whether all was as it has to be.
+/// Reads a recording in all ways.
+fn read<R: Files + AllocGlobal>(
+    rt: &R,
+    name: &str,
+    tally: &mut Tally,
+) -> io::Result<Result<(), Failure>> {
+    let mut recording = Recording::read(rt, name)?;
+    Ok(recording.check(rt.alloc(), MANY, tally))
+}
+
+/// Reads a recording in all ways, or conversations, and prints how much was read: whether all was as
+/// it has to be.
 fn check<R: Files + AllocGlobal + Print>(rt: &R, name: &str, all: &mut Tally) -> io::Result<bool> {
     if name.ends_with(".conversations") {
         return conversations::check(rt, name, all);
     }
-    let mut recording = Recording::read(rt, name)?;
-    let mut tally = Tally::new();
-    let checked = recording.check(rt.alloc(), MANY, &mut tally);
+    let mut tally = NOTHING;
+    let read = read(rt, name, &mut tally)?;
     all.add(tally);
-    match checked {
+    match read {
         Ok(()) => println!(rt; "{name}: {tally}")?,
         Err(failure) => println!(rt; "{name}: {failure}")?,
     }
-    Ok(checked.is_ok())
+    Ok(read.is_ok())
 }
 
 fn main(rt: HostRuntime) -> io::Result<ExitCode> {
-    let mut all = Tally::new();
+    let mut all = NOTHING;
     let (mut passed, mut failed) = (0u64, 0u64);
     for name in env::args(&rt)?.skip(1) {
         if check(&rt, name.as_str(), &mut all)? {

@@ -1,7 +1,7 @@
 //! Numbers that look random, the same in each run.
 
 /// A generator of numbers by exclusive ors and shifts (Marsaglia, "Xorshift RNGs").
-#[derive(Drop)]
+#[derive(Clone, Copy)]
 pub struct Numbers(u64);
 
 impl Numbers {

@@ -28,14 +28,6 @@ fn other(side: Side) -> Side {
 }
 
 impl Order {
-    /// The numbers that it goes by.
-    pub fn numbers(self) -> Numbers {
-        match self {
-            Order::Random(seed) => Numbers::new(seed),
-            _ => Numbers::new(0),
-        }
-    }
-
     /// What a failure calls it.
     pub fn name(self) -> &'static str {
         match self {
@@ -48,19 +40,31 @@ impl Order {
         }
     }
 
-    /// The side that comes next behind bytes of this one, where it has any left.
-    fn side(self, last: Side, numbers: &mut Numbers) -> Side {
-        match self {
+    /// The side that comes next behind bytes of this one, and how many it has left, where the client
+    /// and the server have so many. Where it has none, the other side comes.
+    pub fn next(
+        self,
+        last: Side,
+        (client, server): (usize, usize),
+        numbers: &mut Numbers,
+    ) -> (Side, usize) {
+        let side = match self {
             Order::First(side) => side,
             Order::Behind(side) => other(side),
             Order::ByTurns => other(last),
             Order::Random(_) if numbers.below(2) == 0 => Side::Client,
             Order::Random(_) => Side::Server,
+        };
+        match side {
+            Side::Client if client == 0 => (Side::Server, server),
+            Side::Server if server == 0 => (Side::Client, client),
+            Side::Client => (side, client),
+            Side::Server => (side, server),
         }
     }
 
-    /// How many of a side's bytes come next, where so many are left.
-    fn count(self, side: Side, left: usize, step: usize, numbers: &mut Numbers) -> usize {
+    /// How many of a side's bytes come at once, where so many are left.
+    pub fn count(self, side: Side, left: usize, step: usize, numbers: &mut Numbers) -> usize {
         match self {
             Order::First(_) => left,
             Order::Behind(behind) if behind != side => left,
@@ -70,27 +74,5 @@ impl Order {
                 left.min(numbers.below(most).saturating_add(1))
             }
         }
-    }
-
-    /// The side that comes next, and how many of its bytes, where so many of the client's and of
-    /// the server's are left.
-    pub fn piece(
-        self,
-        last: Side,
-        left: (usize, usize),
-        step: usize,
-        numbers: &mut Numbers,
-    ) -> (Side, usize) {
-        let (client, server) = left;
-        let side = match self.side(last, numbers) {
-            Side::Client if client == 0 => Side::Server,
-            Side::Server if server == 0 => Side::Client,
-            side => side,
-        };
-        let left = match side {
-            Side::Client => client,
-            Side::Server => server,
-        };
-        (side, self.count(side, left, step, numbers))
     }
 }

@@ -1,10 +1,12 @@
 //! A reading of both streams, each line of which is compared as it comes.
 
-use crate::calls::{Next, begin, close, feed, put_end, put_lines, put_next, told_end};
+use crate::calls::{Next, begin, close, feed, is_told, put_end, put_lines, put_next};
+use crate::numbers::Numbers;
 use crate::orders::{Order, STEPS};
 use crate::streams::Stream;
+use crate::tallies::Tally;
 use crate::troubles::{Failure, Part, Trouble};
-use mysql_connection_machine::{Connection, End};
+use mysql_connection_machine::Connection;
 use mysql_connection_rules::{Fault, Limits, Side};
 use mysql_const::Capabilities;
 use std::alloc::Global;
@@ -27,19 +29,16 @@ pub struct Task<'a> {
 
 /// How far a reading has come.
 #[derive(Clone, Copy)]
-pub struct Reading<'a> {
+struct Reading<'a> {
     client: Stream<'a>,
     server: Stream<'a>,
     /// The lines that are still to come.
     lines: &'a [u8],
-    /// Whether rows are lent.
-    lent: bool,
-    /// How many came.
-    pub taken: u64,
-    /// In how many pieces.
-    pub pieces: u64,
+    /// How many came, in how many pieces.
+    taken: u64,
+    pieces: u64,
     /// The most that was kept.
-    pub kept: usize,
+    kept: usize,
 }
 
 /// The side whose payload a line is. Last words and the end come of no turn.
@@ -51,28 +50,7 @@ fn side_of(line: &[u8]) -> Option<Side> {
     }
 }
 
-/// Whether the connection stands as an end says, by what else it tells.
-fn is_told(end: End, connection: &Connection) -> bool {
-    match end {
-        End::Unread => false,
-        End::Fault(_) => true,
-        end => end == told_end(connection),
-    }
-}
-
 impl<'a> Reading<'a> {
-    fn new(task: &Task<'a>) -> Reading<'a> {
-        Reading {
-            client: Stream::new(task.client),
-            server: Stream::new(task.server),
-            lines: task.lines,
-            lent: task.lent,
-            taken: 0,
-            pieces: 0,
-            kept: 0,
-        }
-    }
-
     fn stream(&mut self, side: Side) -> &mut Stream<'a> {
         match side {
             Side::Client => &mut self.client,
@@ -87,16 +65,12 @@ impl<'a> Reading<'a> {
         };
         self.lines = lines;
         self.taken = self.taken.saturating_add(1);
-        match side_of(line) {
-            Some(Side::Client) => self.client.take(),
-            _ => self.server.take(),
-        }
-    }
-
-    /// What is held but for the bytes that wait is kept.
-    fn keep(&mut self, held: usize) {
-        let waiting = self.client.waiting().saturating_add(self.server.waiting());
-        self.kept = self.kept.max(held.saturating_sub(waiting));
+        let stream = self.stream(side_of(line).unwrap_or(Side::Server));
+        let Some(behind) = stream.behind() else {
+            return Err(Trouble::Early);
+        };
+        stream.untaken = behind;
+        Ok(())
     }
 
     /// Nothing more came: the next line's side has to be due, and its packet not to be there.
@@ -106,7 +80,7 @@ impl<'a> Reading<'a> {
         };
         if turn != Some(side) {
             Err(Trouble::Turn)
-        } else if self.stream(side).is_whole() {
+        } else if self.stream(side).behind().is_some() {
             Err(Trouble::Late)
         } else {
             Ok(())
@@ -125,20 +99,22 @@ impl<'a> Reading<'a> {
         }
     }
 
-    /// Takes the lines that come.
+    /// Takes the lines that come. What is held behind each but for the bytes that wait is kept.
     fn take_lines(
         &mut self,
         connection: &mut Connection,
         line: &mut Vec<u8>,
+        lent: bool,
     ) -> Result<(), Trouble> {
         for _ in 0..u64::MAX {
             line.clear();
-            match put_next(connection, self.lent, line)? {
+            match put_next(connection, lent, line)? {
                 Next::Line => self.take(line.as_slice())?,
                 Next::Nothing => return self.wait(connection.turn()),
                 Next::Failed => return self.fail(connection),
             }
-            self.keep(connection.held());
+            let waiting = self.client.waiting().saturating_add(self.server.waiting());
+            self.kept = self.kept.max(connection.held().saturating_sub(waiting));
         }
         Ok(())
     }
@@ -159,9 +135,12 @@ impl<'a> Reading<'a> {
         };
         let is_due = connection.turn().is_some();
         let stream = self.stream(side);
-        let count = if is_due { count } else { stream.left() };
-        let fed = feed(connection, side, stream.piece(count))?;
-        stream.feed(fed);
+        let piece = match stream.unfed.get(..count) {
+            Some(piece) if is_due => piece,
+            _ => stream.unfed,
+        };
+        let fed = feed(connection, side, piece)?;
+        stream.unfed = stream.unfed.get(fed..).unwrap_or(&[]);
         self.pieces = self.pieces.saturating_add(u64::from(fed > 0));
         Ok(side)
     }
@@ -171,33 +150,50 @@ impl<'a> Reading<'a> {
         &mut self,
         connection: &mut Connection,
         line: &mut Vec<u8>,
-        order: Order,
+        task: &Task<'_>,
     ) -> Result<(), Trouble> {
-        let total = self.client.left().saturating_add(self.server.left());
+        let total = task.client.len().saturating_add(task.server.len());
         let step = (total / STEPS).saturating_add(1);
-        let mut numbers = order.numbers();
+        let mut numbers = Numbers::new(match task.order {
+            Order::Random(seed) => seed,
+            _ => 0,
+        });
         let mut side = Side::Client;
         for _ in 0..total {
             let pieces = self.pieces;
-            let left = (self.client.left(), self.server.left());
-            let (next, count) = order.piece(side, left, step, &mut numbers);
+            let left = (self.client.unfed.len(), self.server.unfed.len());
+            let (next, left) = task.order.next(side, left, &mut numbers);
+            let count = task.order.count(next, left, step, &mut numbers);
             side = self.feed(connection, next, count)?;
             if self.pieces == pieces {
                 break;
             }
-            self.take_lines(connection, line)?;
+            self.take_lines(connection, line, task.lent)?;
         }
         Ok(())
     }
 
-    /// The line of an end: it has to be the last one.
-    fn take_end(&mut self, end: End, line: &mut Vec<u8>) -> Result<(), Trouble> {
+    /// How the connection stands once both streams have ended: the line of that has to be the last one.
+    fn end(
+        &self,
+        connection: &mut Connection,
+        line: &mut Vec<u8>,
+        part: Part,
+    ) -> Result<(), Trouble> {
+        let is_rest = self.client.is_rest(connection.rest(Side::Client))
+            && self.server.is_rest(connection.rest(Side::Server));
+        if !is_rest {
+            return Err(Trouble::Rest);
+        }
+        let end = connection.finish();
         line.clear();
         put_end(end, line)?;
-        if self.lines == line.as_slice() {
-            Ok(())
-        } else {
-            Err(Trouble::Line)
+        match (part, connection.fault()) {
+            _ if !is_told(end, connection) => Err(Trouble::End),
+            (Part::Short, Some(failure)) if matches!(failure.fault, Fault::Held) => Ok(()),
+            (Part::Short, _) => Err(Trouble::Held),
+            _ if self.lines == line.as_slice() => Ok(()),
+            _ => Err(Trouble::Line),
         }
     }
 
@@ -208,35 +204,43 @@ impl<'a> Reading<'a> {
         line: &mut Vec<u8>,
         task: &Task<'_>,
     ) -> Result<(), Trouble> {
-        self.feed_all(connection, line, task.order)?;
+        self.feed_all(connection, line, task)?;
         if matches!(task.part, Part::Fronts(..)) && connection.fault().is_none() {
             // Were they closed, an error might be last words, and other bytes unasked for.
             return Ok(());
         }
         close(connection)?;
-        self.take_lines(connection, line)?;
-        let is_rest = self.client.is_rest(connection.rest(Side::Client))
-            && self.server.is_rest(connection.rest(Side::Server));
-        if !is_rest {
-            return Err(Trouble::Rest);
-        }
-        let end = connection.finish();
-        match (task.part, connection.fault()) {
-            _ if !is_told(end, connection) => Err(Trouble::End),
-            (Part::Short, Some(failure)) if matches!(failure.fault, Fault::Held) => Ok(()),
-            (Part::Short, _) => Err(Trouble::Held),
-            _ => self.take_end(end, line),
-        }
+        self.take_lines(connection, line, task.lent)?;
+        self.end(connection, line, task.part)
     }
 }
 
-/// Reads it.
-fn read_once<'a>(alloc: Global, task: &Task<'a>) -> Result<Reading<'a>, Failure> {
+/// Reads it, counts the reading, and returns the most that was kept.
+pub fn read(alloc: Global, task: &Task<'_>, tally: &mut Tally) -> Result<usize, Failure> {
     let mut connection = begin(alloc, task.limits, task.in_force);
     let mut line = Vec::new(alloc);
-    let mut reading = Reading::new(task);
-    match reading.run(&mut connection, &mut line, task) {
-        Ok(()) => Ok(reading),
+    let mut reading = Reading {
+        client: Stream {
+            unfed: task.client,
+            untaken: task.client,
+        },
+        server: Stream {
+            unfed: task.server,
+            untaken: task.server,
+        },
+        lines: task.lines,
+        taken: 0,
+        pieces: 0,
+        kept: 0,
+    };
+    let read = reading.run(&mut connection, &mut line, task);
+    tally.readings = tally.readings.saturating_add(1);
+    tally.pieces = tally.pieces.saturating_add(reading.pieces);
+    if let Part::Whole = task.part {
+        tally.events = reading.taken;
+    }
+    match read {
+        Ok(()) => Ok(reading.kept),
         Err(trouble) => Err(Failure {
             part: task.part,
             order: task.order,
@@ -247,28 +251,26 @@ fn read_once<'a>(alloc: Global, task: &Task<'a>) -> Result<Reading<'a>, Failure>
     }
 }
 
-/// Reads it, once more where memory is refused.
-pub fn read<'a>(alloc: Global, task: &Task<'a>) -> Result<Reading<'a>, Failure> {
-    match read_once(alloc, task) {
-        Err(failure) if matches!(failure.trouble, Trouble::Memory) => read_once(alloc, task),
-        answer => answer,
-    }
+/// Feeds both streams, each in one piece, and closes them.
+pub fn feed_whole(connection: &mut Connection, task: &Task<'_>) -> Result<(), Trouble> {
+    feed(connection, Side::Client, task.client)?;
+    feed(connection, Side::Server, task.server)?;
+    close(connection)
 }
 
-fn collect_once(alloc: Global, task: &Task<'_>, lines: &mut Vec<u8>) -> Result<(), Trouble> {
-    let mut connection = begin(alloc, task.limits, task.in_force);
-    lines.clear();
-    feed(&mut connection, Side::Client, task.client)?;
-    feed(&mut connection, Side::Server, task.server)?;
-    close(&mut connection)?;
-    put_lines(&mut connection, lines)?;
+/// Appends the lines of a connection that gets both streams in one piece.
+fn put_whole(
+    connection: &mut Connection,
+    task: &Task<'_>,
+    lines: &mut Vec<u8>,
+) -> Result<(), Trouble> {
+    feed_whole(connection, task)?;
+    put_lines(connection, lines)?;
     put_end(connection.finish(), lines)
 }
 
-/// The lines of both streams in one piece, once more where memory is refused.
+/// Appends the lines of both streams in one piece.
 pub fn collect(alloc: Global, task: &Task<'_>, lines: &mut Vec<u8>) -> Result<(), Trouble> {
-    match collect_once(alloc, task, lines) {
-        Err(Trouble::Memory) => collect_once(alloc, task, lines),
-        answer => answer,
-    }
+    let mut connection = begin(alloc, task.limits, task.in_force);
+    put_whole(&mut connection, task, lines)
 }

@@ -5,13 +5,14 @@ use crate::orders::Order;
 use crate::readings::{Task, collect, read};
 use crate::speaking::say;
 use crate::streams::packets_of;
-use crate::troubles::{Failure, Part};
+use crate::tallies::Tally;
+use crate::troubles::{Failure, Part, Trouble};
 use mysql_connection_machine::Connection;
 use mysql_connection_rules::{Limits, Side};
 use mysql_const::Capabilities;
 use std::alloc::Global;
 use std::rt::Files;
-use std::{fmt, fs, io};
+use std::{fs, io};
 
 /// How many pairs of fronts of a recording are read, and how many of its bytes are changed.
 pub const MANY: u64 = 8;
@@ -23,7 +24,7 @@ pub const FEW: u64 = 2;
 const READ: usize = 50_000;
 
 /// The limits under which recordings are read.
-pub const LIMITS: Limits = Limits {
+const LIMITS: Limits = Limits {
     client: 1 << 24,
     server: 1 << 24,
     held: 1 << 27,
@@ -35,63 +36,6 @@ const LOW_LIMITS: Limits = Limits {
     server: 1 << 18,
     held: 1 << 27,
 };
-
-/// How much was read.
-#[derive(Clone, Copy)]
-pub struct Tally {
-    pub events: u64,
-    pub readings: u64,
-    pub pieces: u64,
-    /// How many events a client and a server said again, and how many of them by the same bytes.
-    pub said: u64,
-    pub same: u64,
-}
-
-impl Tally {
-    /// Nothing was.
-    pub fn new() -> Tally {
-        Tally {
-            events: 0,
-            readings: 0,
-            pieces: 0,
-            said: 0,
-            same: 0,
-        }
-    }
-
-    /// This and that.
-    pub fn add(&mut self, other: Tally) {
-        self.events = self.events.saturating_add(other.events);
-        self.readings = self.readings.saturating_add(other.readings);
-        self.pieces = self.pieces.saturating_add(other.pieces);
-        self.said = self.said.saturating_add(other.said);
-        self.same = self.same.saturating_add(other.same);
-    }
-
-    /// Reads it, counts the reading, and returns the most that was kept.
-    fn read(&mut self, alloc: Global, task: &Task<'_>) -> Result<usize, Failure> {
-        let reading = read(alloc, task)?;
-        self.add(Tally {
-            readings: 1,
-            pieces: reading.pieces,
-            ..Tally::new()
-        });
-        if let Part::Whole = task.part {
-            self.events = reading.taken;
-        }
-        Ok(reading.kept)
-    }
-}
-
-impl fmt::Display for Tally {
-    fn fmt<W: fmt::Write>(&self, f: &mut fmt::Formatter<W>) -> fmt::Result {
-        write!(
-            f,
-            "{} events, {} readings in {} pieces, {} said again, {} by the same bytes",
-            self.events, self.readings, self.pieces, self.said, self.same
-        )
-    }
-}
 
 /// A recorded connection: the bytes of both sides, and the lines of its events and of its end.
 #[derive(Drop)]
@@ -141,33 +85,41 @@ fn front<'a>(stream: &'a [u8], numbers: &mut Numbers) -> &'a [u8] {
     }
 }
 
-/// Reads all of it in each of these orders, and returns the most that was kept.
+/// Reads all of it in each of these orders, with rows that are lent where that is said, and returns
+/// the most that was kept by the last.
 fn read_in_orders(
     alloc: Global,
     task: Task<'_>,
-    orders: &[Order],
+    orders: &[(Order, bool)],
     tally: &mut Tally,
 ) -> Result<usize, Failure> {
     let mut kept = 0;
-    for order in orders {
-        let order = *order;
-        kept = tally.read(alloc, &Task { order, ..task })?;
+    for (order, lent) in orders {
+        let (order, lent) = (*order, *lent);
+        kept = read(
+            alloc,
+            &Task {
+                order,
+                lent,
+                ..task
+            },
+            tally,
+        )?;
     }
     Ok(kept)
 }
 
-/// Reads all of it, also with rows that are lent, and returns the most that was kept.
+/// Reads all of it, and returns the most that was kept.
 fn read_whole(alloc: Global, task: Task<'_>, tally: &mut Tally) -> Result<usize, Failure> {
-    let lent = Task { lent: true, ..task };
-    let orders = [Order::ByTurns, Order::Random(1)];
-    read_in_orders(alloc, lent, &orders, tally)?;
     let orders = [
-        Order::First(Side::Client),
-        Order::First(Side::Server),
-        Order::Behind(Side::Client),
-        Order::Behind(Side::Server),
-        Order::ByTurns,
-        Order::Random(2),
+        (Order::ByTurns, true),
+        (Order::Random(1), true),
+        (Order::First(Side::Client), false),
+        (Order::First(Side::Server), false),
+        (Order::Behind(Side::Client), false),
+        (Order::Behind(Side::Server), false),
+        (Order::ByTurns, false),
+        (Order::Random(2), false),
     ];
     read_in_orders(alloc, task, &orders, tally)
 }
@@ -180,7 +132,10 @@ fn read_under_limits(
     tally: &mut Tally,
 ) -> Result<(), Failure> {
     let limits = least_limits(alloc, &task, kept);
-    let orders = [Order::First(Side::Client), Order::Random(3)];
+    let orders = [
+        (Order::First(Side::Client), false),
+        (Order::Random(3), false),
+    ];
     read_in_orders(alloc, Task { limits, ..task }, &orders, tally)?;
     if kept == 0 {
         return Ok(());
@@ -188,14 +143,12 @@ fn read_under_limits(
     let part = Part::Short;
     let held = limits.held.saturating_sub(1);
     let limits = Limits { held, ..limits };
-    tally.read(
-        alloc,
-        &Task {
-            part,
-            limits,
-            ..task
-        },
-    )?;
+    let short = Task {
+        part,
+        limits,
+        ..task
+    };
+    read(alloc, &short, tally)?;
     Ok(())
 }
 
@@ -213,19 +166,28 @@ fn read_fronts(
         let part = Part::Fronts(client.len(), server.len());
         let order = Order::Random(seed);
         let lent = seed % 2 == 1;
-        tally.read(
-            alloc,
-            &Task {
-                part,
-                client,
-                server,
-                order,
-                lent,
-                ..task
-            },
-        )?;
+        let fronts = Task {
+            part,
+            client,
+            server,
+            order,
+            lent,
+            ..task
+        };
+        read(alloc, &fronts, tally)?;
     }
     Ok(())
+}
+
+/// What fails of all of it.
+pub fn failure_of(part: Part, order: Order, trouble: Trouble) -> Failure {
+    Failure {
+        part,
+        order,
+        trouble,
+        lines: 0,
+        pieces: 0,
+    }
 }
 
 /// Has a client and a server say it again.
@@ -233,20 +195,11 @@ fn say_again(alloc: Global, task: Task<'_>, tally: &mut Tally) -> Result<(), Fai
     let seed = 4;
     match say(alloc, &task, seed) {
         Ok(said) => {
-            tally.add(Tally {
-                said: said.events,
-                same: said.same,
-                ..Tally::new()
-            });
+            tally.said = tally.said.saturating_add(said.events);
+            tally.same = tally.same.saturating_add(said.same);
             Ok(())
         }
-        Err(trouble) => Err(Failure {
-            part: Part::Said,
-            order: Order::Random(seed),
-            trouble,
-            lines: 0,
-            pieces: 0,
-        }),
+        Err(trouble) => Err(failure_of(Part::Said, Order::Random(seed), trouble)),
     }
 }
 
@@ -293,6 +246,16 @@ impl Recording {
         }
     }
 
+    /// Has the lines be those that come where both streams come in one piece.
+    pub fn collect(&mut self, alloc: Global) -> Result<(), Failure> {
+        let mut lines = Vec::new(alloc);
+        if let Err(trouble) = collect(alloc, &self.task(), &mut lines) {
+            return Err(failure_of(Part::Whole, Order::First(Side::Client), trouble));
+        }
+        self.lines = lines;
+        Ok(())
+    }
+
     /// A side's stream.
     pub fn stream(&mut self, side: Side) -> &mut Vec<u8> {
         match side {
@@ -301,11 +264,20 @@ impl Recording {
         }
     }
 
-    /// Turns bits of a byte over.
-    fn turn(&mut self, side: Side, byte: usize, bits: u8) {
-        if let Some(byte) = self.stream(side).get_mut(byte) {
-            *byte ^= bits;
+    /// Turns bits of a byte over that this number chooses, and returns which byte that is.
+    fn turn(&mut self, seed: u64) -> Part {
+        let mut numbers = Numbers::new(seed);
+        let side = if numbers.below(2) == 0 {
+            Side::Client
+        } else {
+            Side::Server
+        };
+        let stream = self.stream(side);
+        let place = numbers.below(stream.len());
+        if let Some(byte) = stream.get_mut(place) {
+            *byte ^= ((numbers.below(255) & 0xff) as u8).saturating_add(1);
         }
+        Part::Changed(side, place)
     }
 
     /// Reads it as it stands, of which a byte was changed, in one piece and in an order: both have
@@ -316,47 +288,31 @@ impl Recording {
         part: Part,
         seed: u64,
         tally: &mut Tally,
-    ) -> Result<(), Failure> {
+    ) -> Result<usize, Failure> {
+        let order = match seed % 3 {
+            0 => Order::First(Side::Server),
+            1 => Order::ByTurns,
+            _ => Order::Random(seed),
+        };
         let task = Task {
             part,
-            order: match seed % 3 {
-                0 => Order::First(Side::Server),
-                1 => Order::ByTurns,
-                _ => Order::Random(seed),
-            },
+            order,
             lent: seed % 2 == 1,
             limits: LOW_LIMITS,
             ..self.task()
         };
         let mut lines = Vec::new(alloc);
-        if let Err(trouble) = collect(alloc, &task, &mut lines) {
-            return Err(Failure {
-                part,
-                order: task.order,
-                trouble,
-                lines: 0,
-                pieces: 0,
-            });
+        match collect(alloc, &task, &mut lines) {
+            Ok(()) => read(
+                alloc,
+                &Task {
+                    lines: lines.as_slice(),
+                    ..task
+                },
+                tally,
+            ),
+            Err(trouble) => Err(failure_of(part, order, trouble)),
         }
-        let lines = lines.as_slice();
-        tally.read(alloc, &Task { lines, ..task })?;
-        Ok(())
-    }
-
-    /// Reads it with a byte changed, and changes it back.
-    fn change(&mut self, alloc: Global, seed: u64, tally: &mut Tally) -> Result<(), Failure> {
-        let mut numbers = Numbers::new(seed);
-        let side = if numbers.below(2) == 0 {
-            Side::Client
-        } else {
-            Side::Server
-        };
-        let byte = numbers.below(self.stream(side).len());
-        let bits = ((numbers.below(255) & 0xff) as u8).saturating_add(1);
-        self.turn(side, byte, bits);
-        let answer = self.read_changed(alloc, Part::Changed(side, byte), seed, tally);
-        self.turn(side, byte, bits);
-        answer
     }
 
     /// Reads it with so many bytes changed, one at a time.
@@ -368,13 +324,21 @@ impl Recording {
     ) -> Result<(), Failure> {
         let first = self.lines.len() as u64;
         for seed in first..first.saturating_add(count) {
-            self.change(alloc, seed, tally)?;
+            let part = self.turn(seed);
+            let read = self.read_changed(alloc, part, seed, tally);
+            self.turn(seed);
+            read?;
         }
         Ok(())
     }
 
     /// Reads it in all ways: of fronts and of changed bytes there are so many, or fewer.
-    pub fn check(&mut self, alloc: Global, most: u64, tally: &mut Tally) -> Result<(), Failure> {
+    pub fn check_once(
+        &mut self,
+        alloc: Global,
+        most: u64,
+        tally: &mut Tally,
+    ) -> Result<(), Failure> {
         let count = most.min((READ / self.len().max(1)) as u64).max(FEW);
         let task = self.task();
         let kept = read_whole(alloc, task, tally)?;
@@ -382,5 +346,17 @@ impl Recording {
         read_fronts(alloc, task, count, tally)?;
         say_again(alloc, task, tally)?;
         self.read_changes(alloc, count, tally)
+    }
+
+    /// Reads it in all ways, once more where memory is refused.
+    pub fn check(&mut self, alloc: Global, most: u64, tally: &mut Tally) -> Result<(), Failure> {
+        let before = *tally;
+        match self.check_once(alloc, most, tally) {
+            Err(failure) if matches!(failure.trouble, Trouble::Memory) => {
+                *tally = before;
+                self.check_once(alloc, most, tally)
+            }
+            answer => answer,
+        }
     }
 }

@@ -1,9 +1,9 @@
 //! A recording said again: a client and a server put its events, each reads the other's, and an
 //! auditor reads between them.
 
-use crate::calls::{begin, close, feed, put_event};
+use crate::calls::{begin, feed, put_event};
 use crate::numbers::Numbers;
-use crate::readings::Task;
+use crate::readings::{Task, feed_whole};
 use crate::streams::packet_length;
 use crate::troubles::Trouble;
 use mysql_connection_machine::{Connection, PutRefusal};
@@ -153,22 +153,19 @@ impl Speakers {
     }
 }
 
-/// Says all events of a recording, and returns how many.
-fn say_once<'a>(alloc: Global, task: &Task<'a>, seed: u64) -> Result<Said<'a>, Trouble> {
-    let mut source = begin(alloc, task.limits, task.in_force);
-    feed(&mut source, Side::Client, task.client)?;
-    feed(&mut source, Side::Server, task.server)?;
-    close(&mut source)?;
-    let mut speakers = Speakers::new(alloc, task);
+/// Says all events of a connection, which is fed both streams.
+fn say_events(
+    task: &Task<'_>,
+    source: &mut Connection,
+    speakers: &mut Speakers,
+    seed: u64,
+    said: &mut Said<'_>,
+) -> Result<(), Trouble> {
+    feed_whole(source, task)?;
+    let alloc = speakers.alloc;
     let mut numbers = Numbers::new(seed);
     let mut line = Vec::new(alloc);
     let mut out = Vec::new(alloc);
-    let mut said = Said {
-        client: task.client,
-        server: task.server,
-        events: 0,
-        same: 0,
-    };
     for _ in 0..u64::MAX {
         line.clear();
         match source.next_event() {
@@ -182,13 +179,21 @@ fn say_once<'a>(alloc: Global, task: &Task<'a>, seed: u64) -> Result<Said<'a>, T
             Err(_) => break,
         }
     }
-    Ok(said)
+    Ok(())
 }
 
-/// Says all events of a recording, once more where memory is refused.
+/// Says all events of a recording, and returns how many.
 pub fn say<'a>(alloc: Global, task: &Task<'a>, seed: u64) -> Result<Said<'a>, Trouble> {
-    match say_once(alloc, task, seed) {
-        Err(Trouble::Memory) => say_once(alloc, task, seed),
-        answer => answer,
+    let mut source = begin(alloc, task.limits, task.in_force);
+    let mut speakers = Speakers::new(alloc, task);
+    let mut said = Said {
+        client: task.client,
+        server: task.server,
+        events: 0,
+        same: 0,
+    };
+    match say_events(task, &mut source, &mut speakers, seed, &mut said) {
+        Ok(()) => Ok(said),
+        Err(trouble) => Err(trouble),
     }
 }

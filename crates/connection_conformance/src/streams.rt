@@ -1,12 +1,10 @@
 //! A side's stream: how far it was fed, and how far events took it.
 
-use crate::troubles::Trouble;
-
 /// What of a side's stream wasn't fed yet, and what no event took yet.
 #[derive(Clone, Copy)]
 pub struct Stream<'a> {
-    unfed: &'a [u8],
-    untaken: &'a [u8],
+    pub unfed: &'a [u8],
+    pub untaken: &'a [u8],
 }
 
 /// How many bytes the packet that stands first takes, where its header is there. No packet of a
@@ -40,50 +38,17 @@ pub fn packets_of(stream: &[u8]) -> (usize, &[u8]) {
 }
 
 impl<'a> Stream<'a> {
-    /// A stream of which nothing was fed.
-    pub fn new(bytes: &'a [u8]) -> Stream<'a> {
-        Stream {
-            unfed: bytes,
-            untaken: bytes,
-        }
-    }
-
-    /// How many bytes weren't fed yet.
-    pub fn left(&self) -> usize {
-        self.unfed.len()
-    }
-
-    /// So many of the bytes that weren't fed yet, or all of them.
-    pub fn piece(&self, count: usize) -> &'a [u8] {
-        self.unfed.get(..count).unwrap_or(self.unfed)
-    }
-
-    /// So many bytes were fed.
-    pub fn feed(&mut self, count: usize) {
-        self.unfed = self.unfed.get(count..).unwrap_or(&[]);
-    }
-
     /// How many bytes were fed that no event took.
     pub fn waiting(&self) -> usize {
         self.untaken.len().saturating_sub(self.unfed.len())
     }
 
-    /// Whether the packet that stands first was fed whole.
-    pub fn is_whole(&self) -> bool {
+    /// What stands behind the packet that stands first, where that was fed whole.
+    pub fn behind(&self) -> Option<&'a [u8]> {
         match packet_length(self.untaken) {
-            Some(length) => length <= self.waiting(),
-            None => false,
+            Some(length) if length <= self.waiting() => self.untaken.get(length..),
+            _ => None,
         }
-    }
-
-    /// An event took the packet that stands first.
-    pub fn take(&mut self) -> Result<(), Trouble> {
-        if !self.is_whole() {
-            return Err(Trouble::Early);
-        }
-        let length = packet_length(self.untaken).unwrap_or(0);
-        self.untaken = self.untaken.get(length..).unwrap_or(&[]);
-        Ok(())
     }
 
     /// Whether these are the bytes that were fed and that no event took.

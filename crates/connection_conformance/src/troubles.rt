@@ -2,7 +2,7 @@
 
 use crate::orders::Order;
 use mysql_connection_rules::Side;
-use row_fields::FieldError;
+use row_fields::Trouble as FieldTrouble;
 use std::alloc::AllocError;
 use std::{fmt, io};
 
@@ -32,12 +32,8 @@ pub enum Trouble {
     End,
     /// An event that was read isn't put again.
     Put,
-    /// More comes than the rows of a conversation say.
-    More,
     /// A row of a conversation is none that is known.
     Unknown,
-    /// The rows of a conversation have no end.
-    Unended,
 }
 
 impl Trouble {
@@ -55,18 +51,16 @@ impl Trouble {
             Trouble::Held => "more or less is held than has to be",
             Trouble::End => "the end isn't how the connection stands",
             Trouble::Put => "an event that was read isn't put again",
-            Trouble::More => "more comes than the rows say",
             Trouble::Unknown => "the row is none that is known",
-            Trouble::Unended => "the rows have no end",
         }
     }
 }
 
-impl From<FieldError> for Trouble {
-    fn from(error: FieldError) -> Trouble {
+impl From<FieldTrouble> for Trouble {
+    fn from(error: FieldTrouble) -> Trouble {
         match error {
-            FieldError::Memory => Trouble::Memory,
-            FieldError::Malformed(_) => Trouble::Unknown,
+            FieldTrouble::Memory => Trouble::Memory,
+            FieldTrouble::Malformed(_) => Trouble::Unknown,
         }
     }
 }
@@ -97,6 +91,8 @@ pub enum Part {
     Short,
     /// All of it, said again by a client and a server.
     Said,
+    /// Row by row.
+    Rows,
 }
 
 impl fmt::Display for Part {
@@ -108,6 +104,7 @@ impl fmt::Display for Part {
             Part::Changed(Side::Server, byte) => write!(f, "byte {byte} of the server changed"),
             Part::Short => f.write_str("with too little room"),
             Part::Said => f.write_str("said again"),
+            Part::Rows => f.write_str("row by row"),
         }
     }
 }

@@ -5,7 +5,9 @@ ghost use Rattle.std.specs.Option.{option_map};
 ghost use Rattle.std.specs.String.{string_bytes};
 
 use crate::cents::Cents;
-use mysql_session::{FromRow, Row, RowConversionError};
+use mysql_session::{
+    CapabilityFlags, FromRow, Reply, ReplyKind, ReplyResult, Row, RowConversionError, read_reply,
+};
 use std::alloc::Global;
 use std::io;
 use std::io::Write;
@@ -41,9 +43,26 @@ fn say_good<W: Write>(good: &Good, out: &mut W) -> io::Result<()> {
 }
 
 /// Prints a row as a good.
-pub fn say_row<W: Write>(alloc: Global, row: &Row, out: &mut W) -> io::Result<()> {
+fn say_row<W: Write>(alloc: Global, row: &Row, out: &mut W) -> io::Result<()> {
     match &Good::from_row_ref_opt(alloc, row) {
         Ok(good) => say_good(good, out),
         Err(_error) => writeln!(out, "no good"),
     }
+}
+
+/// Prints the rows of the first result, and how the reply ends.
+fn say<W: Write>(alloc: Global, reply: &Reply, out: &mut W) -> io::Result<()> {
+    if let Some(ReplyResult::Rows { rows, .. }) = reply.results.first() {
+        for row in rows {
+            say_row(alloc, row, out)?;
+        }
+    }
+    writeln!(out, "{}", reply.end)
+}
+
+/// Prints the rows of a server's reply to `SELECT name, price FROM goods`.
+pub fn run<W: Write>(alloc: Global, reply: &[u8], out: &mut W) -> io::Result<()> {
+    let capabilities = CapabilityFlags::CLIENT_PROTOCOL_41;
+    let reply = read_reply(alloc, ReplyKind::Text, capabilities, 1, 1 << 24, &[reply]);
+    say(alloc, &reply, out)
 }

@@ -40,24 +40,16 @@ fn number<I: ColumnIndex>(alloc: Global, row: &Row, index: I) -> usize {
     }
 }
 
-/// What the four cells of a row come to.
-fn sum_of<I: ColumnIndex>(alloc: Global, row: &Row, id: I, name: I, note: I, age: I) -> usize {
-    number(alloc, row, id)
-        .wrapping_add(text_len(alloc, row, name))
-        .wrapping_add(text_len(alloc, row, note))
-        .wrapping_add(number(alloc, row, age))
-}
-
-/// What the cells of all rows come to.
-fn sum_of_rows(alloc: Global, rows: &[Row], by_name: bool) -> usize {
+/// What the four cells of all rows come to: two numbers and two texts.
+fn sum_of<I: ColumnIndex + Copy>(alloc: Global, rows: &[Row], places: [I; 4]) -> usize {
+    let [id, name, note, age] = places;
     let mut sum: usize = 0;
     for row in rows {
-        let more = if by_name {
-            sum_of(alloc, row, "id", "name", "note", "age")
-        } else {
-            sum_of(alloc, row, 0usize, 1, 2, 3)
-        };
-        sum = sum.wrapping_add(more);
+        sum = sum
+            .wrapping_add(number(alloc, row, id))
+            .wrapping_add(text_len(alloc, row, name))
+            .wrapping_add(text_len(alloc, row, note))
+            .wrapping_add(number(alloc, row, age));
     }
     sum
 }
@@ -74,7 +66,12 @@ pub extern "C" fn mysql_bench_cells(
     let reply = read_reply(alloc, kind_of(binary), CAPABILITIES, 1, LIMIT, &[stream]);
     let mut sum = 0;
     for _ in 0..times {
-        sum = sum_of_rows(alloc, rows_of(&reply), by_name);
+        let rows = rows_of(&reply);
+        sum = if by_name {
+            sum_of(alloc, rows, ["id", "name", "note", "age"])
+        } else {
+            sum_of(alloc, rows, [0usize, 1, 2, 3])
+        };
     }
     sum
 }

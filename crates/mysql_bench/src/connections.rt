@@ -37,9 +37,15 @@ fn lent_events(connection: &mut Connection, most: usize) -> Result<usize, Connec
     Ok(sum)
 }
 
+/// Feeds bytes of a side: whether they were taken. What `feed` promises is long, so it is called here
+/// alone.
+pub fn feed(connection: &mut Connection, side: Side, bytes: &[u8]) -> bool {
+    connection.feed(side, bytes).is_ok()
+}
+
 /// Reads a connection on by a piece of a side. Answers what the events come to.
 fn sum_of_piece(connection: &mut Connection, side: Side, piece: &[u8]) -> usize {
-    if connection.feed(side, piece).is_err() {
+    if !feed(connection, side, piece) {
         return 0;
     }
     // There are fewer events than bytes, but for a byte of the other side.

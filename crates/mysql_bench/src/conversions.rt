@@ -5,19 +5,13 @@ use mysql_session::{Value, from_value_opt};
 use mysql_wire::ParseBuf;
 use std::alloc::Global;
 
-/// The whole number that a copy of a value converts to, or 0.
-fn number(alloc: Global, value: &Value) -> i64 {
-    match value.clone(alloc) {
-        Ok(copy) => from_value_opt::<i64>(copy).unwrap_or(0),
-        Err(_) => 0,
-    }
-}
-
-/// The sum of the numbers that values convert to.
+/// The sum of the whole numbers that copies of values convert to.
 fn sum_of(alloc: Global, values: &[Value]) -> i64 {
     let mut sum: i64 = 0;
     for value in values {
-        sum = sum.wrapping_add(number(alloc, value));
+        if let Ok(copy) = value.clone(alloc) {
+            sum = sum.wrapping_add(from_value_opt::<i64>(copy).unwrap_or(0));
+        }
     }
     sum
 }

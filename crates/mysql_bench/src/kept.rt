@@ -1,27 +1,41 @@
 //! Parameter sets sent by a query that is kept.
 
-ghost use Rattle.std.specs.Prelude.{◌<◌};
-
-use crate::sets::{lists_of, sets_of};
+use crate::sets::sets_of;
 use crate::{LIMIT, STATEMENT, road_of};
-use mysql_session::{Params, Query, Road, Value};
+use mysql_session::{Params, Query, Refusal, Road};
 use std::alloc::Global;
+use std::slice;
 
-/// Sends the sets, so many by a call, into a buffer that is emptied before each call. Answers the bytes.
+/// Sends a set: by a command of its own, or as an execution of a statement that was prepared before.
+fn send_one(
+    alloc: Global,
+    query: &Query<'_>,
+    set: &Params,
+    road: Road,
+    is_prepared: bool,
+    out: &mut Vec<u8>,
+) -> Result<(), Refusal> {
+    match set {
+        Params::Positional(list) if is_prepared => {
+            query.send_more(alloc, 0, slice::from_ref(list), LIMIT, out)
+        }
+        set => query.send(alloc, slice::from_ref(set), road, LIMIT, out),
+    }
+}
+
+/// Sends the sets, each by a call, into a buffer that is emptied before. Answers the bytes.
 fn sent(
     alloc: Global,
     query: &Query<'_>,
     sets: &[Params],
-    at_once: usize,
     road: Road,
+    is_prepared: bool,
     out: &mut Vec<u8>,
-) -> usize
-    requires { 0 < at_once }
-{
+) -> usize {
     let mut written: usize = 0;
-    for some in sets.chunks(at_once) {
+    for set in sets {
         out.clear();
-        if query.send(alloc, some, road, LIMIT, out).is_err() {
+        if send_one(alloc, query, set, road, is_prepared, out).is_err() {
             return 0;
         }
         written = written.wrapping_add(out.len());
@@ -29,9 +43,10 @@ fn sent(
     written
 }
 
-/// Sends the sets that the bytes hold by one query, so many by a call.
+/// Sends the sets that the bytes hold by one query, or as executions of its statement, which was
+/// prepared before.
 ///
-/// All of them are sent so many times. Answers the bytes of one time.
+/// Each goes by a call, and all of them so many times. Answers the bytes of one time.
 #[unsafe(no_mangle)]
 pub extern "C" fn mysql_bench_send_kept(
     alloc: Global,
@@ -40,11 +55,9 @@ pub extern "C" fn mysql_bench_send_kept(
     count: usize,
     width: usize,
     road: u8,
-    at_once: usize,
+    is_prepared: bool,
     times: usize,
-) -> usize
-    requires { 0 < at_once }
-{
+) -> usize {
     let Ok(sets) = sets_of(alloc, bytes, count, width) else {
         return 0;
     };
@@ -54,47 +67,7 @@ pub extern "C" fn mysql_bench_send_kept(
     let mut out = Vec::new(alloc);
     let mut written: usize = 0;
     for _ in 0..times {
-        written = sent(alloc, &query, &sets, at_once, road_of(road), &mut out);
-    }
-    written
-}
-
-/// Sends the executions of sets behind a prepare, each by a call, into a buffer that is emptied
-/// before. Answers the bytes.
-fn sent_behind(alloc: Global, query: &Query<'_>, sets: &[Vec<Value>], out: &mut Vec<u8>) -> usize {
-    let mut written: usize = 0;
-    for one in sets.chunks(1) {
-        out.clear();
-        if query.send_more(alloc, 0, one, LIMIT, out).is_err() {
-            return 0;
-        }
-        written = written.wrapping_add(out.len());
-    }
-    written
-}
-
-/// Sends the sets that the bytes hold as executions of one query that was prepared before.
-///
-/// Each goes by a call, and all of them so many times. Answers the bytes of one time.
-#[unsafe(no_mangle)]
-pub extern "C" fn mysql_bench_send_more(
-    alloc: Global,
-    query: &[u8],
-    bytes: &[u8],
-    count: usize,
-    width: usize,
-    times: usize,
-) -> usize {
-    let Ok(sets) = lists_of(alloc, bytes, count, width) else {
-        return 0;
-    };
-    let Ok(query) = Query::new(alloc, query, STATEMENT) else {
-        return 0;
-    };
-    let mut out = Vec::new(alloc);
-    let mut written: usize = 0;
-    for _ in 0..times {
-        written = sent_behind(alloc, &query, &sets, &mut out);
+        written = sent(alloc, &query, &sets, road_of(road), is_prepared, &mut out);
     }
     written
 }

@@ -1,14 +1,12 @@
 //! Events that are put on a connection: commands, executions of values and rows.
 
-ghost use Rattle.std.specs.Prelude.{◌<◌};
-
 use crate::cells::rows_of;
-use crate::connections::LIMITS;
+use crate::connections::{LIMITS, feed};
 use crate::rows::{CAPABILITIES, kind_of};
-use crate::sets::lists_of;
+use crate::sets::sets_of;
 use crate::{LIMIT, STATEMENT};
 use mysql_connection::{Capabilities, Connection, Event, MariadbCapabilities, Side};
-use mysql_session::{Row, Value, read_reply};
+use mysql_session::{Params, Row, read_reply};
 use std::alloc::{AllocError, Global};
 
 /// A connection behind its login, of the protocol of 4.1 with EOF packets.
@@ -25,19 +23,52 @@ fn next_of(connection: &mut Connection) -> Option<Event> {
     connection.next_event().ok().flatten()
 }
 
-/// Feeds a reply, and takes its events, of which there are so many at most. Answers how many there are.
-fn reply_read(connection: &mut Connection, reply: &[u8], most: usize) -> usize {
-    if connection.feed(Side::Server, reply).is_err() {
-        return 0;
-    }
-    let mut count: usize = 0;
-    for _ in 0..most {
-        match next_of(connection) {
-            Some(_) => count = count.wrapping_add(1),
-            None => return count,
+/// Feeds a reply, and takes its events, of which there are fewer than bytes.
+fn read_answer(connection: &mut Connection, reply: &[u8]) {
+    if feed(connection, Side::Server, reply) {
+        for _ in reply {
+            if next_of(connection).is_none() {
+                return;
+            }
         }
     }
-    count
+}
+
+/// The next command, where one is among so many events.
+fn next_command(connection: &mut Connection, most: usize) -> Option<Event> {
+    for _ in 0..most {
+        let event = next_of(connection)?;
+        if event.side() == Side::Client {
+            return Some(event);
+        }
+    }
+    None
+}
+
+/// The commands of a stream that a connection reads, where the first has this reply and each other
+/// that.
+fn commands_on(
+    alloc: Global,
+    connection: &mut Connection,
+    commands: &[u8],
+    first: &[u8],
+    reply: &[u8],
+) -> Result<Vec<Event>, AllocError> {
+    let mut found = Vec::new(alloc);
+    let mut said = first;
+    // There are fewer events of a reply than bytes.
+    let most = first.len().max(reply.len()).saturating_add(1);
+    if feed(connection, Side::Client, commands) {
+        for _ in commands {
+            match next_command(connection, most) {
+                Some(event) => found.push(event)?,
+                None => return Ok(found),
+            }
+            let _fed = feed(connection, Side::Server, said);
+            said = reply;
+        }
+    }
+    Ok(found)
 }
 
 /// The commands of a stream, where the first has this reply and each other that.
@@ -47,23 +78,8 @@ fn commands_of(
     first: &[u8],
     reply: &[u8],
 ) -> Result<Vec<Event>, AllocError> {
-    let mut found = Vec::new(alloc);
     let mut connection = logged_in(alloc);
-    if connection.feed(Side::Client, commands).is_err() {
-        return Ok(found);
-    }
-    let mut said = first;
-    for _ in 0..commands.len().saturating_mul(2) {
-        let Some(event) = next_of(&mut connection) else {
-            return Ok(found);
-        };
-        if event.side() == Side::Client {
-            found.push(event)?;
-            let _fed = connection.feed(Side::Server, said);
-            said = reply;
-        }
-    }
-    Ok(found)
+    commands_on(alloc, &mut connection, commands, first, reply)
 }
 
 /// Puts an event. Answers the bytes.
@@ -75,16 +91,21 @@ fn put_one(connection: &mut Connection, event: &Event, out: &mut Vec<u8>) -> usi
     }
 }
 
-/// Puts commands, each into a buffer that is emptied before, and reads the reply to each.
-fn put_commands(alloc: Global, commands: &[Event], first: &[u8], reply: &[u8]) -> usize {
-    let mut connection = logged_in(alloc);
-    let mut out = Vec::new(alloc);
+/// Puts commands, each into a buffer that is emptied before, and reads the reply to each. Answers the
+/// bytes.
+fn put_commands(
+    connection: &mut Connection,
+    commands: &[Event],
+    first: &[u8],
+    reply: &[u8],
+    out: &mut Vec<u8>,
+) -> usize {
     let mut written: usize = 0;
     let mut said = first;
     for command in commands {
         out.clear();
-        written = written.wrapping_add(put_one(&mut connection, command, &mut out));
-        let _read = reply_read(&mut connection, said, said.len());
+        written = written.wrapping_add(put_one(connection, command, out));
+        read_answer(connection, said);
         said = reply;
     }
     written
@@ -105,19 +126,23 @@ pub extern "C" fn mysql_bench_put_commands(
     let Ok(events) = commands_of(alloc, commands, first, reply) else {
         return 0;
     };
+    let mut out = Vec::new(alloc);
     let mut written: usize = 0;
     for _ in 0..times {
-        written = put_commands(alloc, &events, first, reply);
+        let mut connection = logged_in(alloc);
+        written = put_commands(&mut connection, &events, first, reply, &mut out);
     }
     written
 }
 
-/// Puts an execution of values. Answers the bytes.
+/// Puts an execution of a set. Answers the bytes.
 #[inline(never)]
-fn put_set(connection: &mut Connection, set: &[Value], out: &mut Vec<u8>) -> usize {
-    match connection.put_execution(STATEMENT, set, out) {
-        Ok(()) => out.len(),
-        Err(_) => 0,
+fn put_set(connection: &mut Connection, set: &Params, out: &mut Vec<u8>) -> usize {
+    match set {
+        Params::Positional(list) if connection.put_execution(STATEMENT, list, out).is_ok() => {
+            out.len()
+        }
+        _ => 0,
     }
 }
 
@@ -125,7 +150,7 @@ fn put_set(connection: &mut Connection, set: &[Value], out: &mut Vec<u8>) -> usi
 /// Answers the bytes.
 fn put_sets(
     connection: &mut Connection,
-    sets: &[Vec<Value>],
+    sets: &[Params],
     reply: &[u8],
     out: &mut Vec<u8>,
 ) -> usize {
@@ -133,22 +158,9 @@ fn put_sets(
     for set in sets {
         out.clear();
         written = written.wrapping_add(put_set(connection, set, out));
-        let _read = reply_read(connection, reply, reply.len());
+        read_answer(connection, reply);
     }
     written
-}
-
-/// A connection on which commands were put, of which the first has one reply and each other another.
-fn behind(alloc: Global, commands: &[Event], first: &[u8], reply: &[u8]) -> Connection {
-    let mut connection = logged_in(alloc);
-    let mut out = Vec::new(alloc);
-    let mut said = first;
-    for command in commands {
-        let _put = put_one(&mut connection, command, &mut out);
-        let _read = reply_read(&mut connection, said, said.len());
-        said = reply;
-    }
-    connection
 }
 
 /// Puts executions of the sets that the bytes hold on a connection, and feeds and reads the reply to
@@ -167,19 +179,25 @@ pub extern "C" fn mysql_bench_put_sets(
     reply: &[u8],
     times: usize,
 ) -> usize {
-    let Ok(sets) = lists_of(alloc, bytes, count, width) else {
+    let Ok(sets) = sets_of(alloc, bytes, count, width) else {
         return 0;
     };
     let Ok(events) = commands_of(alloc, commands, first, reply) else {
         return 0;
     };
-    let mut connection = behind(alloc, &events[..events.len().min(3)], first, reply);
+    let mut connection = logged_in(alloc);
     let mut out = Vec::new(alloc);
-    let mut written: usize = 0;
+    let front = &events[..events.len().min(3)];
+    let mut written = put_commands(&mut connection, front, first, reply, &mut out);
     for _ in 0..times {
         written = put_sets(&mut connection, &sets, reply, &mut out);
     }
     written
+}
+
+/// Puts packets of a side. Answers whether they were put.
+fn put_all(connection: &mut Connection, side: Side, packets: &[u8], out: &mut Vec<u8>) -> bool {
+    connection.put_packets(side, packets, out).is_ok()
 }
 
 /// Puts rows. Answers whether all were put.
@@ -192,20 +210,30 @@ fn put_rows(connection: &mut Connection, rows: &[Row], out: &mut Vec<u8>) -> boo
     true
 }
 
-/// Puts a command, and its reply: the packets before its rows, the rows, and those behind them. Answers
-/// whether all were put.
-fn put_reply(
+/// A prepare and its reply, a command, the packets before its reply's rows, and those behind them.
+type Parts<'a> = [&'a [u8]; 5];
+
+/// Puts a command, and its reply with these rows, so many times, into a buffer that is emptied before
+/// each. Answers the bytes of the last time.
+fn put_replies(
     connection: &mut Connection,
-    command: &[u8],
-    before: &[u8],
+    parts: Parts<'_>,
     rows: &[Row],
-    behind: &[u8],
+    times: usize,
     out: &mut Vec<u8>,
-) -> bool {
-    connection.put_packets(Side::Client, command, out).is_ok()
-        && connection.put_packets(Side::Server, before, out).is_ok()
-        && put_rows(connection, rows, out)
-        && connection.put_packets(Side::Server, behind, out).is_ok()
+) -> usize {
+    let [prepare, prepared, command, before, behind] = parts;
+    let mut are_put = put_all(connection, Side::Client, prepare, out)
+        && put_all(connection, Side::Server, prepared, out);
+    for _ in 0..times {
+        out.clear();
+        are_put = are_put
+            && put_all(connection, Side::Client, command, out)
+            && put_all(connection, Side::Server, before, out)
+            && put_rows(connection, rows, out)
+            && put_all(connection, Side::Server, behind, out);
+    }
+    if are_put { out.len() } else { 0 }
 }
 
 /// Puts a command and its reply on one connection so many times, each row by its cells.
@@ -225,26 +253,11 @@ pub extern "C" fn mysql_bench_put_rows(
     binary: bool,
     times: usize,
 ) -> usize {
-    let reply = read_reply(alloc, kind_of(binary), CAPABILITIES, 1, LIMIT, &[stream]);
     let (before, _) = stream.split_at(from.min(stream.len()));
     let (_, behind) = stream.split_at(to.min(stream.len()));
+    let reply = read_reply(alloc, kind_of(binary), CAPABILITIES, 1, LIMIT, &[stream]);
     let mut connection = logged_in(alloc);
     let mut out = Vec::new(alloc);
-    if connection
-        .put_packets(Side::Client, prepare, &mut out)
-        .is_err()
-        || connection
-            .put_packets(Side::Server, prepared, &mut out)
-            .is_err()
-    {
-        return 0;
-    }
-    for _ in 0..times {
-        out.clear();
-        let rows = rows_of(&reply);
-        if !put_reply(&mut connection, command, before, rows, behind, &mut out) {
-            return 0;
-        }
-    }
-    out.len()
+    let parts = [prepare, prepared, command, before, behind];
+    put_replies(&mut connection, parts, rows_of(&reply), times, &mut out)
 }

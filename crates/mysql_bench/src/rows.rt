@@ -20,11 +20,6 @@ pub fn kind_of(binary: bool) -> ReplyKind {
     }
 }
 
-/// A reader of such a reply.
-fn reader_of(alloc: Global, binary: bool) -> ReplyReader {
-    ReplyReader::new(alloc, kind_of(binary), CAPABILITIES, 1, LIMIT)
-}
-
 /// What a cell comes to: of bytes how many, else the number itself.
 #[inline(always)]
 fn amount_of(cell: Option<ValueRef<'_>>) -> usize {
@@ -45,44 +40,6 @@ pub fn sum_of(row: &RowRef<'_, '_>) -> usize {
     sum
 }
 
-/// Lends the rows of a piece. Answers what they come to.
-fn sum_of_piece(reader: &mut ReplyReader, piece: &[u8]) -> Result<usize, ReplyFault> {
-    let mut rest = piece;
-    let mut sum: usize = 0;
-    // There are fewer rows than bytes.
-    for _ in piece {
-        match reader.next_row(&mut rest)? {
-            Some(row) => sum = sum.wrapping_add(sum_of(&row)),
-            None => return Ok(sum),
-        }
-    }
-    Ok(sum)
-}
-
-/// Reads a reply that comes in pieces of a size, and lends its rows. Answers what they come to.
-#[unsafe(no_mangle)]
-pub extern "C" fn mysql_bench_lend_rows(
-    alloc: Global,
-    stream: &[u8],
-    size: usize,
-    binary: bool,
-) -> usize
-    requires { 0 < size }
-{
-    let mut reader = reader_of(alloc, binary);
-    let mut sum: usize = 0;
-    for piece in stream.chunks(size) {
-        match sum_of_piece(&mut reader, piece) {
-            Ok(more) => sum = sum.wrapping_add(more),
-            Err(_) => return 0,
-        }
-    }
-    match reader.finish().end {
-        ReplyEnd::Whole => sum,
-        _ => 0,
-    }
-}
-
 /// Keeps a row behind the others, under the columns of the first one.
 fn keep(
     alloc: Global,
@@ -98,26 +55,41 @@ fn keep(
     }
 }
 
-/// Keeps the rows of a piece.
-fn keep_piece(
+/// What a row comes to that is let go. One that is kept comes to nothing yet.
+#[inline(always)]
+fn take(
+    alloc: Global,
+    row: &RowRef<'_, '_>,
+    keeps: bool,
+    stored: &mut Option<StoredRows>,
+) -> Result<usize, ReplyFault> {
+    if !keeps {
+        return Ok(sum_of(row));
+    }
+    match keep(alloc, row, stored) {
+        Ok(()) => Ok(0),
+        Err(_) => Err(ReplyFault::Memory),
+    }
+}
+
+/// Takes the rows of a piece. Answers what they come to.
+fn take_piece(
     alloc: Global,
     reader: &mut ReplyReader,
     piece: &[u8],
+    keeps: bool,
     stored: &mut Option<StoredRows>,
-) -> Result<(), ReplyFault> {
+) -> Result<usize, ReplyFault> {
     let mut rest = piece;
+    let mut sum: usize = 0;
     // There are fewer rows than bytes.
     for _ in piece {
         match reader.next_row(&mut rest)? {
-            Some(row) => {
-                if keep(alloc, &row, stored).is_err() {
-                    return Err(ReplyFault::Memory);
-                }
-            }
-            None => return Ok(()),
+            Some(row) => sum = sum.wrapping_add(take(alloc, &row, keeps, stored)?),
+            None => return Ok(sum),
         }
     }
-    Ok(())
+    Ok(sum)
 }
 
 /// What the cells of all rows come to, and 1 for each row.
@@ -129,25 +101,31 @@ fn sum_of_rows(stored: &StoredRows) -> usize {
     sum
 }
 
-/// Reads a reply that comes in pieces of a size, keeps its rows, and looks at them. Answers what they come to.
+/// Reads a reply that comes in pieces of a size. Answers what its rows come to.
+///
+/// Each row is lent, looked at and let go; or all of them are kept, and looked at in the end.
 #[unsafe(no_mangle)]
-pub extern "C" fn mysql_bench_store_rows(
+pub extern "C" fn mysql_bench_read_rows(
     alloc: Global,
     stream: &[u8],
     size: usize,
     binary: bool,
+    keeps: bool,
 ) -> usize
     requires { 0 < size }
 {
-    let mut reader = reader_of(alloc, binary);
+    let mut reader = ReplyReader::new(alloc, kind_of(binary), CAPABILITIES, 1, LIMIT);
     let mut stored = None;
+    let mut sum: usize = 0;
     for piece in stream.chunks(size) {
-        if keep_piece(alloc, &mut reader, piece, &mut stored).is_err() {
-            return 0;
+        match take_piece(alloc, &mut reader, piece, keeps, &mut stored) {
+            Ok(more) => sum = sum.wrapping_add(more),
+            Err(_) => return 0,
         }
     }
     match (reader.finish().end, &stored) {
         (ReplyEnd::Whole, Some(rows)) => sum_of_rows(rows),
+        (ReplyEnd::Whole, None) => sum,
         _ => 0,
     }
 }

@@ -34,18 +34,3 @@ pub fn sets_of(
     }
     Ok(sets)
 }
-
-/// The same, each as a list of values.
-pub fn lists_of(
-    alloc: Global,
-    bytes: &[u8],
-    count: usize,
-    width: usize,
-) -> Result<Vec<Vec<Value>>, WireError> {
-    let mut buf = ParseBuf(bytes);
-    let mut sets = Vec::new(alloc);
-    for _ in 0..count {
-        sets.push(values_of(alloc, &mut buf, width)?)?;
-    }
-    Ok(sets)
-}

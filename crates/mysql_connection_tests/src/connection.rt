@@ -1,92 +1,90 @@
-//! A whole connection, read with memory refused. That it is read in pieces too is shown by conversations.
+//! How a test of this crate ends, and what tests share: a whole connection, and how it is fed.
 
-use crate::memory::Asserting;
-use mysql_connection::{Connection, End, Fault, FeedRefusal, LentEvent, Limits, Reason, Side};
-use mysql_row_refs::{RowRef, ValueRef};
+ghost use Rattle.std.specs.Prelude.{◌≡◌, true};
+
+use mysql_connection::{Capabilities, Connection, Fault, FeedRefusal, Limits, Side};
 use std::alloc::Global;
 use std::process::Abort;
-use tests_support::Assert;
+use tests_support::{Assert, once_more};
 
-pub const LIMITS: Limits = Limits {
+/// Ends a test by an assertion.
+#[derive(Drop)]
+pub struct Asserting<'a, R>(pub &'a R);
+
+impl<R: Abort> Assert for Asserting<'_, R> {
+    fn holds(&self, is_so: bool)
+        ensures { is_so ≡ true }
+    {
+        assert!(self.0; is_so);
+    }
+}
+
+/// What a run answers, or the same run once more where memory was refused.
+pub fn answer_of<T: Drop>(
+    assert: &impl Assert,
+    first: Result<T, Fault>,
+    second: Result<T, Fault>,
+) -> T {
+    if let Err(fault) = &first {
+        assert.holds(*fault == Fault::Memory);
+    }
+    once_more(assert, first, second)
+}
+
+const LIMITS: Limits = Limits {
     client: 1000,
     server: 1000,
     held: 4000,
 };
 
-// A login, a query, a prepare, an execution and a quit.
-pub const CLIENT: &[u8] = b"\x23\0\0\x01\0\x82\0\0\0\0\0\x01\x21\
-    \0\0\0\0\0\0\0\0\0\0\0\0\0\0\0\0\0\0\0\0\0\0\0u\0\0\
-    \x09\0\0\0\x03SELECT 1\
-    \x09\0\0\0\x16SELECT ?\
-    \x12\0\0\0\x17\x01\0\0\0\0\x01\0\0\0\0\x01\xfd\0\x03abc\
-    \x01\0\0\0\x01";
+/// What a side says, up to where it is the other's turn.
+pub type Turn = (Side, &'static [u8]);
 
-// A greeting, an OK packet, a result of one row, the answer to the prepare (a statement with one
-// parameter), and an OK packet.
-pub const SERVER: &[u8] = b"\x33\0\0\0\x0a5.5.5\0\x01\0\0\x0012345678\0\0\x82\x21\x02\0\0\0\x15\
-    \0\0\0\0\0\0\0\0\0\0123456789012\0\
-    \x07\0\0\x02\0\0\0\x02\0\0\0\
-    \x01\0\0\x01\x01\
-    \x17\0\0\x02\x03def\0\0\0\x011\0\x0c\x3f\0\0\0\0\0\xfd\x80\0\0\0\0\
-    \x05\0\0\x03\xfe\0\0\x02\0\
-    \x02\0\0\x04\x011\
-    \x05\0\0\x05\xfe\0\0\x02\0\
-    \x0c\0\0\x01\0\x01\0\0\0\0\0\x01\0\0\0\0\
-    \x17\0\0\x02\x03def\0\0\0\x01\x3f\0\x0c\x3f\0\0\0\0\0\xfd\x80\0\0\0\0\
-    \x05\0\0\x03\xfe\0\0\x02\0\
-    \x07\0\0\x01\0\0\0\x02\0\0\0";
+/// A login, a query, a prepare, an execution and a quit. 16 payloads.
+pub const CONNECTION: &[Turn] = &[
+    // A greeting, the login, and an OK packet.
+    (
+        Side::Server,
+        b"\x33\0\0\0\x0a5.5.5\0\x01\0\0\x0012345678\0\0\x82\x21\x02\0\0\0\x15\
+        \0\0\0\0\0\0\0\0\0\0123456789012\0",
+    ),
+    (
+        Side::Client,
+        b"\x23\0\0\x01\0\x82\0\0\0\0\0\x01\x21\
+        \0\0\0\0\0\0\0\0\0\0\0\0\0\0\0\0\0\0\0\0\0\0\0u\0\0",
+    ),
+    (Side::Server, b"\x07\0\0\x02\0\0\0\x02\0\0\0"),
+    // A result of one row.
+    (Side::Client, b"\x09\0\0\0\x03SELECT 1"),
+    (
+        Side::Server,
+        b"\x01\0\0\x01\x01\
+        \x17\0\0\x02\x03def\0\0\0\x011\0\x0c\x3f\0\0\0\0\0\xfd\x80\0\0\0\0\
+        \x05\0\0\x03\xfe\0\0\x02\0\
+        \x02\0\0\x04\x011\
+        \x05\0\0\x05\xfe\0\0\x02\0",
+    ),
+    // A statement with one parameter.
+    (Side::Client, b"\x09\0\0\0\x16SELECT ?"),
+    (
+        Side::Server,
+        b"\x0c\0\0\x01\0\x01\0\0\0\0\0\x01\0\0\0\0\
+        \x17\0\0\x02\x03def\0\0\0\x01\x3f\0\x0c\x3f\0\0\0\0\0\xfd\x80\0\0\0\0\
+        \x05\0\0\x03\xfe\0\0\x02\0",
+    ),
+    (
+        Side::Client,
+        b"\x12\0\0\0\x17\x01\0\0\0\0\x01\0\0\0\0\x01\xfd\0\x03abc",
+    ),
+    (Side::Server, b"\x07\0\0\x01\0\0\0\x02\0\0\0"),
+    (Side::Client, b"\x01\0\0\0\x01"),
+];
 
-// How many events there were, and how many rows of one cell, 1, were lent.
-type Counts = (usize, usize);
-
-// Whether a row is lent whose one cell is 1.
-fn is_one(row: Option<RowRef>) -> bool {
-    let Some(row) = row else {
-        return false;
-    };
-    match row.as_ref(0) {
-        Some(ValueRef::Bytes(bytes)) => row.len() == 1 && bytes == b"1".as_slice(),
-        _ => false,
-    }
-}
-
-// Takes the events that are there.
-fn take_events(connection: &mut Connection) -> Result<Counts, Fault> {
-    let mut count: usize = 0;
-    for _ in 0..20 {
-        match connection.next_event() {
-            Ok(Some(_)) => count = count.wrapping_add(1),
-            Ok(None) => return Ok((count, 0)),
-            Err(failure) => return Err(failure.fault),
-        }
-    }
-    Ok((count, 0))
-}
-
-// Takes the events that are there, with rows lent.
-fn take_lent(connection: &mut Connection) -> Result<Counts, Fault> {
-    let mut count: usize = 0;
-    let mut rows: usize = 0;
-    for _ in 0..20 {
-        match connection.next_event_lent() {
-            Ok(Some(LentEvent::Event(_))) => count = count.wrapping_add(1),
-            Ok(Some(LentEvent::Row)) => {
-                count = count.wrapping_add(1);
-                rows = rows.wrapping_add(usize::from(is_one(connection.row())));
-            }
-            Ok(None) => return Ok((count, rows)),
-            Err(failure) => return Err(failure.fault),
-        }
-    }
-    Ok((count, rows))
-}
-
-// Takes the events that are there.
-fn take(connection: &mut Connection, lent: bool) -> Result<Counts, Fault> {
-    if lent {
-        take_lent(connection)
-    } else {
-        take_events(connection)
+/// A connection at its greeting, or behind a login.
+pub fn begin(alloc: Global, in_force: Option<Capabilities>) -> Connection {
+    match in_force {
+        Some(capabilities) => Connection::after_login(alloc, LIMITS, capabilities),
+        None => Connection::new(alloc, LIMITS),
     }
 }
 
@@ -95,8 +93,8 @@ fn feed_once(connection: &mut Connection, side: Side, piece: &[u8]) -> Result<()
     connection.feed(side, piece)
 }
 
-/// Feeds a piece, which has room; for want of memory once more.
-pub fn feed(connection: &mut Connection, side: Side, piece: &[u8]) -> Result<(), Fault> {
+// Feeds a piece, which has room; for want of memory once more.
+fn feed(connection: &mut Connection, side: Side, piece: &[u8]) -> Result<(), Fault> {
     let fed = match feed_once(connection, side, piece) {
         Err(FeedRefusal::Memory) => feed_once(connection, side, piece),
         answer => answer,
@@ -107,46 +105,22 @@ pub fn feed(connection: &mut Connection, side: Side, piece: &[u8]) -> Result<(),
     }
 }
 
-// Reads both streams, the client's first. Answers what was counted.
-fn read_streams(connection: &mut Connection, lent: bool) -> Result<Counts, Fault> {
-    feed(connection, Side::Client, CLIENT)?;
-    feed(connection, Side::Server, SERVER)?;
-    take(connection, lent)
-}
-
-// Reads the connection. Answers what was counted, and how it ends.
-fn read(alloc: Global, lent: bool) -> Result<(Counts, End), Fault> {
-    let mut connection = Connection::new(alloc, LIMITS);
-    match read_streams(&mut connection, lent) {
-        Ok(counts) => Ok((counts, connection.finish())),
-        Err(fault) => Err(fault),
+/// Feeds all that both sides say.
+pub fn feed_turns(connection: &mut Connection, turns: &[Turn]) -> Result<(), Fault> {
+    for (side, bytes) in turns {
+        feed(connection, *side, bytes)?;
     }
+    Ok(())
 }
 
-// Reads it, once more where memory ran out.
-fn read_again(alloc: Global, lent: bool) -> Result<(Counts, End), Fault> {
-    match read(alloc, lent) {
-        Err(Fault::Memory) => read(alloc, lent),
-        answer => answer,
-    }
-}
-
-fn is_read<R: Abort>(assert: &Asserting<'_, R>, answer: Result<(Counts, End), Fault>, rows: usize) {
-    match answer {
-        Ok((counts, end)) => {
-            assert.holds(counts == (16, rows));
-            assert.holds(end == End::Over(Reason::Quit));
+/// Whether bytes are what both sides say, turn by turn.
+pub fn are_said(bytes: &[u8], turns: &[Turn]) -> bool {
+    let mut rest = bytes;
+    for (_, said) in turns {
+        match rest.strip_prefix(*said) {
+            Some(behind) => rest = behind,
+            None => return false,
         }
-        Err(_) => assert.holds(false),
     }
-}
-
-#[test]
-fn in_one_piece(rt: HostRuntime) {
-    is_read(&Asserting(&rt), read_again(rt.alloc(), false), 0);
-}
-
-#[test]
-fn rows_are_lent(rt: HostRuntime) {
-    is_read(&Asserting(&rt), read_again(rt.alloc(), true), 1);
+    rest.is_empty()
 }

@@ -1,12 +1,13 @@
 //! Sets of global transaction identifiers, as bytes and as texts, and tags of texts.
 
-use crate::support::{Asserting, assert_reads, assert_writes, set, tagged_set, untagged_set};
+use crate::support::{Asserting, assert_prints, assert_reads, assert_writes, set, tag, tagged_set};
 use mysql_fields::WireError;
 use mysql_login::{GnoInterval, InvalidTag, Sid, SidBlock, SidError, Tag, UUID_LEN};
-use std::alloc::{AllocError, Global};
 use std::borrow::{CowSlice, CowStr};
 use std::cmp::Ordering;
-use tests_support::{Assert, assert_bytes, assert_equal, assert_same, once_more, whole};
+use tests_support::{
+    Assert, assert_answer, assert_copied, assert_equal, assert_same, once_more, whole,
+};
 
 // A set with the transactions 1 to 99.
 const SET: &[u8] =
@@ -31,19 +32,24 @@ fn sets_and_blocks(rt: HostRuntime) {
     let alloc = rt.alloc();
     assert_reads::<Sid>(&assert, alloc, SET, SET.len(), &MANY_INTERVALS);
     let read = whole::<Sid, ()>(&assert, alloc, (), SET);
-    assert_equal(
-        &assert,
-        read,
-        set(&assert, alloc, *b"aaaaaaaaaaaaaaaa", 100),
-    );
+    let first = set(&assert, alloc, *b"aaaaaaaaaaaaaaaa", 100);
+    assert_equal(&assert, read, first);
     assert_writes(&assert, alloc, tagged_set(&assert, alloc), SET);
     assert_reads::<SidBlock>(&assert, alloc, BLOCK, BLOCK.len(), &[]);
-    let sids = [tagged_set(&assert, alloc), untagged_set(&assert, alloc)];
+    let second = set(&assert, alloc, *b"bbbbbbbbbbbbbbbb", 50);
+    let sids = [tagged_set(&assert, alloc), second];
     let block = SidBlock(CowSlice::Borrowed(&sids));
     assert_equal(&assert, block.byte_len() as usize, BLOCK.len());
     assert_writes(&assert, alloc, block, BLOCK);
     drop(sids);
 }
+
+// Ends that are no interval's. Of two causes the start that isn't below the end is told first.
+const NO_INTERVALS: [(u64, u64, SidError); 3] = [
+    (5, 5, SidError::StartNotBelowEnd),
+    (0, 0, SidError::StartNotBelowEnd),
+    (0, 1, SidError::ZeroGno),
+];
 
 // A tag makes a set another one.
 #[test]
@@ -54,270 +60,221 @@ fn parts_of_sets(rt: HostRuntime) {
     assert_equal(&assert, (interval.start(), interval.end()), (1, 100));
     assert_writes(&assert, alloc, interval, &SET[24..]);
     assert_equal(&assert, GnoInterval::check_and_new(1, 100), Ok(interval));
-    // Of ends that are no interval's the start that isn't below the end is told first.
-    let rows = [
-        (5, 5, Err(SidError::StartNotBelowEnd)),
-        (0, 0, Err(SidError::StartNotBelowEnd)),
-        (0, 1, Err(SidError::ZeroGno)),
-    ];
-    for (start, end, wanted) in rows {
-        assert_equal(&assert, GnoInterval::check_and_new(start, end), wanted);
+    for (start, end, cause) in NO_INTERVALS {
+        assert_equal(&assert, GnoInterval::check_and_new(start, end), Err(cause));
     }
-    let (plain, tagged) = (
-        set(&assert, alloc, *b"aaaaaaaaaaaaaaaa", 100),
-        tagged_set(&assert, alloc),
-    );
-    assert.holds(plain != tagged);
+    let plain = set(&assert, alloc, *b"aaaaaaaaaaaaaaaa", 100);
+    let tagged = tagged_set(&assert, alloc);
+    assert.holds((plain != tagged) & plain.tag().is_none());
     assert_equal(&assert, plain.uuid(), *b"aaaaaaaaaaaaaaaa");
-    assert.holds(plain.tag().is_none());
     assert_equal(&assert, tagged.tag().map(|tag| tag.as_str()), Some("app"));
+    assert_copied(&assert, &tagged, tagged.clone(alloc), tagged.clone(alloc));
     drop(plain);
     drop(tagged);
 }
 
 // ---- Texts ----
 
-// The set of a text.
-fn parsed(assert: &impl Assert, alloc: Global, text: &str) -> Sid<'static> {
-    once_more(assert, Sid::parse(alloc, text), Sid::parse(alloc, text))
-}
+// The source is printed in lower case, and each interval in its shortest form. The last three are
+// printed as they are. A number that doesn't stand first may have a plus.
+const PRINTED: [(&str, &str); 9] = [
+    (
+        "3E11FA47-71CA-11E1-9E33-C80AA9429562:1-5:10-15",
+        "3e11fa47-71ca-11e1-9e33-c80aa9429562:1-5:10-15",
+    ),
+    (
+        "3E11FA47-71CA-11E1-9E33-C80AA9429562:domain_a:1-5:10-20",
+        "3e11fa47-71ca-11e1-9e33-c80aa9429562:domain_a:1-5:10-20",
+    ),
+    (
+        "3E11FA47-71CA-11E1-9E33-C80AA9429562:app:7",
+        "3e11fa47-71ca-11e1-9e33-c80aa9429562:app:7",
+    ),
+    (
+        "3E11FA47-71CA-11E1-9E33-C80AA9429562:4-4:007",
+        "3e11fa47-71ca-11e1-9e33-c80aa9429562:4:7",
+    ),
+    (
+        "3e11fa47-71ca-11e1-9e33-c80aa9429562:1-+5:+7-+8",
+        "3e11fa47-71ca-11e1-9e33-c80aa9429562:1-5:7-8",
+    ),
+    (
+        "3e11fa47-71ca-11e1-9e33-c80aa9429562:app:+7",
+        "3e11fa47-71ca-11e1-9e33-c80aa9429562:app:7",
+    ),
+    (
+        "3e11fa47-71ca-11e1-9e33-c80aa9429562:domain_a:1-5:10-20",
+        "3e11fa47-71ca-11e1-9e33-c80aa9429562:domain_a:1-5:10-20",
+    ),
+    (
+        "3e11fa47-71ca-11e1-9e33-c80aa9429562:42",
+        "3e11fa47-71ca-11e1-9e33-c80aa9429562:42",
+    ),
+    (
+        "3e11fa47-71ca-11e1-9e33-c80aa9429562:app:7",
+        "3e11fa47-71ca-11e1-9e33-c80aa9429562:app:7",
+    ),
+];
 
-fn printed(alloc: Global, sid: &Sid<'_>) -> Result<String, AllocError> {
-    format!(in alloc; "{sid}")
-}
-
-// Asserts that a set is printed as this text.
-fn assert_prints(assert: &impl Assert, alloc: Global, sid: Sid<'static>, wanted: &str) {
-    let found = once_more(assert, printed(alloc, &sid), printed(alloc, &sid));
-    drop(sid);
-    assert_bytes(assert, found.as_str().as_bytes(), wanted.as_bytes());
-}
+// Texts that are refused. Of two faults the leftmost is told, and of an interval in its order.
+const FAULTS: [(&str, SidError); 26] = [
+    ("3E11FA47-71CA-11E1-9E33-C80AA9429562", SidError::NoColon),
+    ("3E11FA47-71CA-11E1-9E33-C80AA94295620:1", SidError::BadUuid),
+    ("3E11FA47-71CA-11E1-9E33-C80AA9429562:", SidError::Empty),
+    (
+        "3E11FA47-71CA-11E1-9E33-C80AA9429562:Tag:23",
+        SidError::BadTag,
+    ),
+    (
+        "3E11FA47-71CA-11E1-9E33-C80AA9429562:Tag",
+        SidError::NoIntervals,
+    ),
+    (
+        "3E11FA47-71CA-11E1-9E33-C80AA9429562:app",
+        SidError::NoIntervals,
+    ),
+    (
+        "3E11FA47-71CA-11E1-9E33-C80AA9429562:0-3",
+        SidError::ZeroGno,
+    ),
+    (
+        "3E11FA47-71CA-11E1-9E33-C80AA9429562:4-3",
+        SidError::StartNotBelowEnd,
+    ),
+    (
+        "3E11FA47-71CA-11E1-9E33-C80AA9429562:20-",
+        SidError::BadInterval,
+    ),
+    (
+        "3E11FA47-71CA-11E1-9E33-C80AA9429562:18446744073709551615",
+        SidError::Overflow,
+    ),
+    ("xyz", SidError::NoColon),
+    ("xyz:", SidError::BadUuid),
+    (
+        "3E11FA47-71CA-11E1-9E33-C80AA9429562:+5",
+        SidError::NoIntervals,
+    ),
+    (
+        "3E11FA47-71CA-11E1-9E33-C80AA9429562:+5:6",
+        SidError::BadTag,
+    ),
+    ("3E11FA47-71CA-11E1-9E33-C80AA9429562::5", SidError::BadTag),
+    (
+        "3E11FA47-71CA-11E1-9E33-C80AA9429562:Tag:20-",
+        SidError::BadTag,
+    ),
+    (
+        "3E11FA47-71CA-11E1-9E33-C80AA9429562:app:",
+        SidError::BadInterval,
+    ),
+    (
+        "3E11FA47-71CA-11E1-9E33-C80AA9429562:1:",
+        SidError::BadInterval,
+    ),
+    (
+        "3E11FA47-71CA-11E1-9E33-C80AA9429562:0-3:20-",
+        SidError::ZeroGno,
+    ),
+    (
+        "3E11FA47-71CA-11E1-9E33-C80AA9429562:20-:0-3",
+        SidError::BadInterval,
+    ),
+    (
+        "3E11FA47-71CA-11E1-9E33-C80AA9429562:4-3:18446744073709551615",
+        SidError::StartNotBelowEnd,
+    ),
+    (
+        "3E11FA47-71CA-11E1-9E33-C80AA9429562:18446744073709551615:4-3",
+        SidError::Overflow,
+    ),
+    (
+        "3E11FA47-71CA-11E1-9E33-C80AA9429562:0-18446744073709551615",
+        SidError::Overflow,
+    ),
+    (
+        "3E11FA47-71CA-11E1-9E33-C80AA9429562:x-18446744073709551615",
+        SidError::NoIntervals,
+    ),
+    (
+        "3E11FA47-71CA-11E1-9E33-C80AA9429562:1:x-18446744073709551615",
+        SidError::BadInterval,
+    ),
+    (
+        "3E11FA47-71CA-11E1-9E33-C80AA9429562:1-18446744073709551616",
+        SidError::BadInterval,
+    ),
+];
 
 #[test]
-fn printed_sets(rt: HostRuntime) {
+fn texts_of_sets(rt: HostRuntime) {
     let assert = Asserting(&rt);
-    // The source is printed in lower case, and each interval in its shortest form. The last three
-    // are printed as they are. A number that doesn't stand first may have a plus.
-    let rows = [
-        (
-            "3E11FA47-71CA-11E1-9E33-C80AA9429562:1-5:10-15",
-            "3e11fa47-71ca-11e1-9e33-c80aa9429562:1-5:10-15",
-        ),
-        (
-            "3E11FA47-71CA-11E1-9E33-C80AA9429562:domain_a:1-5:10-20",
-            "3e11fa47-71ca-11e1-9e33-c80aa9429562:domain_a:1-5:10-20",
-        ),
-        (
-            "3E11FA47-71CA-11E1-9E33-C80AA9429562:app:7",
-            "3e11fa47-71ca-11e1-9e33-c80aa9429562:app:7",
-        ),
-        (
-            "3E11FA47-71CA-11E1-9E33-C80AA9429562:4-4:007",
-            "3e11fa47-71ca-11e1-9e33-c80aa9429562:4:7",
-        ),
-        (
-            "3e11fa47-71ca-11e1-9e33-c80aa9429562:1-+5:+7-+8",
-            "3e11fa47-71ca-11e1-9e33-c80aa9429562:1-5:7-8",
-        ),
-        (
-            "3e11fa47-71ca-11e1-9e33-c80aa9429562:app:+7",
-            "3e11fa47-71ca-11e1-9e33-c80aa9429562:app:7",
-        ),
-        (
-            "3e11fa47-71ca-11e1-9e33-c80aa9429562:domain_a:1-5:10-20",
-            "3e11fa47-71ca-11e1-9e33-c80aa9429562:domain_a:1-5:10-20",
-        ),
-        (
-            "3e11fa47-71ca-11e1-9e33-c80aa9429562:42",
-            "3e11fa47-71ca-11e1-9e33-c80aa9429562:42",
-        ),
-        (
-            "3e11fa47-71ca-11e1-9e33-c80aa9429562:app:7",
-            "3e11fa47-71ca-11e1-9e33-c80aa9429562:app:7",
-        ),
-    ];
-    for (text, wanted) in rows {
-        let sid = parsed(&assert, rt.alloc(), text);
-        assert_prints(&assert, rt.alloc(), sid, wanted);
+    let alloc = rt.alloc();
+    for (text, wanted) in PRINTED {
+        let sid = once_more(&assert, Sid::parse(alloc, text), Sid::parse(alloc, text));
+        assert_prints(&assert, alloc, sid, wanted);
+    }
+    for (text, cause) in FAULTS {
+        assert_answer(
+            &assert,
+            Sid::parse(alloc, text).err(),
+            Sid::parse(alloc, text).err(),
+            Some(SidError::Memory),
+            Some(cause),
+        );
     }
 }
 
-// A set of these intervals, in place of another one.
-fn of_intervals(alloc: Global, intervals: &[GnoInterval]) -> Result<Sid<'static>, AllocError> {
-    let sid = Sid::new(alloc, *b"abcdefghijklmnop").with_interval(GnoInterval::new(1, 2))?;
-    let intervals = Vec::from_slice(alloc, intervals)?;
-    Ok(sid.with_intervals(intervals))
-}
-
+// Intervals that hold no number are printed too: an end of 0 as 0.
 #[test]
 fn sets_of_any_intervals(rt: HostRuntime) {
     let assert = Asserting(&rt);
     let alloc = rt.alloc();
-    // Intervals that hold no number are printed too: an end of 0 as 0.
+    let text = "3E11FA47-71CA-11E1-9E33-C80AA9429562:1-5:10-15";
+    let sid = once_more(&assert, Sid::parse(alloc, text), Sid::parse(alloc, text));
+    let wanted = [GnoInterval::new(1, 6), GnoInterval::new(10, 16)];
+    assert_same(&assert, &sid.intervals(), &wanted.as_slice());
     let intervals = [
         GnoInterval::new(5, 0),
         GnoInterval::new(0, 0),
         GnoInterval::new(7, 7),
         GnoInterval::new(3, 9),
     ];
-    let sid = once_more(
-        &assert,
-        of_intervals(alloc, &intervals),
-        of_intervals(alloc, &intervals),
-    );
+    let first = Vec::from_slice(alloc, &intervals);
+    let others = once_more(&assert, first, Vec::from_slice(alloc, &intervals));
+    let sid = sid.with_intervals(others);
     assert_same(&assert, &sid.intervals(), &intervals.as_slice());
-    assert_prints(
-        &assert,
-        alloc,
-        sid,
-        "61626364-6566-6768-696a-6b6c6d6e6f70:5-0:0-0:7-6:3-8",
-    );
-    let sid = parsed(
-        &assert,
-        alloc,
-        "3E11FA47-71CA-11E1-9E33-C80AA9429562:1-5:10-15",
-    );
-    let wanted = [GnoInterval::new(1, 6), GnoInterval::new(10, 16)];
-    assert_same(&assert, &sid.intervals(), &wanted.as_slice());
-    assert.holds(sid.tag().is_none());
-    drop(sid);
-}
-
-// Asserts that a text is refused for this cause. It is read once more where memory was refused.
-fn assert_fault(assert: &impl Assert, alloc: Global, text: &str, cause: SidError) {
-    let mut found = Sid::parse(alloc, text).err();
-    if found == Some(SidError::Memory) {
-        found = Sid::parse(alloc, text).err();
-    }
-    assert_equal(assert, found, Some(cause));
-}
-
-#[test]
-fn refused_texts(rt: HostRuntime) {
-    let assert = Asserting(&rt);
-    let rows = [
-        ("3E11FA47-71CA-11E1-9E33-C80AA9429562", SidError::NoColon),
-        ("3E11FA47-71CA-11E1-9E33-C80AA94295620:1", SidError::BadUuid),
-        ("3E11FA47-71CA-11E1-9E33-C80AA9429562:", SidError::Empty),
-        (
-            "3E11FA47-71CA-11E1-9E33-C80AA9429562:Tag:23",
-            SidError::BadTag,
-        ),
-        (
-            "3E11FA47-71CA-11E1-9E33-C80AA9429562:Tag",
-            SidError::NoIntervals,
-        ),
-        (
-            "3E11FA47-71CA-11E1-9E33-C80AA9429562:app",
-            SidError::NoIntervals,
-        ),
-        (
-            "3E11FA47-71CA-11E1-9E33-C80AA9429562:0-3",
-            SidError::ZeroGno,
-        ),
-        (
-            "3E11FA47-71CA-11E1-9E33-C80AA9429562:4-3",
-            SidError::StartNotBelowEnd,
-        ),
-        (
-            "3E11FA47-71CA-11E1-9E33-C80AA9429562:20-",
-            SidError::BadInterval,
-        ),
-        (
-            "3E11FA47-71CA-11E1-9E33-C80AA9429562:18446744073709551615",
-            SidError::Overflow,
-        ),
-        // Of two faults the leftmost is told, and of an interval in its order.
-        ("xyz", SidError::NoColon),
-        ("xyz:", SidError::BadUuid),
-        (
-            "3E11FA47-71CA-11E1-9E33-C80AA9429562:+5",
-            SidError::NoIntervals,
-        ),
-        (
-            "3E11FA47-71CA-11E1-9E33-C80AA9429562:+5:6",
-            SidError::BadTag,
-        ),
-        ("3E11FA47-71CA-11E1-9E33-C80AA9429562::5", SidError::BadTag),
-        (
-            "3E11FA47-71CA-11E1-9E33-C80AA9429562:Tag:20-",
-            SidError::BadTag,
-        ),
-        (
-            "3E11FA47-71CA-11E1-9E33-C80AA9429562:app:",
-            SidError::BadInterval,
-        ),
-        (
-            "3E11FA47-71CA-11E1-9E33-C80AA9429562:1:",
-            SidError::BadInterval,
-        ),
-        (
-            "3E11FA47-71CA-11E1-9E33-C80AA9429562:0-3:20-",
-            SidError::ZeroGno,
-        ),
-        (
-            "3E11FA47-71CA-11E1-9E33-C80AA9429562:20-:0-3",
-            SidError::BadInterval,
-        ),
-        (
-            "3E11FA47-71CA-11E1-9E33-C80AA9429562:4-3:18446744073709551615",
-            SidError::StartNotBelowEnd,
-        ),
-        (
-            "3E11FA47-71CA-11E1-9E33-C80AA9429562:18446744073709551615:4-3",
-            SidError::Overflow,
-        ),
-        (
-            "3E11FA47-71CA-11E1-9E33-C80AA9429562:0-18446744073709551615",
-            SidError::Overflow,
-        ),
-        (
-            "3E11FA47-71CA-11E1-9E33-C80AA9429562:x-18446744073709551615",
-            SidError::NoIntervals,
-        ),
-        (
-            "3E11FA47-71CA-11E1-9E33-C80AA9429562:1:x-18446744073709551615",
-            SidError::BadInterval,
-        ),
-        (
-            "3E11FA47-71CA-11E1-9E33-C80AA9429562:1-18446744073709551616",
-            SidError::BadInterval,
-        ),
-    ];
-    for (text, cause) in rows {
-        assert_fault(&assert, rt.alloc(), text, cause);
-    }
+    let wanted = "3e11fa47-71ca-11e1-9e33-c80aa9429562:5-0:0-0:7-6:3-8";
+    assert_prints(&assert, alloc, sid, wanted);
 }
 
 // ---- Tags ----
 
-// A text as a tag, twice: by either call.
-pub fn tag<'a>(assert: &impl Assert, text: &'a str) -> Tag<'a> {
-    once_more(
-        assert,
-        Tag::try_from(text),
-        Tag::new(CowStr::Borrowed(text)),
-    )
-}
-
-#[test]
-fn tags(rt: HostRuntime) {
-    let assert = Asserting(&rt);
-    for text in ["_", "domain_1", "abcdefghijklmnopqrstuvwxyz123456"] {
-        let tag = tag(&assert, text);
-        assert.holds(tag.as_str() == text);
-        let made = Tag::new(CowStr::Borrowed(text)).ok();
-        assert_equal(&assert, made, Some(tag));
-    }
-    assert_equal(&assert, (Tag::MAX_LEN, UUID_LEN), (32, 16));
-}
-
 // Texts of tags in their order, which is that of their bytes.
-const IN_ORDER: [&str; 6] = ["_", "a", "a1", "a_", "aa", "b"];
+const IN_ORDER: [&str; 8] = [
+    "_",
+    "a",
+    "a1",
+    "a_",
+    "aa",
+    "abcdefghijklmnopqrstuvwxyz123456",
+    "b",
+    "domain_1",
+];
+
+// Texts that are no tags.
+const NO_TAGS: [(&str, InvalidTag); 5] = [
+    ("", InvalidTag::Empty),
+    ("abcdefghijklmnopqrstuvwxyzabcdefg", InvalidTag::TooLong(33)),
+    ("1tag", InvalidTag::InvalidFirstChar('1')),
+    ("tAg", InvalidTag::InvalidChar('A')),
+    ("t\u{e9}g", InvalidTag::InvalidChar('\u{e9}')),
+];
 
 // Asserts how two texts are ordered as tags.
 fn assert_order(assert: &impl Assert, texts: (&str, &str), wanted: Ordering) {
     let (one, other) = (tag(assert, texts.0), tag(assert, texts.1));
+    assert.holds((one.as_str() == texts.0) & (other.as_str() == texts.1));
     let found = (one.cmp(&other), one.partial_cmp(&other));
     drop(one);
     drop(other);
@@ -325,27 +282,16 @@ fn assert_order(assert: &impl Assert, texts: (&str, &str), wanted: Ordering) {
 }
 
 #[test]
-fn tags_in_order(rt: HostRuntime) {
+fn tags(rt: HostRuntime) {
     let assert = Asserting(&rt);
-    for at in 1..6 {
+    assert_equal(&assert, (Tag::MAX_LEN, UUID_LEN), (32, 16));
+    for at in 1..8 {
         let (one, other) = (IN_ORDER[at - 1], IN_ORDER[at]);
         assert_order(&assert, (one, other), Ordering::Less);
         assert_order(&assert, (other, one), Ordering::Greater);
         assert_order(&assert, (one, one), Ordering::Equal);
     }
-}
-
-#[test]
-fn refused_tags(rt: HostRuntime) {
-    let assert = Asserting(&rt);
-    let rows = [
-        ("", InvalidTag::Empty),
-        ("abcdefghijklmnopqrstuvwxyzabcdefg", InvalidTag::TooLong(33)),
-        ("1tag", InvalidTag::InvalidFirstChar('1')),
-        ("tAg", InvalidTag::InvalidChar('A')),
-        ("t\u{e9}g", InvalidTag::InvalidChar('\u{e9}')),
-    ];
-    for (text, fault) in rows {
+    for (text, fault) in NO_TAGS {
         assert_equal(&assert, Tag::try_from(text).err(), Some(fault));
         let found = Tag::new(CowStr::Borrowed(text)).err();
         assert_equal(&assert, found, Some(fault));

@@ -1,51 +1,12 @@
-//! The bytes that begin packets, and their errors.
+//! What the errors of the bytes that begin packets say.
 
-use crate::support::Asserting;
-use mysql_fields::{MyDeserialize, MySerialize, Readable, WireError};
+use crate::support::{Asserting, assert_prints};
 use mysql_login::{
-    AuthMoreDataHeader, AuthSwitchRequestHeader, ComBinlogDumpGtidHeader, ComBinlogDumpHeader,
-    ComChangeUserHeader, ComRegisterSlaveHeader, ComTableDumpHeader, InvalidAuthMoreDataHeader,
-    InvalidAuthSwitchRequestHeader, InvalidComBinlogDumpGtidHeader, InvalidComBinlogDumpHeader,
-    InvalidComChangeUserHeader, InvalidComRegisterSlaveHeader, InvalidComTableDumpHeader,
-    InvalidPublicKeyRequest, InvalidPublicKeyResponse, InvalidSemiSyncAckPacketPacketHeader,
-    PublicKeyRequestHeader, PublicKeyResponseHeader, SemiSyncAckPacketPacketHeader,
+    InvalidAuthMoreDataHeader, InvalidAuthSwitchRequestHeader, InvalidComBinlogDumpGtidHeader,
+    InvalidComBinlogDumpHeader, InvalidComChangeUserHeader, InvalidComRegisterSlaveHeader,
+    InvalidComTableDumpHeader, InvalidPublicKeyRequest, InvalidPublicKeyResponse,
+    InvalidSemiSyncAckPacketPacketHeader,
 };
-use std::alloc::Global;
-use std::error::Error;
-use tests_support::{Assert, assert_bytes, assert_reads_back, assert_refused, once_more};
-
-// Asserts that a header is this byte alone.
-fn assert_header<'a, T: MySerialize + MyDeserialize<'a> + Readable<Ctx = ()> + Drop>(
-    assert: &impl Assert,
-    alloc: Global,
-    byte: &'a [u8],
-) {
-    assert_reads_back::<T, ()>(assert, alloc, (), byte);
-    assert_refused::<T, ()>(assert, alloc, (), b"\x55", WireError::BadConstant);
-}
-
-#[test]
-fn headers(rt: HostRuntime) {
-    let assert = Asserting(&rt);
-    let alloc = rt.alloc();
-    assert_header::<AuthMoreDataHeader>(&assert, alloc, b"\x01");
-    assert_header::<AuthSwitchRequestHeader>(&assert, alloc, b"\xfe");
-    assert_header::<PublicKeyRequestHeader>(&assert, alloc, b"\x02");
-    assert_header::<PublicKeyResponseHeader>(&assert, alloc, b"\x01");
-    assert_header::<ComChangeUserHeader>(&assert, alloc, b"\x11");
-    assert_header::<ComRegisterSlaveHeader>(&assert, alloc, b"\x15");
-    assert_header::<ComTableDumpHeader>(&assert, alloc, b"\x13");
-    assert_header::<ComBinlogDumpHeader>(&assert, alloc, b"\x12");
-    assert_header::<ComBinlogDumpGtidHeader>(&assert, alloc, b"\x1e");
-    assert_header::<SemiSyncAckPacketPacketHeader>(&assert, alloc, b"\xef");
-}
-
-// Asserts what an error says.
-fn assert_prints<E: Error + Drop>(assert: &impl Assert, alloc: Global, error: E, wanted: &str) {
-    let text = once_more(assert, error.to_string(alloc), error.to_string(alloc));
-    drop(error);
-    assert_bytes(assert, text.as_str().as_bytes(), wanted.as_bytes());
-}
 
 #[test]
 fn errors_of_headers(rt: HostRuntime) {

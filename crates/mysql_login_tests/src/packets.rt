@@ -1,8 +1,8 @@
 //! Packets by their own readers: read, written again, cut off at each place, and refused. What they
 //! say stands in rows, but for what no connection reads.
 
-use crate::support::{Asserting, assert_reads, assert_writes, one_text};
-use mysql_buf::ParseBuf;
+use crate::support::{Asserting, assert_reads, assert_writes, lent, texts};
+use indexmap::IndexMap;
 use mysql_const::{CapabilityFlags, MariadbCapabilities};
 use mysql_fields::WireError;
 use mysql_login::{
@@ -11,16 +11,15 @@ use mysql_login::{
     OldAuthSwitchRequest, PublicKeyRequest, PublicKeyResponse, SemiSyncAckPacket, SslRequest,
 };
 use std::alloc::{AllocError, Global};
-use std::borrow::CowSlice;
 use tests_support::{
-    assert_cut_off, assert_made, assert_reads_back, assert_refused, assert_same, first_of, whole,
+    assert_copied, assert_cut_off, assert_reads_back, assert_refused, once_more, whole,
 };
 
 /// A server's request for native passwords.
 pub const SWITCH: &[u8] = b"\xfemysql_native_password\x00zQg4i6oNy6=rHN/>-b)A\x00";
 
 /// The handshake of a MariaDB server.
-pub const MARIADB: &[u8] =
+const MARIADB: &[u8] =
     b"\x0a5.5.5-10.0.17-MariaDB-log\x00\x0b\x00\x00\x00dvH@I-CJ\x00\xff\xf7\x08\x02\x00\x00\x00\x00\
     \x00\x00\x00\x00\x00\x00\x00\x00\x00\x00*4d|cZwk4^]:\x00";
 
@@ -29,11 +28,16 @@ pub const MYSQL: &[u8] =
     b"\x0a5.6.4-m7-log\x00\x56\x0a\x00\x00RB3vz&Gr\x00\xff\xff\x08\x02\x00\x0f\xc0\x15\x00\x00\x00\
     \x00\x00\x00\x00\x00\x00\x00+yD&/ZZ305ZG\x00mysql_native_password\x00";
 
+/// The same with one more zero behind the name, which is written without it.
+const WITH_A_ZERO_MORE: &[u8] =
+    b"\x0a5.6.4-m7-log\x00\x56\x0a\x00\x00RB3vz&Gr\x00\xff\xff\x08\x02\x00\x0f\xc0\x15\x00\x00\x00\
+    \x00\x00\x00\x00\x00\x00\x00+yD&/ZZ305ZG\x00mysql_native_password\x00\x00";
+
 pub const WITH_ATTRIBUTES: &[u8] =
     b"\x0d\xa2\xbe\x81\0\0\0\x01\x2d\0\0\0\0\0\0\0\0\0\0\0\0\0\0\0\0\0\0\0\0\0\0\0root\0\0mydb\0mys\
     ql_native_password\0\x04\x01a\x011";
 
-pub const SECURE: &[u8] =
+const SECURE: &[u8] =
     b"\x05\xa2\xae\x81\x00\x00\x00\x01\x2d\0\0\0\0\0\0\0\0\0\0\0\0\0\0\0\0\0\0\0\x04\0\0\0";
 
 /// Bytes that are refused by a reader that wants another first byte.
@@ -51,8 +55,16 @@ fn of_logging_in(rt: HostRuntime) {
     let alloc = rt.alloc();
     assert_reads::<HandshakePacket>(&assert, alloc, MARIADB, MARIADB.len(), &NO_HANDSHAKE);
     assert_reads::<HandshakePacket>(&assert, alloc, MYSQL, 58, &[]);
+    let packet = whole::<HandshakePacket, ()>(&assert, alloc, (), WITH_A_ZERO_MORE);
+    assert_writes(&assert, alloc, packet, MYSQL);
     assert_reads::<HandshakeResponse>(&assert, alloc, WITH_ATTRIBUTES, WITH_ATTRIBUTES.len(), &[]);
     assert_reads::<SslRequest>(&assert, alloc, SECURE, SECURE.len(), &[]);
+    let request = SslRequest::new(
+        CapabilityFlags(0x81aea205),
+        16777216,
+        45,
+    ).with_mariadb_capabilities(MariadbCapabilities(4));
+    assert_writes(&assert, alloc, request, SECURE);
     assert_reads::<AuthSwitchRequest>(&assert, alloc, SWITCH, 23, &OTHERS);
     assert_reads::<OldAuthSwitchRequest>(&assert, alloc, b"\xfe", 1, &OTHERS);
     assert_reads::<AuthMoreData>(&assert, alloc, &[1, 4], 1, &OTHERS);
@@ -67,7 +79,7 @@ pub const REPLICA: &[u8] =
 
 pub const ACKNOWLEDGED: &[u8] = b"\xef\x01\x02\x00\x00\x00\x00\x00\x00binlog.1";
 
-pub const DUMP: &[u8] = b"\x12\x04\x00\x00\x00\x01\x00\x07\x00\x00\x00log.1";
+const DUMP: &[u8] = b"\x12\x04\x00\x00\x00\x01\x00\x07\x00\x00\x00log.1";
 
 /// A request with two sets: of the tag `app` the transactions 1 to 99, without a tag 1 to 49.
 pub const GTID_DUMP: &[u8] =
@@ -141,23 +153,9 @@ fn of_replication(rt: HostRuntime) {
 
 pub const CHANGE: &[u8] = b"\x11root\0\x02abdb\0\x2d\0mysql_native_password\0\x04\x01a\x011";
 
-pub const MORE: &[u8] = b"\x2d\0dialog\0\x04\x01a\x011";
+const MORE: &[u8] = b"\x2d\0dialog\0\x04\x01a\x011";
 
 pub const FLAGS: CapabilityFlags = CapabilityFlags(0x180000);
-
-/// A command with all parts.
-fn command(alloc: Global) -> Result<ComChangeUser<'static>, AllocError> {
-    let texts = one_text(alloc, "a", "1")?;
-    let more = ComChangeUserMoreData::new(45)
-        .with_auth_plugin(Some(AuthPlugin::MysqlNativePassword))
-        .with_connect_attributes(alloc, Some(texts))?;
-    let command = ComChangeUser::new()
-        .with_user(Some(CowSlice::Borrowed(b"root")))
-        .with_auth_plugin_data(Some(CowSlice::Borrowed(b"ab")))
-        .with_database(Some(CowSlice::Borrowed(b"db")))
-        .with_more_data(Some(more));
-    Ok(command)
-}
 
 /// Capabilities, commands, and the same commands as they are written: attributes always stand where
 /// anything follows the database. First all, then a plugin alone, then attributes alone, then a
@@ -182,11 +180,35 @@ const COMMANDS: [(u32, &[u8], &[u8]); 5] = [
     (0x180000, b"\x11root\0\x02abdb\0", b"\x11root\0\x02abdb\0"),
 ];
 
+// Parts behind the database.
+fn more_data(
+    alloc: Global,
+    texts: IndexMap<String, String>,
+) -> Result<ComChangeUserMoreData<'static>, AllocError> {
+    ComChangeUserMoreData::new(45)
+        .with_auth_plugin(Some(AuthPlugin::MysqlNativePassword))
+        .with_connect_attributes(alloc, Some(texts))
+}
+
 #[test]
 fn of_a_change_of_user(rt: HostRuntime) {
     let assert = Asserting(&rt);
     let alloc = rt.alloc();
-    assert_made(&assert, alloc, command(alloc), command(alloc), CHANGE);
+    let first = more_data(alloc, texts(&assert, alloc));
+    let second = more_data(alloc, texts(&assert, alloc));
+    let more = once_more(&assert, first, second);
+    let command = ComChangeUser::new()
+        .with_user(Some(lent(b"root")))
+        .with_auth_plugin_data(Some(lent(b"ab")))
+        .with_database(Some(lent(b"db")))
+        .with_more_data(Some(more));
+    assert_copied(
+        &assert,
+        &command,
+        command.clone(alloc),
+        command.clone(alloc),
+    );
+    assert_writes(&assert, alloc, command, CHANGE);
     for (capabilities, bytes, again) in COMMANDS {
         let flags = CapabilityFlags(capabilities);
         let command = whole::<ComChangeUser, CapabilityFlags>(&assert, alloc, flags, bytes);
@@ -199,25 +221,4 @@ fn of_a_change_of_user(rt: HostRuntime) {
     assert_cut_off::<ComChangeUser, CapabilityFlags>(&assert, alloc, FLAGS, CHANGE, 0, 12);
     let len = CHANGE.len();
     assert_cut_off::<ComChangeUser, CapabilityFlags>(&assert, alloc, FLAGS, CHANGE, 13, len);
-}
-
-// ---- Requests for a secure connection ----
-
-/// A request that says no more than a character set and one of MariaDB's capabilities: those
-/// without a name are dropped. A byte behind it is left.
-#[test]
-fn of_a_secure_request(rt: HostRuntime) {
-    let assert = Asserting(&rt);
-    let alloc = rt.alloc();
-    let bulk = MariadbCapabilities::MARIADB_CLIENT_STMT_BULK_OPERATIONS;
-    let request = SslRequest::new(CapabilityFlags(0x81aea205), 16777216, 45);
-    let read = whole::<SslRequest, ()>(&assert, alloc, (), SECURE);
-    assert_same(&assert, &read, &request.with_mariadb_capabilities(bulk));
-    let mut buf = ParseBuf(
-        b"\0\0\0\0\0\0\0\0\x21\0\0\0\0\0\0\0\0\0\0\0\0\0\0\0\0\0\0\0\x44\0\0\x80\x09",
-    );
-    let read = first_of::<SslRequest, ()>(&assert, alloc, (), &mut buf);
-    let wanted = SslRequest::new(CapabilityFlags(0), 0, 33).with_mariadb_capabilities(bulk);
-    assert_same(&assert, &read, &wanted);
-    assert_same(&assert, &buf.len(), &1);
 }

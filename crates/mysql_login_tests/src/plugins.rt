@@ -1,14 +1,21 @@
 //! Plugins and what they send.
 
-use crate::support::Asserting;
+use crate::support::{Asserting, lent};
 use mysql_auth::without_zero;
 use mysql_login::{AuthPlugin, AuthPluginData, parse_parsec_salt};
 use std::alloc::Global;
-use std::borrow::CowSlice;
 use tests_support::{Assert, assert_bytes, assert_equal, assert_same, assert_written, whole};
 
-/// A packet of PARSEC's salt, with a factor of 3.
-const SALT: &[u8] = b"P\x03abcdefghijklmnopqr";
+/// PARSEC's salt before one was read.
+const NO_SALT: [u8; 18] = [0; 18];
+
+// PARSEC, with iterations and a salt.
+fn parsec(iterations: u32, salt: &[u8; 18]) -> AuthPlugin<'static> {
+    AuthPlugin::MariadbParsec {
+        iterations,
+        ext_salt: *salt,
+    }
+}
 
 // Asserts that a name, with and without a zero behind it, is this plugin's, and that the plugin is written by it.
 fn assert_named(assert: &impl Assert, alloc: Global, with_zero: &[u8], plugin: &AuthPlugin<'_>) {
@@ -24,10 +31,6 @@ fn assert_named(assert: &impl Assert, alloc: Global, with_zero: &[u8], plugin: &
 #[test]
 fn named_plugins(rt: HostRuntime) {
     let assert = Asserting(&rt);
-    let parsec = AuthPlugin::MariadbParsec {
-        iterations: 0,
-        ext_salt: [0; 18],
-    };
     let rows: [(&[u8], AuthPlugin<'_>); 7] = [
         (b"mysql_old_password\x00", AuthPlugin::MysqlOldPassword),
         (
@@ -40,11 +43,8 @@ fn named_plugins(rt: HostRuntime) {
             AuthPlugin::CachingSha2Password,
         ),
         (b"client_ed25519\x00", AuthPlugin::Ed25519),
-        (b"parsec\x00", parsec),
-        (
-            b"dialog\x00",
-            AuthPlugin::Other(CowSlice::Borrowed(b"dialog")),
-        ),
+        (b"parsec\x00", parsec(0, &NO_SALT)),
+        (b"dialog\x00", AuthPlugin::Other(lent(b"dialog"))),
     ];
     for (with_zero, plugin) in &rows {
         assert_named(&assert, rt.alloc(), *with_zero, plugin);
@@ -56,9 +56,12 @@ fn named_plugins(rt: HostRuntime) {
     drop(two_zeros);
 }
 
-// Packets, and the iterations and the salt that they hold.
-const SALTS: [(&[u8], Option<(u32, &[u8; 18])>); 6] = [
-    (SALT, Some((8192, b"abcdefghijklmnopqr"))),
+// Packets of PARSEC's salt, and the iterations and the salt that they hold.
+const SALTS: [(&[u8], Option<(u32, &[u8; 18])>); 7] = [
+    (
+        b"P\x03abcdefghijklmnopqr",
+        Some((8192, b"abcdefghijklmnopqr")),
+    ),
     (
         b"P\x14abcdefghijklmnopqr",
         Some((0x4000_0000, b"abcdefghijklmnopqr")),
@@ -67,58 +70,32 @@ const SALTS: [(&[u8], Option<(u32, &[u8; 18])>); 6] = [
     (b"Q\x03abcdefghijklmnopqr", None),
     (b"P\x03abcdefghijklmnopq", None),
     (b"P\x03abcdefghijklmnopqrs", None),
+    (b"P", None),
 ];
 
-// Asserts that a plugin takes this payload or refuses it, and what the plugin is then.
-fn assert_data(
-    assert: &impl Assert,
-    mut plugin: AuthPlugin<'_>,
-    payload: &[u8],
-    is_taken: bool,
-    wanted: AuthPlugin<'_>,
-) {
-    assert.holds(plugin.read_add_data(payload).is_some() == is_taken);
-    assert_equal(assert, plugin, wanted);
-}
-
-fn parsec() -> AuthPlugin<'static> {
-    AuthPlugin::from_bytes(b"parsec")
-}
-
+// The plugin takes the packet or stays as it is; another plugin takes none.
 #[test]
 fn salts(rt: HostRuntime) {
     let assert = Asserting(&rt);
     for (packet, wanted) in SALTS {
         assert_same(&assert, &parse_parsec_salt(packet), &wanted);
+        let mut plugin = AuthPlugin::from_bytes(b"parsec");
+        assert.holds(plugin.read_add_data(packet).is_some() == wanted.is_some());
+        let (iterations, salt) = wanted.unwrap_or((0, &NO_SALT));
+        assert_equal(&assert, plugin, parsec(iterations, salt));
+        let mut other = AuthPlugin::MysqlNativePassword;
+        assert.holds(other.read_add_data(packet).is_none());
+        assert_equal(&assert, other, AuthPlugin::MysqlNativePassword);
     }
-    assert_data(&assert, parsec(), b"P", false, parsec());
-    let told = AuthPlugin::MariadbParsec {
-        iterations: 8192,
-        ext_salt: *b"abcdefghijklmnopqr",
-    };
-    assert_data(&assert, parsec(), SALT, true, told);
-    assert_data(
-        &assert,
-        AuthPlugin::MysqlNativePassword,
-        SALT,
-        false,
-        AuthPlugin::MysqlNativePassword,
-    );
 }
 
-fn clear() -> AuthPluginData<'static> {
-    AuthPluginData::Clear(CowSlice::Borrowed(b"secret"))
-}
-
+// Data, and the bytes that it is written as: a zero stands behind those of two kinds.
 #[test]
 fn data_sent(rt: HostRuntime) {
     let assert = Asserting(&rt);
-    let secret = clear();
-    assert_bytes(&assert, secret.as_bytes(), b"secret");
-    drop(secret);
     let rows: [(AuthPluginData<'_>, &[u8]); 6] = [
         (AuthPluginData::Old(*b"abcdefgh"), b"abcdefgh\x00"),
-        (clear(), b"secret\x00"),
+        (AuthPluginData::Clear(lent(b"secret")), b"secret\x00"),
         (AuthPluginData::Native([7; 20]), &[7; 20]),
         (AuthPluginData::Sha2([8; 32]), &[8; 32]),
         (AuthPluginData::Ed25519([9; 64]), &[9; 64]),
@@ -126,6 +103,7 @@ fn data_sent(rt: HostRuntime) {
     ];
     for (sent, bytes) in &rows {
         assert_written(&assert, rt.alloc(), sent, *bytes);
+        assert_bytes(&assert, sent.as_bytes(), without_zero(*bytes));
     }
     drop(rows);
 }

@@ -1,120 +1,74 @@
 //! Answers to the handshake: made by their parts, and written again.
 
 use crate::packets::WITH_ATTRIBUTES;
-use crate::support::{Asserting, assert_texts, assert_writes, one_text};
+use crate::support::{Asserting, assert_texts, assert_writes, lent, texts};
+use indexmap::IndexMap;
 use mysql_const::CapabilityFlags;
 use mysql_login::{AuthPlugin, HandshakeResponse};
 use std::alloc::{AllocError, Global};
-use std::borrow::CowSlice;
-use tests_support::{Assert, assert_made, assert_same, once_more, whole, written};
+use tests_support::{assert_copied, assert_equal, once_more, whole};
 
-// The answer of root with a database and an attribute. Those without them are rows.
-fn response_of_root(alloc: Global) -> Result<HandshakeResponse<'static>, AllocError> {
+type Version = (u16, u16, u16);
+
+// The answer of root, with a database and attributes, to a server of this version. Those without
+// them are rows.
+fn response_of_root(
+    alloc: Global,
+    version: Version,
+    texts: IndexMap<String, String>,
+) -> Result<HandshakeResponse<'static>, AllocError> {
     HandshakeResponse::new(
         alloc,
-        Some(CowSlice::Borrowed(&[])),
-        (5, 5, 5),
-        Some(CowSlice::Borrowed(b"root")),
-        Some(CowSlice::Borrowed(b"mydb")),
+        Some(lent(&[])),
+        version,
+        Some(lent(b"root")),
+        Some(lent(b"mydb")),
         Some(AuthPlugin::MysqlNativePassword),
         CapabilityFlags(0x81aea205),
-        Some(one_text(alloc, "a", "1")?),
+        Some(texts),
         16777216,
     )
 }
 
-// Asserts that an answer has attributes, whose texts one after another are these bytes.
-fn assert_attributes(
-    assert: &impl Assert,
-    alloc: Global,
-    response: &HandshakeResponse<'_>,
-    wanted: &[u8],
-) {
-    let texts = once_more(
-        assert,
-        response.connect_attributes(alloc),
-        response.connect_attributes(alloc),
-    );
-    match texts {
-        Some(texts) => assert_texts(assert, alloc, texts, wanted),
-        None => assert.holds(false),
-    }
-}
-
-#[test]
-fn an_answer_with_attributes(rt: HostRuntime) {
-    let assert = Asserting(&rt);
-    let alloc = rt.alloc();
-    assert_made(
-        &assert,
-        alloc,
-        response_of_root(alloc),
-        response_of_root(alloc),
-        WITH_ATTRIBUTES,
-    );
-    let response = whole::<HandshakeResponse, ()>(&assert, alloc, (), WITH_ATTRIBUTES);
-    assert_attributes(&assert, alloc, &response, b"a1");
-    drop(response);
-}
-
-// An answer with a scramble of two bytes to a server of this version.
-fn with_scramble(
-    alloc: Global,
-    version: Version,
-    capabilities: u32,
-) -> Result<HandshakeResponse<'static>, AllocError> {
-    HandshakeResponse::new(
-        alloc,
-        Some(CowSlice::Borrowed(b"ab")),
-        version,
-        None,
-        None,
-        None,
-        CapabilityFlags(capabilities),
-        None,
-        0,
-    )
-}
-
-// Asserts that an answer with these capabilities to such a server says these, has this collation, and has this ending.
-fn assert_scramble(
-    assert: &impl Assert,
-    alloc: Global,
-    (version, capabilities): (Version, u32),
-    (said, collation): (u32, u8),
-    ending: &[u8],
-) {
-    let response = once_more(
-        assert,
-        with_scramble(alloc, version, capabilities),
-        with_scramble(alloc, version, capabilities),
-    );
-    assert_same(assert, &response.capabilities().0, &said);
-    assert_same(assert, &response.collation(), &collation);
-    let bytes = written(assert, alloc, &response);
-    drop(response);
-    assert.holds(bytes.as_slice().ends_with(ending));
-}
-
-type Version = (u16, u16, u16);
-
-// Versions and capabilities, then the capabilities that are said, the collation, and the ending: after a length-encoded
-// number, after a byte, before a zero. The capabilities of parts that aren't given are cleared.
-const ENDINGS: [((Version, u32), (u32, u8), &[u8]); 6] = [
-    (((5, 5, 2), 0x200000), (0x200000, 33), b"\0\x02ab"),
-    (((5, 5, 3), 0x8000), (0x8000, 45), b"\0\x02ab"),
-    (((4, 99, 99), 0), (0, 33), b"\0ab\0"),
-    (((5, 4, 99), 0x188008), (0x8000, 33), b"\0\x02ab"),
-    (((5, 6, 0), 0x208000), (0x208000, 45), b"\0\x02ab"),
-    (((8, 0, 0), 0x100008), (0, 45), b"\0ab\0"),
+// Versions, and the collation that an answer to them has.
+const COLLATIONS: [(Version, u8); 6] = [
+    ((5, 5, 2), 33),
+    ((4, 99, 99), 33),
+    ((5, 4, 99), 33),
+    ((8, 0, 0), 45),
+    ((5, 6, 0), 45),
+    ((5, 5, 3), 45),
 ];
 
 #[test]
-fn forms_of_the_scramble(rt: HostRuntime) {
+fn answers_made(rt: HostRuntime) {
     let assert = Asserting(&rt);
-    for (given, wanted, ending) in ENDINGS {
-        assert_scramble(&assert, rt.alloc(), given, wanted, ending);
+    let alloc = rt.alloc();
+    for (version, collation) in COLLATIONS {
+        let first = response_of_root(alloc, version, texts(&assert, alloc));
+        let second = response_of_root(alloc, version, texts(&assert, alloc));
+        let response = once_more(&assert, first, second);
+        assert_equal(&assert, response.collation(), collation);
+        drop(response);
     }
+    let first = response_of_root(alloc, (5, 5, 5), texts(&assert, alloc));
+    let second = response_of_root(alloc, (5, 5, 5), texts(&assert, alloc));
+    let response = once_more(&assert, first, second);
+    let (first, second) = (response.clone(alloc), response.clone(alloc));
+    assert_copied(&assert, &response, first, second);
+    assert_writes(&assert, alloc, response, WITH_ATTRIBUTES);
+    let response = whole::<HandshakeResponse, ()>(&assert, alloc, (), WITH_ATTRIBUTES);
+    let (first, second) = (
+        response.connect_attributes(alloc),
+        response.connect_attributes(alloc),
+    );
+    drop(response);
+    let texts = once_more(&assert, first, second);
+    assert_texts(
+        &assert,
+        texts.unwrap_or(IndexMap::new(alloc)),
+        &[("a", "1")],
+    );
 }
 
 // Answers as they are read, and as they are written again.

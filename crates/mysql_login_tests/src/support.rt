@@ -10,8 +10,8 @@ use indexmap::IndexMap;
 use mysql_fields::{MyDeserialize, MySerialize, Readable, WireError};
 use mysql_login::{GnoInterval, Sid, Tag};
 use std::alloc::{AllocError, Global};
-use std::borrow::CowStr;
-use std::fmt::Debug;
+use std::borrow::{CowSlice, CowStr};
+use std::fmt::{Debug, Display};
 use std::process::Abort;
 use tests_support::{
     Assert, assert_bytes, assert_cut_off, assert_reads_back, assert_refused, assert_same, once_more,
@@ -29,6 +29,11 @@ impl<R: Abort> Assert for Asserting<'_, R> {
     }
 }
 
+/// These bytes, borrowed.
+pub fn lent(bytes: &[u8]) -> CowSlice<'_, u8> {
+    CowSlice::Borrowed(bytes)
+}
+
 /// Asserts that a text, or the same text asked for once more, is the wanted one.
 pub fn assert_text<E: Drop>(
     assert: &impl Assert,
@@ -37,6 +42,18 @@ pub fn assert_text<E: Drop>(
     wanted: &str,
 ) {
     let text = once_more(assert, first, second);
+    assert_bytes(assert, text.as_str().as_bytes(), wanted.as_bytes());
+}
+
+/// Asserts what text a value is printed as.
+pub fn assert_prints<T: Display + Drop>(
+    assert: &impl Assert,
+    alloc: Global,
+    value: T,
+    wanted: &str,
+) {
+    let text = once_more(assert, value.to_string(alloc), value.to_string(alloc));
+    drop(value);
     assert_bytes(assert, text.as_str().as_bytes(), wanted.as_bytes());
 }
 
@@ -49,18 +66,6 @@ pub fn assert_makes<T: PartialEq + Debug + Drop, E: Drop>(
 ) {
     let made = once_more(assert, first, second);
     assert_same(assert, &made, &value);
-}
-
-/// A copy, or the same copy made once more, in place of the value that was copied.
-pub fn copy_of<T: Drop>(
-    assert: &impl Assert,
-    first: Result<T, AllocError>,
-    second: Result<T, AllocError>,
-    value: T,
-) -> T {
-    let copy = once_more(assert, first, second);
-    drop(value);
-    copy
 }
 
 //// What stands before a value is written.
@@ -102,6 +107,15 @@ pub fn assert_reads<'a, T: MySerialize + MyDeserialize<'a> + Readable<Ctx = ()> 
     }
 }
 
+/// A text as a tag, by either call.
+pub fn tag<'a>(assert: &impl Assert, text: &'a str) -> Tag<'a> {
+    once_more(
+        assert,
+        Tag::try_from(text),
+        Tag::new(CowStr::Borrowed(text)),
+    )
+}
+
 /// A set of this source, with the transactions from 1 on that are less than `end`.
 pub fn set(assert: &impl Assert, alloc: Global, uuid: [u8; 16], end: u64) -> Sid<'static> {
     let interval = GnoInterval::new(1, end);
@@ -114,47 +128,36 @@ pub fn set(assert: &impl Assert, alloc: Global, uuid: [u8; 16], end: u64) -> Sid
 
 /// A set of the tag `app` with the transactions 1 to 99.
 pub fn tagged_set(assert: &impl Assert, alloc: Global) -> Sid<'static> {
-    let tag = once_more(assert, Tag::try_from("app"), Tag::try_from("app"));
-    set(assert, alloc, *b"aaaaaaaaaaaaaaaa", 100).with_tag(tag)
+    set(assert, alloc, *b"aaaaaaaaaaaaaaaa", 100).with_tag(tag(assert, "app"))
 }
 
-/// A set without a tag, with the transactions 1 to 49.
-pub fn untagged_set(assert: &impl Assert, alloc: Global) -> Sid<'static> {
-    set(assert, alloc, *b"bbbbbbbbbbbbbbbb", 50)
-}
-
-/// One pair of texts.
-pub fn one_text(
-    alloc: Global,
-    key: &str,
-    value: &str,
-) -> Result<IndexMap<String, String>, AllocError> {
+fn one_text(alloc: Global) -> Result<IndexMap<String, String>, AllocError> {
+    let key = String::from_str(alloc, "a")?;
+    let value = String::from_str(alloc, "1")?;
     let mut texts = IndexMap::new(alloc);
-    texts.insert(
-        String::from_str(alloc, key)?,
-        String::from_str(alloc, value)?,
-    )?;
+    texts.insert(key, value)?;
     Ok(texts)
 }
 
-/// Asserts that these pairs of texts, one after another, are the wanted bytes.
-pub fn assert_texts(
-    assert: &impl Assert,
-    alloc: Global,
-    texts: IndexMap<String, String>,
-    wanted: &[u8],
-) {
-    let all = once_more(assert, joined(alloc, &texts), joined(alloc, &texts));
-    drop(texts);
-    assert_bytes(assert, all.as_slice(), wanted);
+/// A pair of texts: `a` and `1`.
+pub fn texts(assert: &impl Assert, alloc: Global) -> IndexMap<String, String> {
+    once_more(assert, one_text(alloc), one_text(alloc))
 }
 
-// Each pair of texts in its order, as bytes one after another.
-fn joined(alloc: Global, texts: &IndexMap<String, String>) -> Result<Vec<u8>, AllocError> {
-    let mut all = Vec::new(alloc);
-    for (key, value) in texts {
-        all.extend_from_slice(key.as_bytes())?;
-        all.extend_from_slice(value.as_bytes())?;
+/// Asserts which pairs of texts these are.
+pub fn assert_texts(
+    assert: &impl Assert,
+    texts: IndexMap<String, String>,
+    wanted: &[(&str, &str)],
+) {
+    assert.holds(texts.len() == wanted.len());
+    for (place, pair) in wanted.iter().enumerate() {
+        match texts.get_index(place) {
+            Some((key, value)) => {
+                assert.holds((key.as_str() == pair.0) & (value.as_str() == pair.1))
+            }
+            None => assert.holds(false),
+        }
     }
-    Ok(all)
+    drop(texts);
 }

@@ -1,53 +1,111 @@
-//! Bulk requests.
+//! Bulk requests, and rows and sets that are filled into them.
 
-use crate::given::{
-    Cells, Given, NULL, ONE, SHORT, TWO, TWO_VALUES, TYPED, TYPED_1_2, param_values, request, rows,
-};
-use crate::support::Asserting;
+use crate::given::{Cells, Given, NULL, ONE, SHORT, TWO, TWO_VALUES, named, row, rows};
+use crate::support::{Asserting, assert_appended, assert_shown, is_made, is_shown};
 use mysql_buf::ParseBuf;
 use mysql_bulk::{
-    BulkExecuteRequestError, ComStmtBulkExecuteRequest, StmtBulkExecuteParamType,
-    StmtBulkExecuteParamValue, read_bulk_row,
+    StmtBulkExecuteParamType, StmtBulkExecuteParamValue, StmtBulkExecuteParamValues, read_bulk_row,
+};
+use mysql_bulk_builder::{
+    BulkExecuteRequestBuilderError, BulkExecuteRequestError, BulkRequests,
+    ComStmtBulkExecuteRequest, ComStmtBulkExecuteRequestBuilder,
 };
 use mysql_cells::Value;
 use mysql_const::{
     ColumnFlags, ColumnType, MariadbBulkIndicator, StmtBulkExecuteFlags, StmtExecuteParamFlags,
 };
-use mysql_fields::{ParseExt, WireError};
+use mysql_fields::{MySerialize, ParseExt, Readable, WireError};
+use mysql_values::Params;
 use std::alloc::{AllocError, Global};
 use tests_support::{
-    Assert, assert_bytes, assert_copied, assert_equal, assert_made, assert_written, first_of,
-    once_more, whole,
+    Assert, again, assert_bytes, assert_copied, assert_equal, assert_made, first_of,
 };
+
+/// The requests of the statement 1 with types, over the rows of 1 and 2, and of 1 alone.
+const TYPED_1_2: &[u8] = b"\xfa\x01\0\0\0\x80\0\x08\0\0\x01\0\0\0\0\0\0\0\0\x02\0\0\0\0\0\0\0";
+
+const TYPED_1: &[u8] = b"\xfa\x01\0\0\0\x80\0\x08\0\0\x01\0\0\0\0\0\0\0";
+
+const TYPED: StmtBulkExecuteFlags = StmtBulkExecuteFlags::SEND_TYPES_TO_SERVER;
 
 const UNTYPED: StmtBulkExecuteFlags = StmtBulkExecuteFlags(0);
 
-/// A request, or why there is none.
-type Answer = Result<ComStmtBulkExecuteRequest, BulkExecuteRequestError>;
+const UNSIGNED: Cells = &[Given::UInt(2)];
 
-const OF_UNSIGNED: Cells = &[Given::UInt(2)];
+const ONE_AND_NULL: Cells = &[Given::Int(1), Given::Null];
 
-/// Rows, and the bytes of their request: its column has the type of the first value that isn't
-/// NULL, without a sign where any number of that type has none.
-const BY_VALUES: [(&[Cells], &[u8]); 6] = [
-    (&[ONE, TWO], TYPED_1_2),
+/// What a request is asked for by: its flags, the types that are given, if any, and the rows; and its
+/// bytes or the refusal.
+type Asked = (
+    StmtBulkExecuteFlags,
+    Option<&'static [ColumnType]>,
+    &'static [Cells],
+    Result<&'static [u8], &'static str>,
+);
+
+const LONGLONGS: &[ColumnType] = &[
+    ColumnType::MYSQL_TYPE_LONGLONG,
+    ColumnType::MYSQL_TYPE_LONGLONG,
+];
+
+const LONGLONG: &[ColumnType] = &[ColumnType::MYSQL_TYPE_LONGLONG];
+
+const ASKED: [Asked; 15] = [
+    // A column has the type of its first value that isn't NULL, without a sign where any number of
+    // that type has none.
+    (TYPED, None, &[ONE, TWO], Ok(TYPED_1_2)),
     (
+        TYPED,
+        None,
         &[NULL, ONE],
-        b"\xfa\x01\0\0\0\x80\0\x08\0\x01\0\x01\0\0\0\0\0\0\0",
-    ),
-    (&[NULL, NULL], b"\xfa\x01\0\0\0\x80\0\x06\0\x01\x01"),
-    (
-        &[ONE, OF_UNSIGNED],
-        b"\xfa\x01\0\0\0\x80\0\x08\x80\0\x01\0\0\0\0\0\0\0\0\x02\0\0\0\0\0\0\0",
+        Ok(b"\xfa\x01\0\0\0\x80\0\x08\0\x01\0\x01\0\0\0\0\0\0\0"),
     ),
     (
-        &[OF_UNSIGNED, ONE],
-        b"\xfa\x01\0\0\0\x80\0\x08\x80\0\x02\0\0\0\0\0\0\0\0\x01\0\0\0\0\0\0\0",
+        TYPED,
+        None,
+        &[NULL, NULL],
+        Ok(b"\xfa\x01\0\0\0\x80\0\x06\0\x01\x01"),
     ),
     (
+        TYPED,
+        None,
+        &[ONE, UNSIGNED],
+        Ok(b"\xfa\x01\0\0\0\x80\0\x08\x80\0\x01\0\0\0\0\0\0\0\0\x02\0\0\0\0\0\0\0"),
+    ),
+    (
+        TYPED,
+        None,
+        &[UNSIGNED, ONE],
+        Ok(b"\xfa\x01\0\0\0\x80\0\x08\x80\0\x02\0\0\0\0\0\0\0\0\x01\0\0\0\0\0\0\0"),
+    ),
+    (
+        TYPED,
+        None,
         &[ONE, SHORT],
-        b"\xfa\x01\0\0\0\x80\0\x08\0\0\x01\0\0\0\0\0\0\0\0\x01x",
+        Ok(b"\xfa\x01\0\0\0\x80\0\x08\0\0\x01\0\0\0\0\0\0\0\0\x01x"),
     ),
+    (TYPED, None, &[ONE, TWO_VALUES], Err("MixedArity")),
+    (TYPED, None, &[], Err("NoParams")),
+    // A type is sent as it is given, also where no value has it.
+    (TYPED, Some(LONGLONG), &[ONE, TWO], Ok(TYPED_1_2)),
+    (
+        TYPED,
+        Some(&[ColumnType::MYSQL_TYPE_VAR_STRING]),
+        &[ONE],
+        Ok(b"\xfa\x01\0\0\0\x80\0\xfd\0\0\x01\0\0\0\0\0\0\0"),
+    ),
+    // Where types aren't sent those that are given are ignored, as many as there are.
+    (
+        UNTYPED,
+        Some(LONGLONGS),
+        &[ONE],
+        Ok(b"\xfa\x01\0\0\0\0\0\0\x01\0\0\0\0\0\0\0"),
+    ),
+    // As many types as values are wanted where they are sent, as many values in each row, and rows.
+    (TYPED, Some(&[]), &[ONE], Err("MixedArity")),
+    (TYPED, Some(LONGLONGS), &[ONE], Err("MixedArity")),
+    (UNTYPED, Some(&[]), &[ONE, TWO_VALUES], Err("MixedArity")),
+    (TYPED, Some(LONGLONG), &[], Err("NoParams")),
 ];
 
 /// Types without flags.
@@ -62,169 +120,101 @@ fn types_of(
     Ok(types)
 }
 
-/// What a request is asked for by: its flags, the types that are given, and the rows.
-type Asked = (
-    StmtBulkExecuteFlags,
-    &'static [ColumnType],
-    &'static [Cells],
-);
-
-/// A request by types that are given.
-fn request_by_types(alloc: Global, asked: Asked) -> Answer {
-    let types = types_of(alloc, asked.1)?;
-    let rows = rows(alloc, asked.2)?;
-    ComStmtBulkExecuteRequest::with_types(alloc, 1, asked.0, types, rows)
+/// The request of the statement 1 that is asked for.
+fn request(
+    alloc: Global,
+    (flags, kinds, cells, _): &Asked,
+) -> Result<ComStmtBulkExecuteRequest, BulkExecuteRequestError> {
+    let all = rows(alloc, *cells)?;
+    match kinds {
+        Some(kinds) => {
+            let types = types_of(alloc, *kinds)?;
+            ComStmtBulkExecuteRequest::with_types(alloc, 1, *flags, types, all)
+        }
+        None => ComStmtBulkExecuteRequest::new(alloc, 1, *flags, all),
+    }
 }
 
-const ONE_LONGLONG: &[ColumnType] = &[ColumnType::MYSQL_TYPE_LONGLONG];
-
-const TWO_LONGLONGS: &[ColumnType] = &[
-    ColumnType::MYSQL_TYPE_LONGLONG,
-    ColumnType::MYSQL_TYPE_LONGLONG,
-];
-
-const ONE_STRING: &[ColumnType] = &[ColumnType::MYSQL_TYPE_VAR_STRING];
-
-/// Requests by types that are given, how many types they carry, and their bytes. A type is sent as
-/// it is, also where no value has it.
-const BY_TYPES: [(Asked, usize, &[u8]); 3] = [
-    ((TYPED, ONE_LONGLONG, &[ONE, TWO]), 1, TYPED_1_2),
-    (
-        (TYPED, ONE_STRING, &[ONE]),
-        1,
-        b"\xfa\x01\0\0\0\x80\0\xfd\0\0\x01\0\0\0\0\0\0\0",
-    ),
-    // Where types aren't sent those that are given are ignored, as many as there are.
-    (
-        (UNTYPED, TWO_LONGLONGS, &[ONE]),
-        0,
-        b"\xfa\x01\0\0\0\0\0\0\x01\0\0\0\0\0\0\0",
-    ),
-];
-
-/// A request that is made of values in one list, and whether it took them.
-fn flat_request(alloc: Global) -> Result<(ComStmtBulkExecuteRequest, bool), AllocError> {
+/// The request of 1 and 2, made of values in one list.
+fn flat_request(alloc: Global) -> Result<ComStmtBulkExecuteRequest, AllocError> {
     let mut values = Vec::new(alloc);
     values.push(StmtBulkExecuteParamValue::new(Value::Int(1)))?;
     values.push(StmtBulkExecuteParamValue::new(Value::Int(2)))?;
     let count = values.len();
-    let request = ComStmtBulkExecuteRequest::from_flat(alloc, 1, TYPED, 1, count, &mut values)?;
-    Ok((request, values.is_empty()))
+    ComStmtBulkExecuteRequest::from_flat(alloc, 1, TYPED, 1, count, &mut values)
+}
+
+/// Bytes that begin with a request over one column of long numbers, how many are left behind it, and
+/// its own ones or why they are refused.
+type Received = (&'static [u8], usize, Result<&'static [u8], &'static str>);
+
+/// A request is read with its first row, and without types by those that are known.
+const RECEIVED: [Received; 5] = [
+    (TYPED_1_2, 9, Ok(TYPED_1)),
+    (
+        b"\xfa\x01\0\0\0\0\0\0\x05\0\0\0\0\0\0\0",
+        0,
+        Ok(b"\xfa\x01\0\0\0\0\0\0\x05\0\0\0\0\0\0\0"),
+    ),
+    // Another first byte, a flag without a name, an indicator without one: all bytes are left.
+    (
+        b"\xfb\x01\0\0\0\0\0\0\x05\0\0\0\0\0\0\0",
+        16,
+        Err("BadConstant"),
+    ),
+    (
+        b"\xfa\x01\0\0\0\0\x01\0\x05\0\0\0\0\0\0\0",
+        16,
+        Err("UnknownValue"),
+    ),
+    (
+        b"\xfa\x01\0\0\0\0\0\x04\x05\0\0\0\0\0\0\0",
+        16,
+        Err("UnknownValue"),
+    ),
+];
+
+/// The type and flags of a column.
+type Ctx = (ColumnType, ColumnFlags);
+
+const NUMBER: Ctx = (ColumnType::MYSQL_TYPE_LONGLONG, ColumnFlags(0));
+
+/// Reads such a request.
+fn received(
+    assert: &impl Assert,
+    alloc: Global,
+    (bytes, left, _): &Received,
+) -> Result<ComStmtBulkExecuteRequest, WireError> {
+    let columns = Vec::from_slice(alloc, &[NUMBER])?;
+    let mut buf = ParseBuf(*bytes);
+    let request = buf.parse::<ComStmtBulkExecuteRequest>(alloc, columns);
+    assert.holds(request.is_err() | (buf.len() == *left));
+    assert.holds(request.is_ok() | (buf.len() == bytes.len()));
+    request
 }
 
 #[test]
 fn requests(rt: HostRuntime) {
-    let assert = Asserting(&rt);
+    let a = Asserting(&rt);
     let alloc = rt.alloc();
-    for (all, bytes) in &BY_VALUES {
-        assert_made(
-            &assert,
-            alloc,
-            request(alloc, *all),
-            request(alloc, *all),
-            *bytes,
-        );
+    for asked in &ASKED {
+        let first = is_made(&a, alloc, request(alloc, asked), asked.3);
+        a.holds(is_made(&a, alloc, request(alloc, asked), asked.3) | first);
     }
-    for (asked, sent, bytes) in &BY_TYPES {
-        let made = once_more(
-            &assert,
-            request_by_types(alloc, *asked),
-            request_by_types(alloc, *asked),
-        );
-        assert_equal(&assert, made.types().len(), *sent);
-        assert_written(&assert, alloc, &made, *bytes);
-        drop(made);
+    for bytes in &RECEIVED {
+        let first = is_made(&a, alloc, received(&a, alloc, bytes), bytes.2);
+        a.holds(is_made(&a, alloc, received(&a, alloc, bytes), bytes.2) | first);
     }
-    let (made, taken) = once_more(&assert, flat_request(alloc), flat_request(alloc));
-    assert.holds(taken);
-    assert_written(&assert, alloc, &made, TYPED_1_2);
-    drop(made);
-}
-
-/// Why a request, or the same asked for once more, is refused.
-fn cause_of(first: Answer, second: Answer) -> Option<BulkExecuteRequestError> {
-    match first {
-        Err(BulkExecuteRequestError::Memory) => second.err(),
-        answer => answer.err(),
-    }
-}
-
-/// What is asked for in vain, and whether no row is the cause: as many types as values are wanted
-/// where they are sent, as many values in each row, and rows.
-const IN_VAIN: [(Asked, bool); 4] = [
-    ((TYPED, &[], &[ONE]), false),
-    ((TYPED, TWO_LONGLONGS, &[ONE]), false),
-    ((UNTYPED, &[], &[ONE, TWO_VALUES]), false),
-    ((TYPED, ONE_LONGLONG, &[]), true),
-];
-
-#[test]
-fn no_requests_are_made(rt: HostRuntime) {
-    let assert = Asserting(&rt);
-    let alloc = rt.alloc();
-    for (asked, without_rows) in &IN_VAIN {
-        let found = cause_of(
-            request_by_types(alloc, *asked),
-            request_by_types(alloc, *asked),
-        );
-        if *without_rows {
-            assert.holds(matches!(found, Some(BulkExecuteRequestError::NoParams)));
-        } else {
-            assert.holds(matches!(found, Some(BulkExecuteRequestError::MixedArity)));
-        }
-    }
-    let found = cause_of(
-        request(alloc, &[ONE, TWO_VALUES]),
-        request(alloc, &[ONE, TWO_VALUES]),
+    assert_made(
+        &a,
+        alloc,
+        flat_request(alloc),
+        flat_request(alloc),
+        TYPED_1_2,
     );
-    assert.holds(matches!(found, Some(BulkExecuteRequestError::MixedArity)));
-    let found = cause_of(request(alloc, &[]), request(alloc, &[]));
-    assert.holds(matches!(found, Some(BulkExecuteRequestError::NoParams)));
-}
-
-/// Asserts that a request has one value, this number.
-fn assert_number(assert: &impl Assert, request: &ComStmtBulkExecuteRequest, number: i64) {
-    match request.values().as_slice() {
-        [value] => {
-            let none = MariadbBulkIndicator::BULK_INDICATOR_NONE;
-            assert_equal(assert, value.indicator(), none);
-            assert.holds(matches!(value.value(), Value::Int(found) if *found == number));
-        }
-        _ => assert.holds(false),
-    }
-}
-
-/// Asserts the parts of a request with these flags.
-fn assert_parts(
-    assert: &impl Assert,
-    request: &ComStmtBulkExecuteRequest,
-    flags: StmtBulkExecuteFlags,
-) {
-    assert_equal(assert, request.stmt_id(), 1);
-    assert_equal(assert, request.bulk_flags(), flags);
-    match request.types() {
-        [] => assert_equal(assert, flags, UNTYPED),
-        [sent] => {
-            assert_equal(assert, flags, TYPED);
-            assert_equal(assert, sent.column_type(), ColumnType::MYSQL_TYPE_LONGLONG);
-            assert_equal(assert, sent.flags(), StmtExecuteParamFlags(0));
-        }
-        _ => assert.holds(false),
-    }
-}
-
-const ONE_AND_NULL: Cells = &[Given::Int(1), Given::Null];
-
-const LONGLONG: [(ColumnType, ColumnFlags); 1] = [(
-    ColumnType::MYSQL_TYPE_LONGLONG,
-    ColumnFlags(0),
-)];
-
-/// Whether a row of one column is NULL; None where memory was refused.
-fn is_null(alloc: Global, bytes: &[u8]) -> Result<bool, WireError> {
-    let mut buf = ParseBuf(bytes);
-    let row = read_bulk_row(alloc, &LONGLONG, &mut buf)?;
-    Ok(row.len() == 1 && matches!(row[0], Value::NULL) && buf.len() == 1)
+    let made = again!(&a, flat_request(alloc));
+    assert_copied(&a, &made, made.clone(alloc), made.clone(alloc));
+    drop(made);
 }
 
 /// An indicator without a value and another byte, and that indicator.
@@ -234,122 +224,373 @@ const WITHOUT_VALUES: [(&[u8], MariadbBulkIndicator); 3] = [
     (b"\x03x", MariadbBulkIndicator::BULK_INDICATOR_IGNORE),
 ];
 
-/// Asserts that these bytes begin with NULL, with this indicator, and that one byte is left.
-fn assert_null(assert: &impl Assert, alloc: Global, bytes: &[u8], indicator: MariadbBulkIndicator) {
-    let column = (ColumnType::MYSQL_TYPE_LONGLONG, ColumnFlags(0));
-    let mut buf = ParseBuf(bytes);
-    let found = first_of::<StmtBulkExecuteParamValue, (ColumnType, ColumnFlags)>(
-        assert, alloc, column, &mut buf,
-    );
-    assert_equal(assert, buf.len(), 1);
-    assert_equal(assert, found.indicator(), indicator);
-    assert.holds(matches!(found.value(), Value::NULL));
-}
-
-/// A type with its flags. Indicators 1 to 3 read no value: NULL, and for now what the column's
-/// default is and what is ignored. A value keeps them.
+/// Indicators 1 to 3 read no value: NULL, and for now what the column's default is and what is
+/// ignored. A value keeps them.
 #[test]
-fn types_and_values(rt: HostRuntime) {
-    let assert = Asserting(&rt);
+fn values(rt: HostRuntime) {
+    let a = Asserting(&rt);
     let alloc = rt.alloc();
-    let wanted = StmtBulkExecuteParamType::new(
-        ColumnType::MYSQL_TYPE_LONGLONG,
-        StmtExecuteParamFlags::UNSIGNED,
+    let unsigned = StmtExecuteParamFlags::UNSIGNED;
+    let wanted = StmtBulkExecuteParamType::new(ColumnType::MYSQL_TYPE_LONGLONG, unsigned);
+    assert_equal(
+        &a,
+        StmtBulkExecuteParamType::from_value(&Value::UInt(2)),
+        wanted,
     );
-    let read = whole::<StmtBulkExecuteParamType, ()>(&assert, alloc, (), b"\x08\x80");
-    assert_equal(&assert, read, wanted);
-    let made = StmtBulkExecuteParamType::from_value(&Value::UInt(2));
-    assert_equal(&assert, made, wanted);
-    assert_written(&assert, alloc, &made, b"\x08\x80");
-    let made = once_more(
-        &assert,
-        param_values(alloc, ONE_AND_NULL),
-        param_values(alloc, ONE_AND_NULL),
+    assert_appended(&a, alloc, &wanted, b"\x08\x80");
+    a.holds(StmtBulkExecuteParamType::size() == Some(2));
+    let value = StmtBulkExecuteParamValue::new(Value::Int(1));
+    assert_appended(&a, alloc, &value, b"\0\x01\0\0\0\0\0\0\0");
+    drop(value);
+    let made = again!(
+        &a,
+        StmtBulkExecuteParamValues::new(alloc, again!(&a, row(alloc, ONE_AND_NULL)))
     );
-    assert_written(&assert, alloc, &made, b"\0\x01\0\0\0\0\0\0\0\x01");
-    assert_copied(&assert, &made, made.clone(alloc), made.clone(alloc));
-    for value in made.as_slice() {
-        assert_copied(&assert, value, value.clone(alloc), value.clone(alloc));
-    }
-    for (bytes, indicator) in &WITHOUT_VALUES {
-        let null = once_more(&assert, is_null(alloc, *bytes), is_null(alloc, *bytes));
-        assert.holds(null);
-        assert_null(&assert, alloc, *bytes, *indicator);
+    assert_appended(&a, alloc, &made, b"\0\x01\0\0\0\0\0\0\0\x01");
+    assert_copied(&a, &made, made.clone(alloc), made.clone(alloc));
+    drop(made);
+    for (bytes, indicator) in WITHOUT_VALUES {
+        let (mut buf, mut again) = (ParseBuf(bytes), ParseBuf(bytes));
+        let first = read_bulk_row(alloc, &[NUMBER], &mut buf);
+        let second = read_bulk_row(alloc, &[NUMBER], &mut again);
+        assert_shown(&a, alloc, first, second, "Ok([NULL])");
+        a.holds((buf.len() == 1) | (again.len() == 1));
+        let mut buf = ParseBuf(bytes);
+        let found = first_of::<StmtBulkExecuteParamValue, Ctx>(&a, alloc, NUMBER, &mut buf);
+        assert_bytes(&a, buf.0, b"x");
+        assert_equal(&a, found.indicator(), indicator);
+        a.holds(matches!(found.value(), Value::NULL));
+        drop(found);
     }
 }
 
-/// The request that stands first, over one column of long numbers, and how many bytes are left.
-fn first_request(
+/// What is added to a builder: a row, or the set that gives a name a number.
+#[derive(Clone, Copy)]
+enum Added {
+    Row(Cells),
+    Set(&'static [u8], i64),
+}
+
+/// What is done with a builder, and what it answers.
+#[derive(Clone, Copy)]
+enum Step {
+    Adds(Added, &'static str),
+    /// The rows that are held make this request, and are let go.
+    Builds(&'static [u8]),
+    HoldsNone,
+}
+
+/// Adds a row or a set.
+fn add(
+    assert: &impl Assert,
     alloc: Global,
-    bytes: &[u8],
-) -> Result<(ComStmtBulkExecuteRequest, usize), WireError> {
-    let columns = Vec::from_slice(alloc, &LONGLONG)?;
-    let mut buf = ParseBuf(bytes);
-    let request = buf.parse::<ComStmtBulkExecuteRequest>(alloc, columns)?;
-    Ok((request, buf.len()))
+    builder: &mut ComStmtBulkExecuteRequestBuilder<'_>,
+    added: Added,
+) -> Result<Option<Vec<Value>>, BulkExecuteRequestBuilderError> {
+    match added {
+        Added::Row(cells) => builder.add_row(again!(assert, row(alloc, cells))),
+        Added::Set(name, number) => builder.add_params(again!(assert, named(alloc, name, number))),
+    }
 }
 
-/// Bytes that begin with a request, its flags, its first number, and how many bytes are left.
-const FIRST_REQUESTS: [(&[u8], StmtBulkExecuteFlags, i64, usize); 2] = [
-    // A request is read with its first row; nine bytes are left, which are the second one.
-    (TYPED_1_2, TYPED, 1, 9),
-    // A request without types is read by those that are known.
-    (b"\xfa\x01\0\0\0\0\0\0\x05\0\0\0\0\0\0\0", UNTYPED, 5, 0),
-];
-
-/// Why these bytes are no request, all of which are left; None where they are one.
-fn refusal(assert: &impl Assert, alloc: Global, bytes: &[u8]) -> Option<WireError> {
-    let columns = once_more(
-        assert,
-        Vec::from_slice(alloc, &LONGLONG),
-        Vec::from_slice(alloc, &LONGLONG),
-    );
-    let mut buf = ParseBuf(bytes);
-    let refused = buf.parse::<ComStmtBulkExecuteRequest>(alloc, columns).err();
-    if refused.is_some() {
-        assert_bytes(assert, buf.0, bytes);
-    }
-    refused
-}
-
-/// Bytes that are no request, and why: another first byte, a flag without a name, an indicator without one.
-const NO_REQUESTS: [(&[u8], WireError); 3] = [
-    (
-        b"\xfb\x01\0\0\0\0\0\0\x05\0\0\0\0\0\0\0",
-        WireError::BadConstant,
-    ),
-    (
-        b"\xfa\x01\0\0\0\0\x01\0\x05\0\0\0\0\0\0\0",
-        WireError::UnknownValue,
-    ),
-    (
-        b"\xfa\x01\0\0\0\0\0\x04\x05\0\0\0\0\0\0\0",
-        WireError::UnknownValue,
-    ),
-];
-
-/// A request is read with its first row.
-#[test]
-fn requests_are_read(rt: HostRuntime) {
-    let assert = Asserting(&rt);
-    let alloc = rt.alloc();
-    for (bytes, flags, number, rest) in &FIRST_REQUESTS {
-        let (read, left) = once_more(
-            &assert,
-            first_request(alloc, *bytes),
-            first_request(alloc, *bytes),
-        );
-        assert_equal(&assert, left, *rest);
-        assert_parts(&assert, &read, *flags);
-        assert_number(&assert, &read, *number);
-        assert_copied(&assert, &read, read.clone(alloc), read.clone(alloc));
-        drop(read);
-    }
-    for (bytes, cause) in &NO_REQUESTS {
-        let mut found = refusal(&assert, alloc, *bytes);
-        if found == Some(WireError::Memory) {
-            found = refusal(&assert, alloc, *bytes);
+/// Asserts what a builder answers: whether memory sufficed.
+fn is_answered(
+    assert: &impl Assert,
+    alloc: Global,
+    builder: &mut ComStmtBulkExecuteRequestBuilder<'_>,
+    step: &Step,
+) -> bool {
+    match step {
+        Step::Adds(added, wanted) => {
+            let answer = add(assert, alloc, builder, *added);
+            is_shown(assert, alloc, answer, *wanted)
         }
-        assert_equal(&assert, found, Some(*cause));
+        Step::Builds(bytes) => {
+            assert.holds(builder.has_rows());
+            let is_built = is_made(assert, alloc, builder.build(), Ok(*bytes));
+            assert.holds(builder.has_rows() != is_built);
+            is_built
+        }
+        Step::HoldsNone => {
+            assert.holds(!builder.has_rows());
+            is_made(assert, alloc, builder.build(), Err("NoParams"))
+        }
+    }
+}
+
+/// Asserts what a builder answers, step by step, each once more where memory was refused.
+fn assert_steps(
+    assert: &impl Assert,
+    alloc: Global,
+    builder: &mut ComStmtBulkExecuteRequestBuilder<'_>,
+    steps: &[Step],
+) {
+    for step in steps {
+        let first = is_answered(assert, alloc, builder, step);
+        assert.holds(first || is_answered(assert, alloc, builder, step));
+    }
+}
+
+const LONG: Added = Added::Row(&[Given::Filled(19)]);
+
+const LONG_AND_NULL: Added = Added::Row(&[Given::Filled(19), Given::Null]);
+
+const ADDS_1: Step = Step::Adds(Added::Row(ONE), "Ok(None)");
+
+const ADDS_2: Step = Step::Adds(Added::Row(TWO), "Ok(None)");
+
+const ADDS_X: Step = Step::Adds(Added::Row(SHORT), "Ok(None)");
+
+const MIXED: &str = "Err(Request(MixedArity))";
+
+const MIXES: Step = Step::Adds(Added::Row(TWO_VALUES), MIXED);
+
+const TOO_LONG: Step = Step::Adds(
+    LONG,
+    "Err(Request(RowTooLarge([Bytes([120, 120, 120, 120, 120, 120, 120, 120, 120, 120, 120, \
+    120, 120, 120, 120, 120, 120, 120, 120])])))",
+);
+
+/// The most bytes of a packet, and what is done with a builder of such requests.
+const BUILDERS: [(usize, &[Step]); 8] = [
+    (31, &[Step::HoldsNone]),
+    // Both rows fit.
+    (
+        31,
+        &[ADDS_1, ADDS_2, Step::Builds(TYPED_1_2), Step::HoldsNone],
+    ),
+    // A byte less: the second row comes back, and fits a request of its own, which carries no types.
+    (
+        30,
+        &[
+            ADDS_1,
+            Step::Adds(Added::Row(TWO), "Ok(Some([Int(2)]))"),
+            Step::Builds(TYPED_1),
+            ADDS_2,
+            Step::Builds(b"\xfa\x01\0\0\0\0\0\0\x02\0\0\0\0\0\0\0"),
+        ],
+    ),
+    // Rows that fit no request leave the builder unchanged, also in how many values its rows have.
+    (
+        31,
+        &[
+            TOO_LONG,
+            Step::Adds(
+                LONG_AND_NULL,
+                "Err(Request(RowTooLarge([Bytes([120, 120, 120, 120, 120, 120, 120, 120, 120, \
+                120, 120, 120, 120, 120, 120, 120, 120, 120, 120]), NULL])))",
+            ),
+            ADDS_1,
+            ADDS_2,
+            Step::Builds(TYPED_1_2),
+        ],
+    ),
+    // While a row is held a long one only comes back; behind its request it is refused.
+    (
+        31,
+        &[
+            ADDS_X,
+            Step::Adds(
+                LONG,
+                "Ok(Some([Bytes([120, 120, 120, 120, 120, 120, 120, 120, 120, 120, 120, 120, \
+                120, 120, 120, 120, 120, 120, 120])]))",
+            ),
+            Step::Builds(b"\xfa\x01\0\0\0\x80\0\xfd\0\0\x01x"),
+            TOO_LONG,
+        ],
+    ),
+    // The first row taken sets how many values each row has, over builds too.
+    (31, &[ADDS_1, MIXES, ADDS_2, Step::Builds(TYPED_1_2), MIXES]),
+    // A row of another length is refused as such, also where it is too large: behind a row that is
+    // held, and behind its request.
+    (
+        31,
+        &[
+            ADDS_1,
+            Step::Adds(LONG_AND_NULL, MIXED),
+            Step::Builds(TYPED_1),
+            Step::Adds(LONG_AND_NULL, MIXED),
+        ],
+    ),
+    // No row fits a limit that the head of a request exceeds.
+    (
+        4,
+        &[
+            Step::Adds(Added::Row(NULL), "Err(Request(RowTooLarge([NULL])))"),
+            Step::HoldsNone,
+            Step::Adds(Added::Row(&[]), "Err(Request(RowTooLarge([])))"),
+            Step::HoldsNone,
+        ],
+    ),
+];
+
+/// A request that asks for the result of each row.
+const WITH_RESULTS: &[Step] = &[
+    ADDS_X,
+    Step::Builds(b"\xfa\x01\0\0\0\xc0\0\xfd\0\0\x01x"),
+    ADDS_X,
+];
+
+const MISSING: &str = "Err(Params(Missing(MissingNamedParameterError([97]))))";
+
+/// Sets which name `a` are taken, and one without it is refused and changes nothing.
+const SETS: &[Step] = &[
+    Step::Adds(Added::Set(b"a", 1), "Ok(None)"),
+    Step::Adds(Added::Set(b"b", 7), MISSING),
+    Step::Adds(Added::Set(b"a", 2), "Ok(None)"),
+    Step::Builds(TYPED_1_2),
+];
+
+/// A copy of a builder holds the same rows, and so differs from one that holds none.
+#[test]
+fn builders(rt: HostRuntime) {
+    let a = Asserting(&rt);
+    let alloc = rt.alloc();
+    for (limit, steps) in &BUILDERS {
+        a.holds(*limit >= 4);
+        let mut builder = ComStmtBulkExecuteRequestBuilder::new(alloc, 1, *limit);
+        assert_steps(&a, alloc, &mut builder, *steps);
+        drop(builder);
+    }
+    let names = [again!(&a, Vec::from_slice(alloc, b"a"))];
+    let builder = ComStmtBulkExecuteRequestBuilder::new(alloc, 1, 31);
+    let mut builder = builder.with_named_params(Some(&names));
+    assert_steps(&a, alloc, &mut builder, SETS);
+    drop(builder);
+    let mut builder = ComStmtBulkExecuteRequestBuilder::new(alloc, 1, 31).with_results();
+    assert_steps(&a, alloc, &mut builder, WITH_RESULTS);
+    assert_copied(&a, &builder, builder.clone(alloc), builder.clone(alloc));
+    let empty = ComStmtBulkExecuteRequestBuilder::new(alloc, 1, 31).with_results();
+    a.holds(builder != empty);
+    drop(empty);
+    drop(builder);
+}
+
+/// Rows, or sets.
+#[derive(Clone, Copy)]
+enum All {
+    Rows(&'static [Cells]),
+    Sets(&'static [(&'static [u8], i64)]),
+}
+
+/// Sets that give a name a number each.
+fn sets(alloc: Global, all: &[(&[u8], i64)]) -> Result<Vec<Params>, AllocError> {
+    let mut sets = Vec::new(alloc);
+    for (name, number) in all {
+        sets.push(named(alloc, *name, *number)?)?;
+    }
+    Ok(sets)
+}
+
+/// The requests of a builder's rows and of these.
+fn requests_of<'b, 'n>(
+    assert: &impl Assert,
+    alloc: Global,
+    builder: &'b mut ComStmtBulkExecuteRequestBuilder<'n>,
+    all: All,
+) -> BulkRequests<'b, 'n> {
+    match all {
+        All::Rows(cells) => builder.build_iter(again!(assert, rows(alloc, cells))),
+        All::Sets(given) => builder.build_params_iter(again!(assert, sets(alloc, given))),
+    }
+}
+
+/// Appends requests, one behind the other.
+fn put(
+    requests: BulkRequests<'_, '_>,
+    out: &mut Vec<u8>,
+) -> Result<(), BulkExecuteRequestBuilderError> {
+    for request in requests {
+        request?.serialize(out)?;
+    }
+    Ok(())
+}
+
+/// The bytes of the requests at the limit 29.
+fn bytes_of(
+    assert: &impl Assert,
+    alloc: Global,
+    all: All,
+) -> Result<Vec<u8>, BulkExecuteRequestBuilderError> {
+    let names = [again!(assert, Vec::from_slice(alloc, b"a"))];
+    let builder = ComStmtBulkExecuteRequestBuilder::new(alloc, 1, 29);
+    let mut builder = builder.with_named_params(Some(&names));
+    let mut bytes = Vec::new(alloc);
+    put(requests_of(assert, alloc, &mut builder, all), &mut bytes)?;
+    Ok(bytes)
+}
+
+/// Asserts that the first request is an error, which is the last item: whether memory sufficed.
+fn is_ended(
+    assert: &impl Assert,
+    alloc: Global,
+    mut requests: BulkRequests<'_, '_>,
+    wanted: &str,
+) -> bool {
+    let text = again!(assert, format!(in alloc; "{requests:?}"));
+    assert.holds(text.as_str().starts_with("BulkRequests"));
+    let first = requests.next();
+    let is_last = requests.next().is_none();
+    drop(requests);
+    assert.holds(is_last);
+    is_shown(assert, alloc, first, wanted)
+}
+
+/// Rows or sets, the error that ends their requests, and the request of those before it.
+type Cut = (All, &'static str, &'static [u8]);
+
+/// Asserts which error ends the requests at the limit 31, and which one the rows before it make, which
+/// stay: whether memory sufficed.
+fn is_cut(assert: &impl Assert, alloc: Global, (all, wanted, held): Cut) -> bool {
+    let names = [again!(assert, Vec::from_slice(alloc, b"a"))];
+    let builder = ComStmtBulkExecuteRequestBuilder::new(alloc, 1, 31);
+    let mut builder = builder.with_named_params(Some(&names));
+    let requests = requests_of(assert, alloc, &mut builder, all);
+    let is_told = is_ended(assert, alloc, requests, wanted);
+    let held = Step::Builds(held);
+    assert.holds(
+        !is_told
+            || is_answered(assert, alloc, &mut builder, &held)
+            || is_answered(assert, alloc, &mut builder, &held),
+    );
+    drop(builder);
+    is_told
+}
+
+const REQUESTS_OF_1_2_3: &[u8] =
+    b"\xfa\x01\0\0\0\x80\0\x08\0\0\x01\0\0\0\0\0\0\0\xfa\x01\0\0\0\0\0\0\x02\0\0\0\0\0\0\0\0\x03\0\0\0\0\0\0\0";
+
+/// Rows and the sets of the same ones: two rows fit a request without types alone.
+const MANY: [All; 2] = [
+    All::Rows(&[ONE, TWO, &[Given::Int(3)]]),
+    All::Sets(&[(b"a", 1), (b"a", 2), (b"a", 3)]),
+];
+
+/// Rows and sets of which one is refused.
+const CUT: [Cut; 2] = [
+    (
+        All::Rows(&[ONE, TWO, TWO_VALUES]),
+        "Some(Err(Request(MixedArity)))",
+        TYPED_1_2,
+    ),
+    (
+        All::Sets(&[(b"a", 1), (b"b", 7), (b"a", 3)]),
+        "Some(Err(Params(Missing(MissingNamedParameterError([97])))))",
+        TYPED_1,
+    ),
+];
+
+#[test]
+fn requests_of_many(rt: HostRuntime) {
+    let a = Asserting(&rt);
+    let alloc = rt.alloc();
+    for all in MANY {
+        let bytes = again!(&a, bytes_of(&a, alloc, all));
+        assert_bytes(&a, &bytes, REQUESTS_OF_1_2_3);
+        drop(bytes);
+    }
+    for case in CUT {
+        let first = is_cut(&a, alloc, case);
+        a.holds(first || is_cut(&a, alloc, case));
     }
 }

@@ -1,164 +1,87 @@
 //! Copies that borrow nothing, of what can be copied or made to own its bytes and isn't elsewhere.
 
-use crate::building::{Wanted, assert_adds};
 use crate::given::{SHORT, row};
 use crate::support::Asserting;
-use mysql_bulk_builder::{
-    BulkExecuteRequestBuilderError, BulkExecuteRequestError, ComStmtBulkExecuteRequestBuilder,
-};
+use mysql_bulk_builder::{BulkExecuteRequestBuilderError, BulkExecuteRequestError};
 use mysql_packets::{ErrPacket, LocalInfilePacket, ProgressReport, ServerError, SqlState};
-use mysql_session_states::{
-    Gtids, Schema, SessionStateChange, SessionStateInfo, SessionStateType, SystemVariable,
-    TransactionCharacteristics, TransactionState, Unsupported,
-};
+use mysql_session_states::{SessionStateInfo, SessionStateType};
 use mysql_stmt::ComStmtSendLongData;
 use mysql_values::{ByteString, Content, MissingNamedParameterError, ParamsError};
-use std::alloc::{AllocError, Global};
 use std::borrow::CowSlice;
-use tests_support::{Assert, assert_copied, once_more};
+use tests_support::{again, assert_copied};
 
-/// Asserts that a value that is made to own its bytes is the same one.
+/// Asserts that a value that is made to own its bytes is the same one, and lets go of both.
 macro_rules! assert_owned {
-    ($assert:expr, $alloc:expr, $value:expr) => {
-        assert_copied($assert, &$value, $value.into_owned($alloc), $value.into_owned($alloc))
-    };
+    ($assert:expr, $alloc:expr, $value:expr) => {{
+        let value = $value;
+        assert_copied($assert, &value, $value.into_owned($alloc), $value.into_owned($alloc));
+        drop(value);
+    }};
 }
 
-/// Asserts that a copy of a value is the same one.
+/// Asserts that a copy of a value is the same one, and lets go of both.
 macro_rules! assert_cloned {
-    ($assert:expr, $alloc:expr, $value:expr) => {
-        assert_copied($assert, &$value, $value.clone($alloc), $value.clone($alloc))
-    };
+    ($assert:expr, $alloc:expr, $value:expr) => {{
+        let value = $value;
+        assert_copied($assert, &value, value.clone($alloc), value.clone($alloc));
+        drop(value);
+    }};
 }
 
 /// Some bytes.
-fn text() -> CowSlice<'static, u8> {
-    CowSlice::Borrowed(b"abc")
-}
+const ABC: &[u8] = b"abc";
 
 #[test]
-fn owned(rt: HostRuntime) {
-    let assert = Asserting(&rt);
+fn packets(rt: HostRuntime) {
+    let a = Asserting(&rt);
     let alloc = rt.alloc();
-    assert_owned!(&assert, alloc, Gtids::new(text()));
-    assert_owned!(&assert, alloc, Schema::new(text()));
-    assert_owned!(&assert, alloc, SystemVariable::new(text(), text()));
-    assert_owned!(&assert, alloc, TransactionCharacteristics::new(text()));
-    assert_owned!(&assert, alloc, TransactionState::new(text()));
-    assert_owned!(&assert, alloc, Unsupported::new(text()));
+    let schema = SessionStateType::SESSION_TRACK_SCHEMA;
+    let state = Some(SqlState::new(*b"HY000"));
     assert_owned!(
-        &assert,
+        &a,
         alloc,
-        SessionStateChange::Unsupported(Unsupported::new(text()))
+        SessionStateInfo::new(schema, CowSlice::Borrowed(ABC))
     );
     assert_owned!(
-        &assert,
+        &a,
         alloc,
-        SessionStateInfo::new(SessionStateType::SESSION_TRACK_SCHEMA, text())
+        ProgressReport::new(1, 10, 23500, CowSlice::Borrowed(ABC))
     );
-    assert_owned!(&assert, alloc, ProgressReport::new(1, 10, 23500, text()));
     assert_owned!(
-        &assert,
+        &a,
         alloc,
-        ServerError::new(1096, Some(SqlState::new(*b"HY000")), text())
+        ServerError::new(1096, state, CowSlice::Borrowed(ABC))
     );
-    assert_owned!(&assert, alloc, LocalInfilePacket::new(text()));
-    assert_owned!(&assert, alloc, ComStmtSendLongData::new(1, 2, text()));
+    assert_owned!(&a, alloc, LocalInfilePacket::new(CowSlice::Borrowed(ABC)));
+    assert_owned!(
+        &a,
+        alloc,
+        ComStmtSendLongData::new(1, 2, CowSlice::Borrowed(ABC))
+    );
+    let report = ProgressReport::new(1, 10, 23500, CowSlice::Borrowed(ABC));
+    assert_cloned!(&a, alloc, ErrPacket::Progress(report));
+    let error = ServerError::new(1096, state, CowSlice::Borrowed(ABC));
+    assert_cloned!(&a, alloc, ErrPacket::Error(error));
+    assert_cloned!(&a, alloc, LocalInfilePacket::new(CowSlice::Borrowed(ABC)));
+    assert_cloned!(
+        &a,
+        alloc,
+        ComStmtSendLongData::new(1, 2, CowSlice::Borrowed(ABC))
+    );
 }
 
 #[test]
-fn cloned(rt: HostRuntime) {
-    let assert = Asserting(&rt);
+fn errors(rt: HostRuntime) {
+    let a = Asserting(&rt);
     let alloc = rt.alloc();
-    assert_cloned!(&assert, alloc, Gtids::new(text()));
-    assert_cloned!(&assert, alloc, Schema::new(text()));
-    assert_cloned!(&assert, alloc, SystemVariable::new(text(), text()));
-    assert_cloned!(&assert, alloc, TransactionCharacteristics::new(text()));
-    assert_cloned!(&assert, alloc, TransactionState::new(text()));
-    assert_cloned!(&assert, alloc, Unsupported::new(text()));
     assert_cloned!(
-        &assert,
+        &a,
         alloc,
-        SessionStateChange::Unsupported(Unsupported::new(text()))
+        Content::Bytes(again!(&a, ByteString::copy(alloc, b"abc")))
     );
-    assert_cloned!(
-        &assert,
-        alloc,
-        ErrPacket::Progress(ProgressReport::new(1, 10, 23500, text()))
-    );
-    assert_cloned!(
-        &assert,
-        alloc,
-        ErrPacket::Error(ServerError::new(1040, None, text()))
-    );
-    assert_cloned!(&assert, alloc, LocalInfilePacket::new(text()));
-    assert_cloned!(&assert, alloc, ComStmtSendLongData::new(1, 2, text()));
-}
-
-/// The bytes, or once more.
-fn bytes(assert: &impl Assert, alloc: Global) -> ByteString {
-    once_more(
-        assert,
-        ByteString::copy(alloc, b"abc"),
-        ByteString::copy(alloc, b"abc"),
-    )
-}
-
-/// A parameter without a value.
-fn missing(assert: &impl Assert, alloc: Global) -> ParamsError {
-    ParamsError::Missing(MissingNamedParameterError(bytes(assert, alloc)))
-}
-
-#[test]
-fn cloned_errors(rt: HostRuntime) {
-    let assert = Asserting(&rt);
-    let alloc = rt.alloc();
-    assert_cloned!(&assert, alloc, Content::Bytes(bytes(&assert, alloc)));
-    assert_cloned!(
-        &assert,
-        alloc,
-        MissingNamedParameterError(bytes(&assert, alloc))
-    );
-    assert_cloned!(&assert, alloc, missing(&assert, alloc));
-    let values = once_more(&assert, row(alloc, SHORT), row(alloc, SHORT));
-    let error = BulkExecuteRequestError::RowTooLarge(values);
-    assert_copied(&assert, &error, error.clone(alloc), error.clone(alloc));
-    let error = BulkExecuteRequestBuilderError::Request(error);
-    assert_copied(&assert, &error, error.clone(alloc), error.clone(alloc));
-    let error = BulkExecuteRequestBuilderError::Params(missing(&assert, alloc));
-    assert_copied(&assert, &error, error.clone(alloc), error.clone(alloc));
-}
-
-/// What `Debug` writes of the requests of no rows.
-fn shown(
-    alloc: Global,
-    builder: &mut ComStmtBulkExecuteRequestBuilder<'_>,
-) -> Result<String, AllocError> {
-    let requests = builder.build_iter(Vec::new(alloc));
-    format!(in alloc; "{requests:?}")
-}
-
-/// A copy of a builder holds the same rows, and so differs from one that holds none.
-#[test]
-fn cloned_builders(rt: HostRuntime) {
-    let assert = Asserting(&rt);
-    let alloc = rt.alloc();
-    let mut builder = ComStmtBulkExecuteRequestBuilder::new(alloc, 1, 31).with_results();
-    assert_adds(&assert, alloc, &mut builder, SHORT, Wanted::Taken);
-    assert_copied(
-        &assert,
-        &builder,
-        builder.clone(alloc),
-        builder.clone(alloc),
-    );
-    let empty = ComStmtBulkExecuteRequestBuilder::new(alloc, 1, 31).with_results();
-    assert.holds(builder != empty);
-    drop(empty);
-    let text = once_more(
-        &assert,
-        shown(alloc, &mut builder),
-        shown(alloc, &mut builder),
-    );
-    drop(builder);
-    assert.holds(text.as_str().starts_with("BulkRequests"));
+    let name = again!(&a, ByteString::copy(alloc, b"abc"));
+    let missing = ParamsError::Missing(MissingNamedParameterError(name));
+    assert_cloned!(&a, alloc, BulkExecuteRequestBuilderError::Params(missing));
+    let error = BulkExecuteRequestError::RowTooLarge(again!(&a, row(alloc, SHORT)));
+    assert_cloned!(&a, alloc, BulkExecuteRequestBuilderError::Request(error));
 }

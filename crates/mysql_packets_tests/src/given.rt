@@ -1,10 +1,12 @@
-//! Rows of values that tests give, and what is made of them.
+//! Values, rows, columns and sets that tests give.
 
-use mysql_bulk::{BulkExecuteRequestError, ComStmtBulkExecuteRequest, StmtBulkExecuteParamValues};
 use mysql_cells::Value;
-use mysql_const::StmtBulkExecuteFlags;
-use mysql_values::ByteString;
+use mysql_const::{ColumnFlags, ColumnType};
+use mysql_packets::Column;
+use mysql_values::{ByteString, Params};
 use std::alloc::{AllocError, Global};
+use std::collections::HashMap;
+use std::rc::RcSlice;
 
 /// A value of a row.
 #[derive(Clone, Copy)]
@@ -25,25 +27,13 @@ pub const ONE: Cells = &[Given::Int(1)];
 
 pub const TWO: Cells = &[Given::Int(2)];
 
-pub const THREE: Cells = &[Given::Int(3)];
-
 pub const NULL: Cells = &[Given::Null];
 
 pub const SHORT: Cells = &[Given::Filled(1)];
 
 pub const TWO_VALUES: Cells = &[Given::Int(2), Given::Int(3)];
 
-/// The requests of the statement 1 with types, over the rows of 1 and 2, and of 1 alone.
-pub const TYPED_1_2: &[u8] = b"\xfa\x01\0\0\0\x80\0\x08\0\0\x01\0\0\0\0\0\0\0\0\x02\0\0\0\0\0\0\0";
-
-pub const TYPED_1: &[u8] = b"\xfa\x01\0\0\0\x80\0\x08\0\0\x01\0\0\0\0\0\0\0";
-
-fn filled(alloc: Global, len: usize) -> Result<ByteString, AllocError> {
-    let mut bytes = Vec::new(alloc);
-    bytes.resize(len, b'x')?;
-    Ok(ByteString::from_vec(bytes))
-}
-
+/// A value.
 fn value(alloc: Global, given: Given) -> Result<Value, AllocError> {
     match given {
         Given::Null => Ok(Value::NULL),
@@ -51,7 +41,11 @@ fn value(alloc: Global, given: Given) -> Result<Value, AllocError> {
         Given::UInt(number) => Ok(Value::UInt(number)),
         Given::Float(bits) => Ok(Value::Float(bits)),
         Given::Double(bits) => Ok(Value::Double(bits)),
-        Given::Filled(len) => Ok(Value::Bytes(filled(alloc, len)?)),
+        Given::Filled(len) => {
+            let mut bytes = Vec::new(alloc);
+            bytes.resize(len, b'x')?;
+            Ok(Value::Bytes(ByteString::from_vec(bytes)))
+        }
     }
 }
 
@@ -73,18 +67,31 @@ pub fn rows(alloc: Global, all: &[Cells]) -> Result<Vec<Vec<Value>>, AllocError>
     Ok(rows)
 }
 
-pub const TYPED: StmtBulkExecuteFlags = StmtBulkExecuteFlags::SEND_TYPES_TO_SERVER;
+/// The name, type and flags of a column.
+pub type Kind = (&'static [u8], ColumnType, ColumnFlags);
 
-/// A request of the statement 1 over these rows, by the types of their values; or why there is none.
-pub fn request(
-    alloc: Global,
-    all: &[Cells],
-) -> Result<ComStmtBulkExecuteRequest, BulkExecuteRequestError> {
-    let rows = rows(alloc, all)?;
-    ComStmtBulkExecuteRequest::new(alloc, 1, TYPED, rows)
+pub const NO_FLAG: ColumnFlags = ColumnFlags(0);
+
+/// Columns of these names, types and flags.
+pub fn columns_of(alloc: Global, kinds: &[Kind]) -> Result<RcSlice<Column>, AllocError> {
+    let mut columns = Vec::new(alloc);
+    for (name, column_type, flags) in kinds {
+        let column = Column::new(alloc, *column_type).with_flags(*flags);
+        columns.push(column.with_name(*name)?)?;
+    }
+    RcSlice::from_vec(columns)
 }
 
-/// The values of a row with their indicators.
-pub fn param_values(alloc: Global, cells: Cells) -> Result<StmtBulkExecuteParamValues, AllocError> {
-    StmtBulkExecuteParamValues::new(alloc, row(alloc, cells)?)
+/// A set that gives a name a number.
+pub fn named(alloc: Global, name: &[u8], number: i64) -> Result<Params, AllocError> {
+    let name = Vec::from_slice(alloc, name)?;
+    let mut values = HashMap::new(alloc);
+    let answer = values.insert(name, Value::Int(number));
+    let is_in = answer.is_ok();
+    drop(answer);
+    if is_in {
+        Ok(Params::Named(values))
+    } else {
+        Err(AllocError)
+    }
 }

@@ -1,76 +1,59 @@
-//! Rows by their own readers and calls. Those that a reply has are rows of bindings/testing/rows.
+//! Rows by their own readers, calls and writers, and rows that are lent, beside the same rows copied.
+//! Those that a reply has are rows of bindings/testing/rows.
 
-use crate::given::{Cells, Given, row};
-use crate::support::Asserting;
+use crate::given::{Cells, Given, Kind, NO_FLAG, ONE, columns_of, row};
+use crate::support::{Asserting, assert_behind, assert_shown, converted, front, is_shown};
 use mysql_buf::ParseBuf;
 use mysql_cells::Value;
 use mysql_const::ColumnType;
 use mysql_convert::FromValueError;
 use mysql_field_lists::{ClientSide, ServerSide};
 use mysql_fields::{Binary, MyDeserialize, ParseExt, Readable, Text, WireError};
-use mysql_packets::{Column, RowExt};
-use mysql_rows::{ColumnIndex, Row, RowDeserializer, new_row, new_row_raw};
-use mysql_values::ByteString;
+use mysql_packets::{Column, RowExt, RowRefExt, RowRefusal, write_binary_row, write_text_row};
+use mysql_row_refs::{RowError, RowFormat, RowReader, RowRef, ValueRef};
+use mysql_rows::{ColumnIndex, Row, RowDeserializer, new_row};
 use std::alloc::{AllocError, Global};
 use std::rc::RcSlice;
-use tests_support::{Assert, assert_copied, assert_equal, assert_same, once_more};
+use tests_support::{
+    Assert, again, assert_bytes, assert_copied, assert_equal, assert_same, once_more,
+};
 
-/// Columns of these names, all of long numbers.
-fn columns(alloc: Global, names: &[&[u8]]) -> Result<RcSlice<Column>, AllocError> {
-    let mut columns = Vec::new(alloc);
-    for name in names {
-        let column = Column::new(alloc, ColumnType::MYSQL_TYPE_LONGLONG);
-        columns.push(column.with_name(*name)?)?;
-    }
-    RcSlice::from_vec(columns)
-}
+const ID: Kind = (b"id", ColumnType::MYSQL_TYPE_LONGLONG, NO_FLAG);
 
-/// Two columns, `id` and `name`.
-fn two(alloc: Global) -> Result<RcSlice<Column>, AllocError> {
-    let mut columns = Vec::new(alloc);
-    let number = Column::new(alloc, ColumnType::MYSQL_TYPE_LONGLONG);
-    columns.push(number.with_name(b"id")?)?;
-    let text = Column::new(alloc, ColumnType::MYSQL_TYPE_VAR_STRING);
-    columns.push(text.with_name(b"name")?)?;
-    RcSlice::from_vec(columns)
-}
+const NAME: Kind = (b"name", ColumnType::MYSQL_TYPE_VAR_STRING, NO_FLAG);
 
-/// The row that these bytes are, or why they are none.
+/// A number and a text.
+const TWO: [Kind; 2] = [ID, NAME];
+
+/// The row under these columns that these bytes are, with none left, or why they are none.
 fn read<'a, T: MyDeserialize<'a> + Readable<Ctx = RcSlice<Column>> + Drop>(
     assert: &impl Assert,
     alloc: Global,
+    columns: Result<RcSlice<Column>, AllocError>,
     bytes: &'a [u8],
 ) -> Result<T, WireError> {
-    let columns = two(alloc)?;
     let mut buf = ParseBuf(bytes);
-    let row = buf.parse::<T>(alloc, columns);
-    assert.holds(row.is_err() || buf.is_empty());
+    let row = buf.parse::<T>(alloc, columns?);
+    assert.holds(row.is_err() | buf.is_empty());
     row
 }
 
-/// The row that these bytes are, with none left. It is read once more where memory was refused.
-pub fn row_of<'a, T: MyDeserialize<'a> + Readable<Ctx = RcSlice<Column>> + Drop>(
+/// A row of these values, of which the second was taken or not.
+fn made(
     assert: &impl Assert,
     alloc: Global,
-    bytes: &'a [u8],
-) -> T {
-    let first = read::<T>(assert, alloc, bytes);
-    let second = read::<T>(assert, alloc, bytes);
-    once_more(assert, first, second)
-}
-
-/// Asserts that a row has the values of these cells, and no more.
-fn assert_cells(assert: &impl Assert, alloc: Global, found: &Row, cells: Cells) {
-    let wanted = once_more(assert, row(alloc, cells), row(alloc, cells));
-    assert.holds(found.is_whole());
-    assert_equal(assert, found.len(), wanted.len());
-    for (place, value) in wanted.iter().enumerate() {
-        match found.as_ref(place) {
-            Some(cell) => assert_same(assert, cell, value),
-            None => assert.holds(false),
-        }
+    kinds: &[Kind],
+    cells: Cells,
+    is_taken: bool,
+) -> Result<Row, AllocError> {
+    let values = row(alloc, cells)?;
+    let columns = columns_of(alloc, kinds)?;
+    assert.holds(values.len() == columns.as_slice().len());
+    let mut made = new_row(alloc, values, columns)?;
+    if is_taken {
+        drop(made.take_value(1usize));
     }
-    assert.holds(found.as_ref(wanted.len()).is_none());
+    Ok(made)
 }
 
 /// Of a client the bits begin with the first.
@@ -79,104 +62,17 @@ const CLIENT_NULL: &[u8] = b"\x00\x01\x01x";
 /// Any byte may come first.
 const OTHER_FIRST_BYTE: &[u8] = b"\xff\x00\x05\0\0\0\0\0\0\0\x01x";
 
-/// Text rows that are none, and why.
-const NO_TEXT_ROWS: [(&[u8], WireError); 3] = [
-    (b"", WireError::UnexpectedEof),
-    (b"\x015", WireError::UnexpectedEof),
-    (b"\x015\xff", WireError::BadLength),
-];
-
-/// Why bytes are no row; None where they are one.
-fn refusal_of<'a, T: MyDeserialize<'a> + Readable<Ctx = RcSlice<Column>> + Drop>(
-    assert: &impl Assert,
-    alloc: Global,
-    bytes: &'a [u8],
-) -> Option<WireError> {
-    let mut found = read::<T>(assert, alloc, bytes).err();
-    if found == Some(WireError::Memory) {
-        found = read::<T>(assert, alloc, bytes).err();
-    }
-    found
-}
-
 const FIVE_AND_X: Cells = &[Given::Int(5), Given::Filled(1)];
 
 const NULL_AND_X: Cells = &[Given::Null, Given::Filled(1)];
 
-#[test]
-fn read_alone(rt: HostRuntime) {
-    let assert = Asserting(&rt);
-    let alloc = rt.alloc();
-    let row = row_of::<RowDeserializer<ServerSide, Binary>>(&assert, alloc, OTHER_FIRST_BYTE);
-    assert_copied(&assert, &row, row.clone(alloc), row.clone(alloc));
-    let five = Row::from(row);
-    assert_cells(&assert, alloc, &five, FIVE_AND_X);
-    drop(five);
-    let row = row_of::<RowDeserializer<ClientSide, Binary>>(&assert, alloc, CLIENT_NULL);
-    let null = row.into_inner();
-    assert_cells(&assert, alloc, &null, NULL_AND_X);
-    drop(null);
-    for (bytes, cause) in &NO_TEXT_ROWS {
-        let found = refusal_of::<RowDeserializer<ServerSide, Text>>(&assert, alloc, *bytes);
-        assert_equal(&assert, found, Some(*cause));
-    }
-    for len in 0..OTHER_FIRST_BYTE.len() {
-        let front = &OTHER_FIRST_BYTE[..len];
-        let found = refusal_of::<RowDeserializer<ServerSide, Binary>>(&assert, alloc, front);
-        assert_equal(&assert, found, Some(WireError::UnexpectedEof));
-    }
-}
+/// The first column of a name counts.
+const SAME_NAMES: [Kind; 2] = [ID, ID];
 
-fn assert_first_taken(assert: &impl Assert, row: &mut Row) {
-    // Text of a number converts, by name; it is taken once.
-    let taken: Option<Result<u64, FromValueError>> = row.take_opt("id");
-    assert.holds(matches!(taken, Some(Ok(7))));
-    let again: Option<Result<u64, FromValueError>> = row.take_opt(0);
-    assert.holds(again.is_none());
-    assert.holds(!row.is_whole());
-}
-
-fn assert_second_refused(assert: &impl Assert, row: &mut Row) {
-    // What doesn't convert comes back with its error.
-    let taken: Option<Result<u64, FromValueError>> = row.take_opt("name");
-    match taken {
-        Some(Err(FromValueError(Value::Bytes(bytes)))) => {
-            assert.holds(bytes.as_slice() == b"x".as_slice());
-        }
-        _ => assert.holds(false),
-    }
-}
-
-/// Asserts which columns a number and a name are those of.
-fn assert_columns(assert: &impl Assert, columns: &[Column]) {
-    assert_equal(assert, 0usize.idx(columns), Some(0));
-    assert_equal(assert, 1usize.idx(columns), Some(1));
-    assert_equal(assert, 2usize.idx(columns), None);
-    assert_equal(assert, "id".idx(columns), Some(0));
-    assert_equal(assert, "name".idx(columns), Some(1));
-    assert_equal(assert, "Name".idx(columns), None);
-    assert_equal(assert, "".idx(columns), None);
-}
-
-fn assert_placed(assert: &impl Assert, row: &mut Row) {
-    assert.holds(row.len() == 2);
-    row.place(0, Value::Int(1));
-    assert.holds(matches!(row.as_ref(0), Some(Value::Int(1))));
-}
-
-#[test]
-fn taken_once(rt: HostRuntime) {
-    let assert = Asserting(&rt);
-    let read = row_of::<RowDeserializer<ServerSide, Text>>(&assert, rt.alloc(), b"\x017\x01x");
-    let mut row = read.into_inner();
-    assert_columns(&assert, row.columns_ref());
-    assert_first_taken(&assert, &mut row);
-    assert_second_refused(&assert, &mut row);
-    assert_placed(&assert, &mut row);
-}
+const NUMBERS: Cells = &[Given::Int(1), Given::Int(2)];
 
 /// The number in the cell of this name, copied.
-pub fn copy_of<R: RowExt>(
+fn copy_of<R: RowExt>(
     alloc: Global,
     row: &R,
     name: &str,
@@ -184,160 +80,356 @@ pub fn copy_of<R: RowExt>(
     row.get_opt(alloc, name)
 }
 
-/// The columns' names, and the values of a row.
-type Made = (&'static [&'static [u8]], Cells);
-
-const SEVEN_AND_X: Made = (&[b"id", b"name"], &[Given::Int(7), Given::Filled(1)]);
-
-/// The first column of a name counts.
-const SAME_NAMES: Made = (&[b"id", b"id"], &[Given::Int(1), Given::Int(2)]);
-
-const EMPTY: Made = (&[], &[]);
-
-/// The row of these names and values.
-fn made(assert: &impl Assert, alloc: Global, (names, cells): Made) -> Result<Row, AllocError> {
-    let columns = columns(alloc, names)?;
-    let values = row(alloc, cells)?;
-    assert.holds(values.len() == columns.as_slice().len());
-    new_row(alloc, values, columns)
+/// The values of a whole row.
+fn unwrapped(assert: &impl Assert, alloc: Global) -> Result<Vec<Value>, AllocError> {
+    let row = made(assert, alloc, &TWO, FIVE_AND_X, false)?;
+    assert.holds(row.is_whole());
+    row.unwrap(alloc)
 }
 
-/// The row, or the same row once more.
-fn row_made(assert: &impl Assert, alloc: Global, given: Made) -> Row {
-    once_more(
-        assert,
-        made(assert, alloc, given),
-        made(assert, alloc, given),
-    )
-}
+type BinaryRow = RowDeserializer<ServerSide, Binary>;
 
-/// The number in the cell of this name, which is one: `get` wants a cell that converts, or none.
-fn number_named(alloc: Global, row: &Row, name: &str) -> Result<Option<i64>, AllocError> {
-    let found: Option<Result<i64, FromValueError>> = row.get_opt(alloc, name)?;
-    match found {
-        Some(Ok(_)) => row.get(alloc, name),
-        Some(Err(_)) => Ok(None),
-        None => Ok(None),
-    }
+type SentRow = RowDeserializer<ClientSide, Binary>;
+
+type TextRow = RowDeserializer<ServerSide, Text>;
+
+#[test]
+fn whole_rows(rt: HostRuntime) {
+    let a = Asserting(&rt);
+    let alloc = rt.alloc();
+    let found = again!(
+        &a,
+        read::<BinaryRow>(&a, alloc, columns_of(alloc, &TWO), OTHER_FIRST_BYTE)
+    );
+    assert_copied(&a, &found, found.clone(alloc), found.clone(alloc));
+    let five = again!(&a, made(&a, alloc, &TWO, FIVE_AND_X, false));
+    assert_equal(&a, Row::from(found), five);
+    let found = again!(
+        &a,
+        read::<SentRow>(&a, alloc, columns_of(alloc, &TWO), CLIENT_NULL)
+    );
+    let null = again!(&a, made(&a, alloc, &TWO, NULL_AND_X, false));
+    assert_equal(&a, found.into_inner(), null);
+    let same = again!(&a, made(&a, alloc, &SAME_NAMES, NUMBERS, false));
+    let (first, second) = (copy_of(alloc, &same, "id"), copy_of(alloc, &same, "id"));
+    assert_shown(&a, alloc, first, second, "Ok(Some(Ok(1)))");
+    drop(same);
+    let empty = again!(&a, made(&a, alloc, &[], &[], false));
+    a.holds(empty.is_empty() & empty.is_whole());
+    drop(empty);
+    let values = again!(&a, row(alloc, FIVE_AND_X));
+    assert_equal(&a, again!(&a, unwrapped(&a, alloc)), values);
 }
 
 /// Asserts what stands in a cell by its number.
 fn assert_indexed(assert: &impl Assert, row: &Row) {
     match row.as_ref(0) {
-        Some(_) => assert_same(assert, &row[0], &Value::Int(7)),
+        Some(_) => assert_same(assert, &row[0], &Value::Int(5)),
         None => assert.holds(false),
     }
 }
 
+/// What `get` and `take` give of the cell `id`: both want one that converts, or none.
+fn got_and_taken(
+    alloc: Global,
+    row: &mut Row,
+) -> Result<(Option<Value>, Option<Value>), AllocError> {
+    match row.value_at("id") {
+        Some(_) => {
+            let got = row.get(alloc, "id")?;
+            Ok((got, row.take("id")))
+        }
+        None => Ok((None, row.take("id"))),
+    }
+}
+
 #[test]
-fn whole_rows(rt: HostRuntime) {
-    let assert = Asserting(&rt);
+fn cells_by_type(rt: HostRuntime) {
+    let a = Asserting(&rt);
     let alloc = rt.alloc();
-    let row = row_made(&assert, alloc, SEVEN_AND_X);
-    assert.holds(!row.is_empty());
-    assert_cells(&assert, alloc, &row, SEVEN_AND_X.1);
-    assert_indexed(&assert, &row);
-    let found = once_more(
-        &assert,
-        number_named(alloc, &row, "id"),
-        number_named(alloc, &row, "id"),
+    let mut row = again!(&a, made(&a, alloc, &TWO, FIVE_AND_X, false));
+    a.holds(!row.is_empty() & row.is_whole() & (row.len() == 2));
+    assert_indexed(&a, &row);
+    let shared = again!(&a, row.columns());
+    let columns = shared.as_slice();
+    a.holds(columns == row.columns_ref());
+    a.holds(
+        [
+            0usize.idx(columns),
+            1usize.idx(columns),
+            2usize.idx(columns),
+        ] == [Some(0), Some(1), None],
     );
-    assert_equal(&assert, found, Some(7));
-    assert_copied(&assert, &row, row.clone(alloc), row.clone(alloc));
-    let shared = once_more(&assert, row.columns(), row.columns());
-    assert_equal(&assert, shared.as_slice().len(), row.columns_ref().len());
+    a.holds(["id".idx(columns), "name".idx(columns)] == [Some(0), Some(1)]);
+    a.holds("Name".idx(columns).is_none() & "".idx(columns).is_none());
     drop(shared);
-    drop(row);
-    let same = row_made(&assert, alloc, SAME_NAMES);
-    let found = once_more(
-        &assert,
-        copy_of(alloc, &same, "id"),
-        copy_of(alloc, &same, "id"),
-    );
-    assert.holds(matches!(found, Some(Ok(1))));
-    drop(same);
-    let empty = row_made(&assert, alloc, EMPTY);
-    assert.holds(empty.is_empty() & empty.is_whole());
-    drop(empty);
-}
-
-/// Takes the number in the first cell, which is one: `take` wants a cell that converts, or none.
-fn taken_number(alloc: Global, row: &mut Row) -> Result<Option<i64>, AllocError> {
-    let found: Option<Result<i64, FromValueError>> = row.get_opt(alloc, 0)?;
-    match found {
-        Some(Ok(_)) => Ok(row.take(0)),
-        Some(Err(_)) => Ok(None),
-        None => Ok(row.take(0)),
-    }
-}
-
-/// Takes it; once more where memory was refused.
-fn taken_or_again(assert: &impl Assert, alloc: Global, row: &mut Row) -> Option<i64> {
-    match taken_number(alloc, row) {
-        Ok(number) => number,
-        Err(error) => once_more(assert, taken_number(alloc, row), Err(error)),
-    }
-}
-
-/// The values of a whole row.
-fn unwrapped(assert: &impl Assert, alloc: Global) -> Result<Vec<Value>, AllocError> {
-    let row = made(assert, alloc, SEVEN_AND_X)?;
-    assert.holds(row.is_whole());
-    row.unwrap(alloc)
-}
-
-#[test]
-fn a_number_is_taken_once(rt: HostRuntime) {
-    let assert = Asserting(&rt);
-    let alloc = rt.alloc();
-    let mut taken = row_made(&assert, alloc, SEVEN_AND_X);
-    assert_equal(&assert, taken_or_again(&assert, alloc, &mut taken), Some(7));
-    assert_equal(&assert, taken_or_again(&assert, alloc, &mut taken), None);
-    let cells = taken.unwrap_raw();
-    match cells.as_slice() {
-        [None, Some(Value::Bytes(bytes))] => assert.holds(bytes.as_slice() == b"x".as_slice()),
-        _ => assert.holds(false),
-    }
-    let found = once_more(
-        &assert,
-        unwrapped(&assert, alloc),
-        unwrapped(&assert, alloc),
-    );
-    let wanted = once_more(
-        &assert,
-        row(alloc, SEVEN_AND_X.1),
-        row(alloc, SEVEN_AND_X.1),
-    );
-    assert_equal(&assert, found, wanted);
-}
-
-/// A row of which the first cell was taken.
-fn raw_row(assert: &impl Assert, alloc: Global) -> Result<Row, AllocError> {
-    let columns = two(alloc)?;
-    let mut cells = Vec::new(alloc);
-    cells.push(None)?;
-    cells.push(Some(Value::Bytes(ByteString::copy(alloc, b"x")?)))?;
-    assert.holds(cells.len() == columns.as_slice().len());
-    Ok(new_row_raw(cells, columns))
-}
-
-#[test]
-fn a_row_without_a_cell(rt: HostRuntime) {
-    let assert = Asserting(&rt);
-    let alloc = rt.alloc();
-    let row = once_more(&assert, raw_row(&assert, alloc), raw_row(&assert, alloc));
-    assert.holds(!row.is_whole() & row.as_ref(0).is_none());
-    match row.as_ref(1) {
-        Some(Value::Bytes(bytes)) => assert.holds(bytes.as_slice() == b"x".as_slice()),
-        _ => assert.holds(false),
-    }
+    assert_copied(&a, &row, row.clone(alloc), row.clone(alloc));
+    // A cell is taken once.
+    let found = again!(&a, got_and_taken(alloc, &mut row));
+    a.holds(is_shown(&a, alloc, found, "(Some(Int(5)), Some(Int(5)))"));
+    let found = again!(&a, got_and_taken(alloc, &mut row));
+    a.holds(is_shown(&a, alloc, found, "(None, None)"));
+    a.holds(!row.is_whole() & row.as_ref(0).is_none());
     // The value of the one was taken, and there is no column of the other name.
     for name in ["id", "no"] {
-        let found = once_more(
-            &assert,
-            copy_of(alloc, &row, name),
-            copy_of(alloc, &row, name),
-        );
-        assert.holds(found.is_none());
+        let (first, second) = (copy_of(alloc, &row, name), copy_of(alloc, &row, name));
+        assert_shown(&a, alloc, first, second, "Ok(None)");
     }
+    let cells = row.unwrap_raw();
+    a.holds(is_shown(&a, alloc, cells, "[None, Some(Bytes([120]))]"));
+}
+
+#[test]
+fn cells_that_convert_or_not(rt: HostRuntime) {
+    let a = Asserting(&rt);
+    let alloc = rt.alloc();
+    let found = again!(
+        &a,
+        read::<TextRow>(&a, alloc, columns_of(alloc, &TWO), b"\x017\x01x")
+    );
+    let mut row = found.into_inner();
+    // A cell that is copied stays. Text of a number converts, by name; it is taken once.
+    let (first, second) = (copy_of(alloc, &row, "id"), copy_of(alloc, &row, "id"));
+    assert_shown(&a, alloc, first, second, "Ok(Some(Ok(7)))");
+    a.holds(row.is_whole() & (row.len() == 2));
+    let taken = row.take_opt::<u64, &str>("id");
+    a.holds(is_shown(&a, alloc, taken, "Some(Ok(7))"));
+    let taken = row.take_opt::<u64, usize>(0);
+    a.holds(is_shown(&a, alloc, taken, "None"));
+    a.holds(!row.is_whole());
+    // What doesn't convert comes back with its error.
+    let taken = row.take_opt::<u64, &str>("name");
+    a.holds(is_shown(&a, alloc, taken, "Some(Err(FromValueError(Bytes([120]))))"));
+    a.holds(row.len() == 2);
+    row.place(0, Value::Int(1));
+    a.holds(is_shown(&a, alloc, row.as_ref(0), "Some(Int(1))"));
+    drop(row);
+}
+
+/// Columns, values of which the second was taken or not, whether they are written as text, and the
+/// bytes or the refusal.
+type Written = (
+    &'static [Kind],
+    Cells,
+    bool,
+    bool,
+    Result<&'static [u8], &'static str>,
+);
+
+const BYTES_AND_FLOAT: &[Kind] = &[
+    (b"a", ColumnType::MYSQL_TYPE_VAR_STRING, NO_FLAG),
+    (b"b", ColumnType::MYSQL_TYPE_FLOAT, NO_FLAG),
+];
+
+const X_AND_0: Cells = &[Given::Filled(1), Given::Float(0)];
+
+const NO_FORM: Result<&[u8], &str> = Err("Err(NoForm(1))");
+
+/// Rows in binary and as text, and rows of which the second cell was taken or has no form.
+const WRITTEN: [Written; 6] = [
+    (
+        &[
+            (b"a", ColumnType::MYSQL_TYPE_TINY, NO_FLAG),
+            (b"b", ColumnType::MYSQL_TYPE_VAR_STRING, NO_FLAG),
+            (b"c", ColumnType::MYSQL_TYPE_FLOAT, NO_FLAG),
+            (b"d", ColumnType::MYSQL_TYPE_DOUBLE, NO_FLAG),
+            (b"e", ColumnType::MYSQL_TYPE_NEWDATE, NO_FLAG),
+        ],
+        &[
+            Given::UInt(127),
+            Given::Filled(1),
+            Given::Float(0x4123_3333),
+            Given::Double(0x4024_6666_6666_6666),
+            Given::Null,
+        ],
+        false,
+        false,
+        Ok(b"\0\x40\x7f\x01x\x33\x33\x23\x41\x66\x66\x66\x66\x66\x66\x24\x40"),
+    ),
+    (
+        &[
+            (b"a", ColumnType::MYSQL_TYPE_TINY, NO_FLAG),
+            (b"b", ColumnType::MYSQL_TYPE_FLOAT, NO_FLAG),
+            (b"c", ColumnType::MYSQL_TYPE_FLOAT, NO_FLAG),
+        ],
+        &[Given::Int(1), Given::Double(0), Given::Double(0)],
+        false,
+        false,
+        NO_FORM,
+    ),
+    (
+        &[ID, ID, NAME],
+        &[Given::Int(1), Given::Null, Given::Filled(0)],
+        false,
+        true,
+        Ok(b"\x011\xfb\0"),
+    ),
+    (BYTES_AND_FLOAT, X_AND_0, true, true, NO_FORM),
+    (BYTES_AND_FLOAT, X_AND_0, true, false, NO_FORM),
+    (BYTES_AND_FLOAT, X_AND_0, false, true, NO_FORM),
+];
+
+/// Writes such a row.
+fn put(
+    assert: &impl Assert,
+    alloc: Global,
+    (kinds, cells, is_taken, is_text, _): &Written,
+    out: &mut Vec<u8>,
+) -> Result<(), RowRefusal> {
+    let row = made(assert, alloc, *kinds, *cells, *is_taken)?;
+    let columns = row.columns_ref();
+    assert.holds(columns.len() == row.len());
+    let answer = if *is_text {
+        row.write_text(out)
+    } else {
+        row.write_binary(columns, out)
+    };
+    drop(row);
+    answer
+}
+
+/// Rows are written behind `front`, which stands alone where memory is refused or a cell has no form.
+#[test]
+fn written_rows(rt: HostRuntime) {
+    let a = Asserting(&rt);
+    let alloc = rt.alloc();
+    for case in &WRITTEN {
+        let mut out = front(&a, alloc);
+        let first = put(&a, alloc, case, &mut out);
+        let second = put(&a, alloc, case, &mut out);
+        match case.4 {
+            Ok(bytes) => assert_behind(&a, &out, first.is_ok(), second.is_ok(), bytes),
+            Err(refusal) => {
+                assert_shown(&a, alloc, first, second, refusal);
+                assert_bytes(&a, &out, b"front");
+            }
+        }
+    }
+    // Values that are in no row.
+    let values = again!(&a, row(alloc, ONE));
+    let mut out = front(&a, alloc);
+    let first = write_text_row(&values, &mut out).is_ok();
+    let second = write_text_row(&values, &mut out).is_ok();
+    assert_behind(&a, &out, first, second, b"\x011");
+    let columns = again!(&a, columns_of(alloc, &[ID]));
+    a.holds(columns.as_slice().len() == values.len());
+    let mut out = front(&a, alloc);
+    let first = write_binary_row(columns.as_slice(), &values, &mut out).is_ok();
+    let second = write_binary_row(columns.as_slice(), &values, &mut out).is_ok();
+    assert_behind(&a, &out, first, second, b"\0\0\x01\0\0\0\0\0\0\0");
+    drop(columns);
+    drop(values);
+}
+
+/// Asserts that a cell converts where it lies as its copy does, or the same copied once more.
+fn assert_cell<T: PartialEq + Drop>(
+    assert: &impl Assert,
+    found: Option<Result<T, ValueRef<'_>>>,
+    first: Result<Option<Result<T, FromValueError>>, AllocError>,
+    second: Result<Option<Result<T, FromValueError>>, AllocError>,
+) {
+    let copied = once_more(assert, first, second);
+    assert.holds(converted(found) == converted(copied));
+}
+
+/// Asserts what the cells of one row convert to, and that they stand under the same columns.
+fn assert_cells(assert: &impl Assert, alloc: Global, lent: &RowRef<'_, '_>, row: &Row) {
+    let shared = again!(assert, lent.columns());
+    assert.holds(shared.as_slice() == row.columns_ref());
+    drop(shared);
+    for at in 0..4 {
+        assert.holds(lent.get(at) == lent.as_ref(at));
+        assert.holds(lent.as_ref(at).is_some() == row.as_ref(at).is_some());
+        assert_cell::<i8>(
+            assert,
+            lent.get_opt(at),
+            row.get_opt(alloc, at),
+            row.get_opt(alloc, at),
+        );
+        assert_cell::<u64>(
+            assert,
+            lent.get_opt(at),
+            row.get_opt(alloc, at),
+            row.get_opt(alloc, at),
+        );
+        assert_cell::<Option<i64>>(
+            assert,
+            lent.get_opt(at),
+            row.get_opt(alloc, at),
+            row.get_opt(alloc, at),
+        );
+        assert_cell::<bool>(
+            assert,
+            lent.get_opt(at),
+            row.get_opt(alloc, at),
+            row.get_opt(alloc, at),
+        );
+    }
+}
+
+/// Asserts the cells of the row `hi`, ff and 7: what is borrowed, in the first column of a name.
+fn assert_named<'p, R: RowRefExt<'p>>(assert: &impl Assert, lent: &R) {
+    assert.holds(converted(lent.get_opt::<&str, &str>("a")) == Some("hi"));
+    assert.holds(converted(lent.get_opt::<&[u8], &str>("b")) == Some(b"\xff".as_slice()));
+    assert.holds(converted(lent.get_opt::<&str, &str>("b")).is_none());
+    assert.holds(lent.get_opt::<&[u8], &str>("c").is_none());
+}
+
+pub const TEXTS: [Kind; 3] = [
+    (b"a", ColumnType::MYSQL_TYPE_VAR_STRING, NO_FLAG),
+    (b"b", ColumnType::MYSQL_TYPE_VAR_STRING, NO_FLAG),
+    (b"a", ColumnType::MYSQL_TYPE_LONGLONG, NO_FLAG),
+];
+
+const CONVERTED: [&[u8]; 4] = [
+    b"\x03127\x03128\xfb",
+    b"\x04-129\x02+5\x00",
+    b"\x011\x1d00000000000000000000000000012\x02x1",
+    b"\x1418446744073709551615\x1418446744073709551616\x14-9223372036854775808",
+];
+
+/// Payloads that are no rows, and why: cut off, a length that is none, a byte behind the last cell.
+const NO_ROWS: [(&[u8], RowError); 5] = [
+    (b"", RowError::Unreadable(WireError::UnexpectedEof)),
+    (b"\x015", RowError::Unreadable(WireError::UnexpectedEof)),
+    (
+        b"\x015\x02x",
+        RowError::Unreadable(WireError::UnexpectedEof),
+    ),
+    (b"\x015\xff", RowError::Unreadable(WireError::BadLength)),
+    (b"\xfb\x00\x0242\x00", RowError::BytesLeft),
+];
+
+#[test]
+fn lent_rows(rt: HostRuntime) {
+    let a = Asserting(&rt);
+    let alloc = rt.alloc();
+    let mut reader = again!(
+        &a,
+        RowReader::new(
+            alloc,
+            again!(&a, columns_of(alloc, &TEXTS)),
+            RowFormat::Text
+        )
+    );
+    for payload in CONVERTED {
+        let row = again!(
+            &a,
+            read::<TextRow>(&a, alloc, columns_of(alloc, &TEXTS), payload)
+        )
+        .into_inner();
+        match reader.row(payload) {
+            Ok(lent) => assert_cells(&a, alloc, &lent, &row),
+            Err(_) => a.holds(false),
+        }
+        drop(row);
+    }
+    match reader.row(b"\x02hi\x01\xff\x017") {
+        Ok(lent) => assert_named(&a, &lent),
+        Err(_) => a.holds(false),
+    }
+    for (payload, cause) in &NO_ROWS {
+        a.holds(reader.row(*payload).err() == Some(*cause));
+    }
+    drop(reader);
 }

@@ -1,289 +1,231 @@
-//! Session states.
+//! Changes of a session's state.
 
-use crate::support::{Asserting, assert_reads, assert_text};
+use crate::support::{
+    Asserting, assert_appended, assert_behind, assert_field, assert_shown, front,
+};
 use mysql_const::SessionStateType;
-use mysql_fields::WireError;
 use mysql_session_states::{
-    Gtids, Schema, SessionStateChange, SessionStateInfo, SystemVariable,
-    TransactionCharacteristics, TransactionState, Unsupported, put_states, states_of,
+    SessionStateChange, SessionStateInfo, Unsupported, put_states, states_of,
 };
 use std::alloc::Global;
 use std::borrow::CowSlice;
-use tests_support::{Assert, assert_bytes, assert_copied, assert_equal, once_more, whole};
+use tests_support::{Assert, again, assert_copied, assert_equal, whole};
 
 /// What a state is decoded to.
-pub enum Told {
-    Tracked(bool),
-    Schema(&'static [u8]),
-    Variables(&'static [(&'static [u8], &'static [u8])]),
-    Gtids(&'static [u8]),
-    Characteristics(&'static [u8]),
-    Transaction(&'static [u8]),
-    Refused(WireError),
+enum Told {
+    /// Texts, and the state that is made of the change again.
+    ///
+    /// A change of the schema, of identifiers or of the transaction has one text. System variables
+    /// have a name and a value in turn. That changes are tracked or not is `1` or `0`.
+    Texts(&'static [&'static [u8]], &'static [u8]),
+    /// Why it isn't decoded.
+    Refused(&'static str),
 }
 
-fn assert_variables(assert: &impl Assert, all: &[SystemVariable], told: &Told) {
-    let Told::Variables(wanted) = told else {
-        return assert.holds(false);
-    };
-    assert_equal(assert, all.len(), wanted.len());
-    for (variable, (name, value)) in all.iter().zip(wanted.iter()) {
-        assert_bytes(assert, variable.name_bytes(), *name);
-        assert_bytes(assert, variable.value_bytes(), *value);
+/// The text of a change in this place.
+fn text_told<'a, 'b>(change: &'a SessionStateChange<'b>, place: usize) -> Option<&'a [u8]> {
+    if let SessionStateChange::SystemVariables(all) = change {
+        let variable = all.get(place / 2)?;
+        let texts = [variable.name_bytes(), variable.value_bytes()];
+        return Some(texts[place % 2]);
     }
-}
-
-fn assert_change(assert: &impl Assert, change: &SessionStateChange, told: &Told) {
+    if place > 0 {
+        return None;
+    }
     match change {
-        SessionStateChange::IsTracked(tracked) => {
-            assert.holds(matches!(told, Told::Tracked(wanted) if *wanted == *tracked))
-        }
-        SessionStateChange::Schema(schema) => {
-            assert.holds(matches!(told, Told::Schema(wanted) if *wanted == schema.as_bytes()))
-        }
-        SessionStateChange::Gtids(set) => {
-            assert.holds(matches!(told, Told::Gtids(wanted) if *wanted == set.as_bytes()))
-        }
-        SessionStateChange::SystemVariables(all) => assert_variables(assert, all.as_slice(), told),
-        SessionStateChange::TransactionCharacteristics(text) => assert.holds(
-            matches!(told, Told::Characteristics(wanted) if *wanted == text.as_bytes()),
-        ),
-        SessionStateChange::TransactionState(text) => {
-            assert.holds(matches!(told, Told::Transaction(wanted) if *wanted == text.as_bytes()))
-        }
-        SessionStateChange::Unsupported(_) => assert.holds(false),
+        SessionStateChange::IsTracked(true) => Some(b"1"),
+        SessionStateChange::IsTracked(false) => Some(b"0"),
+        SessionStateChange::Schema(schema) => Some(schema.as_bytes()),
+        SessionStateChange::Gtids(set) => Some(set.as_bytes()),
+        SessionStateChange::TransactionCharacteristics(text) => Some(text.as_bytes()),
+        SessionStateChange::TransactionState(text) => Some(text.as_bytes()),
+        SessionStateChange::Unsupported(other) => Some(other.as_bytes()),
+        SessionStateChange::SystemVariables(_) => None,
     }
 }
 
-/// Asserts what a state is decoded to. It is decoded once more where memory was refused.
-pub fn assert_decoded(assert: &impl Assert, alloc: Global, state: &SessionStateInfo, told: &Told) {
-    let mut found = state.decode(alloc);
-    if matches!(found, Err(WireError::Memory)) {
-        found = state.decode(alloc);
+/// Asserts that states are written as these bytes.
+pub fn assert_put(
+    assert: &impl Assert,
+    alloc: Global,
+    states: &[SessionStateInfo<'_>],
+    bytes: &[u8],
+) {
+    let mut out = front(assert, alloc);
+    let first = put_states(states, &mut out).is_ok();
+    let second = put_states(states, &mut out).is_ok();
+    assert_behind(assert, &out, first, second, bytes);
+}
+
+/// Asserts the texts of a change, and the state that is made of it, none where there are no bytes;
+/// and that copies of it are equal.
+fn assert_change(
+    assert: &impl Assert,
+    alloc: Global,
+    change: SessionStateChange<'_>,
+    texts: &[&[u8]],
+    bytes: &[u8],
+) {
+    for (place, text) in texts.iter().enumerate() {
+        assert.holds(text_told(&change, place) == Some(*text));
     }
-    match found {
-        Ok(change) => assert_change(assert, &change, told),
-        Err(error) => assert.holds(matches!(told, Told::Refused(wanted) if *wanted == error)),
+    assert.holds(text_told(&change, texts.len()).is_none());
+    let made = again!(assert, SessionStateInfo::of_change(alloc, &change));
+    match &made {
+        Some(state) => assert_appended(assert, alloc, state, bytes),
+        None => assert.holds(bytes.is_empty()),
     }
+    drop(made);
+    assert_copied(assert, &change, change.clone(alloc), change.clone(alloc));
+    let first = again!(assert, change.clone(alloc)).into_owned(alloc);
+    let second = again!(assert, change.clone(alloc)).into_owned(alloc);
+    assert_copied(assert, &change, first, second);
+    drop(change);
 }
 
 /// A state, its type, and what it is decoded to.
 type State = (&'static [u8], SessionStateType, Told);
 
-const STATES: [State; 11] = [
+/// Asserts it. A state is read where it stands whole.
+fn assert_state(assert: &impl Assert, alloc: Global, (bytes, kind, told): &State) {
+    assert_field::<SessionStateInfo, ()>(assert, alloc, (), *bytes, bytes.len(), &[]);
+    let state = whole::<SessionStateInfo, ()>(assert, alloc, (), *bytes);
+    assert_equal(assert, state.data_type(), *kind);
+    assert_equal(assert, bytes.get(2..), Some(state.data_ref()));
+    match told {
+        Told::Texts(texts, made) => {
+            let change = again!(assert, state.decode(alloc));
+            assert_change(assert, alloc, change, *texts, *made);
+        }
+        Told::Refused(cause) => {
+            assert_shown(
+                assert,
+                alloc,
+                state.decode(alloc),
+                state.decode(alloc),
+                *cause,
+            )
+        }
+    }
+    assert_copied(assert, &state, state.clone(alloc), state.clone(alloc));
+    drop(state);
+}
+
+const STATES: [State; 18] = [
     (
         b"\x00\x0f\x0aautocommit\x03OFF",
         SessionStateType::SESSION_TRACK_SYSTEM_VARIABLES,
-        Told::Variables(&[(b"autocommit", b"OFF")]),
+        Told::Texts(&[b"autocommit", b"OFF"], b"\x00\x0f\x0aautocommit\x03OFF"),
     ),
     // Two variables, of which the second has an empty value; none; and one whose value is lacking.
     (
         b"\x00\x19\x0aautocommit\x03OFF\x08sql_mode\x00",
         SessionStateType::SESSION_TRACK_SYSTEM_VARIABLES,
-        Told::Variables(&[(b"autocommit", b"OFF"), (b"sql_mode", b"")]),
+        Told::Texts(
+            &[b"autocommit", b"OFF", b"sql_mode", b""],
+            b"\x00\x19\x0aautocommit\x03OFF\x08sql_mode\x00",
+        ),
     ),
     (
         b"\x00\x00",
         SessionStateType::SESSION_TRACK_SYSTEM_VARIABLES,
-        Told::Variables(&[]),
+        Told::Texts(&[], b"\x00\x00"),
     ),
     (
         b"\x00\x0b\x0aautocommit",
         SessionStateType::SESSION_TRACK_SYSTEM_VARIABLES,
-        Told::Refused(WireError::UnexpectedEof),
+        Told::Refused("Err(UnexpectedEof)"),
     ),
     (
         b"\x01\x05\x04test",
         SessionStateType::SESSION_TRACK_SCHEMA,
-        Told::Schema(b"test"),
+        Told::Texts(&[b"test"], b"\x01\x05\x04test"),
     ),
     (
         b"\x02\x02\x011",
         SessionStateType::SESSION_TRACK_STATE_CHANGE,
-        Told::Tracked(true),
+        Told::Texts(&[b"1"], b"\x02\x02\x011"),
     ),
     (
         b"\x02\x02\x010",
         SessionStateType::SESSION_TRACK_STATE_CHANGE,
-        Told::Tracked(false),
+        Told::Texts(&[b"0"], b"\x02\x02\x010"),
     ),
     (
         b"\x03\x04\x00a:1",
         SessionStateType::SESSION_TRACK_GTIDS,
-        Told::Gtids(b"\x00a:1"),
+        Told::Texts(&[b"\x00a:1"], b"\x03\x04\x00a:1"),
     ),
     (
         b"\x04\x04\x03abc",
         SessionStateType::SESSION_TRACK_TRANSACTION_CHARACTERISTICS,
-        Told::Characteristics(b"abc"),
+        Told::Texts(&[b"abc"], b"\x04\x04\x03abc"),
     ),
     (
         b"\x05\x04\x03abc",
         SessionStateType::SESSION_TRACK_TRANSACTION_STATE,
-        Told::Transaction(b"abc"),
+        Told::Texts(&[b"abc"], b"\x05\x04\x03abc"),
     ),
     // An inner length past the bytes.
     (
         b"\x01\x05\x05test",
         SessionStateType::SESSION_TRACK_SCHEMA,
-        Told::Refused(WireError::UnexpectedEof),
+        Told::Refused("Err(UnexpectedEof)"),
     ),
-];
-
-/// Bytes behind a text are passed over, so that what tells the change is shorter than these; and
-/// MariaDB's digit without a length, which is written with one.
-const LEFT_OVER: [State; 7] = [
+    // MariaDB's digit without a length, which is written with one.
     (
         b"\x02\x011",
         SessionStateType::SESSION_TRACK_STATE_CHANGE,
-        Told::Tracked(true),
+        Told::Texts(&[b"1"], b"\x02\x02\x011"),
     ),
     (
         b"\x02\x010",
         SessionStateType::SESSION_TRACK_STATE_CHANGE,
-        Told::Tracked(false),
+        Told::Texts(&[b"0"], b"\x02\x02\x010"),
     ),
+    // Bytes behind a text are passed over, so that the state that is made of the change is shorter.
     (
         b"\x01\x06\x04test!",
         SessionStateType::SESSION_TRACK_SCHEMA,
-        Told::Schema(b"test"),
+        Told::Texts(&[b"test"], b"\x01\x05\x04test"),
     ),
     (
         b"\x02\x03\x011!",
         SessionStateType::SESSION_TRACK_STATE_CHANGE,
-        Told::Tracked(true),
+        Told::Texts(&[b"1"], b"\x02\x02\x011"),
     ),
     (
         b"\x02\x04\x0211!",
         SessionStateType::SESSION_TRACK_STATE_CHANGE,
-        Told::Tracked(false),
+        Told::Texts(&[b"0"], b"\x02\x02\x010"),
     ),
     (
         b"\x04\x06\x03abc\x03!",
         SessionStateType::SESSION_TRACK_TRANSACTION_CHARACTERISTICS,
-        Told::Characteristics(b"abc"),
+        Told::Texts(&[b"abc"], b"\x04\x04\x03abc"),
     ),
     (
         b"\x05\x06\x03abc\x03!",
         SessionStateType::SESSION_TRACK_TRANSACTION_STATE,
-        Told::Transaction(b"abc"),
+        Told::Texts(&[b"abc"], b"\x05\x04\x03abc"),
     ),
 ];
-
-const ALL: [&[State]; 2] = [&STATES, &LEFT_OVER];
-
-fn assert_state(assert: &impl Assert, alloc: Global, (bytes, kind, told): &State) {
-    let state = whole::<SessionStateInfo, ()>(assert, alloc, (), *bytes);
-    assert_equal(assert, state.data_type(), *kind);
-    assert_equal(assert, bytes.get(2..), Some(state.data_ref()));
-    assert_decoded(assert, alloc, &state, told);
-    assert_reads::<SessionStateInfo, ()>(assert, alloc, (), *bytes, bytes.len(), &[]);
-}
-
-/// Asserts that copies of a state and of the change that it tells are equal to these.
-fn assert_change_copied(assert: &impl Assert, alloc: Global, state: &SessionStateInfo) {
-    assert_copied(assert, state, state.clone(alloc), state.clone(alloc));
-    let change = once_more(assert, state.decode(alloc), state.decode(alloc));
-    assert_copied(assert, &change, change.clone(alloc), change.clone(alloc));
-    let first = once_more(assert, state.decode(alloc), state.decode(alloc));
-    let second = once_more(assert, state.decode(alloc), state.decode(alloc));
-    assert_copied(
-        assert,
-        &change,
-        first.into_owned(alloc),
-        second.into_owned(alloc),
-    );
-}
 
 /// A schema and a tracked change, one after another.
 const TWO: &[u8] = b"\x01\x05\x04test\x02\x02\x011";
 
+/// Of a change of another kind no state is made.
 #[test]
 fn states(rt: HostRuntime) {
-    let assert = Asserting(&rt);
+    let a = Asserting(&rt);
     let alloc = rt.alloc();
-    for states in &ALL {
-        for state in *states {
-            assert_state(&assert, alloc, state);
-        }
+    for state in &STATES {
+        assert_state(&a, alloc, state);
     }
-    let states = once_more(&assert, states_of(alloc, TWO), states_of(alloc, TWO));
-    let mut bytes = Vec::new(alloc);
-    if put_states(&states, &mut bytes).is_err() {
-        assert_bytes(&assert, &bytes, b"");
-        assert.holds(put_states(&states, &mut bytes).is_ok());
-    }
-    assert_bytes(&assert, &bytes, TWO);
-}
-
-/// The state that tells a change is the one that the change was read of.
-#[test]
-fn made_of_changes(rt: HostRuntime) {
-    let assert = Asserting(&rt);
-    let alloc = rt.alloc();
-    for (bytes, _, told) in &STATES {
-        if matches!(told, Told::Refused(_)) {
-            continue;
-        }
-        let state = whole::<SessionStateInfo, ()>(&assert, alloc, (), *bytes);
-        let change = once_more(&assert, state.decode(alloc), state.decode(alloc));
-        let made = once_more(
-            &assert,
-            SessionStateInfo::of_change(alloc, &change),
-            SessionStateInfo::of_change(alloc, &change),
-        );
-        assert.holds(matches!(&made, Some(again) if *again == state));
-        assert_change_copied(&assert, alloc, &state);
-    }
-    let none = SessionStateChange::Unsupported(Unsupported::new(CowSlice::Borrowed(b"abc")));
-    let first = SessionStateInfo::of_change(alloc, &none);
-    let made = once_more(&assert, first, SessionStateInfo::of_change(alloc, &none));
-    assert_equal(&assert, made, None);
-}
-
-#[test]
-fn texts(rt: HostRuntime) {
-    let assert = Asserting(&rt);
-    let alloc = rt.alloc();
-    let kind = SessionStateType::SESSION_TRACK_SCHEMA;
-    let state = SessionStateInfo::new(kind, CowSlice::Borrowed(b"\x04test"));
-    assert_equal(&assert, state.data_type(), kind);
-    assert_bytes(&assert, state.data_ref(), b"\x04test");
-    // A change of another kind is text with its length before it.
-    assert_reads::<Unsupported, ()>(&assert, alloc, (), b"\x03abc", 4, &[]);
+    let states = again!(&a, states_of(alloc, TWO));
+    assert_put(&a, alloc, &states, TWO);
+    drop(states);
     let other = Unsupported::new(CowSlice::Borrowed(b"abc"));
-    assert_bytes(&assert, other.as_bytes(), b"abc");
-    assert_text(&assert, other.as_str(alloc), other.as_str(alloc), "abc");
-    let schema = Schema::new(CowSlice::Borrowed(b"test"));
-    assert_text(&assert, schema.as_str(alloc), schema.as_str(alloc), "test");
-    let gtids = Gtids::new(CowSlice::Borrowed(b"a:1"));
-    assert_text(&assert, gtids.as_str(alloc), gtids.as_str(alloc), "a:1");
-    let state = TransactionState::new(CowSlice::Borrowed(b"T_______"));
-    assert_text(
-        &assert,
-        state.as_str(alloc),
-        state.as_str(alloc),
-        "T_______",
-    );
-    let begun = TransactionCharacteristics::new(CowSlice::Borrowed(b"START TRANSACTION;"));
-    assert_text(
-        &assert,
-        begun.as_str(alloc),
-        begun.as_str(alloc),
-        "START TRANSACTION;",
-    );
-    let name = CowSlice::Borrowed(b"autocommit");
-    let variable = SystemVariable::new(name, CowSlice::Borrowed(b"OFF"));
-    assert_text(
-        &assert,
-        variable.name_str(alloc),
-        variable.name_str(alloc),
-        "autocommit",
-    );
-    assert_text(
-        &assert,
-        variable.value_str(alloc),
-        variable.value_str(alloc),
-        "OFF",
-    );
+    let other = SessionStateChange::Unsupported(other);
+    assert_change(&a, alloc, other, &[b"abc"], b"");
 }

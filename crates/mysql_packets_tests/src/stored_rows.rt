@@ -1,20 +1,17 @@
 //! Rows that are kept, beside the same rows read again.
 
-use crate::row_refs::{NO_FLAG, TEXTS, WIDE_ROW, WIDTHS, columns_of, text_found};
+use crate::given::{Kind, NO_FLAG, columns_of};
+use crate::rows::TEXTS;
 use crate::support::Asserting;
 use mysql_const::{ColumnFlags, ColumnType};
-use mysql_packets::RowRefExt;
-use mysql_row_refs::{RowFormat, RowReader, RowRef, StoredRows, ValueRef};
-use std::alloc::{AllocError, Global};
-use tests_support::{Assert, assert_equal, once_more};
+use mysql_row_refs::{RowFormat, RowReader, RowRef, StoredRows};
+use std::alloc::Global;
+use tests_support::{Assert, again, assert_equal};
 
 /// Keeps a row. Where memory is refused nothing changes, and the row is kept once more.
-fn keep(assert: &impl Assert, stored: &mut StoredRows, row: &RowRef) {
-    if row.len() != stored.columns_ref().len() {
-        assert.holds(false);
-        return;
-    }
+fn keep(assert: &impl Assert, stored: &mut StoredRows, row: &RowRef<'_, '_>) {
     let count = stored.len();
+    assert.holds(row.len() == stored.columns_ref().len());
     if stored.push(row).is_err() {
         assert_equal(assert, stored.len(), count);
         assert.holds(stored.push(row).is_ok());
@@ -38,14 +35,14 @@ fn keep_all(
 }
 
 /// Asserts that two rows have the same cells.
-fn assert_same_cells(assert: &impl Assert, found: RowRef, wanted: RowRef) {
+fn assert_same_cells(assert: &impl Assert, found: RowRef<'_, '_>, wanted: RowRef<'_, '_>) {
     assert_equal(assert, found.len(), wanted.len());
     for index in 0..wanted.len() {
         assert.holds(found.as_ref(index) == wanted.as_ref(index));
     }
 }
 
-/// Asserts that the rows that are kept are those of the payloads, each looked at twice.
+/// Asserts that the rows that are kept are those of the payloads, by their numbers and in order.
 fn assert_kept(
     assert: &impl Assert,
     reader: &mut RowReader,
@@ -54,119 +51,85 @@ fn assert_kept(
 ) {
     assert_equal(assert, stored.len(), payloads.len());
     assert_equal(assert, stored.is_empty(), payloads.is_empty());
+    let mut rows = stored.iter();
     for (index, payload) in payloads.iter().enumerate() {
-        match (stored.row(index), stored.row(index), reader.row(*payload)) {
-            (Some(found), Some(again), Ok(wanted)) => {
+        match (stored.row(index), rows.next(), reader.row(*payload)) {
+            (Some(found), Some(next), Ok(wanted)) => {
                 assert_same_cells(assert, found, wanted);
-                assert_same_cells(assert, again, wanted);
+                assert_same_cells(assert, next, wanted);
             }
             _ => assert.holds(false),
         }
     }
-    assert.holds(stored.row(payloads.len()).is_none());
+    assert.holds(rows.next().is_none() & stored.row(payloads.len()).is_none());
 }
 
-/// Asserts that going over the rows gives each of them, in order.
-fn assert_in_order(assert: &impl Assert, stored: &StoredRows) {
-    let mut count: usize = 0;
-    for found in stored.iter() {
-        match stored.row(count) {
-            Some(wanted) => assert_same_cells(assert, found, wanted),
-            None => assert.holds(false),
-        }
-        count = count.wrapping_add(1);
-    }
-    assert_equal(assert, count, stored.len());
-}
+/// Columns, the format of rows, and payloads.
+type Case = (&'static [Kind], RowFormat, &'static [&'static [u8]]);
 
 /// Asserts it of rows that are kept, let go of, and kept again.
-fn assert_stored(
-    assert: &impl Assert,
-    alloc: Global,
-    kinds: &[(&[u8], ColumnType, ColumnFlags)],
-    format: RowFormat,
-    payloads: &[&[u8]],
-) -> Result<(), AllocError> {
-    let columns = columns_of(alloc, kinds)?;
-    let mut reader = RowReader::new(alloc, columns.clone()?, format)?;
-    let mut stored = StoredRows::new(alloc, columns);
+fn assert_stored(assert: &impl Assert, alloc: Global, (kinds, format, payloads): &Case) {
+    let mut stored = StoredRows::new(alloc, again!(assert, columns_of(alloc, *kinds)));
+    let mut reader = again!(
+        assert,
+        RowReader::new(alloc, again!(assert, columns_of(alloc, *kinds)), *format)
+    );
     assert_kept(assert, &mut reader, &stored, &[]);
-    keep_all(assert, &mut reader, &mut stored, payloads);
-    assert_kept(assert, &mut reader, &stored, payloads);
-    assert_in_order(assert, &stored);
+    keep_all(assert, &mut reader, &mut stored, *payloads);
+    assert_kept(assert, &mut reader, &stored, *payloads);
     stored.clear();
     assert_kept(assert, &mut reader, &stored, &[]);
-    assert_in_order(assert, &stored);
-    keep_all(assert, &mut reader, &mut stored, payloads);
-    assert_kept(assert, &mut reader, &stored, payloads);
-    Ok(())
+    keep_all(assert, &mut reader, &mut stored, *payloads);
+    assert_kept(assert, &mut reader, &stored, *payloads);
+    drop(stored);
+    drop(reader);
 }
 
-/// Rows of several lengths, with NULL, an empty text and an overlong length.
-const TEXT_ROWS: [&[u8]; 4] = [
-    b"\xfb\x00\x0242",
-    b"\xfc\x01\x00x\x03abc\xfb",
-    b"\xfb\xfb\xfb",
-    b"\x09something\x04else\x011",
+const UNSIGNED: ColumnFlags = ColumnFlags::UNSIGNED_FLAG;
+
+const WIDTHS: &[Kind] = &[
+    (b"a", ColumnType::MYSQL_TYPE_TINY, UNSIGNED),
+    (b"b", ColumnType::MYSQL_TYPE_SHORT, NO_FLAG),
+    (b"c", ColumnType::MYSQL_TYPE_LONG, NO_FLAG),
+    (b"d", ColumnType::MYSQL_TYPE_LONGLONG, UNSIGNED),
+    (b"e", ColumnType::MYSQL_TYPE_FLOAT, NO_FLAG),
+    (b"f", ColumnType::MYSQL_TYPE_DOUBLE, NO_FLAG),
+    (b"g", ColumnType::MYSQL_TYPE_VAR_STRING, NO_FLAG),
+    (b"h", ColumnType::MYSQL_TYPE_DATETIME, NO_FLAG),
+    (b"i", ColumnType::MYSQL_TYPE_TIME, NO_FLAG),
+    (b"j", ColumnType::MYSQL_TYPE_LONG, NO_FLAG),
 ];
 
-/// A row with a cell of each width, and one of NULLs alone.
-const BINARY_ROWS: [&[u8]; 3] = [WIDE_ROW, b"\x00\xfc\x0f", WIDE_ROW];
+/// A row with a cell of each width, the last one NULL.
+const WIDE_ROW: &[u8] =
+    b"\x00\x00\x08\xff\xfe\xff\x01\x02\x03\x84\xff\xff\xff\xff\xff\xff\xff\xff\x00\x00\x80\x3f\x00\
+    \x00\x00\x00\x00\x00\xf0\x3f\x02hi\x07\xe8\x07\x02\x1d\x0c\x22\x38\x08\x01\x01\x00\x00\x00\x02\x03\x04";
 
-/// What keeps rows under the columns that a row shares; none where there is no row.
-fn under_its_columns(
-    alloc: Global,
-    reader: &mut RowReader,
-    payload: &[u8],
-) -> Result<Option<StoredRows>, AllocError> {
-    match reader.row(payload) {
-        Ok(row) => Ok(Some(StoredRows::new(alloc, row.columns()?))),
-        Err(_) => Ok(None),
-    }
-}
+/// Text rows of several lengths, with NULL, an empty text and an overlong length; binary rows, of which one
+/// is of NULLs alone; and rows without cells, which are counted too.
+const CASES: [Case; 3] = [
+    (
+        &TEXTS,
+        RowFormat::Text,
+        &[
+            b"\xfb\x00\x0242",
+            b"\xfc\x01\x00x\x03abc\xfb",
+            b"\xfb\xfb\xfb",
+            b"\x09something\x04else\x011",
+        ],
+    ),
+    (
+        WIDTHS,
+        RowFormat::Binary,
+        &[WIDE_ROW, b"\x00\xfc\x0f", WIDE_ROW],
+    ),
+    (&[], RowFormat::Text, &[b"", b"", b""]),
+];
 
-/// What stands in the columns of these names of each row.
-fn named(assert: &impl Assert, alloc: Global) -> Result<(), AllocError> {
-    let columns = columns_of(alloc, &TEXTS)?;
-    let mut reader = RowReader::new(alloc, columns, RowFormat::Text)?;
-    let Some(mut stored) = under_its_columns(alloc, &mut reader, b"\x02hi\x01x\x017")? else {
-        assert.holds(false);
-        return Ok(());
-    };
-    keep_all(
-        assert,
-        &mut reader,
-        &mut stored,
-        &[b"\x02hi\x01x\x017", b"\x03abc\xfb\x0242"],
-    );
-    match (stored.row(0), stored.row(1)) {
-        (Some(first), Some(second)) => {
-            assert.holds(text_found(first.get_opt("a")) == b"hi".as_slice());
-            assert.holds(text_found(second.get_opt("a")) == b"abc".as_slice());
-            assert.holds(second.get("b") == Some(ValueRef::NULL));
-            assert.holds(first.get_opt::<u64, usize>(2) == Some(Ok(7)));
-            assert.holds(second.get_opt::<u64, usize>(2) == Some(Ok(42)));
-            assert.holds(second.get(3).is_none());
-        }
-        _ => assert.holds(false),
-    }
-    Ok(())
-}
-
-/// Rows without cells are counted too. Cells are found by number and name, and converted.
 #[test]
-fn rows_kept(rt: HostRuntime) {
-    let assert = Asserting(&rt);
-    let alloc = rt.alloc();
-    let first = assert_stored(&assert, alloc, &TEXTS, RowFormat::Text, &TEXT_ROWS);
-    let second = assert_stored(&assert, alloc, &TEXTS, RowFormat::Text, &TEXT_ROWS);
-    once_more(&assert, first, second);
-    let first = assert_stored(&assert, alloc, &WIDTHS, RowFormat::Binary, &BINARY_ROWS);
-    let second = assert_stored(&assert, alloc, &WIDTHS, RowFormat::Binary, &BINARY_ROWS);
-    once_more(&assert, first, second);
-    let payloads: [&[u8]; 3] = [b"", b"", b""];
-    let first = assert_stored(&assert, alloc, &[], RowFormat::Text, &payloads);
-    let second = assert_stored(&assert, alloc, &[], RowFormat::Text, &payloads);
-    once_more(&assert, first, second);
-    once_more(&assert, named(&assert, alloc), named(&assert, alloc));
+fn kept_rows(rt: HostRuntime) {
+    let a = Asserting(&rt);
+    for case in &CASES {
+        assert_stored(&a, rt.alloc(), case);
+    }
 }

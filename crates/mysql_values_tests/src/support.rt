@@ -6,7 +6,7 @@
 
 ghost use Rattle.std.specs.Prelude.{◌≡◌, true};
 
-use mysql_convert::IntoParams;
+use mysql_convert::{IntoParams, ToValue};
 use mysql_values::{ByteString, Params, Value};
 use std::alloc::{AllocError, Global};
 use std::process::Abort;
@@ -28,6 +28,12 @@ impl<R: Abort> Assert for Asserting<'_, R> {
 pub fn copied<T: Copy + Drop>(assert: &impl Assert, alloc: Global, items: &[T]) -> Vec<T> {
     let first = Vec::from_slice(alloc, items);
     once_more(assert, first, Vec::from_slice(alloc, items))
+}
+
+/// This text, owned.
+pub fn string(assert: &impl Assert, alloc: Global, text: &str) -> String {
+    let first = String::from_str(alloc, text);
+    once_more(assert, first, String::from_str(alloc, text))
 }
 
 /// These bytes, owned.
@@ -78,6 +84,14 @@ pub fn assert_value(assert: &impl Assert, alloc: Global, found: &Value, wanted: 
     drop(wanted);
 }
 
+/// Asserts the value that something converts to.
+pub fn assert_gives<T: ToValue + Drop>(assert: &impl Assert, alloc: Global, x: T, wanted: Given) {
+    let value = once_more(assert, x.to_value(alloc), x.to_value(alloc));
+    drop(x);
+    assert_value(assert, alloc, &value, wanted);
+    drop(value);
+}
+
 /// A set of a table.
 #[derive(Clone, Copy)]
 pub enum Set {
@@ -87,7 +101,7 @@ pub enum Set {
     Named(&'static [(&'static str, i64)]),
 }
 
-fn list(alloc: Global, given: &[Given]) -> Result<Vec<Value>, AllocError> {
+pub fn list(alloc: Global, given: &[Given]) -> Result<Vec<Value>, AllocError> {
     let mut values = Vec::new(alloc);
     for one in given {
         values.push(value(alloc, *one)?)?;

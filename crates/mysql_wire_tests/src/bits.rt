@@ -6,8 +6,7 @@ use mysql_wire::{ParseBuf, WireError};
 use std::borrow::CowSlice;
 use std::test::*;
 use tests_support::{
-    Assert, assert_bytes, assert_cut_off, assert_equal, assert_refused, assert_same, first_of,
-    once_more,
+    Assert, assert_bytes, assert_cut_off, assert_refused, assert_same, first_of, once_more,
 };
 
 /// A client's bitmap of nine columns: the first, the third and the ninth are NULL.
@@ -37,9 +36,6 @@ fn bits_of_columns(rt: HostRuntime) {
     assert_nulls(&assert, bits, &NINE);
     let server = NullBitmap::<ServerSide, [u8; 1]>::from_bytes([4]);
     assert_nulls(&assert, server.iter(1), &[true]);
-    assert_nulls(&assert, server.iter(0), &[]);
-    assert_equal(&assert, NullBitmap::<ServerSide, [u8; 1]>::bitmap_len(6), 1);
-    assert_equal(&assert, NullBitmap::<ServerSide, [u8; 1]>::bitmap_len(7), 2);
 }
 
 // The bitmap of nine columns is made, and read from a front and as a field; no more columns wrap its length.

@@ -272,17 +272,6 @@ const CHARACTER: [ColumnType; 4] = [
     ColumnType::MYSQL_TYPE_BLOB,
 ];
 
-// Whether a type is of the kinds that its number says: 247 is ENUM, 248 SET, 255 GEOMETRY and 242 VECTOR.
-fn has_kinds(column_type: ColumnType, number: u8) -> bool {
-    (column_type.is_numeric_type() == NUMERIC.contains(&column_type))
-        & (column_type.is_character_type() == CHARACTER.contains(&column_type))
-        & (column_type.is_enum_type() == (number == 247))
-        & (column_type.is_set_type() == (number == 248))
-        & (column_type.is_enum_or_set_type() == ((number == 247) | (number == 248)))
-        & (column_type.is_geometry_type() == (number == 255))
-        & (column_type.is_vector_type() == (number == 242))
-}
-
 // Asserts of each row of a table that the value has its number, and the number its value.
 fn assert_numbered<
     Value: Copy + PartialEq + TryFrom<Number, Error = Unknown> + Drop,
@@ -313,64 +302,60 @@ fn values_and_numbers(rt: HostRuntime) {
     assert_numbered(&assert, &EXECUTE_PARAM);
     assert_numbered(&assert, &BULK);
     assert_numbered(&assert, &DUMP);
-    for (column_type, number) in COLUMN_TYPES {
-        assert.holds(has_kinds(column_type, number));
+    // 247 is ENUM, 248 SET, 255 GEOMETRY and 242 VECTOR.
+    for (it, number) in COLUMN_TYPES {
+        let has_kinds = (it.is_numeric_type() == NUMERIC.contains(&it))
+            & (it.is_character_type() == CHARACTER.contains(&it))
+            & (it.is_enum_type() == (number == 247))
+            & (it.is_set_type() == (number == 248))
+            & (it.is_enum_or_set_type() == ((number == 247) | (number == 248)))
+            & (it.is_geometry_type() == (number == 255))
+            & (it.is_vector_type() == (number == 242));
+        assert.holds(has_kinds);
     }
 }
 
-// Whether a number is refused, each by its own error, which carries it.
-fn number_is_refused(row: usize) -> bool {
-    match row {
-        0 => Command::try_from(33) == Err(UnknownCommand(33)),
-        1 => ColumnType::try_from(244) == Err(UnknownColumnType(244)),
-        2 => GeometryType::try_from(8) == Err(UnknownGeometryType(8)),
-        3 => SessionStateType::try_from(6) == Err(UnknownSessionStateType(6)),
-        4 => MariadbBulkIndicator::try_from(4) == Err(UnknownMariadbBulkIndicator(4)),
-        5 => ItemResult::try_from(-2) == Err(UnknownItemResultType(-2)),
-        6 => CursorType::try_from(8) == Err(UnknownCursorType(8)),
-        7 => StmtBulkExecuteFlags::try_from(1) == Err(UnknownStmtBulkExecuteFlags(1)),
-        8 => StatusFlags::try_from(0x8002) == Err(UnknownStatusFlags(0x8002)),
-        9 => u8::from(UnknownColumnType(244)) == 244,
-        10 => u8::from(UnknownGeometryType(8)) == 8,
-        _ => i8::from(UnknownItemResultType(-2)) == -2,
-    }
-}
-
-// Whether all flags of a set, or none, have their bits, and bits their flags.
-fn sets_have_bits(row: usize) -> bool {
-    match row {
-        0 => CapabilityFlags::all().bits() == 0xffff_ffff,
-        1 => MariadbCapabilities::all().bits() == 0x3f,
-        2 => StatusFlags::all().bits() == 0x7ffb,
-        3 => ColumnFlags::all().bits() == 0xffff,
-        4 => StmtBulkExecuteFlags::all().bits() == 192,
-        5 => BinlogDumpFlags::all().bits() == 7,
-        6 => BinlogDumpFlags::default().bits() == 0,
-        7 => CursorType::default() == CursorType::CURSOR_TYPE_NO_CURSOR,
-        _ => StatusFlags::from_bits(4) == None,
-    }
-}
-
-// Whether bits of two flags are their union.
-fn bits_are_united() -> bool {
-    let both = StatusFlags::SERVER_STATUS_AUTOCOMMIT.union(StatusFlags::SERVER_MORE_RESULTS_EXISTS);
-    (u16::from(both) == 10) & (StatusFlags::try_from(10) == Ok(both))
-}
-
+// Each number is refused by its own error, which carries it.
 #[test]
-fn refusals_and_sets(rt: HostRuntime) {
+fn refused_numbers(rt: HostRuntime) {
     let assert = Asserting(&rt);
-    for row in 0..12 {
-        assert.holds(number_is_refused(row));
-    }
-    for row in 0..9 {
-        assert.holds(sets_have_bits(row));
-    }
-    assert.holds(bits_are_united());
+    let are_refused = (Command::try_from(33) == Err(UnknownCommand(33)))
+        & (ColumnType::try_from(244) == Err(UnknownColumnType(244)))
+        & (GeometryType::try_from(8) == Err(UnknownGeometryType(8)))
+        & (SessionStateType::try_from(6) == Err(UnknownSessionStateType(6)))
+        & (MariadbBulkIndicator::try_from(4) == Err(UnknownMariadbBulkIndicator(4)))
+        & (ItemResult::try_from(-2) == Err(UnknownItemResultType(-2)))
+        & (CursorType::try_from(8) == Err(UnknownCursorType(8)))
+        & (StmtBulkExecuteFlags::try_from(1) == Err(UnknownStmtBulkExecuteFlags(1)))
+        & (StatusFlags::try_from(0x8002) == Err(UnknownStatusFlags(0x8002)))
+        & (u8::from(UnknownColumnType(244)) == 244)
+        & (u8::from(UnknownGeometryType(8)) == 8)
+        & (i8::from(UnknownItemResultType(-2)) == -2);
+    assert.holds(are_refused);
     let (number, bits) = (UnknownItemResultType(-2), UnknownStatusFlags(0x8002));
     let alloc = rt.alloc();
     let text = once_more(&assert, number.to_string(alloc), number.to_string(alloc));
     assert.holds(text.as_str() == "unknown item result type -2");
+    drop(text);
     let text = once_more(&assert, bits.to_string(alloc), bits.to_string(alloc));
     assert.holds(text.as_str() == "unknown flags in the bits 1000000000000010 of StatusFlags");
+    drop(text);
+}
+
+// All flags of a set, or none, have their bits, and bits their flags.
+#[test]
+fn sets_of_flags(rt: HostRuntime) {
+    let assert = Asserting(&rt);
+    let have_bits = (CapabilityFlags::all().bits() == 0xffff_ffff)
+        & (MariadbCapabilities::all().bits() == 0x3f)
+        & (StatusFlags::all().bits() == 0x7ffb)
+        & (ColumnFlags::all().bits() == 0xffff)
+        & (StmtBulkExecuteFlags::all().bits() == 192)
+        & (BinlogDumpFlags::all().bits() == 7)
+        & (BinlogDumpFlags::default().bits() == 0)
+        & (CursorType::default() == CursorType::CURSOR_TYPE_NO_CURSOR)
+        & (StatusFlags::from_bits(4) == None)
+        & (StatusFlags::try_from(10) == Ok(StatusFlags(10)))
+        & (StatusFlags(2).union(StatusFlags(8)).bits() == 10);
+    assert.holds(have_bits);
 }

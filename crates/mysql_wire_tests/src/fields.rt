@@ -6,8 +6,7 @@ ghost use Rattle.std.specs.Prelude.{[], refl, ◌∷◌};
 use crate::support::Asserting;
 use mysql_buf::ParseBuf;
 use mysql_const::{
-    BinlogDumpFlags, ColumnType, Command, DEFAULT_MAX_ALLOWED_PACKET, GeometryType, ItemResult,
-    MAX_PAYLOAD_LEN, MariadbBulkIndicator, SessionStateType, StatusFlags, UTF8_GENERAL_CI,
+    Command, DEFAULT_MAX_ALLOWED_PACKET, ItemResult, MAX_PAYLOAD_LEN, StatusFlags, UTF8_GENERAL_CI,
     UTF8MB4_GENERAL_CI,
 };
 use mysql_field_constants::{
@@ -59,50 +58,19 @@ fn assert_by_number<T: ConstValue + PartialEq + Debug + Drop, U: IntRepr<Primiti
     );
 }
 
-fn assert_value(assert: &impl Assert, alloc: Global, row: usize) {
-    match row {
-        0 => assert_by_number::<Command, u8>(assert, alloc, Command::COM_PING, &[14]),
-        1 => {
-            let long = ColumnType::MYSQL_TYPE_LONGLONG;
-            assert_by_number::<ColumnType, u8>(assert, alloc, long, &[8])
-        }
-        2 => assert_by_number::<GeometryType, u8>(assert, alloc, GeometryType::GEOM_POINT, &[1]),
-        3 => assert_by_number::<ItemResult, i8>(assert, alloc, ItemResult::INVALID_RESULT, &[0xff]),
-        4 => {
-            let tracked = SessionStateType::SESSION_TRACK_SCHEMA;
-            assert_by_number::<SessionStateType, u8>(assert, alloc, tracked, &[1])
-        }
-        5 => {
-            let default = MariadbBulkIndicator::BULK_INDICATOR_DEFAULT;
-            assert_by_number::<MariadbBulkIndicator, u8>(assert, alloc, default, &[2])
-        }
-        6 => assert_by_number::<BinlogDumpFlags, LeU16>(assert, alloc, BinlogDumpFlags(5), &[5, 0]),
-        7 => assert_by_number::<StatusFlags, LeU16>(assert, alloc, StatusFlags(0x802), &[2, 8]),
-        8 => assert_reads_back::<ConstU8<Header, 0xfe>, ()>(assert, alloc, (), &[0xfe]),
-        9 => assert_reads_back::<ConstU32<Header, 1>, ()>(assert, alloc, (), &[1, 0, 0, 0]),
-        10 => assert_reads_back::<ConstBytes<Catalog, 4>, ()>(assert, alloc, (), b"\x03def"),
-        _ => assert_reads_back::<Skip<2>, ()>(assert, alloc, (), &[0, 0]),
-    }
-}
-
 /// A number of one byte or of two.
 type OneOfTwo = Either<RawInt<u8>, RawInt<LeU16>>;
-
-// Whether it is a number of one byte, and which.
-fn short_number(read: OneOfTwo) -> Option<u8> {
-    match read {
-        Either::Left(number) => Some(number.0),
-        Either::Right(_) => None,
-    }
-}
 
 #[test]
 fn values_by_their_numbers(rt: HostRuntime) {
     let assert = Asserting(&rt);
     let alloc = rt.alloc();
-    for row in 0..12 {
-        assert_value(&assert, alloc, row);
-    }
+    assert_by_number::<Command, u8>(&assert, alloc, Command::COM_PING, &[14]);
+    assert_by_number::<ItemResult, i8>(&assert, alloc, ItemResult::INVALID_RESULT, &[0xff]);
+    assert_by_number::<StatusFlags, LeU16>(&assert, alloc, StatusFlags(0x802), &[2, 8]);
+    assert_reads_back::<ConstU8<Header, 0xfe>, ()>(&assert, alloc, (), &[0xfe]);
+    assert_reads_back::<ConstU32<Header, 1>, ()>(&assert, alloc, (), &[1, 0, 0, 0]);
+    assert_reads_back::<ConstBytes<Catalog, 4>, ()>(&assert, alloc, (), b"\x03def");
     // Whatever is skipped, zeros are written.
     let skipped = whole::<Skip<2>, ()>(&assert, alloc, (), &[7, 0xff]);
     assert_written(&assert, alloc, &skipped, &[0, 0]);
@@ -129,7 +97,7 @@ fn one_of_two(rt: HostRuntime) {
     // A number asks for no memory.
     let read = buf.parse::<OneOfTwo>(rt.alloc(), Either::Left(()));
     let read = once_more(&assert, read, Err(WireError::Memory));
-    assert_equal(&assert, short_number(read), Some(7));
+    assert.holds(read == Either::Left(RawInt::new(7)));
     assert_equal(&assert, buf.len(), 1);
     let left: Either<u8, u16> = Either::Left(1);
     assert_equal(&assert, left.unwrap_left(), 1);
@@ -144,11 +112,6 @@ fn one_of_two(rt: HostRuntime) {
     assert.holds(are_compared);
 }
 
-// Asserts a representation's size, through its bound.
-fn assert_size<T: Readable>(assert: &impl Assert, size: Option<usize>) {
-    assert.holds(T::size() == size);
-}
-
 #[test]
 fn sizes(rt: HostRuntime) {
     let assert = Asserting(&rt);
@@ -157,12 +120,13 @@ fn sizes(rt: HostRuntime) {
     assert.holds((BareU8Bytes::MAX_LEN == 255) & (BareU16Bytes::MAX_LEN == 65535));
     assert.holds((MAX_PAYLOAD_LEN == 16777215) & (DEFAULT_MAX_ALLOWED_PACKET == 4194304));
     assert.holds((UTF8_GENERAL_CI == 33) & (UTF8MB4_GENERAL_CI == 45));
-    assert_size::<RawInt<LeU32>>(&assert, Some(4));
-    assert_size::<ConstU32<Header, 1>>(&assert, Some(4));
-    assert_size::<Skip<10>>(&assert, Some(10));
-    assert_size::<[u8; 6]>(&assert, Some(6));
-    assert_size::<RawBytes<FixedLengthText<5>>>(&assert, Some(5));
-    assert_size::<RawInt<LenEnc>>(&assert, None);
-    assert_size::<RawBytes<NullBytes>>(&assert, None);
-    assert_size::<Seq<RawInt<LeU32>, u8>>(&assert, None);
+    let are_sizes = (RawInt::<LeU32>::size() == Some(4))
+        & (ConstU32::<Header, 1>::size() == Some(4))
+        & (Skip::<10>::size() == Some(10))
+        & (<[u8; 6]>::size() == Some(6))
+        & (RawBytes::<FixedLengthText<5>>::size() == Some(5))
+        & RawInt::<LenEnc>::size().is_none()
+        & RawBytes::<NullBytes>::size().is_none()
+        & Seq::<RawInt<LeU32>, u8>::size().is_none();
+    assert.holds(are_sizes);
 }

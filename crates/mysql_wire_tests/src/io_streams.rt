@@ -6,7 +6,7 @@ use std::alloc::{AllocError, Global};
 use std::io;
 use std::io::{ErrorKind, Read, Write};
 use std::test::*;
-use tests_support::{Assert, once_more};
+use tests_support::{Assert, assert_answer, once_more};
 
 /// Gives `fc` so many times, and is refused from then on.
 #[derive(Drop)]
@@ -64,19 +64,11 @@ fn numbers_from_streams(rt: HostRuntime) {
     assert.holds(found == Err(ErrorKind::ConnectionReset));
 }
 
-// The text that comes first, or the kind of the error.
-fn text_in(alloc: Global, mut source: &[u8]) -> Result<Vec<u8>, ErrorKind> {
-    match source.read_lenenc_str(alloc) {
-        Ok(text) => Ok(text),
-        Err(error) => Err(error.kind()),
-    }
-}
-
 // Whether a stream begins with this text, or with none for this cause.
-fn begins_with(alloc: Global, source: &[u8], wanted: Result<&[u8], ErrorKind>) -> bool {
-    match text_in(alloc, source) {
+fn begins_with(alloc: Global, mut source: &[u8], wanted: Result<&[u8], ErrorKind>) -> bool {
+    match source.read_lenenc_str(alloc) {
         Ok(text) => wanted == Ok(text.as_slice()),
-        Err(kind) => wanted == Err(kind),
+        Err(error) => wanted == Err(error.kind()),
     }
 }
 
@@ -135,43 +127,26 @@ const WRITTEN: [(u64, [u8; 9], u64); 5] = [
     (16777216, [0xfe, 0, 0, 0, 1, 0, 0, 0, 0], 9),
 ];
 
-// How many bytes a number takes in a stream, where there is room; None where there is none.
-fn write_number(out: &mut &mut [u8], number: u64) -> Option<u64> {
-    out.write_lenenc_int(number).ok()
-}
-
-// Writes a text to a stream that has no bytes: how many bytes it was.
-fn write_text(out: &mut Vec<u8>, text: &[u8]) -> Option<u64> {
-    let first = out.write_lenenc_str(text).ok();
-    if first.is_some() {
-        return first;
-    }
-    // Memory was refused: a part may be written.
-    out.clear();
-    out.write_lenenc_str(text).ok()
-}
-
 #[test]
 fn numbers_and_texts_written_to_streams(rt: HostRuntime) {
     let assert = Asserting(&rt);
-    let alloc = rt.alloc();
     for (number, bytes, count) in &WRITTEN {
         let mut space = [0u8; 9];
         let mut out: &mut [u8] = &mut space;
-        assert.holds(write_number(&mut out, *number) == Some(*count));
+        assert.holds(out.write_lenenc_int(*number).ok() == Some(*count));
         assert.holds(space == *bytes);
     }
     let mut space = [0u8; 8];
     let mut out: &mut [u8] = &mut space;
     assert.holds(out.write_lenenc_str(b"abc").ok() == Some(4));
-    assert.holds(write_number(&mut out, 65536) == Some(4));
-    assert.holds(write_number(&mut out, 1).is_none());
+    assert.holds(out.write_lenenc_int(65536).ok() == Some(4));
+    assert.holds(out.write_lenenc_int(1).ok().is_none());
     assert.holds(space == [3, b'a', b'b', b'c', 0xfd, 0, 0, 1]);
-    // A length past 65535 takes three bytes.
-    let front: &[u8] = &[0xfd, 0x05, 0x00, 0x01];
-    let wanted = once_more(&assert, long(alloc, front, 9363), long(alloc, front, 9363));
-    let text = wanted.as_slice().get(4..).unwrap_or(&[]);
-    let mut out = Vec::new(alloc);
-    assert.holds(write_text(&mut out, text) == Some(65545));
-    assert.holds(out.as_slice() == wanted.as_slice());
+    // Memory is refused to the writer: a part may be written.
+    let mut out = Vec::new(rt.alloc());
+    let first = out.write_lenenc_str(b"abc").ok();
+    out.clear();
+    let second = out.write_lenenc_str(b"abc").ok();
+    assert_answer(&assert, first, second, None, Some(4));
+    drop(out);
 }

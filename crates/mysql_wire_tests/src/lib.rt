@@ -1,12 +1,13 @@
 //! Tests of the lower layers from outside, as far as no row of data says it: constants, numbers and
 //! texts in buffers and streams, representations of fields, and the calls by which packets are cut
-//! and made. What packets a stream has stands in bindings/testing/rows/values/packets.txt.
+//! and made. What packets a stream has stands in bindings/testing/rows/values/packets.txt, and
+//! numbers and texts that packets have in the rows of these: bindings/testing/rows/packets.
 //!
 //! At most one allocation of a run is refused. So a call that answers that memory was refused is
 //! looked at for what has to stand then, and made once more; then it has to answer.
 //!
-//! A function costs the prover seconds whatever it asserts, a row of a table nothing. So each test
-//! goes over tables, and a table of types is a `match` by the number of its row.
+//! A function costs the prover seconds whatever it asserts, a row of a table nothing. So there are
+//! few functions, and their tests go over tables.
 #![tactic(auto)]
 
 #[cfg(test)]

@@ -3,14 +3,14 @@
 use crate::support::Asserting;
 use mysql_buf::ParseBuf;
 use mysql_fields::{
-    BareBytes, BareU8Bytes, BareU16Bytes, BytesRepr, EofBytes, FixedLengthText, LenEnc, NullBytes,
-    RawBytes, U8Bytes, U32Bytes, VarLen, WireError,
+    BareBytes, BareU8Bytes, BareU16Bytes, BytesRepr, FixedLengthText, LenEnc, NullBytes, RawBytes,
+    U8Bytes, WireError,
 };
 use std::alloc::Global;
 use std::test::*;
 use tests_support::{
-    Assert, assert_bytes, assert_copied, assert_reads_back, assert_refused, assert_written,
-    first_of, once_more,
+    Assert, assert_bytes, assert_copied, assert_equal, assert_reads_back, assert_refused,
+    assert_same, assert_written, first_of, once_more,
 };
 
 // Asserts that a text in a representation, through its bound, is written as these bytes.
@@ -22,92 +22,47 @@ fn assert_text<T: BytesRepr>(assert: &impl Assert, alloc: Global, text: &[u8], b
 /// A text of 256 bytes.
 const LONG: [u8; 256] = [b'a'; 256];
 
-// Asserts which bytes a text is written as.
-fn assert_texts(assert: &impl Assert, alloc: Global, row: usize) {
-    match row {
-        0 => assert_text::<LenEnc>(assert, alloc, b"ab", b"\x02ab"),
-        1 => assert_text::<U8Bytes>(assert, alloc, b"ab", b"\x02ab"),
-        2 => assert_text::<U32Bytes>(assert, alloc, b"a", b"\x01\x00\x00\x00a"),
-        3 => assert_text::<VarLen>(assert, alloc, b"app", b"\x06app"),
-        4 => assert_text::<NullBytes>(assert, alloc, b"a\x00b", b"a\x00"),
-        5 => assert_text::<EofBytes>(assert, alloc, b"ab", b"ab"),
-        6 => assert_text::<BareBytes<3>>(assert, alloc, b"abcd", b"abc"),
-        7 => assert_text::<FixedLengthText<4>>(assert, alloc, b"ab", b"ab\x00\x00"),
-        8 => assert_text::<FixedLengthText<1>>(assert, alloc, b"ab", b"a"),
-        9 => assert_text::<BareU8Bytes>(assert, alloc, b"ab", b"ab"),
-        _ => assert_text::<BareU16Bytes>(assert, alloc, b"cd", b"cd"),
-    }
-}
-
-// Asserts what the bytes of a text that count are as characters.
-fn assert_shown<T: BytesRepr>(assert: &impl Assert, alloc: Global, text: &[u8], wanted: &str) {
-    let value: RawBytes<T> = RawBytes::from(text);
-    let shown = once_more(assert, value.as_str(alloc), value.as_str(alloc));
-    assert.holds(shown.as_str() == wanted);
-}
-
-// Asserts that a text may not have so many bytes, be they there or not.
-fn assert_too_many<T: BytesRepr<Ctx = usize>>(assert: &impl Assert, alloc: Global, count: usize) {
-    let cause = WireError::TooManyBytes;
-    assert_refused::<RawBytes<T>, usize>(assert, alloc, count, b"abcd", cause);
-}
-
+// Forms that no packet has, and texts that are longer than their forms. The others stand in packets of rows.
 #[test]
 fn texts_written_and_shown(rt: HostRuntime) {
     let assert = Asserting(&rt);
     let alloc = rt.alloc();
-    for row in 0..11 {
-        assert_texts(&assert, alloc, row);
-    }
+    assert_text::<NullBytes>(&assert, alloc, b"a\x00b", b"a\x00");
+    assert_text::<BareBytes<3>>(&assert, alloc, b"abcd", b"abc");
+    assert_text::<FixedLengthText<4>>(&assert, alloc, b"ab", b"ab\x00\x00");
+    assert_text::<FixedLengthText<1>>(&assert, alloc, b"ab", b"a");
+    assert_text::<BareU8Bytes>(&assert, alloc, b"ab", b"ab");
+    assert_text::<BareU16Bytes>(&assert, alloc, b"cd", b"cd");
     // Of 256 bytes behind a length of one byte the first 255 count and are written.
     let mut cut = LONG;
     cut[0] = 255;
     assert_text::<U8Bytes>(&assert, alloc, &LONG, &cut);
-    assert_bytes(
-        &assert,
-        RawBytes::<U8Bytes>::from(LONG.as_slice()).as_bytes(),
-        &LONG[..255],
-    );
-    assert_too_many::<BareBytes<3>>(&assert, alloc, 4);
-    assert_too_many::<BareU8Bytes>(&assert, alloc, 256);
-    assert_too_many::<BareU16Bytes>(&assert, alloc, 65536);
-    // Bytes that are no UTF-8 are replaced.
-    assert_shown::<LenEnc>(&assert, alloc, b"ab", "ab");
-    assert_shown::<LenEnc>(&assert, alloc, b"a\xc3\xa9", "a\u{e9}");
-    assert_shown::<LenEnc>(&assert, alloc, b"a\xffb", "a\u{fffd}b");
-    assert_shown::<BareBytes<3>>(&assert, alloc, b"abcd", "abc");
-    assert_shown::<BareBytes<2>>(&assert, alloc, b"a\xc3\xa9", "a\u{fffd}");
-}
-
-// Asserts that a text that was read is this one.
-fn assert_is<T: BytesRepr>(assert: &impl Assert, text: RawBytes<'_, T>, wanted: &[u8]) {
-    assert_bytes(assert, text.as_bytes(), wanted);
+    let long: &[u8] = &LONG;
+    let text: RawBytes<U8Bytes> = RawBytes::from(long);
+    assert_bytes(&assert, text.as_bytes(), &LONG[..255]);
+    drop(text);
+    // A text may not have so many bytes, be they there or not.
+    let cause = WireError::TooManyBytes;
+    assert_refused::<RawBytes<BareBytes<3>>, usize>(&assert, alloc, 4, b"abcd", cause);
+    assert_refused::<RawBytes<BareU8Bytes>, usize>(&assert, alloc, 256, b"abcd", cause);
+    assert_refused::<RawBytes<BareU16Bytes>, usize>(&assert, alloc, 65536, b"abcd", cause);
 }
 
 #[test]
 fn texts_read(rt: HostRuntime) {
     let assert = Asserting(&rt);
     let alloc = rt.alloc();
-    let mut buf = ParseBuf(b"\x02ab\x01c\x01\x00\x00\x00m\x06appde\x00fghijkl");
-    let text = first_of::<RawBytes<LenEnc>, ()>(&assert, alloc, (), &mut buf);
-    assert_is(&assert, text, b"ab");
-    let text = first_of::<RawBytes<U8Bytes>, ()>(&assert, alloc, (), &mut buf);
-    assert_is(&assert, text, b"c");
-    let text = first_of::<RawBytes<U32Bytes>, ()>(&assert, alloc, (), &mut buf);
-    assert_is(&assert, text, b"m");
-    let text = first_of::<RawBytes<VarLen>, ()>(&assert, alloc, (), &mut buf);
-    assert_is(&assert, text, b"app");
-    let text = first_of::<RawBytes<NullBytes>, ()>(&assert, alloc, (), &mut buf);
-    assert_is(&assert, text, b"de");
+    let mut buf = ParseBuf(b"fghijkabcde");
     let text = first_of::<RawBytes<BareU8Bytes>, usize>(&assert, alloc, 2, &mut buf);
-    assert_is(&assert, text, b"fg");
+    assert_bytes(&assert, text.as_bytes(), b"fg");
+    drop(text);
     let text = first_of::<RawBytes<BareU16Bytes>, usize>(&assert, alloc, 2, &mut buf);
-    assert_is(&assert, text, b"hi");
+    assert_bytes(&assert, text.as_bytes(), b"hi");
+    drop(text);
     let text = first_of::<RawBytes<FixedLengthText<2>>, ()>(&assert, alloc, (), &mut buf);
-    assert_is(&assert, text, b"jk");
-    assert_bytes(&assert, buf.0, b"l");
+    assert_bytes(&assert, text.as_bytes(), b"jk");
+    drop(text);
     // Bytes as they stand.
-    let mut buf = ParseBuf(b"abcde");
     let slice = first_of::<&[u8], usize>(&assert, alloc, 2, &mut buf);
     assert_bytes(&assert, slice, b"ab");
     let part = first_of::<ParseBuf, usize>(&assert, alloc, 2, &mut buf);
@@ -116,27 +71,47 @@ fn texts_read(rt: HostRuntime) {
     assert_reads_back::<[u8; 3], ()>(&assert, alloc, (), &[1, 2, 3]);
 }
 
-// A text after its length.
-fn text(bytes: &[u8]) -> RawBytes<'_, LenEnc> {
-    RawBytes::from(bytes)
-}
-
-fn is_text_ab(owned: RawBytes<'_, LenEnc>) -> bool {
-    (text(b"ab") == owned) & (text(b"abc") != owned)
-}
+// What the bytes that count are as characters: those that are no UTF-8 are replaced.
+const SHOWN: [(&[u8], &str); 4] = [
+    (b"ab", "ab"),
+    (b"\xc3\xa9a", "\u{e9}"),
+    (b"a\xc3\xa9", "a\u{fffd}"),
+    (b"\xffbcd", "\u{fffd}b"),
+];
 
 #[test]
 fn texts_owned_and_copied(rt: HostRuntime) {
     let assert = Asserting(&rt);
     let alloc = rt.alloc();
-    let first = Vec::from_slice(alloc, b"ab");
-    let bytes = once_more(&assert, first, Vec::from_slice(alloc, b"ab"));
-    assert.holds(is_text_ab(RawBytes::from(bytes)));
-    let first = text(b"ab").into_owned(alloc);
-    let owned = once_more(&assert, first, text(b"ab").into_owned(alloc));
+    for (bytes, wanted) in SHOWN {
+        let text: RawBytes<BareBytes<2>> = RawBytes::from(bytes);
+        let shown = once_more(&assert, text.as_str(alloc), text.as_str(alloc));
+        assert_bytes(&assert, shown.as_str().as_bytes(), wanted.as_bytes());
+        drop(shown);
+        drop(text);
+    }
+    let ab: &[u8] = b"ab";
+    let (text, again): (RawBytes<LenEnc>, RawBytes<LenEnc>) = (
+        RawBytes::from(ab),
+        RawBytes::from(ab),
+    );
+    let owned = once_more(&assert, text.into_owned(alloc), again.into_owned(alloc));
     assert.holds((owned.len() == 2) & !owned.is_empty());
-    assert.holds(is_text_ab(owned));
-    let value = text(b"ab");
-    assert_copied(&assert, &value, value.clone(alloc), value.clone(alloc));
-    assert.holds(is_text_ab(value) & (text(b"") == RawBytes::default()));
+    let text: RawBytes<LenEnc> = RawBytes::from(ab);
+    assert_same(&assert, &owned, &text);
+    assert_copied(&assert, &text, text.clone(alloc), text.clone(alloc));
+    drop(owned);
+    let bytes = once_more(
+        &assert,
+        Vec::from_slice(alloc, ab),
+        Vec::from_slice(alloc, ab),
+    );
+    assert_equal(&assert, RawBytes::from(bytes), text);
+    let (none, other): (RawBytes<LenEnc>, RawBytes<LenEnc>) = (
+        RawBytes::default(),
+        RawBytes::from(ab),
+    );
+    assert.holds((none.len() == 0) & (none != other));
+    drop(none);
+    drop(other);
 }

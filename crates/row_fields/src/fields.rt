@@ -1,27 +1,12 @@
 //! The fields of a row: bytes and numbers.
 
 use crate::tokens::Token;
-use std::alloc::{AllocError, Global};
+use crate::trouble::Trouble;
+use std::alloc::Global;
 use std::str::FromStr;
-use thiserror::Error;
-
-/// Why a field stands for nothing.
-#[derive(Clone, Copy, Debug, PartialEq, Eq, Error)]
-pub enum FieldError {
-    #[error("Memory")]
-    Memory,
-    #[error("{0}")]
-    Malformed(&'static str),
-}
-
-impl From<AllocError> for FieldError {
-    fn from(_e: AllocError) -> FieldError {
-        FieldError::Memory
-    }
-}
 
 /// Puts bytes so many times.
-fn put_run(run: &[u8], times: usize, bytes: &mut Vec<u8>) -> Result<(), FieldError> {
+fn put_run(run: &[u8], times: usize, bytes: &mut Vec<u8>) -> Result<(), Trouble> {
     if let [byte] = run {
         bytes.resize(bytes.len().saturating_add(times), *byte)?;
         return Ok(());
@@ -32,30 +17,26 @@ fn put_run(run: &[u8], times: usize, bytes: &mut Vec<u8>) -> Result<(), FieldErr
     Ok(())
 }
 
-/// The bytes that digits are, two of them a byte.
-fn digits_of(alloc: Global, word: &str) -> Result<Vec<u8>, FieldError> {
-    match hex::decode(alloc, word) {
-        Ok(digits) => Ok(digits),
-        Err(hex::FromHexError::OutOfMemory) => Err(FieldError::Memory),
-        Err(_) => Err(FieldError::Malformed("not bytes")),
-    }
-}
-
 /// Puts what a token stands for, so many times: two digits a byte, a text its bytes.
 fn put_token(
     alloc: Global,
     token: Token<'_>,
     times: usize,
     bytes: &mut Vec<u8>,
-) -> Result<(), FieldError> {
-    match token {
-        Token::Text(text) => put_run(text.as_bytes(), times, bytes),
-        Token::Word(word) => put_run(digits_of(alloc, word)?.as_slice(), times, bytes),
+) -> Result<(), Trouble> {
+    let digits = match token {
+        Token::Text(text) => return put_run(text.as_bytes(), times, bytes),
+        Token::Word(word) => hex::decode(alloc, word),
+    };
+    match digits {
+        Ok(digits) => put_run(digits.as_slice(), times, bytes),
+        Err(hex::FromHexError::OutOfMemory) => Err(Trouble::Memory),
+        Err(_) => Err(Trouble::Malformed("not bytes")),
     }
 }
 
 /// The number that a word is.
-fn number_of<T: FromStr>(token: Option<&Token<'_>>) -> Result<T, FieldError>
+fn number_of<T: FromStr>(token: Option<&Token<'_>>) -> Result<T, Trouble>
 where
     T::Err: Drop,
 {
@@ -64,11 +45,11 @@ where
             return Ok(number);
         }
     }
-    Err(FieldError::Malformed("not a number"))
+    Err(Trouble::Malformed("not a number"))
 }
 
-/// The number that a field is.
-pub fn number<T: FromStr>(field: &[Token<'_>]) -> Result<T, FieldError>
+/// The number that a field begins with.
+pub fn number<T: FromStr>(field: &[Token<'_>]) -> Result<T, Trouble>
 where
     T::Err: Drop,
 {
@@ -80,7 +61,7 @@ fn is_star(token: Option<&Token<'_>>) -> bool {
 }
 
 /// Puts the bytes that tokens stand for, one after another; `N * TOKEN` is N times what the token stands for.
-fn put_tokens(alloc: Global, tokens: &[Token<'_>], bytes: &mut Vec<u8>) -> Result<(), FieldError> {
+fn put_tokens(alloc: Global, tokens: &[Token<'_>], bytes: &mut Vec<u8>) -> Result<(), Trouble> {
     let mut times = 1;
     for (place, token) in tokens.iter().enumerate() {
         if is_star(tokens.get(place.saturating_add(1))) {
@@ -94,7 +75,7 @@ fn put_tokens(alloc: Global, tokens: &[Token<'_>], bytes: &mut Vec<u8>) -> Resul
 }
 
 /// The bytes that a field stands for; `first N of ..` is a front of them.
-pub fn bytes_of(alloc: Global, field: &[Token<'_>]) -> Result<Vec<u8>, FieldError> {
+pub fn bytes_of(alloc: Global, field: &[Token<'_>]) -> Result<Vec<u8>, Trouble> {
     let (whole, most) = match field {
         [Token::Word("first"), count, Token::Word("of"), whole @ ..] => {
             (whole, number_of(Some(count))?)

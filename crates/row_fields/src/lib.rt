@@ -4,6 +4,8 @@
 
 mod fields;
 mod tokens;
+mod trouble;
 
-pub use fields::{FieldError, bytes_of, number};
+pub use fields::{bytes_of, number};
 pub use tokens::{Names, Token, tokens_of};
+pub use trouble::Trouble;

@@ -19,3 +19,11 @@ pub use crate::fields::{
     assert_copied, assert_cut_off, assert_made, assert_reads_back, assert_refused, assert_written,
     first_of, whole, written,
 };
+
+/// What a call gives, or the same call made once more where memory was refused.
+#[macro_export]
+macro_rules! again {
+    ($assert:expr, $call:expr) => {
+        $crate::once_more($assert, $call, $call)
+    };
+}

@@ -1,0 +1,221 @@
+//! Packets and executions that are put. Packets of a connection give its bytes again. Executions have
+//! types where those in force won't do, also those of packets that were put before.
+
+use crate::connection::{Asserting, CONNECTION, begin};
+use mysql_connection::{
+    BadEvent, Capabilities, CapabilityFlags, CommandRefusal, Connection, MariadbCapabilities,
+    PayloadRefusal, PutRefusal, Side,
+};
+use mysql_session::{ByteString, Value};
+use std::alloc::{AllocError, Global};
+use tests_support::{Assert, assert_bytes, once_more};
+
+// Puts all of some packets, for want of memory once more from there on: whether they were put.
+fn put_packets(connection: &mut Connection, side: Side, packets: &[u8], out: &mut Vec<u8>) -> bool {
+    match connection.put_packets(side, packets, out) {
+        Ok(used) => used == packets.len(),
+        Err(refusal) if refusal.cause == PayloadRefusal::Memory => {
+            let rest = &packets[refusal.used.min(packets.len())..];
+            connection.put_packets(side, rest, out) == Ok(rest.len())
+        }
+        Err(_) => false,
+    }
+}
+
+#[test]
+fn packets_of_both_sides(rt: HostRuntime) {
+    let assert = Asserting(&rt);
+    let mut connection = begin(rt.alloc(), None);
+    let mut out = Vec::new(rt.alloc());
+    for (side, packets) in CONNECTION {
+        out.clear();
+        assert.holds(put_packets(&mut connection, *side, packets, &mut out));
+        assert_bytes(&assert, out.as_slice(), packets);
+    }
+}
+
+// A value of an execution.
+#[derive(Clone, Copy)]
+enum Given {
+    Null,
+    Int(i64),
+    UInt(u64),
+    Text(&'static [u8]),
+}
+
+fn value_of(alloc: Global, given: Given) -> Result<Value, AllocError> {
+    match given {
+        Given::Null => Ok(Value::NULL),
+        Given::Int(number) => Ok(Value::Int(number)),
+        Given::UInt(number) => Ok(Value::UInt(number)),
+        Given::Text(bytes) => Ok(Value::Bytes(ByteString::copy(alloc, bytes)?)),
+    }
+}
+
+fn values_of(alloc: Global, given: &[Given]) -> Result<Vec<Value>, AllocError> {
+    let mut values = Vec::new(alloc);
+    for one in given {
+        values.push(value_of(alloc, *one)?)?;
+    }
+    Ok(values)
+}
+
+// What is put: packets of a side, or an execution of a statement.
+#[derive(Clone, Copy)]
+enum Call {
+    Packets(Side, &'static [u8]),
+    Execution(u32, &'static [Given]),
+}
+
+// Puts an execution of values, for want of memory once more. Answers why it isn't put.
+fn put_values(
+    connection: &mut Connection,
+    id: u32,
+    values: &[Value],
+    out: &mut Vec<u8>,
+) -> Option<PutRefusal> {
+    let put = match connection.put_execution(id, values, out) {
+        Err(PutRefusal::Memory) => connection.put_execution(id, values, out),
+        answer => answer,
+    };
+    put.err()
+}
+
+// Makes a call. Answers why it is refused.
+fn refusal_of(
+    assert: &impl Assert,
+    alloc: Global,
+    connection: &mut Connection,
+    call: Call,
+    out: &mut Vec<u8>,
+) -> Option<PutRefusal> {
+    match call {
+        Call::Packets(side, packets) => {
+            assert.holds(put_packets(connection, side, packets, out));
+            None
+        }
+        Call::Execution(id, given) => {
+            let values = once_more(assert, values_of(alloc, given), values_of(alloc, given));
+            put_values(connection, id, &values, out)
+        }
+    }
+}
+
+// A call, why it is refused, and what is appended.
+type Step = (Call, Option<PutRefusal>, &'static [u8]);
+
+const PREPARE: &[u8] = b"\x0c\0\0\0\x16SELECT ?, ?";
+
+// The answer to the prepare: a statement with two parameters.
+const PREPARED: &[u8] = b"\x0c\0\0\x01\0\x01\0\0\0\0\0\x02\0\0\0\0\
+    \x17\0\0\x02\x03def\0\0\0\x01\x3f\0\x0c\x3f\0\0\0\0\0\xfd\x80\0\0\0\0\
+    \x17\0\0\x03\x03def\0\0\0\x01\x3f\0\x0c\x3f\0\0\0\0\0\xfd\x80\0\0\0\0\
+    \x05\0\0\x04\xfe\0\0\x02\0";
+
+const OK: &[u8] = b"\x07\0\0\x01\0\0\0\x02\0\0\0";
+
+// What the server says to each.
+const ANSWER: Step = (Call::Packets(Side::Server, OK), None, OK);
+
+// An execution of 7 and ab: with types.
+const FIRST: &[u8] =
+    b"\x1b\0\0\0\x17\x01\0\0\0\0\x01\0\0\0\0\x01\x08\0\xfd\0\x07\0\0\0\0\0\0\0\x02ab";
+
+// A bulk execution of NULL and c, which carries types.
+const BULK: &[u8] = b"\x0f\0\0\0\xfa\x01\0\0\0\x80\0\xfd\0\xfd\0\x01\0\x01c";
+
+const PING: &[u8] = b"\x01\0\0\0\x0e";
+
+const C: Given = Given::Text(b"c");
+
+const STEPS: [Step; 24] = [
+    (Call::Packets(Side::Client, PREPARE), None, PREPARE),
+    (Call::Packets(Side::Server, PREPARED), None, PREPARED),
+    (
+        Call::Execution(1, &[Given::Int(7), Given::Text(b"ab")]),
+        None,
+        FIRST,
+    ),
+    ANSWER,
+    // NULL and c, by the types of the first.
+    (
+        Call::Execution(1, &[Given::Null, C]),
+        None,
+        b"\x0e\0\0\0\x17\x01\0\0\0\0\x01\0\0\0\x01\0\x01c",
+    ),
+    ANSWER,
+    // x and c: a text in the place of a number.
+    (
+        Call::Execution(1, &[Given::Text(b"x"), C]),
+        None,
+        b"\x14\0\0\0\x17\x01\0\0\0\0\x01\0\0\0\0\x01\xfd\0\xfd\0\x01x\x01c",
+    ),
+    ANSWER,
+    // 5 without a sign, and c.
+    (
+        Call::Execution(1, &[Given::UInt(5), C]),
+        None,
+        b"\x1a\0\0\0\x17\x01\0\0\0\0\x01\0\0\0\0\x01\x08\x80\xfd\0\x05\0\0\0\0\0\0\0\x01c",
+    ),
+    ANSWER,
+    // 6 without a sign, and c, by the types before.
+    (
+        Call::Execution(1, &[Given::UInt(6), C]),
+        None,
+        b"\x16\0\0\0\x17\x01\0\0\0\0\x01\0\0\0\0\0\x06\0\0\0\0\0\0\0\x01c",
+    ),
+    ANSWER,
+    // A query numbered as none is due, an execution, and a bulk execution; then one by its types.
+    (
+        Call::Packets(Side::Client, b"\x09\0\0\x07\x03SELECT 1"),
+        None,
+        b"\x09\0\0\0\x03SELECT 1",
+    ),
+    ANSWER,
+    (Call::Packets(Side::Client, FIRST), None, FIRST),
+    ANSWER,
+    (Call::Packets(Side::Client, BULK), None, BULK),
+    ANSWER,
+    (
+        Call::Execution(1, &[Given::Text(b"x"), C]),
+        None,
+        b"\x10\0\0\0\x17\x01\0\0\0\0\x01\0\0\0\0\0\x01x\x01c",
+    ),
+    ANSWER,
+    // Refused: of no statement, of too few values, and while an answer is due.
+    (
+        Call::Execution(9, &[Given::Int(1)]),
+        Some(PutRefusal::BadEvent(BadEvent::Command(CommandRefusal::UnknownStatement))),
+        b"",
+    ),
+    (
+        Call::Execution(1, &[Given::Int(1)]),
+        Some(PutRefusal::BadEvent(BadEvent::Command(CommandRefusal::ReadsOtherwise))),
+        b"",
+    ),
+    (Call::Packets(Side::Client, PING), None, PING),
+    (
+        Call::Execution(1, &[Given::Int(1)]),
+        Some(PutRefusal::NotDue),
+        b"",
+    ),
+];
+
+// The protocol of 4.1 with EOF packets, and MariaDB's bulk executions.
+const IN_FORCE: Capabilities = Capabilities {
+    protocol: CapabilityFlags::CLIENT_PROTOCOL_41,
+    mariadb: MariadbCapabilities::MARIADB_CLIENT_STMT_BULK_OPERATIONS,
+};
+
+#[test]
+fn executions(rt: HostRuntime) {
+    let assert = Asserting(&rt);
+    let mut connection = begin(rt.alloc(), Some(IN_FORCE));
+    let mut out = Vec::new(rt.alloc());
+    for (call, refused, bytes) in &STEPS {
+        out.clear();
+        let found = refusal_of(&assert, rt.alloc(), &mut connection, *call, &mut out);
+        assert.holds(found == *refused);
+        assert_bytes(&assert, out.as_slice(), bytes);
+    }
+}
