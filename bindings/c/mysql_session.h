@@ -11,15 +11,15 @@
  * address to each call. It starts as MYSQL_SESSION_NOTHING, which stands for no object, and is
  * that again after mysql_session_free. A call on a handle that stands for nothing, or for an
  * object of another kind, answers a code and changes nothing. Never use two copies of a handle,
- * never change its pointer, and keep it in the thread that made it: calls in different threads
- * on handles of their own share nothing. All handles of a call are different ones: the same handle
+ * never change its pointer, and keep it in the thread that made it. Calls in different threads on
+ * different handles share nothing. All handles of a call are different ones: the same handle
  * twice is the program's fault, which no call looks for.
  *
- * Bytes go in as a pointer and a length. The pointer is never NULL, not even where the length
- * is 0, and the bytes stay as they are until the call returns; no call keeps the pointer. Never
- * bytes that a handle of the same call lent: what it lends may move while the call reads it.
+ * Bytes go in as a pointer and a length. The pointer is never NULL, not even where the length is 0.
+ * The bytes stay as they are until the call returns; no call keeps the pointer. Don't pass bytes
+ * that a handle of the same call lent: what it lends may move while the call reads it.
  * Of a struct that goes in all fields are set, also those that its kind doesn't have (zeros will
- * do), and a `bool` is 0 or 1.
+ * do). A `bool` is 0 or 1.
  * Results go out through pointers, which are never NULL either and point to different objects.
  * What such a pointer points to is set before the call (an initialiser of zeros will do). Where a
  * call answers anything but MYSQL_SESSION_OK, what it holds then isn't said, but where the call
@@ -192,8 +192,8 @@ void mysql_session_code_text(uint32_t code, const uint8_t **text, size_t *len);
  * bulk the mode says which bytes of the query's own text are placeholders, and nothing else.
  *
  * A text is safe for the server whose mode is told. For a server in another a value may end its
- * literal, and what stands behind the quote is read as SQL: ask for the mode, send by execute, or
- * spell byte strings in hexadecimal, which any mode reads alike if the query has no backslash. */
+ * literal, and what follows the quote is read as SQL. So ask for the mode, send by execute, or
+ * spell byte strings in hexadecimal. Any mode reads these alike if the query has no backslash. */
 enum mysql_session_flag {
     /* A backslash in a string is a byte like any other. */
     MYSQL_SESSION_NO_BACKSLASH_ESCAPES = 1,
@@ -214,8 +214,8 @@ uint32_t mysql_session_mode_of_sql_mode(const uint8_t *value, size_t len);
 
 /* 1 where literals in quotes are safe in a text that a server reads in the collation of this id
  * (character_set_client), else 0; no code. 0 is the answer for collations of big5, sjis, gbk, cp932
- * and gb18030, and for gb2312_bin, in which a quote or a backslash can be the second byte of a
- * character: there take MYSQL_SESSION_HEXADECIMAL, or send by execute. */
+ * and gb18030, and for gb2312_bin. In these a quote or a backslash can be the second byte of a
+ * character. There take MYSQL_SESSION_HEXADECIMAL, or send by execute. */
 uint32_t mysql_session_is_safe_to_quote(uint16_t collation);
 
 /* ---- Receivers: a stream of commands about one query, read back ------------------------------ */
@@ -256,7 +256,7 @@ typedef struct mysql_session_end {
 /* Makes the handle stand for a receiver of a stream of commands about this query, whose statement
  * was given this id. What the handle stood for before is freed; where the answer isn't OK it stays.
  * The limit is the max_allowed_packet of the receiving side, at least 4. The query is copied. The
- * flags (of mysql_session_flag) tell the mode of the server that the stream was sent to: for one in
+ * flags (of mysql_session_flag) tell the mode of the server that the stream was sent to. For one in
  * another mode texts, and the query's placeholders, may be others than this receiver reads.
  * Answers OK, NO_SUCH_MODE (before any other), LIMIT_TOO_SMALL (before the rest), MEMORY, MIXED. */
 uint32_t mysql_session_receiver_new(mysql_session_handle *handle, const uint8_t *query,
@@ -295,7 +295,7 @@ uint32_t mysql_session_receiver_end(mysql_session_handle *handle, mysql_session_
  * and one with names is refused by REFUSED_PARAMS. (Receivers and recoders take both.) */
 uint32_t mysql_session_sets_new(mysql_session_handle *handle);
 
-/* Each gives the next set one more value, for the next placeholder; bytes are copied, and no field
+/* Each gives the next set one more value, for the next placeholder. Bytes are copied, and no field
  * of a date or a duration is checked. After MEMORY nothing has changed.
  * Answer OK, MEMORY, EMPTY_HANDLE, OTHER_KIND. */
 uint32_t mysql_session_sets_push_null(mysql_session_handle *handle);
@@ -377,29 +377,29 @@ typedef struct mysql_session_place {
 /* Appends to the bytes of `out` the commands that carry the sets of `sets`, as framed packets. A
  * receiver of the same query, id, limit and mode reads the sets back, to the end of what was
  * appended.
- * Values of a set that wasn't ended aren't sent; the sets stay. The limit is the
- * max_allowed_packet of the receiving side, at least 4; a packet's header counts in it, so that a
- * payload has at most `limit - 4` bytes. The two handles are different ones.
+ * Values of a set that wasn't ended aren't sent; the sets stay. The limit is the max_allowed_packet
+ * of the receiving side, at least 4. A packet's header counts in it, so a payload has at most
+ * `limit - 4` bytes. The two handles are different ones.
  * The commands are laid out for a connection on which CLIENT_QUERY_ATTRIBUTES isn't in force, bulk
  * executions for one on which MARIADB_CLIENT_STMT_BULK_OPERATIONS is.
- * By MYSQL_SESSION_TEXT: safe for a server in the mode that the flags (of mysql_session_flag) tell,
- * over a connection whose collation is safe to quote, as UTF-8's are, or with
- * MYSQL_SESSION_HEXADECIMAL in any character set in which bytes below 80 that follow one another
- * are themselves; for any other a value may end its literal. By execute and bulk: safe for any
+ * By MYSQL_SESSION_TEXT it is safe for a server in the mode that the flags (of mysql_session_flag)
+ * tell. The connection's collation is safe to quote, as UTF-8's are. Or take
+ * MYSQL_SESSION_HEXADECIMAL, in any character set in which bytes below 80 that follow one another
+ * are themselves. For any other a value may end its literal. By execute and bulk: safe for any
  * server.
  * Answers OK, or why nothing is appended, by the first that holds: EMPTY_HANDLE or OTHER_KIND of
- * `sets`, then of `out`, NO_SUCH_ROAD, NO_SUCH_MODE, LIMIT_TOO_SMALL, MIXED, REFUSED_.. with the
- * set and the place; or MEMORY. */
+ * `sets`, then of `out`. Then come NO_SUCH_ROAD, NO_SUCH_MODE, LIMIT_TOO_SMALL, MIXED, REFUSED_..
+ * with the set and the place. Or it is MEMORY. */
 uint32_t mysql_session_send(mysql_session_handle *sets, const uint8_t *query, size_t len,
                             uint32_t road, uint32_t statement, size_t limit, uint32_t flags,
                             mysql_session_handle *out, mysql_session_place *place);
 
-/* Appends to the bytes of `out` the text of one set, by its number from 0: the query with a literal
- * in the place of each placeholder. It is what a COM_QUERY has behind its first byte.
- * Safe for a server in the mode that the flags (of mysql_session_flag) tell, over a connection
- * whose collation is safe to quote, as UTF-8's are, or with MYSQL_SESSION_HEXADECIMAL in any
- * character set in which bytes below 80 that follow one another are themselves; for any other a
- * value may end its literal: send by execute there.
+/* Appends to the bytes of `out` the text of one set, by its number from 0. It is the query with a
+ * literal in the place of each placeholder. It is what a COM_QUERY has behind its first byte.
+ * Safe for a server in the mode that the flags (of mysql_session_flag) tell. The connection's
+ * collation is safe to quote, as UTF-8's are. Or take MYSQL_SESSION_HEXADECIMAL, in any character
+ * set in which bytes below 80 that follow one another are themselves. For any other a value may end
+ * its literal: send by execute there.
  * Answers OK, or why nothing is appended: NO_SUCH_MODE (before any other), EMPTY_HANDLE,
  * OTHER_KIND, OUT_OF_RANGE (no such set), MIXED, REFUSED_NOT_ALONE, REFUSED_PARAMS,
  * REFUSED_WRONG_COUNT, REFUSED_FLOAT, MEMORY. */
@@ -409,15 +409,15 @@ uint32_t mysql_session_bind_text(mysql_session_handle *sets, size_t set, const u
 
 /* Appends to the bytes of `out` the literal of one value, by the numbers of its set and its place.
  * Safe where the text of mysql_session_bind_text with the same flags is.
- * Answers OK, NO_SUCH_MODE (before any other), EMPTY_HANDLE, OTHER_KIND, OUT_OF_RANGE, MEMORY; and
- * REFUSED_FLOAT of a float, which has no literal, but no call here puts a float into a set. */
+ * Answers OK, NO_SUCH_MODE (before any other), EMPTY_HANDLE, OTHER_KIND, OUT_OF_RANGE, MEMORY. A
+ * float has no literal, and is REFUSED_FLOAT; but no call here puts a float into a set. */
 uint32_t mysql_session_value_text(mysql_session_handle *sets, size_t set, size_t place,
                                   uint32_t flags, mysql_session_handle *out);
 
 /* ---- Recoding: a stream of commands as executions, as it comes ------------------------------- */
 
 /* Where recoding stopped: the payload and its fault (a code of FAULT_..), or the set that is too
- * large; and how a stream ends that isn't whole. What the answer doesn't have is 0. */
+ * large. And how a stream ends that isn't whole. What the answer doesn't have is 0. */
 typedef struct mysql_session_stop {
     uint32_t end; /* of mysql_session_end_kind */
     uint32_t fault;
@@ -427,7 +427,7 @@ typedef struct mysql_session_stop {
 
 /* Makes the handle stand for a recoder of a stream of commands about this query, whose statement
  * was given this id. The flags tell the mode of the server that the stream was sent to, as those of
- * mysql_session_receiver_new do; what is recoded is safe for any server that reads the query's own
+ * mysql_session_receiver_new do. What is recoded is safe for any server that reads the query's own
  * text as one in this mode does.
  * Answers OK, or the first that holds of NO_SUCH_MODE, LIMIT_TOO_SMALL, MIXED,
  * REFUSED_TOO_MANY_PLACES, REFUSED_PREPARE_TOO_LARGE, or MEMORY; but for OK the handle stays. */
@@ -435,15 +435,15 @@ uint32_t mysql_session_recoder_new(mysql_session_handle *handle, const uint8_t *
                                    uint32_t statement, size_t limit, uint32_t flags);
 
 /* Takes the next piece, and appends to the bytes of `out` the executions of the sets that are whole
- * with it, before the first of all the prepare. Answers OK, or why nothing is appended: a FAULT_..
- * of the payload, REFUSED_PACKET_TOO_LARGE of the set, MEMORY (from then on each call answers the
- * same, and changes nothing), EMPTY_HANDLE, OTHER_KIND. */
+ * with it. Before the first of all it appends the prepare. Answers OK, or why nothing is appended:
+ * a FAULT_.. of the payload, REFUSED_PACKET_TOO_LARGE of the set, MEMORY, EMPTY_HANDLE, OTHER_KIND.
+ * After the first three each call answers the same, and changes nothing. */
 uint32_t mysql_session_recoder_feed(mysql_session_handle *handle, const uint8_t *piece, size_t len,
                                     mysql_session_handle *out, mysql_session_stop *stop);
 
 /* Ends the stream: where it carried no set the prepare is appended to the bytes of `out`. The
  * handle stands for nothing then, also where the answer is UNFINISHED, what a feed refused, or
- * MEMORY; with a handle `out` of another kind nothing has changed. */
+ * MEMORY. With a handle `out` of another kind nothing has changed. */
 uint32_t mysql_session_recoder_end(mysql_session_handle *handle, mysql_session_handle *out,
                                    mysql_session_stop *stop);
 
@@ -533,6 +533,77 @@ enum mysql_session_column_type {
     MYSQL_SESSION_TYPE_GEOMETRY = 255
 };
 
+/* Bits of a server's status, as a greeting and OK and EOF packets have it (Status Flags). The last
+ * one is MariaDB's alone. */
+enum mysql_session_status {
+    MYSQL_SESSION_SERVER_STATUS_IN_TRANS = 0x1,
+    MYSQL_SESSION_SERVER_STATUS_AUTOCOMMIT = 0x2,
+    MYSQL_SESSION_SERVER_MORE_RESULTS_EXISTS = 0x8,
+    MYSQL_SESSION_SERVER_STATUS_NO_GOOD_INDEX_USED = 0x10,
+    MYSQL_SESSION_SERVER_STATUS_NO_INDEX_USED = 0x20,
+    MYSQL_SESSION_SERVER_STATUS_CURSOR_EXISTS = 0x40,
+    MYSQL_SESSION_SERVER_STATUS_LAST_ROW_SENT = 0x80,
+    MYSQL_SESSION_SERVER_STATUS_DB_DROPPED = 0x100,
+    MYSQL_SESSION_SERVER_STATUS_NO_BACKSLASH_ESCAPES = 0x200,
+    MYSQL_SESSION_SERVER_STATUS_METADATA_CHANGED = 0x400,
+    MYSQL_SESSION_SERVER_QUERY_WAS_SLOW = 0x800,
+    MYSQL_SESSION_SERVER_PS_OUT_PARAMS = 0x1000,
+    MYSQL_SESSION_SERVER_STATUS_IN_TRANS_READONLY = 0x2000,
+    MYSQL_SESSION_SERVER_SESSION_STATE_CHANGED = 0x4000,
+    MYSQL_SESSION_SERVER_STATUS_ANSI_QUOTES = 0x8000
+};
+
+/* Flags of a column (Column Definition Flags). */
+enum mysql_session_column_flag {
+    MYSQL_SESSION_NOT_NULL_FLAG = 0x1,
+    MYSQL_SESSION_PRI_KEY_FLAG = 0x2,
+    MYSQL_SESSION_UNIQUE_KEY_FLAG = 0x4,
+    MYSQL_SESSION_MULTIPLE_KEY_FLAG = 0x8,
+    MYSQL_SESSION_BLOB_FLAG = 0x10,
+    MYSQL_SESSION_UNSIGNED_FLAG = 0x20,
+    MYSQL_SESSION_ZEROFILL_FLAG = 0x40,
+    MYSQL_SESSION_BINARY_FLAG = 0x80,
+    MYSQL_SESSION_ENUM_FLAG = 0x100,
+    MYSQL_SESSION_AUTO_INCREMENT_FLAG = 0x200,
+    MYSQL_SESSION_TIMESTAMP_FLAG = 0x400,
+    MYSQL_SESSION_SET_FLAG = 0x800,
+    MYSQL_SESSION_NO_DEFAULT_VALUE_FLAG = 0x1000,
+    MYSQL_SESSION_ON_UPDATE_NOW_FLAG = 0x2000,
+    MYSQL_SESSION_PART_KEY_FLAG = 0x4000,
+    MYSQL_SESSION_NUM_FLAG = 0x8000
+};
+
+/* Cursors that an execution asks for (COM_STMT_EXECUTE, enum_cursor_type): the flags of its event. */
+enum mysql_session_cursor {
+    MYSQL_SESSION_CURSOR_TYPE_NO_CURSOR = 0,
+    MYSQL_SESSION_CURSOR_TYPE_READ_ONLY = 1,
+    MYSQL_SESSION_CURSOR_TYPE_FOR_UPDATE = 2,
+    MYSQL_SESSION_CURSOR_TYPE_SCROLLABLE = 4
+};
+
+/* What of a session changed, as OK packets tell it (OK_Packet, Session State Information). */
+enum mysql_session_state_type {
+    MYSQL_SESSION_SESSION_TRACK_SYSTEM_VARIABLES = 0,
+    MYSQL_SESSION_SESSION_TRACK_SCHEMA = 1,
+    MYSQL_SESSION_SESSION_TRACK_STATE_CHANGE = 2,
+    MYSQL_SESSION_SESSION_TRACK_GTIDS = 3,
+    MYSQL_SESSION_SESSION_TRACK_TRANSACTION_CHARACTERISTICS = 4,
+    MYSQL_SESSION_SESSION_TRACK_TRANSACTION_STATE = 5
+};
+
+/* Some collations by their ids. A server lists all of its own in information_schema.COLLATIONS. */
+enum mysql_session_collation {
+    MYSQL_SESSION_COLLATION_LATIN1_SWEDISH_CI = 8,
+    MYSQL_SESSION_COLLATION_ASCII_GENERAL_CI = 11,
+    MYSQL_SESSION_COLLATION_UTF8MB3_GENERAL_CI = 33,
+    MYSQL_SESSION_COLLATION_UTF8MB4_GENERAL_CI = 45,
+    MYSQL_SESSION_COLLATION_UTF8MB4_BIN = 46,
+    MYSQL_SESSION_COLLATION_BINARY = 63,
+    MYSQL_SESSION_COLLATION_UTF8MB3_BIN = 83,
+    MYSQL_SESSION_COLLATION_UTF8MB4_UNICODE_CI = 224,
+    MYSQL_SESSION_COLLATION_UTF8MB4_0900_AI_CI = 255
+};
+
 /* ---- Replies of a server, read as they come -------------------------------------------------- */
 
 enum mysql_session_reply_kind {
@@ -590,7 +661,7 @@ uint32_t mysql_session_reply_take(mysql_session_handle *handle);
 /* How many results were taken last, or after the end are left. */
 uint32_t mysql_session_reply_results(mysql_session_handle *handle, size_t *count);
 
-/* The result of this number, in place of all that the struct held: what its kind doesn't have is 0,
+/* The result of this number, in place of all that the struct held. What its kind doesn't have is 0,
  * and `text` points to no bytes there. Its text is good until the next call on the handle other
  * than mysql_session_reply_results, _result, _state, _cell, _column and _param. `states` is 0 also
  * where not all changes can be read; mysql_session_reply_state shows those before the first bad
@@ -599,11 +670,11 @@ uint32_t mysql_session_reply_result(mysql_session_handle *handle, size_t number,
                                     mysql_session_result *result);
 
 /* A change of the session's state that the OK packet of this number tells, or that which ended its
- * rows: its type (of the protocol's Session State Information) and the bytes of that type, which
- * are good as a result's text is. `*position` is 0 for the first change, and each call that answers
- * OK moves it on to the next one, of which it alone is read. Answers OK, OUT_OF_RANGE (behind the
- * last change, or no OK packet), BAD_PACKET (the bytes there are no change), ..; but for OK the
- * position stays. */
+ * rows. It is told by its type (of the protocol's Session State Information) and the bytes of that
+ * type. These are good as a result's text is. `*position` is 0 for the first change. Each call that
+ * answers OK moves it on to the next one, and reads that one alone. Answers OK, OUT_OF_RANGE
+ * (behind the last change, or no OK packet), BAD_PACKET (the bytes there are no change), ..; but
+ * for OK the position stays. */
 uint32_t mysql_session_reply_state(mysql_session_handle *handle, size_t number, size_t *position,
                                    uint8_t *type, const uint8_t **data, size_t *len);
 
@@ -688,8 +759,9 @@ typedef struct mysql_session_spot {
 uint32_t mysql_session_writer_new(mysql_session_handle *handle, uint32_t kind,
                                   uint32_t capabilities, uint8_t first, size_t limit);
 
-/* Each appends to the bytes of `out` the packets of the next result, or of a part of it, or nothing
- * and tells why: by MEMORY, EMPTY_HANDLE, OTHER_KIND or one of WRITE_.., whose place `spot` has.
+/* Each appends to the bytes of `out` the packets of the next result, or of a part of it. Or it
+ * appends nothing and tells why: by MEMORY, EMPTY_HANDLE, OTHER_KIND or one of WRITE_.., whose
+ * place `spot` has.
  * SERVER_MORE_RESULTS_EXISTS is set or cleared in a status by `more`. An error's SQL state has five
  * bytes or none; else BAD_PACKET is the answer, before any other. For a client with
  * CLIENT_PROTOCOL_41 an error without a state is written with HY000. */
@@ -750,12 +822,13 @@ uint32_t mysql_session_packets_payload(mysql_session_handle *handle, const uint8
 
 /* The next packet's first chunk has the number 0, as that of each command has. Answers OK,
  * UNFINISHED (bytes of a packet that isn't whole came; nothing changes), EMPTY_HANDLE, OTHER_KIND.
- * Between packets mysql_session_packets_new makes a reader that goes on at any other number: while
+ * Between packets mysql_session_packets_new makes a reader that goes on at any other number. While
  * a client logs in, both sides count on, and each reads every second number. */
 uint32_t mysql_session_packets_restart(mysql_session_handle *handle);
 
 /* Appends a payload to the bytes of `out`, framed: behind a header of four bytes, with the number
- * `*number`; one of 16777215 bytes or more takes more chunks. `*number` is then the next one's.
+ * `*number`. A payload of 16777215 bytes or more takes more chunks. `*number` is then the next
+ * one's.
  * Answers OK, or why nothing is appended: FAULT_TOO_LARGE (more than `limit` bytes), MEMORY,
  * EMPTY_HANDLE, OTHER_KIND. */
 uint32_t mysql_session_packet_put(mysql_session_handle *out, const uint8_t *payload, size_t len,
@@ -787,8 +860,8 @@ typedef struct mysql_session_greeting {
 uint32_t mysql_session_greeting_read(const uint8_t *payload, size_t len,
                                      mysql_session_greeting *greeting);
 
-/* Appends to the bytes of `out` the payload of such a packet, by version 10 of the protocol and
- * with a zero behind the second scramble. CLIENT_SECURE_CONNECTION is set in the capabilities, and
+/* Appends to the bytes of `out` the payload of such a packet. It has version 10 of the protocol and
+ * a zero behind the second scramble. CLIENT_SECURE_CONNECTION is set in the capabilities, and
  * CLIENT_PLUGIN_AUTH where the plugin has a length, else cleared. Clients look at MariaDB's own
  * capabilities where CLIENT_LONG_PASSWORD (bit 0) isn't set. Answers OK, BAD_PACKET (scrambles of
  * other lengths than 8 and 12, a zero byte in the version or the plugin's name), EMPTY_HANDLE,
@@ -824,13 +897,13 @@ uint32_t mysql_session_login_read(const uint8_t *payload, size_t len, mysql_sess
 
 /* Appends to the bytes of `out` the payload of such an answer, with the collation
  * utf8mb4_general_ci (45) and without attributes. In the capabilities CLIENT_CONNECT_WITH_DB is set
- * where the database has a length, CLIENT_PLUGIN_AUTH where the plugin has, and each is else
- * cleared, as is CLIENT_CONNECT_ATTRS; CLIENT_PROTOCOL_41 should be among them. A MariaDB server
+ * where the database has a length, CLIENT_PLUGIN_AUTH where the plugin has. Else each is cleared,
+ * and CLIENT_CONNECT_ATTRS always is. CLIENT_PROTOCOL_41 should be among them. A MariaDB server
  * looks at its own capabilities where CLIENT_LONG_PASSWORD (bit 0) isn't set. Answers OK,
- * BAD_PACKET (a zero byte in the user, the database or the plugin's name; with
- * CLIENT_SECURE_CONNECTION a response of more than 255 bytes, unless there is
- * CLIENT_PLUGIN_AUTH_LENENC_CLIENT_DATA; with neither a response with a zero byte), EMPTY_HANDLE,
- * OTHER_KIND, MEMORY. */
+ * BAD_PACKET, EMPTY_HANDLE, OTHER_KIND, MEMORY. BAD_PACKET is a zero byte in the user, the database
+ * or the plugin's name. Or with CLIENT_SECURE_CONNECTION it is a response of more than 255 bytes,
+ * unless there is CLIENT_PLUGIN_AUTH_LENENC_CLIENT_DATA. Or with neither it is a response with a
+ * zero byte. */
 uint32_t mysql_session_login_put(mysql_session_handle *out, uint32_t capabilities,
                                  uint32_t mariadb_capabilities, uint32_t max_packet_size,
                                  const uint8_t *user, size_t user_len,
@@ -852,25 +925,25 @@ uint32_t mysql_session_binlog_dump_put(mysql_session_handle *out, uint32_t serve
                                        uint32_t position, uint16_t flags, const uint8_t *file,
                                        size_t len);
 
-/* The same by MySQL's global transaction identifiers, which lie in `gtids` as their text: none, or
- * sets as 3e11fa47-71ca-11e1-9e33-c80aa9429562:1-5 with commas between, and white space around
- * them or not. BINLOG_THROUGH_GTID (4) is set in the flags where there are sets, and else cleared.
- * Beside the answers above BAD_PACKET where that is no such text. (MariaDB takes a position by
- * @slave_connect_state in place of this command.) */
+/* The same by MySQL's global transaction identifiers, which lie in `gtids` as their text. There are
+ * none, or sets as 3e11fa47-71ca-11e1-9e33-c80aa9429562:1-5 with commas between, and white space
+ * around them or not. BINLOG_THROUGH_GTID (4) is set in the flags where there are sets, and else
+ * cleared. Beside the answers above BAD_PACKET where that is no such text. (MariaDB takes a
+ * position by @slave_connect_state in place of this command.) */
 uint32_t mysql_session_binlog_dump_gtid_put(mysql_session_handle *out, uint32_t server,
                                             uint64_t position, uint16_t flags, const uint8_t *file,
                                             size_t len, const uint8_t *gtids, size_t gtids_len);
 
 /* ---- Whole connections ----------------------------------------------------------------------- */
 
-/* A connection is fed the bytes of both of its sides, in any pieces and order, and tells what was
- * said: each payload is one event. Each payload is due of one side; what comes of the other waits
- * until its turn, so the events don't depend on how the bytes arrive. Payloads are put on it too: a
- * client puts what it asks, and feeds what the server sends; a server does the reverse.
+/* A connection is fed the bytes of both of its sides, in any pieces and order. It tells what was
+ * said: each payload is one event. In each state one side's payload is due. What comes of the other
+ * waits until its turn, so the events don't depend on how the bytes arrive. Payloads are put on it
+ * too: a client puts what it asks, and feeds what the server sends; a server does the reverse.
  *
- * Its handle is of a kind of its own, and begins as MYSQL_SESSION_NOTHING too. What is said above
- * of handles holds for it, but that it may be handed to another thread between two calls, under a lock
- * or the like. */
+ * Its handle is of another kind, and begins as MYSQL_SESSION_NOTHING too. What is said above of
+ * handles holds for it. But it may pass to another thread between two calls, under a lock or the
+ * like. */
 typedef struct mysql_session_connection {
     void *at;
 } mysql_session_connection;
@@ -882,15 +955,15 @@ enum mysql_session_side {
 };
 
 /* Makes the handle stand for a connection of which no byte came. What it stood for before is freed.
- * `client` and `server` are the longest payloads of the sides. `held` limits what is held in all:
- * of each side as much waits unread as its longest payload takes with its headers, and what `held`
- * leaves beside both is for what is kept of statements, columns and long data: take twice as much as
- * both. Where nothing is left, no statement is prepared and no column is read: CONNECTION_KEPT.
+ * `client` and `server` are the longest payloads of the sides. `held` limits what is held in all.
+ * Of each side as much waits unread as its longest payload takes with its headers. What `held`
+ * leaves beside both is for what is kept of statements, columns and long data. Take twice as much
+ * as both. Where nothing is left, no statement is prepared and no column is read: CONNECTION_KEPT.
  * Answers OK, MEMORY. */
 uint32_t mysql_session_connection_new(mysql_session_connection *connection, size_t client,
                                       size_t server, size_t held);
 
-/* The same of a connection behind a login that was made elsewhere, by TLS or a pool: a command is
+/* The same of a connection behind a login that was made elsewhere, by TLS or a pool. A command is
  * due, and no byte came since. The capabilities are those that both sides have, MariaDB's own in
  * the second word. Answers OK, MEMORY. */
 uint32_t mysql_session_connection_after_login(mysql_session_connection *connection,
@@ -902,8 +975,8 @@ uint32_t mysql_session_connection_after_login(mysql_session_connection *connecti
 void mysql_session_connection_free(mysql_session_connection *connection);
 
 /* Takes a piece of a side's stream, whole, and reads nothing of it yet. Answers OK, or why nothing
- * of it is taken: NO_SUCH_KIND (of a side, before any other), CONNECTION_CLOSED, CONNECTION_HELD
- * (take events first, or feed the side whose turn it is), MEMORY, EMPTY_HANDLE. */
+ * of it is taken: NO_SUCH_KIND (of a side, before any other), CONNECTION_CLOSED, CONNECTION_HELD,
+ * MEMORY, EMPTY_HANDLE. At CONNECTION_HELD take events first, or feed the side whose turn it is. */
 uint32_t mysql_session_connection_feed(mysql_session_connection *connection, uint32_t side,
                                        const uint8_t *piece, size_t len);
 
@@ -913,16 +986,16 @@ uint32_t mysql_session_connection_close(mysql_session_connection *connection, ui
 
 /* Kinds of events, and the fields that they have beside `side`. OK packets have affected_rows,
  * last_insert_id, status, warnings, text (their info) and data (changes of the session's state as
- * the packet has them); errors have error_code, state and text (the message). */
+ * the packet has them). Errors have error_code, state and text (the message). */
 enum mysql_session_event_kind {
     /* None: the payload that is due isn't there whole, or the connection is over. */
     MYSQL_SESSION_EVENT_NONE = 0,
     MYSQL_SESSION_EVENT_REJECTED = 1, /* an error in place of a greeting */
     /* text (the server's version), number (the connection's id), capabilities,
      * mariadb_capabilities, status, charset, plugin. A client that scrambles a password reads the
-     * scrambles by mysql_session_greeting_read of the payload, which
-     * mysql_session_connection_rest of the server shows behind its header of four bytes, as long as
-     * the event isn't taken. */
+     * scrambles by mysql_session_greeting_read of the payload. That is shown by
+     * mysql_session_connection_rest of the server, behind its header of four bytes, as long as the
+     * event isn't taken. */
     MYSQL_SESSION_EVENT_GREETING = 2,
     /* capabilities, mariadb_capabilities, charset, number (the longest packet that it takes) */
     MYSQL_SESSION_EVENT_SECURE_REQUEST = 3,
@@ -1027,36 +1100,37 @@ typedef struct mysql_session_event {
 } mysql_session_event;
 
 /* Takes the next event, and shows it. What is shown of an event, here and by the calls below, is
- * good until the next call on the connection of _next, _put, _put_packets, _finish, _new,
- * _after_login or _free; what is shown of a statement or of a stream's rest until the next of these,
- * of _feed or of _close. Answers OK, the fault of the packet that stands first (each further call
- * answers it too; the events before it stand), MEMORY (a fault too), EMPTY_HANDLE. */
+ * good until another call on the connection. That is _next, _put, _put_packets, _finish, _new,
+ * _after_login or _free. What is shown of a statement or of a stream's rest is good until the next
+ * of these, of _feed or of _close. Answers OK, the fault of the packet that is first, MEMORY (a
+ * fault too), EMPTY_HANDLE. Each further call answers the fault too; the events before it stay. */
 uint32_t mysql_session_connection_next(mysql_session_connection *connection,
                                        mysql_session_event *event);
 
-/* Puts a payload of a side, where one of it is due: appends its packets to the bytes of `out`, with
- * the numbers that are due, and goes on behind it as if they had come. The event that it says is
- * shown as _next shows events, and the calls below are about it. A server's last words, an error
- * where no answer is due, can't be put so. Answers OK, or why it isn't put, when nothing has
- * changed, neither of the connection nor of `out`, nor the event that was told last:
- * NO_SUCH_KIND (of a side, before any other); EMPTY_HANDLE, OTHER_KIND (of `out`);
- * CONNECTION_NOT_ITS_TURN where it isn't the turn of this side, bytes of it wait unread, its stream
- * has ended or the connection has failed; CONNECTION_TOO_LARGE; the fault of a payload that can't
- * be read here; CONNECTION_KEPT; MEMORY. The first that holds of these is the answer.
- * No command is such a payload: one that is laid out as none, as an execution of a statement that
+/* Puts a payload of a side, where one of it is due. It appends the packets to the bytes of `out`,
+ * with the numbers that are due, and goes on as if they had come. The event that it says is shown
+ * as _next shows events, and the calls below are about it. A server's last words, an error where no
+ * answer is due, can't be put so.
+ * Answers OK, or why it isn't put. Then nothing has changed: neither the connection nor `out`, nor
+ * the event that was told last. The first that holds of these is the answer: NO_SUCH_KIND (of a
+ * side), EMPTY_HANDLE, OTHER_KIND (of `out`), CONNECTION_NOT_ITS_TURN, CONNECTION_TOO_LARGE. Then
+ * come the fault of a payload that can't be read here, CONNECTION_KEPT and MEMORY.
+ * CONNECTION_NOT_ITS_TURN is the answer where it isn't the turn of this side, or bytes of it wait
+ * unread. It is so too where its stream has ended or the connection has failed.
+ * No command is such a payload. One that is laid out as none, as an execution of a statement that
  * isn't known, is put, and the event is EVENT_OTHER. A server answers it by an error. */
 uint32_t mysql_session_connection_put(mysql_session_connection *connection, uint32_t side,
                                       const uint8_t *payload, size_t len,
                                       mysql_session_handle *out, mysql_session_event *event);
 
 /* Puts the payloads of packets of a side, one after another, as long as they are due, as _put does
- * each; `packets` are whole packets as the calls that send and the writers of replies append them,
- * with any numbers, which go on within a payload of more than one. Behind OK `used` tells how many
- * of the bytes were taken: all, or those before the first packet whose turn hasn't come (the rest is
- * put once it has); what is cut off at the end is left. No event is shown: the calls below stay about
- * the one that was told last. So nothing tells of a command that is laid out as none: see before that
- * _statement knows the statement, and by _standing that the capabilities are those which the packets
- * are laid out for, as mysql_session_send says.
+ * each. `packets` are whole packets as the calls that send and the writers of replies append them.
+ * Their numbers may be any; within a payload of more than one packet they go on. After OK `used`
+ * tells how many of the bytes were taken: all, or those before the first packet whose turn hasn't
+ * come. Put the rest once it has; what is cut off at the end is left. No event is shown: the calls
+ * below stay about the one that was told last. So nothing tells of a command that is laid out as
+ * none. See before that _statement knows the statement. See by _standing that the capabilities are
+ * those for which the packets are laid out, as mysql_session_send says.
  * Answers OK, or why the packet isn't put that stands behind `used` bytes: those before it were
  * put, and what was appended of them stands. CONNECTION_TOO_LARGE, CONNECTION_OUT_OF_SYNC (the
  * numbers of a payload's own packets), the fault of a payload that can't be read here,
@@ -1072,14 +1146,15 @@ enum mysql_session_bulk_kind {
     MYSQL_SESSION_IGNORE = 9   /* the column stays as it is */
 };
 
-/* A value of the event that was told last: the cell at a place of a row, or what the parameter at a
- * place holds in a row of an execution, all from 0; only bulk executions have more rows than one.
- * Answers OK, OUT_OF_RANGE, EMPTY_HANDLE. */
+/* A value of the event that was told last. It is the cell at a place of a row, or what a parameter
+ * holds in a row of an execution. All are counted from 0. Only bulk executions have more rows than
+ * one. Answers OK, OUT_OF_RANGE, EMPTY_HANDLE. */
 uint32_t mysql_session_connection_value(mysql_session_connection *connection, size_t row,
                                         size_t place, mysql_session_value *value);
 
-/* An attribute of the event that was told last, by its number from 0: of a login or a change of
- * user (the value is bytes), of a query or an execution. Answers OK, OUT_OF_RANGE, EMPTY_HANDLE. */
+/* An attribute of the event that was told last, by its number from 0. It is of a login or a change
+ * of user (the value is bytes), of a query or an execution. Answers OK, OUT_OF_RANGE, EMPTY_HANDLE.
+ */
 uint32_t mysql_session_connection_attribute(mysql_session_connection *connection, size_t number,
                                             const uint8_t **name, size_t *len,
                                             mysql_session_value *value);
@@ -1119,10 +1194,10 @@ enum mysql_session_reason {
     MYSQL_SESSION_REASON_FAREWELL = 7
 };
 
-/* How a connection stands: whose payload is due (of mysql_session_side), what is due, why it is
- * over where it is, the capabilities in force, the fault that was found (its code, or OK; its side;
- * the byte of that side's stream at which its packet begins), how many bytes of each side a feed
- * takes now, and how many are held. */
+/* How a connection is: whose payload is due (of mysql_session_side), what is due, why it is over if
+ * it is, and the capabilities in force. Then the fault that was found: its code, or OK; its side;
+ * the byte of that side's stream at which its packet begins. Then how many bytes of each side a
+ * feed takes now, and how many are held. */
 typedef struct mysql_session_standing {
     uint32_t turn;
     uint32_t phase;
@@ -1141,8 +1216,8 @@ typedef struct mysql_session_standing {
 uint32_t mysql_session_connection_standing(mysql_session_connection *connection,
                                            mysql_session_standing *standing);
 
-/* The prepared statement that this id of a command stands for, 0xffffffff being that which was
- * prepared last: its text, and how many parameters it has. Answers OK, OUT_OF_RANGE,
+/* The prepared statement that this id of a command means: its text, and how many parameters it has.
+ * 0xffffffff is the statement that was prepared last. Answers OK, OUT_OF_RANGE,
  * EMPTY_HANDLE. */
 uint32_t mysql_session_connection_statement(mysql_session_connection *connection, uint32_t id,
                                             const uint8_t **text, size_t *len, uint16_t *params);

@@ -1,10 +1,11 @@
-"""Makes a wheel of the module and the shared object, for pip (PEP 517); it needs Python alone.
+"""Makes a wheel of the module and its extension, for pip (PEP 517); it needs a C compiler, Python's
+headers, and no network.
 
     pip wheel --no-deps bindings/python
 
-The shared object is that of the folder that MYSQL_SESSION_LIBRARY names, else the one that
-`bindings/build` made. Where it isn't proved the wheel's version says so, as 0.1.0+unproved. The
-wheel is for x86-64 Linux with glibc, as the library is.
+The extension is compiled over the libmysql_session.a of the folder that MYSQL_SESSION_LIBRARY names,
+else over the one that `bindings/build` made. Where that isn't proved the wheel's version says so, as
+0.1.0+unproved. One wheel is for CPython 3.8 and all later versions, on x86-64 Linux with glibc.
 """
 
 from __future__ import annotations
@@ -14,8 +15,11 @@ import hashlib
 import os
 import pathlib
 import re
+import tempfile
 import zipfile
 from typing import Any, Dict
+
+import make_native
 
 HERE = pathlib.Path(__file__).resolve().parent
 LICENSES = ("LICENSE-APACHE", "LICENSE-MIT")
@@ -31,19 +35,25 @@ Requires-Python: >=3.8
 WHEEL = """Wheel-Version: 1.0
 Generator: make_wheel
 Root-Is-Purelib: false
-Tag: py3-none-linux_x86_64
+Tag: cp38-abi3-linux_x86_64
 """
 
 
 def library() -> Dict[str, bytes]:
-    """The shared object, and the file that says whether it is proved, by their names."""
+    """The extension, and the file that says whether the library is proved, by their names."""
     folder = pathlib.Path(os.environ.get("MYSQL_SESSION_LIBRARY") or HERE.parent / "out")
-    names = ("libmysql_session.so", "mysql_session.build")
+    names = ("libmysql_session.a", "mysql_session.build")
     for name in names:
         if not (folder / name).is_file():
             raise SystemExit(f"there is no {folder / name}: run bindings/build, which makes it, or have "
                              "MYSQL_SESSION_LIBRARY name the folder that has it")
-    return {name: (folder / name).read_bytes() for name in names}
+    with tempfile.TemporaryDirectory() as room:
+        made = pathlib.Path(room) / make_native.NAME
+        try:
+            make_native.compile_native(folder / names[0], made)
+        except make_native.Lacking as error:
+            raise SystemExit(str(error)) from None
+        return {make_native.NAME: made.read_bytes(), names[1]: (folder / names[1]).read_bytes()}
 
 
 def record_line(name: str, data: bytes) -> str:
@@ -71,7 +81,7 @@ def build_wheel(wheel_directory: str, config_settings: Any = None,
     lines = [record_line(name, data) for name, data in files.items()]
     files[f"{about}/RECORD"] = ("".join(lines) + f"{about}/RECORD,,\n").encode()
 
-    name = f"mysql_session-{label}-py3-none-linux_x86_64.whl"
+    name = f"mysql_session-{label}-cp38-abi3-linux_x86_64.whl"
     with zipfile.ZipFile(os.path.join(wheel_directory, name), "w", zipfile.ZIP_DEFLATED) as wheel:
         for file, data in files.items():
             wheel.writestr(zipfile.ZipInfo(file), data, zipfile.ZIP_DEFLATED)

@@ -1,7 +1,7 @@
 """MySQL and MariaDB connections, and parameter sets of queries, as bytes and back.
 
-The C library of `bindings/c/mysql_session.h` by ctypes, for Python 3.8 and later. Parameter sets of
-a query as a stream of commands, and back:
+The library of `bindings/c/mysql_session.h` by an extension module, for CPython 3.8 and later.
+Parameter sets of a query as a stream of commands, and back:
 
     sets = [(1, "it's"), (None, datetime.date(2024, 2, 29))]
     stream = send("INSERT INTO t VALUES (?, ?)", sets, Road.EXECUTE, statement=7)
@@ -18,9 +18,16 @@ And whole connections, read as events and put:
     for event in connection.feed(Side.SERVER, stream.recv(65536)):
         print(event)
 
-The shared object is libmysql_session.so in the folder that the environment variable
-MYSQL_SESSION_LIBRARY names, else beside this file, as a wheel has it, else where `bindings/build`
-puts it. `__build__` says whether it was proved before it was compiled.
+The rows of a reply come as values too, made in C, each as its column says:
+
+    reader = ReplyReader(ReplyKind.QUERY, capabilities)
+    reader.feed(reply)
+    for result in reader.take_values(Values({ColumnType.NEWDECIMAL: float})):
+        print(result)
+
+The extension is _native.abi3.so in the folder that the environment variable MYSQL_SESSION_LIBRARY
+names, else beside this file, as a wheel has it, else where `bindings/build` puts it. `__build__`
+says whether the library in it was proved before it was compiled.
 
 Texts (queries, names, messages) are str, which goes as UTF-8, or bytes; what comes out is bytes.
 
@@ -28,17 +35,20 @@ A limit is the max_allowed_packet of the side that packets go to, at least 4. `s
 count a packet's header in it (a payload has at most `limit - 4` bytes), all other calls the payload
 alone. `DEFAULT_LIMIT` is that of most servers.
 
-An object stays in the thread that made it, and does one call at a time: a call in another thread,
-and one that a signal's handler or a finalizer makes while another call of the object runs, raises
-RuntimeError and changes nothing. Objects of different threads share nothing, and a call lets other
-threads run. What goes in is copied first where it may change, as a bytearray, and what comes out is
-a copy.
+An object stays in the thread that made it, and does one call at a time. A call in another thread
+raises RuntimeError and changes nothing. So does one that a signal's handler or a finalizer makes
+while another call of the object runs. Objects of different threads share nothing. A call lets other
+threads run while it reads a large piece, from 128 KiB on. What goes in is copied first where it may
+change, as a bytearray, and what comes out is a copy.
 
-Nothing is lost where a call can't give what it has: where MySQLSessionError by `Code.MEMORY`,
-MemoryError or KeyboardInterrupt ends it on the way, `take`, `payload` and `next_event` give the
-same at the next call, what `Recoder` and `ReplyWriter` wrote comes with what they write next, or by
-`rest`, and what was put on a `Connection` with what is put next, or by `unsent`. Only a `Connection`
-that reads an event and is refused memory by the library has failed: that is its fault from then on.
+Nothing is lost if a call can't give what it has. MySQLSessionError by `Code.MEMORY`, MemoryError, a
+converter's error or KeyboardInterrupt may end it on the way. Then `take`, `payload` and
+`next_event` give the same at the next call. What `Recoder` and `ReplyWriter` wrote comes with what
+they write next, or by `rest`. What was put on a `Connection` comes with what is put next, or by
+`unsent`. That holds from Python 3.11 on also for an interrupt that comes as a call returns: what
+the caller hasn't got counts as not given. Before 3.11 such an interrupt may lose what was given.
+Only a `Connection` that reads an event and is refused memory by the library has failed: that is its
+fault from then on.
 
 What an object holds is freed by `close`, at the end of `with`, or when it is collected. Where that
 happens in another thread, its own thread frees it when it makes its next object, and nobody where
@@ -46,7 +56,7 @@ that thread has ended: `close` what a thread leaves. A closed object's calls rai
 `MySQLSessionError` with `Code.EMPTY_HANDLE`.
 
 Texts of values (`Road.TEXT`, `bind_text`, `literal`) are safe for a server in the `Mode` that the
-call is given, over a connection in UTF-8 or another character set that `is_safe_to_quote`; for any
+call is given. The connection is in UTF-8 or another character set that `is_safe_to_quote`. For any
 other a value may end its literal. Without a mode that is a server whose SQL mode has neither
 NO_BACKSLASH_ESCAPES nor ANSI_QUOTES: take the mode that the server tells, by `Mode.of`.
 `Spelling.HEXADECIMAL` is safe in each character set, and executions at each server.
@@ -56,42 +66,42 @@ Numbers that are too large for their field raise OverflowError.
 
 from __future__ import annotations
 
-import collections
-import collections.abc
 import contextlib
-import ctypes
 import dataclasses
 import datetime
 import decimal
 import enum
+import importlib.machinery
+import importlib.util
+import itertools
 import os
 import re
-import struct
-import threading
+import sys
 import typing
-import weakref
-from typing import (Any, Callable, Deque, Dict, Iterable, Iterator, List, Mapping, NamedTuple,
-                    Optional, Sequence, Tuple, Type, TypeVar, Union)
+from typing import (Any, Callable, Dict, Iterable, Iterator, List, Mapping, NamedTuple, Optional,
+                    Sequence, Tuple, Type, TypeVar, Union)
 
 __all__ = [
     "ABI", "AcceptedEvent", "AnswerEvent", "AuthMoreEvent", "AuthSwitchEvent", "AUTOCOMMIT",
-    "Bound", "BulkExecuteEvent", "BulkKind", "Capability", "Cell", "ChangeUserEvent", "CloseEvent",
-    "Code", "Column", "ColumnCountEvent", "ColumnEvent", "ColumnsEndEvent", "ColumnType", "Command",
-    "CommandEvent", "Connection", "ConnectionEnd", "ConnectionEndKind", "ConnectionFault",
-    "Content", "CutOffLoginEvent", "DateFields", "DEFAULT_LIMIT", "DeniedEvent", "End", "EndKind",
-    "ErrorEvent", "Event", "ExecuteEvent", "FarewellEvent", "FetchEvent", "FieldEvent", "File",
-    "FileDataEvent", "FileRequestEvent", "Greeting", "GreetingEvent", "InitDbEvent", "LineEvent",
-    "Login", "LoginEvent", "LongDataEvent", "MariadbCapability", "Mode", "MORE_RESULTS",
-    "MySQLSessionError", "Named", "NextFactorEvent", "Ok", "OkEvent", "OldAuthSwitchEvent",
-    "OtherEvent", "PacketReader", "Parameter", "ParameterSets", "Phase", "PluginDataEvent",
-    "Prepared", "PreparedEvent", "PrepareEvent", "ProgressEvent", "Put", "QueryEvent", "QuitEvent",
-    "RawRowEvent", "Reason", "Receiver", "Recoder", "RejectedEvent", "ReplyKind", "ReplyReader",
-    "ReplyWriter", "ResetStatementEvent", "Result", "Road", "RowError", "RowEvent", "Rows",
-    "RowsEndEvent", "SecureRequestEvent", "ServerError", "Side", "Spelling", "State", "Statement",
-    "Text", "TimeFields", "bind_text", "binlog_dump", "binlog_dump_gtid", "code_text", "ends_reply",
-    "executions", "is_proved", "is_safe_to_quote", "library_version", "literal", "positional",
-    "put_greeting", "put_login", "put_packet", "read_greeting", "read_login", "read_reply",
-    "recode", "register_replica", "rows_as", "rows_as_dicts", "rows_as_tuples", "send",
+    "bind_text", "binlog_dump", "binlog_dump_gtid", "Bound", "BulkExecuteEvent", "BulkKind",
+    "Capability", "Cell", "ChangeUserEvent", "CloseEvent", "Code", "code_text", "Collation",
+    "Column", "ColumnCountEvent", "ColumnEvent", "ColumnFlag", "ColumnsEndEvent", "ColumnType",
+    "ColumnValues", "Command", "CommandEvent", "Connection", "ConnectionEnd", "ConnectionEndKind",
+    "ConnectionFault", "Content", "Cursor", "CutOffLoginEvent", "DateFields", "DEFAULT_LIMIT",
+    "DeniedEvent", "End", "EndKind", "ends_reply", "ErrorEvent", "Event", "ExecuteEvent",
+    "executions", "FarewellEvent", "FetchEvent", "FieldEvent", "File", "FileDataEvent",
+    "FileRequestEvent", "Greeting", "GreetingEvent", "InitDbEvent", "is_proved", "is_safe_to_quote",
+    "library_version", "LineEvent", "literal", "Login", "LoginEvent", "LongDataEvent",
+    "MariadbCapability", "Mode", "MORE_RESULTS", "MySQLSessionError", "Named", "names_of",
+    "NextFactorEvent", "Ok", "OkEvent", "OldAuthSwitchEvent", "OtherEvent", "PacketReader",
+    "Parameter", "ParameterSets", "Params", "Phase", "PluginDataEvent", "positional", "Prepared",
+    "PreparedEvent", "PrepareEvent", "ProgressEvent", "Put", "put_greeting", "put_login",
+    "put_packet", "QueryEvent", "QuitEvent", "RawRowEvent", "read_greeting", "read_login",
+    "read_reply", "Reason", "Receiver", "recode", "Recoder", "register_replica", "RejectedEvent",
+    "ReplyKind", "ReplyReader", "ReplyWriter", "ResetStatementEvent", "Result", "Road", "RowError",
+    "RowEvent", "Rows", "rows_as", "rows_as_dicts", "rows_as_tuples", "RowsEndEvent",
+    "SecureRequestEvent", "send", "ServerError", "Side", "Spelling", "State", "Statement",
+    "StateType", "Status", "Table", "Text", "TimeFields", "ValueRows", "Values",
 ]
 
 __version__ = "0.1.0"
@@ -325,27 +335,82 @@ class ColumnType(enum.IntEnum):
     GEOMETRY = 255
 
 
-class _Kind(enum.IntEnum):
-    """Kinds of values, as mysql_session_kind and mysql_session_value_kind have them."""
+class Status(enum.IntFlag):
+    """Bits of a server's status (MySQL: Client/Server Protocol, "Status Flags")."""
 
-    NULL = 0
-    INT = 1
-    UINT = 2
-    BYTES = 3
-    FLOAT = 4
-    DOUBLE = 5
-    DATE = 6
-    TIME = 7
+    IN_TRANS = 1
+    AUTOCOMMIT = 2
+    MORE_RESULTS = 8
+    NO_GOOD_INDEX_USED = 0x10
+    NO_INDEX_USED = 0x20
+    CURSOR_EXISTS = 0x40
+    LAST_ROW_SENT = 0x80
+    DB_DROPPED = 0x100
+    NO_BACKSLASH_ESCAPES = 0x200
+    METADATA_CHANGED = 0x400
+    QUERY_WAS_SLOW = 0x800
+    PS_OUT_PARAMS = 0x1000
+    IN_TRANS_READONLY = 0x2000
+    SESSION_STATE_CHANGED = 0x4000
+    ANSI_QUOTES = 0x8000
+    """MariaDB's alone."""
 
 
-class _ResultKind(enum.IntEnum):
-    """Kinds of results, as mysql_session_result_kind has them."""
+class ColumnFlag(enum.IntFlag):
+    """Flags of a column (MySQL: Client/Server Protocol, "Column Definition Flags")."""
 
-    OK = 0
-    ROWS = 1
-    PREPARED = 2
-    ERROR = 3
-    FILE = 4
+    NOT_NULL = 1
+    PRI_KEY = 2
+    UNIQUE_KEY = 4
+    MULTIPLE_KEY = 8
+    BLOB = 0x10
+    UNSIGNED = 0x20
+    ZEROFILL = 0x40
+    BINARY = 0x80
+    ENUM = 0x100
+    AUTO_INCREMENT = 0x200
+    TIMESTAMP = 0x400
+    SET = 0x800
+    NO_DEFAULT_VALUE = 0x1000
+    ON_UPDATE_NOW = 0x2000
+    PART_KEY = 0x4000
+    NUM = 0x8000
+
+
+class Cursor(enum.IntFlag):
+    """Cursors that an execution asks for (MySQL: Client/Server Protocol, "COM_STMT_EXECUTE")."""
+
+    NO_CURSOR = 0
+    READ_ONLY = 1
+    FOR_UPDATE = 2
+    SCROLLABLE = 4
+
+
+class StateType(enum.IntEnum):
+    """What of a session changed (MySQL: Client/Server Protocol, "OK_Packet", 'Session State
+    Information')."""
+
+    SYSTEM_VARIABLES = 0
+    SCHEMA = 1
+    STATE_CHANGE = 2
+    GTIDS = 3
+    TRANSACTION_CHARACTERISTICS = 4
+    TRANSACTION_STATE = 5
+
+
+class Collation(enum.IntEnum):
+    """Some collations by their ids. A server lists all of its own in
+    information_schema.COLLATIONS."""
+
+    LATIN1_SWEDISH_CI = 8
+    ASCII_GENERAL_CI = 11
+    UTF8MB3_GENERAL_CI = 33
+    UTF8MB4_GENERAL_CI = 45
+    UTF8MB4_BIN = 46
+    BINARY = 63
+    UTF8MB3_BIN = 83
+    UTF8MB4_UNICODE_CI = 224
+    UTF8MB4_0900_AI_CI = 255
 
 
 # ---- Modes --------------------------------------------------------------------------------------
@@ -359,8 +424,8 @@ class Mode:
     """The SQL mode of a server, as far as it changes how a text is read. The default has neither.
 
     Two modes change where a string ends. What is made for a server in one of them may be something
-    else in another: a value may end its literal there, and what stands behind the quote is read as
-    SQL. So take the mode that the server tells, at the login and whenever it tells another (MySQL
+    else in another. A value may end its literal there, and what follows the quote is read as SQL.
+    So take the mode that the server tells, at the login and whenever it tells another (MySQL
     Reference Manual, "Server SQL Modes").
     """
 
@@ -379,7 +444,7 @@ class Mode:
         session tracking tells it, and `of_sql_mode`. A packet with MariaDB's bit, which has no name
         in MySQL's protocol, is refused by `read_greeting` and `ReplyReader`.
         """
-        return cls._told(_numbers["mode_of_status"](_fitting(status, 16)))
+        return cls._told(_native.mode_of_status(status))
 
     @classmethod
     def of_sql_mode(cls, value: Text) -> Mode:
@@ -390,7 +455,7 @@ class Mode:
         MSSQL, ORACLE and POSTGRESQL, which MariaDB has, and MySQL before 8.0. Other names say
         nothing of how a text is read.
         """
-        return cls._told(_numbers["mode_of_sql_mode"](*_lent(value)))
+        return cls._told(_native.mode_of_sql_mode(value))
 
     @classmethod
     def _told(cls, flags: int) -> Mode:
@@ -405,7 +470,7 @@ def _flags(mode: Mode, spelling: Spelling = Spelling.QUOTED) -> int:
 
 
 def is_safe_to_quote(collation: int) -> bool:
-    """Whether literals in quotes are safe in a text that a server reads in this collation, which is
+    """Whether literals in quotes are safe in a text that a server reads in this collation. It is
     told by its id (MySQL Reference Manual and MariaDB, "Supported Character Sets and Collations").
 
     In some character sets a quote, a backslash or a backtick can be the second byte of a character.
@@ -414,7 +479,7 @@ def is_safe_to_quote(collation: int) -> bool:
     of big5, sjis, gbk, cp932 and gb18030, for gb2312_bin, and for MariaDB's of these without
     padding, whose ids are greater by 1024.
     """
-    return bool(_numbers["is_safe_to_quote"](_fitting(collation, 16)))
+    return bool(_native.is_safe_to_quote(collation))
 
 
 # ---- Values -------------------------------------------------------------------------------------
@@ -465,304 +530,16 @@ Cell = Union[None, int, float, bytes, datetime.datetime, datetime.date, datetime
 duration as that of `datetime` where there is one of the same fields, else by its fields."""
 
 
-# ---- What the library shares with C -------------------------------------------------------------
-
-
-class _Handle(ctypes.Structure):
-    _fields_ = [("at", ctypes.c_void_p)]
-
-
-class _ConnectionHandle(ctypes.Structure):
-    _fields_ = [("at", ctypes.c_void_p)]
-
-
-class _Content(ctypes.Structure):
-    _fields_ = [
-        ("kind", ctypes.c_uint32),
-        ("int_value", ctypes.c_int64),
-        ("uint_value", ctypes.c_uint64),
-        ("bytes", ctypes.c_void_p),
-        ("len", ctypes.c_size_t),
-    ]
-
-
-# The fields of each kind that a parameter and the value of a cell begin with.
-_VALUE_FIELDS = [
-    ("kind", ctypes.c_uint32),
-    ("negative", ctypes.c_bool),
-    ("month", ctypes.c_uint8),
-    ("day", ctypes.c_uint8),
-    ("hour", ctypes.c_uint8),
-    ("minute", ctypes.c_uint8),
-    ("second", ctypes.c_uint8),
-    ("year", ctypes.c_uint16),
-    ("days", ctypes.c_uint32),
-    ("micros", ctypes.c_uint32),
-    ("int_value", ctypes.c_int64),
-    ("uint_value", ctypes.c_uint64),
-]
-
-
-class _Parameter(ctypes.Structure):
-    _fields_ = _VALUE_FIELDS + [("start", ctypes.c_size_t), ("len", ctypes.c_size_t)]
-
-
-class _Value(ctypes.Structure):
-    _fields_ = _VALUE_FIELDS + [("bytes", ctypes.c_void_p), ("len", ctypes.c_size_t)]
-
-
-class _End(ctypes.Structure):
-    _fields_ = [
-        ("kind", ctypes.c_uint32),
-        ("fault", ctypes.c_uint32),
-        ("payload", ctypes.c_uint64),
-    ]
-
-
-class _Place(ctypes.Structure):
-    _fields_ = [("set", ctypes.c_size_t), ("place", ctypes.c_size_t)]
-
-
-class _Stop(ctypes.Structure):
-    _fields_ = [
-        ("end", ctypes.c_uint32),
-        ("fault", ctypes.c_uint32),
-        ("payload", ctypes.c_uint64),
-        ("set", ctypes.c_size_t),
-    ]
-
-
-class _Spot(ctypes.Structure):
-    _fields_ = [
-        ("result", ctypes.c_size_t),
-        ("row", ctypes.c_size_t),
-        ("place", ctypes.c_size_t),
-        ("payload", ctypes.c_uint64),
-    ]
-
-
-class _Result(ctypes.Structure):
-    _fields_ = [
-        ("kind", ctypes.c_uint32),
-        ("status", ctypes.c_uint16),
-        ("warnings", ctypes.c_uint16),
-        ("error_code", ctypes.c_uint16),
-        ("statement", ctypes.c_uint32),
-        ("affected_rows", ctypes.c_uint64),
-        ("last_insert_id", ctypes.c_uint64),
-        ("columns", ctypes.c_size_t),
-        ("rows", ctypes.c_size_t),
-        ("params", ctypes.c_size_t),
-        ("states", ctypes.c_size_t),
-        ("text", ctypes.c_void_p),
-        ("len", ctypes.c_size_t),
-        ("state", ctypes.c_uint8 * 5),
-        ("state_len", ctypes.c_size_t),
-        ("ended", ctypes.c_bool),
-    ]
-
-
-def _with_texts(fields: List[Tuple[str, Any]], names: Sequence[str]) -> List[Tuple[str, Any]]:
-    """The fields, and behind them a pointer and a length for each text."""
-    for name in names:
-        fields += [(name, ctypes.c_void_p), (name + "_len", ctypes.c_size_t)]
-    return fields
-
-
-_COLUMN_TEXTS = ("schema", "table", "org_table", "name", "org_name")
-
-
-class _Column(ctypes.Structure):
-    _fields_ = _with_texts([
-        ("type", ctypes.c_uint8),
-        ("decimals", ctypes.c_uint8),
-        ("flags", ctypes.c_uint16),
-        ("charset", ctypes.c_uint16),
-        ("length", ctypes.c_uint32),
-    ], _COLUMN_TEXTS)
-
-
-_GREETING_TEXTS = ("version", "scramble_1", "scramble_2", "plugin")
-
-
-class _Greeting(ctypes.Structure):
-    _fields_ = _with_texts([
-        ("protocol", ctypes.c_uint8),
-        ("collation", ctypes.c_uint8),
-        ("status", ctypes.c_uint16),
-        ("connection", ctypes.c_uint32),
-        ("capabilities", ctypes.c_uint32),
-        ("mariadb_capabilities", ctypes.c_uint32),
-    ], _GREETING_TEXTS)
-
-
-_LOGIN_TEXTS = ("user", "response", "database", "plugin")
-
-
-class _Login(ctypes.Structure):
-    _fields_ = _with_texts([
-        ("collation", ctypes.c_uint8),
-        ("capabilities", ctypes.c_uint32),
-        ("mariadb_capabilities", ctypes.c_uint32),
-    ], _LOGIN_TEXTS)
-
-
-class _Event(ctypes.Structure):
-    _fields_ = [
-        ("kind", ctypes.c_uint32),
-        ("side", ctypes.c_uint32),
-        ("statement", ctypes.c_uint32),
-        ("capabilities", ctypes.c_uint32),
-        ("mariadb_capabilities", ctypes.c_uint32),
-        ("number", ctypes.c_uint32),
-        ("flags", ctypes.c_uint32),
-        ("status", ctypes.c_uint16),
-        ("warnings", ctypes.c_uint16),
-        ("error_code", ctypes.c_uint16),
-        ("charset", ctypes.c_uint16),
-        ("affected_rows", ctypes.c_uint64),
-        ("last_insert_id", ctypes.c_uint64),
-        ("position", ctypes.c_uint64),
-        ("columns", ctypes.c_size_t),
-        ("rows", ctypes.c_size_t),
-        ("params", ctypes.c_size_t),
-        ("attributes", ctypes.c_size_t),
-        ("text", ctypes.c_void_p),
-        ("len", ctypes.c_size_t),
-        ("user", ctypes.c_void_p),
-        ("user_len", ctypes.c_size_t),
-        ("database", ctypes.c_void_p),
-        ("database_len", ctypes.c_size_t),
-        ("plugin", ctypes.c_void_p),
-        ("plugin_len", ctypes.c_size_t),
-        ("data", ctypes.c_void_p),
-        ("data_len", ctypes.c_size_t),
-        ("state", ctypes.c_uint8 * 5),
-        ("state_len", ctypes.c_size_t),
-        ("follows", ctypes.c_bool),
-    ]
-
-
-class _Standing(ctypes.Structure):
-    _fields_ = [
-        ("turn", ctypes.c_uint32),
-        ("phase", ctypes.c_uint32),
-        ("reason", ctypes.c_uint32),
-        ("capabilities", ctypes.c_uint32),
-        ("mariadb_capabilities", ctypes.c_uint32),
-        ("fault", ctypes.c_uint32),
-        ("fault_side", ctypes.c_uint32),
-        ("fault_byte", ctypes.c_uint64),
-        ("client_room", ctypes.c_size_t),
-        ("server_room", ctypes.c_size_t),
-        ("held", ctypes.c_size_t),
-    ]
-
-
-class _ConnectionEnd(ctypes.Structure):
-    _fields_ = [
-        ("kind", ctypes.c_uint32),
-        ("reason", ctypes.c_uint32),
-        ("side", ctypes.c_uint32),
-        ("fault", ctypes.c_uint32),
-        ("byte", ctypes.c_uint64),
-    ]
-
-
-# ---- Calls --------------------------------------------------------------------------------------
-
-_U8, _U16, _U32, _U64 = ctypes.c_uint8, ctypes.c_uint16, ctypes.c_uint32, ctypes.c_uint64
-_SIZE, _BOOL, _OUT = ctypes.c_size_t, ctypes.c_bool, ctypes.c_void_p
-_HANDLE = ctypes.POINTER(_Handle)
-_CONNECTION = ctypes.POINTER(_ConnectionHandle)
-# Bytes that go in. A pointer of this type to a bytes object is never NULL, and the call's arguments
-# hold the object until the call returns.
-_BYTES = (ctypes.c_char_p, _SIZE)
-
-_ARGUMENTS: Dict[str, Tuple[Any, ...]] = {
-    "receiver_new": (_HANDLE, *_BYTES, _U32, _SIZE, _U32),
-    "receiver_feed": (_HANDLE, *_BYTES),
-    "receiver_sets": (_HANDLE, _OUT),
-    "receiver_width": (_HANDLE, _SIZE, _OUT),
-    "receiver_content": (_HANDLE, _SIZE, _SIZE, _OUT),
-    "receiver_clear": (_HANDLE,),
-    "receiver_end": (_HANDLE, _OUT),
-    "sets_new": (_HANDLE,),
-    "sets_add": (_HANDLE, ctypes.POINTER(_Parameter), _SIZE, *_BYTES),
-    "sets_count": (_HANDLE, _OUT),
-    "sets_clear": (_HANDLE,),
-    "bytes_new": (_HANDLE,),
-    "bytes_data": (_HANDLE, _OUT, _OUT),
-    "bytes_clear": (_HANDLE,),
-    "send": (_HANDLE, *_BYTES, _U32, _U32, _SIZE, _U32, _HANDLE, _OUT),
-    "bind_text": (_HANDLE, _SIZE, *_BYTES, _U32, _HANDLE, _OUT),
-    "value_text": (_HANDLE, _SIZE, _SIZE, _U32, _HANDLE),
-    "recoder_new": (_HANDLE, *_BYTES, _U32, _SIZE, _U32),
-    "recoder_feed": (_HANDLE, *_BYTES, _HANDLE, _OUT),
-    "recoder_end": (_HANDLE, _HANDLE, _OUT),
-    "reply_new": (_HANDLE, _U32, _U32, _U8, _SIZE),
-    "reply_feed": (_HANDLE, *_BYTES),
-    "reply_take": (_HANDLE,),
-    "reply_results": (_HANDLE, _OUT),
-    "reply_result": (_HANDLE, _SIZE, _OUT),
-    "reply_state": (_HANDLE, _SIZE, _OUT, _OUT, _OUT, _OUT),
-    "reply_cell": (_HANDLE, _SIZE, _SIZE, _SIZE, _OUT),
-    "reply_column": (_HANDLE, _SIZE, _SIZE, _OUT),
-    "reply_param": (_HANDLE, _SIZE, _SIZE, _OUT),
-    "reply_end": (_HANDLE, _OUT),
-    "writer_new": (_HANDLE, _U32, _U32, _U8, _SIZE),
-    "writer_ok": (_HANDLE, _U64, _U64, _U16, _U16, *_BYTES, _BOOL, _HANDLE, _OUT),
-    "writer_error": (_HANDLE, _U16, *_BYTES, *_BYTES, _HANDLE, _OUT),
-    "writer_column": (_HANDLE, _U8, *_BYTES, _U16, _U16, _U32, _U8),
-    "writer_rows": (_HANDLE, _HANDLE, _OUT),
-    "writer_row": (_HANDLE, _HANDLE, _SIZE, _HANDLE, _OUT),
-    "writer_end_rows": (_HANDLE, _U16, _U16, _BOOL, _HANDLE, _OUT),
-    "writer_prepared": (_HANDLE, _U32, _SIZE, _U16, _HANDLE, _OUT),
-    "writer_end": (_HANDLE, _OUT),
-    "packets_new": (_HANDLE, _U8, _SIZE),
-    "packets_feed": (_HANDLE, ctypes.c_void_p, _SIZE, _OUT, _OUT),
-    "packets_payload": (_HANDLE, _OUT, _OUT),
-    "packets_restart": (_HANDLE,),
-    "packet_put": (_HANDLE, *_BYTES, _OUT, _SIZE),
-    "greeting_read": (*_BYTES, _OUT),
-    "greeting_put": (_HANDLE, _U32, _U32, _U32, _U8, _U16, *_BYTES, *_BYTES, *_BYTES, *_BYTES),
-    "login_read": (*_BYTES, _OUT),
-    "login_put": (_HANDLE, _U32, _U32, _U32, *_BYTES, *_BYTES, *_BYTES, *_BYTES),
-    "register_replica_put": (_HANDLE, _U32, *_BYTES, *_BYTES, *_BYTES, _U16),
-    "binlog_dump_put": (_HANDLE, _U32, _U32, _U16, *_BYTES),
-    "binlog_dump_gtid_put": (_HANDLE, _U32, _U64, _U16, *_BYTES, *_BYTES),
-    "connection_new": (_CONNECTION, _SIZE, _SIZE, _SIZE),
-    "connection_after_login": (_CONNECTION, _U32, _U32, _SIZE, _SIZE, _SIZE),
-    "connection_feed": (_CONNECTION, _U32, *_BYTES),
-    "connection_close": (_CONNECTION, _U32),
-    "connection_next": (_CONNECTION, _OUT),
-    "connection_put": (_CONNECTION, _U32, *_BYTES, _HANDLE, _OUT),
-    "connection_put_packets": (_CONNECTION, _U32, *_BYTES, _HANDLE, _OUT),
-    "connection_value": (_CONNECTION, _SIZE, _SIZE, _OUT),
-    "connection_attribute": (_CONNECTION, _SIZE, _OUT, _OUT, _OUT),
-    "connection_column": (_CONNECTION, _SIZE, _OUT),
-    "connection_line": (_CONNECTION, _OUT, _OUT),
-    "connection_standing": (_CONNECTION, _OUT),
-    "connection_statement": (_CONNECTION, _U32, _OUT, _OUT, _OUT),
-    "connection_rest": (_CONNECTION, _U32, _OUT, _OUT),
-    "connection_finish": (_CONNECTION, _OUT),
-}
-
-# Those of calls that answer a number and no code.
-_NUMBER_ARGUMENTS: Dict[str, Tuple[Any, ...]] = {
-    "mode_of_status": (_U16,),
-    "mode_of_sql_mode": _BYTES,
-    "is_safe_to_quote": (_U16,),
-}
+# ---- The extension ------------------------------------------------------------------------------
 
 
 def _folder() -> str:
-    """The folder of the library."""
+    """The folder of the extension."""
     named = os.environ.get("MYSQL_SESSION_LIBRARY")
     if named:
         return named
     here = os.path.dirname(os.path.abspath(__file__))
-    has = os.path.exists(os.path.join(here, "libmysql_session.so"))
+    has = os.path.exists(os.path.join(here, "_native.abi3.so"))
     return here if has else os.path.join(os.path.dirname(here), "out")
 
 
@@ -776,48 +553,30 @@ def _build_word() -> str:
         return "unknown"
 
 
-def _loaded() -> ctypes.CDLL:
-    """The library, where its interface is the one that this module calls."""
-    path = os.path.join(_folder(), "libmysql_session.so")
+def _loaded() -> Any:
+    """The extension, where its interface is the one that this module calls."""
+    if sys.implementation.name != "cpython" or "t" in getattr(sys, "abiflags", ""):
+        raise ImportError("mysql_session is for CPython with its lock: a Python of free threads has"
+                          " no stable interface that an extension could be built for")
+    path, name = os.path.join(_folder(), "_native.abi3.so"), f"{__name__}._native"
+    loader = importlib.machinery.ExtensionFileLoader(name, path)
     try:
-        library = ctypes.CDLL(path)
-    except OSError as error:
+        spec = importlib.util.spec_from_file_location(name, path, loader=loader)
+        assert spec
+        native = importlib.util.module_from_spec(spec)
+        loader.exec_module(native)
+    except ImportError as error:
         raise ImportError(f"the library of mysql_session can't be loaded: {error}. Run "
                           "bindings/build, which makes it, or have MYSQL_SESSION_LIBRARY name the "
-                          "folder that has libmysql_session.so.") from error
-    library.mysql_session_abi.argtypes = ()
-    library.mysql_session_abi.restype = _U32
-    found = library.mysql_session_abi()
+                          "folder that has _native.abi3.so.") from error
+    found = getattr(native, "abi", lambda: "none")()
     if found != ABI:
         raise ImportError(f"{path} has the interface {found}, not {ABI}: run bindings/build again")
-    library.mysql_session_free.argtypes = (_HANDLE,)
-    library.mysql_session_free.restype = None
-    library.mysql_session_connection_free.argtypes = (_CONNECTION,)
-    library.mysql_session_connection_free.restype = None
-    library.mysql_session_build.argtypes = ()
-    library.mysql_session_build.restype = _U32
-    library.mysql_session_version.argtypes = (_OUT, _OUT)
-    library.mysql_session_version.restype = None
-    library.mysql_session_code_text.argtypes = (_U32, _OUT, _OUT)
-    library.mysql_session_code_text.restype = None
-    return library
+    return native
 
 
-def _functions(library: ctypes.CDLL, declared: Dict[str, Tuple[Any, ...]]) -> Dict[str, Any]:
-    """Calls by their names without the prefix."""
-    functions = {}
-    for name, arguments in declared.items():
-        function = getattr(library, "mysql_session_" + name)
-        function.argtypes = arguments
-        function.restype = _U32
-        functions[name] = function
-    return functions
-
-
-_library = _loaded()
+_native = _loaded()
 __build__ = _build_word()
-_calls = _functions(_library, _ARGUMENTS)
-_numbers = _functions(_library, _NUMBER_ARGUMENTS)
 
 # The fields that say where a call was refused, by its code; a fault of a stream has its payload.
 _WHERE: Dict[int, Tuple[str, ...]] = {
@@ -847,28 +606,24 @@ _WHERE: Dict[int, Tuple[str, ...]] = {
 
 def is_proved() -> bool:
     """Whether the library says of itself that it was proved before it was compiled."""
-    return bool(_library.mysql_session_build() == 1)
+    return bool(_native.build() == 1)
 
 
 def library_version() -> str:
     """The version that the library says it has: that of this module, `__version__`."""
-    text, length = ctypes.c_void_p(), _SIZE()
-    _library.mysql_session_version(ctypes.byref(text), ctypes.byref(length))
-    return _bytes_at(text.value, length.value).decode("ascii")
+    return str(_native.version())
 
 
 def code_text(code: int) -> str:
     """The library's text of a code; of a number that is no code "no such code"."""
-    text, length = ctypes.c_void_p(), _SIZE()
-    _library.mysql_session_code_text(_fitting(code, 32), ctypes.byref(text), ctypes.byref(length))
-    return _bytes_at(text.value, length.value).decode("utf-8")
+    return str(_native.code_text(code))
 
 
 class MySQLSessionError(Exception):
     """A call of the library answered a code that isn't OK.
 
-    `code` is the code, `text` what the library says of it. Where the code is about a set, a place
-    of it, a payload, a result or a row, all counted from 0, the attribute of that name has its
+    `code` is the code, `text` what the library says of it. The code may be about a set, a place of
+    it, a payload, a result or a row, all counted from 0. Then the attribute of that name has its
     number; else it is None. Of UNFINISHED `end` is how the stream ends.
     """
 
@@ -886,7 +641,8 @@ class MySQLSessionError(Exception):
 
     def __str__(self) -> str:
         spot = "".join(f", {name} {number}" for name, number in self._where.items())
-        return f"{self.text} (code {int(self.code)}{spot})"
+        closed = "it is closed: " * (self.code == Code.EMPTY_HANDLE)
+        return f"{closed}{self.text} (code {int(self.code)}{spot})"
 
 
 def _known(code: int) -> int:
@@ -897,29 +653,13 @@ def _known(code: int) -> int:
         return code
 
 
-def _call(name: str, *arguments: object) -> None:
-    """Makes a call, and raises where it isn't done."""
-    code = _calls[name](*arguments)
-    if code:
-        raise MySQLSessionError(code)
-
-
-def _call_at(where: ctypes.Structure, name: str, *arguments: object) -> None:
-    """Makes a call whose last argument takes where it is refused, and raises where it is."""
-    code = _calls[name](*arguments, ctypes.byref(where))
-    if code:
-        raise MySQLSessionError(code, {it: getattr(where, it) for it in _WHERE.get(code, ())})
-
-
-def _count(name: str, *arguments: object) -> int:
-    """Makes a call whose last argument takes a number, and gives the number."""
-    count = _SIZE()
-    _call(name, *arguments, ctypes.byref(count))
-    return count.value
+def _refused(code: int, where: Optional[Mapping[str, int]]) -> MySQLSessionError:
+    """The error of a code, with the fields of where that belong to it. The extension raises it."""
+    return MySQLSessionError(code, {it: where[it] for it in _WHERE.get(code, ())} if where else {})
 
 
 def _fitting(number: int, bits: int) -> int:
-    """The number, where it is one of so many bits without a sign; ctypes cuts others off."""
+    """The number, where it is one of so many bits without a sign."""
     if not isinstance(number, int):
         raise TypeError(f"a number is wanted, or a name of a number as Road.TEXT, not {number!r}")
     if not 0 <= number < 1 << bits:
@@ -927,22 +667,16 @@ def _fitting(number: int, bits: int) -> int:
     return number
 
 
-_SIZE_BITS = 8 * ctypes.sizeof(_SIZE)
+_SIZE_BITS = 64
 
 
 def _as_bytes(text: Union[str, bytes, bytearray, memoryview]) -> bytes:
-    """A text or bytes as bytes, of no class but bytes itself: C reads as many as `len` says."""
+    """A text or bytes as bytes, of no class but bytes itself."""
     if type(text) is bytes:
         return text
     if isinstance(text, str):
         return str.encode(text, "utf-8")
     return memoryview(text).tobytes()
-
-
-def _lent(text: Union[str, bytes, bytearray, memoryview]) -> Tuple[bytes, int]:
-    """A text as the two arguments that it goes in by."""
-    data = _as_bytes(text)
-    return data, len(data)
 
 
 def _received(data: Union[bytes, bytearray, memoryview]) -> bytes:
@@ -952,55 +686,7 @@ def _received(data: Union[bytes, bytearray, memoryview]) -> bytes:
     return _as_bytes(data)
 
 
-# The most bytes that ctypes.string_at copies: it takes their number as a C int, and cuts off what
-# that lacks.
-_STRING_AT_MOST = (1 << 31) - 1
-
-
-def _bytes_at(address: Optional[int], length: int) -> bytes:
-    """A copy of the bytes that a call shows. A pointer to none isn't read."""
-    if not address or not length:
-        return b""
-    if length <= _STRING_AT_MOST:
-        return ctypes.string_at(address, length)
-    return (ctypes.c_char * length).from_address(address).raw
-
-
-def _texts(shown: ctypes.Structure, names: Iterable[str]) -> Dict[str, bytes]:
-    """Copies of the texts that a call shows, by their names."""
-    return {it: _bytes_at(getattr(shown, it), getattr(shown, it + "_len")) for it in names}
-
-
 # ---- Objects ------------------------------------------------------------------------------------
-
-
-_AnyHandle = Union[_Handle, _ConnectionHandle]
-
-
-class _Thread(threading.local):
-    """What a thread has: the handles of its own whose objects were collected in another one."""
-
-    def __init__(self) -> None:
-        self.left: Deque[_AnyHandle] = collections.deque()
-
-
-_thread = _Thread()
-
-
-def _free(handle: _AnyHandle) -> None:
-    """Frees what a handle stands for."""
-    if isinstance(handle, _ConnectionHandle):
-        _library.mysql_session_connection_free(handle)
-    else:
-        _library.mysql_session_free(handle)
-
-
-def _release(handle: _AnyHandle, left: Deque[_AnyHandle]) -> None:
-    """Frees what a handle stands for, in the thread that made it."""
-    if _thread.left is left:
-        _free(handle)
-    else:
-        left.append(handle)
 
 
 _Self = TypeVar("_Self", bound="_Object")
@@ -1008,91 +694,27 @@ _Self = TypeVar("_Self", bound="_Object")
 
 class _Object:
     """An object of the library. It stays in the thread that made it, and is freed by `close`, at
-    the end of `with`, or when it is collected."""
+    the end of `with`, or when it is collected.
 
-    # What its handle is.
-    _handle_type: Type[Any] = _Handle
+    A call that gives what it takes back where it fails is made within `try`. From Python 3.11 on
+    no signal is handled between the end of that and the caller's next step."""
 
-    def __init__(self) -> None:
-        if hasattr(self, "_at"):
+    def __init__(self, native: Any) -> None:
+        if hasattr(self, "_native"):
             raise RuntimeError("an object of mysql_session is made once")
-        self._left = _thread.left
-        while self._left:
-            _free(self._left.popleft())
-        self._lock = threading.Lock()
-        self._at = self._handle_type()
-        self._finalizer = weakref.finalize(self, _release, self._at, self._left)
-
-    @property
-    def _handle(self) -> Any:
-        """The handle, for a call of one step."""
-        self._check()
-        return self._at
-
-    def _alone(self) -> threading.Lock:
-        """What a call of several steps holds by `with`: bytes that the library shows in one step
-        are read in the next, and no other call on the handle may come between."""
-        self._check()
-        return self._lock
-
-    def _check(self) -> None:
-        """Refuses a call in another thread, and one within another call of this object."""
-        self._check_thread()
-        if self._lock.locked():
-            raise RuntimeError("an object of mysql_session does one call at a time, also where a"
-                               " signal's handler or a finalizer makes the other one")
-
-    def _check_thread(self) -> None:
-        if _thread.left is not self._left:
-            raise RuntimeError("an object of mysql_session stays in the thread that made it")
+        self._native = native
 
     def close(self) -> None:
         """Frees what the object holds. A second call does nothing."""
-        self._check()
-        self._finalizer()
+        self._native.close()
 
     def __enter__(self: _Self) -> _Self:
-        self._check()
+        self._native.check()
         return self
 
     def __exit__(self, kind: Optional[Type[BaseException]], error: Optional[BaseException],
                  traceback: Any) -> None:
         self.close()
-
-
-class _Output(_Object):
-    """Bytes that the library writes. Those that were given stay until others are written: so they
-    are let go only once they are with the caller."""
-
-    def __init__(self) -> None:
-        super().__init__()
-        self._given = False
-        _call("bytes_new", self._at)
-
-    def to_write(self) -> _Handle:
-        """The handle, for a call that appends to the bytes that weren't given."""
-        handle: _Handle = self._handle
-        if self._given:
-            _call("bytes_clear", handle)
-            self._given = False
-        return handle
-
-    def take(self) -> bytes:
-        """The bytes that were appended since the last call."""
-        data, length = ctypes.c_void_p(), _SIZE()
-        _call("bytes_data", self._handle, ctypes.byref(data), ctypes.byref(length))
-        if self._given:
-            return b""
-        taken = _bytes_at(data.value, length.value)
-        self._given = True
-        return taken
-
-
-def _written(name: str, *arguments: object) -> bytes:
-    """What a call whose first argument is the bytes to append to appends."""
-    with _Output() as out:
-        _call(name, out.to_write(), *arguments)
-        return out.take()
 
 
 class End(NamedTuple):
@@ -1105,25 +727,14 @@ class End(NamedTuple):
     """Of FAULT which payload is, from 0."""
 
 
-def _end_of(end: _End) -> End:
+def _end_of(kind: int, fault: int, payload: int) -> End:
     """How a stream ends, as it is shown."""
-    if end.kind == EndKind.FAULT:
-        return End(EndKind.FAULT, Code(end.fault), end.payload)
-    return End(EndKind(end.kind))
+    if kind == EndKind.FAULT:
+        return End(EndKind.FAULT, Code(fault), payload)
+    return End(EndKind(kind))
 
 
 # ---- Receivers ----------------------------------------------------------------------------------
-
-
-def _content(shown: Any) -> Content:
-    """A content, or a value of one of its kinds, as it is shown."""
-    if shown.kind == _Kind.NULL:
-        return None
-    if shown.kind == _Kind.INT:
-        return int(shown.int_value)
-    if shown.kind == _Kind.UINT:
-        return int(shown.uint_value)
-    return _bytes_at(shown.bytes, shown.len)
 
 
 class Receiver(_Object):
@@ -1137,10 +748,7 @@ class Receiver(_Object):
 
     def __init__(self, query: Text, statement: int = 1, limit: int = DEFAULT_LIMIT, *,
                  mode: Mode = Mode()) -> None:
-        super().__init__()
-        self._given = 0
-        _call("receiver_new", self._handle, *_lent(query), _fitting(statement, 32),
-              _fitting(limit, _SIZE_BITS), _flags(mode))
+        super().__init__(_native.receiver(query, statement, limit, _flags(mode)))
 
     def feed(self, piece: Union[bytes, bytearray, memoryview]) -> None:
         """Takes the next piece of the stream, of any length.
@@ -1148,13 +756,7 @@ class Receiver(_Object):
         Raises MySQLSessionError with the stream's fault, from the first on at each call. The sets
         before the fault are there, and `end` says where it is.
         """
-        data, length = _lent(_received(piece))
-        with self._alone():
-            if self._given:
-                # Nothing came behind the sets that were given: they alone are let go.
-                _call("receiver_clear", self._at)
-                self._given = 0
-            _call("receiver_feed", self._at, data, length)
+        self._native.feed(piece)
 
     def take(self) -> List[Tuple[Content, ...]]:
         """The sets that were read since the last call, in their order.
@@ -1162,11 +764,12 @@ class Receiver(_Object):
         Where MemoryError or KeyboardInterrupt ends the call, the next one gives them. They are let
         go by the next `feed`, or with the receiver.
         """
-        with self._alone():
-            count = _count("receiver_sets", self._at)
-            sets = [self._set(it) for it in range(self._given, count)]
-            self._given = count
-            return sets
+        try:
+            sets: List[Tuple[Content, ...]] = self._native.take()
+        except BaseException:
+            self._native.ungive()
+            raise
+        return sets
 
     def __iter__(self) -> Iterator[Tuple[Content, ...]]:
         """The sets as `take` gives them."""
@@ -1174,102 +777,10 @@ class Receiver(_Object):
 
     def end(self) -> End:
         """Ends the stream, and says how it ends. The sets that weren't taken stay."""
-        end = _End()
-        _call("receiver_end", self._handle, ctypes.byref(end))
-        return _end_of(end)
-
-    def _set(self, number: int) -> Tuple[Content, ...]:
-        """The set of this number."""
-        handle, call, shown = self._at, _calls["receiver_content"], _Content()
-        contents: List[Content] = []
-        for place in range(_count("receiver_width", handle, number)):
-            code = call(handle, number, place, ctypes.byref(shown))
-            if code:
-                raise MySQLSessionError(code)
-            contents.append(_content(shown))
-        return tuple(contents)
+        return _end_of(*self._native.end())
 
 
 # ---- Parameter sets -----------------------------------------------------------------------------
-
-# The fields of dates and durations in their order, with their numbers of bits.
-_DATE = (("year", 16), ("month", 8), ("day", 8), ("hour", 8), ("minute", 8), ("second", 8),
-         ("micros", 32))
-_TIME = (("negative", 1), ("days", 32), ("hour", 8), ("minute", 8), ("second", 8),
-         ("micros", 32))
-
-
-def _date_fields(date: datetime.date) -> DateFields:
-    """The fields of a date."""
-    if not isinstance(date, datetime.datetime):
-        return DateFields(date.year, date.month, date.day)
-    if date.tzinfo is not None:
-        raise ValueError("a parameter has no time zone: convert the datetime to a naive one")
-    return DateFields(date.year, date.month, date.day, date.hour, date.minute, date.second,
-                      date.microsecond)
-
-
-def _time_fields(duration: datetime.timedelta) -> TimeFields:
-    """The fields of a duration."""
-    negative = duration < datetime.timedelta(0)
-    length = -duration if negative else duration
-    minutes, seconds = divmod(length.seconds, 60)
-    return TimeFields(negative, length.days, minutes // 60, minutes % 60, seconds,
-                      length.microseconds)
-
-
-class _Set:
-    """The values of a set as an array, and their bytes one behind the other."""
-
-    def __init__(self, values: Sequence[Parameter]) -> None:
-        self.array = (_Parameter * max(1, len(values)))()
-        self._chunks: List[bytes] = []
-        self._length = 0
-        for slot, value in zip(self.array, values):
-            self._fill(slot, value)
-
-    def joined(self) -> bytes:
-        """The bytes of all values."""
-        return b"".join(self._chunks)
-
-    def _fill(self, slot: Any, value: Parameter) -> None:
-        """Puts a value into its place of the array."""
-        if value is None:
-            slot.kind = _Kind.NULL
-        elif isinstance(value, int):
-            self._fill_int(slot, value)
-        elif isinstance(value, (str, bytes, bytearray, memoryview)):
-            self._fill_bytes(slot, _as_bytes(value))
-        elif isinstance(value, datetime.date):
-            self._fill_fields(slot, _Kind.DATE, _date_fields(value), _DATE)
-        elif isinstance(value, DateFields):
-            self._fill_fields(slot, _Kind.DATE, value, _DATE)
-        elif isinstance(value, datetime.timedelta):
-            self._fill_fields(slot, _Kind.TIME, _time_fields(value), _TIME)
-        elif isinstance(value, TimeFields):
-            self._fill_fields(slot, _Kind.TIME, value, _TIME)
-        else:
-            raise TypeError(f"a parameter can't be of the type {type(value).__name__}")
-
-    def _fill_int(self, slot: Any, number: int) -> None:
-        if number < -1 << 63 or number >= 1 << 64:
-            raise OverflowError(f"{number} is no number of 64 bits")
-        if number < 1 << 63:
-            slot.kind, slot.int_value = _Kind.INT, number
-        else:
-            slot.kind, slot.uint_value = _Kind.UINT, number
-
-    def _fill_bytes(self, slot: Any, data: bytes) -> None:
-        slot.kind, slot.start, slot.len = _Kind.BYTES, self._length, len(data)
-        self._chunks.append(data)
-        self._length += len(data)
-
-    def _fill_fields(self, slot: Any, kind: _Kind, values: Iterable[int],
-                     fields: Iterable[Tuple[str, int]]) -> None:
-        slot.kind = kind
-        for value, (name, bits) in zip(values, fields):
-            setattr(slot, name, _fitting(value, bits))
-
 
 class ParameterSets(_Object):
     """Parameter sets that are put together for `send`.
@@ -1280,10 +791,8 @@ class ParameterSets(_Object):
     """
 
     def __init__(self, sets: Iterable[Sequence[Parameter]] = ()) -> None:
-        super().__init__()
-        _call("sets_new", self._handle)
-        for values in sets:
-            self.add(values)
+        super().__init__(_native.sets())
+        self._native.extend(sets)
 
     def add(self, values: Sequence[Parameter]) -> None:
         """Puts a set behind the others.
@@ -1291,21 +800,58 @@ class ParameterSets(_Object):
         Raises TypeError for what is no sequence of parameters, OverflowError for an int of more
         than 64 bits; the sets stay as they were then.
         """
-        if isinstance(values, (str, bytes, bytearray, memoryview, collections.abc.Mapping)):
-            raise TypeError("a set is a sequence of values in the order of the placeholders")
-        values = tuple(values)
-        made = _Set(values)
-        _call("sets_add", self._handle, made.array, len(values), *_lent(made.joined()))
+        self._native.add(values)
 
     def clear(self) -> None:
         """Lets go of all sets."""
-        _call("sets_clear", self._handle)
+        self._native.clear()
 
     def __len__(self) -> int:
-        return _count("sets_count", self._handle)
+        return int(self._native.count())
 
 
-def send(query: Text, sets: Union[ParameterSets, Iterable[Sequence[Parameter]]], road: Road,
+Params = Union[Sequence[Parameter], Mapping[str, Parameter]]
+"""A parameter set: values in the order of the query's question marks, or by its names."""
+
+# A name as placeholders have it, wherever it stands.
+_NAME = re.compile(rb":([a-z_][a-z0-9_]*)")
+
+
+def names_of(query: Text, *, mode: Mode = Mode()) -> Tuple[str, ...]:
+    """The names of a query's placeholders at a server in this mode, one for each place, in the order
+    of the places; none where they are question marks.
+
+    Raises MySQLSessionError: MIXED, REFUSED_TOO_MANY_PLACES.
+    """
+    # Two texts of which the second has a question mark in the place of each name.
+    text, asked = _as_bytes(query), positional(query, mode=mode)
+    names, longer = [], 0
+    if text != asked:
+        for found in _NAME.finditer(text):
+            if asked[found.start() - longer:found.start() - longer + 1] == b"?":
+                names.append(found.group(1).decode())
+                longer += len(found.group(0)) - 1
+    return tuple(names)
+
+
+def _in_order(query: Text, sets: Iterable[Params],
+              mode: Mode) -> Tuple[Text, Iterable[Any]]:
+    """A query and its sets; where these have names, its form with question marks, and their values
+    in its order."""
+    whole: Any = sets
+    if isinstance(sets, (list, tuple)):
+        begin = list(sets[:1])
+    else:
+        given = iter(sets)
+        begin = [*itertools.islice(given, 1)]
+        whole = itertools.chain(begin, given)
+    names = names_of(query, mode=mode) if begin and isinstance(begin[0], Mapping) else ()
+    if not names:
+        return query, whole
+    return positional(query, mode=mode), ([it[name] for name in names] for it in whole)
+
+
+def send(query: Text, sets: Union[ParameterSets, Iterable[Params]], road: Road,
          statement: int = 1, limit: int = DEFAULT_LIMIT, *, mode: Mode = Mode(),
          spelling: Spelling = Spelling.QUOTED) -> bytes:
     """The commands that carry these sets to a server, as framed packets.
@@ -1314,26 +860,26 @@ def send(query: Text, sets: Union[ParameterSets, Iterable[Sequence[Parameter]]],
     statement by this id: a server answers the prepare with an id of its own. A receiver of the same
     query, id, limit and mode reads the sets back. The sets stay as they are.
 
-    By `Road.TEXT` values are literals in the query's text. Safe for a server in this mode: by
-    `Spelling.QUOTED` over a connection in UTF-8 or another character set that `is_safe_to_quote`,
-    by `Spelling.HEXADECIMAL` in any in which bytes below 80 that follow one another are themselves.
-    For a server in another mode a value may end its literal, and what stands behind the quote is
-    read as SQL. By the other roads it is safe for any server, and the mode says which bytes of the
-    query's own text are placeholders.
+    By `Road.TEXT` values are literals in the query's text. Safe for a server in this mode. By
+    `Spelling.QUOTED` the connection is in UTF-8 or another character set that `is_safe_to_quote`.
+    By `Spelling.HEXADECIMAL` it is in any in which bytes below 80 that follow one another are
+    themselves. For a server in another mode a value may end its literal, and what stands behind the
+    quote is read as SQL. By the other roads it is safe for any server, and the mode says which
+    bytes of the query's own text are placeholders.
 
-    The query has question marks as placeholders; where it has names, send for its `positional`.
+    The query has question marks as placeholders, or names, and then each set is a dict by these.
+    `ParameterSets` have an order alone: where the query has names, send them for its `positional`.
 
     Raises MySQLSessionError with the first cause against it, by its set and place: MIXED,
-    LIMIT_TOO_SMALL, REFUSED_...
+    LIMIT_TOO_SMALL, REFUSED_...; KeyError where a name has no value.
     """
     if not isinstance(sets, ParameterSets):
-        with ParameterSets(sets) as made:
+        query, ordered = _in_order(query, sets, mode)
+        with ParameterSets(ordered) as made:
             return send(query, made, road, statement, limit, mode=mode, spelling=spelling)
-    with _Output() as out:
-        _call_at(_Place(), "send", sets._handle, *_lent(query), _fitting(road, 32),
-                 _fitting(statement, 32), _fitting(limit, _SIZE_BITS), _flags(mode, spelling),
-                 out.to_write())
-        return out.take()
+    stream: bytes = _native.send(sets._native, query, road, statement, limit,
+                                 _flags(mode, spelling))
+    return stream
 
 
 def positional(query: Text, *, mode: Mode = Mode()) -> bytes:
@@ -1349,22 +895,22 @@ def positional(query: Text, *, mode: Mode = Mode()) -> bytes:
         return (reader.payload() or b"")[1:]
 
 
-def bind_text(query: Text, values: Sequence[Parameter], *, mode: Mode = Mode(),
+def bind_text(query: Text, values: Params, *, mode: Mode = Mode(),
               spelling: Spelling = Spelling.QUOTED) -> bytes:
-    """The query with a literal in the place of each placeholder, as a COM_QUERY has it. The query
-    is `positional`.
+    """The query with a literal in the place of each placeholder, as a COM_QUERY has it. The values
+    are a sequence in the order of its question marks, or a dict by its names.
 
-    Safe for a server in this mode: by `Spelling.QUOTED` over a connection in UTF-8 or another
-    character set that `is_safe_to_quote`, by `Spelling.HEXADECIMAL` in any in which bytes below 80
-    that follow one another are themselves. For a server in another mode a value may end its
-    literal, and what stands behind the quote is read as SQL.
+    Safe for a server in this mode. By `Spelling.QUOTED` the connection is in UTF-8 or another
+    character set that `is_safe_to_quote`. By `Spelling.HEXADECIMAL` it is in any in which bytes
+    below 80 that follow one another are themselves. For a server in another mode a value may end
+    its literal, and what stands behind the quote is read as SQL.
 
     Raises MySQLSessionError: MIXED, REFUSED_NOT_ALONE, REFUSED_PARAMS, REFUSED_WRONG_COUNT.
     """
-    with ParameterSets([values]) as sets, _Output() as out:
-        _call_at(_Place(), "bind_text", sets._handle, 0, *_lent(query), _flags(mode, spelling),
-                 out.to_write())
-        return out.take()
+    query, [ordered] = _in_order(query, [values], mode)
+    with ParameterSets([ordered]) as sets:
+        text: bytes = _native.bind_text(sets._native, query, _flags(mode, spelling))
+        return text
 
 
 def literal(value: Parameter, *, mode: Mode = Mode(),
@@ -1373,9 +919,9 @@ def literal(value: Parameter, *, mode: Mode = Mode(),
 
     Safe for the servers that `bind_text` is safe for by the same mode and spelling.
     """
-    with ParameterSets([(value,)]) as sets, _Output() as out:
-        _call("value_text", sets._handle, 0, 0, _flags(mode, spelling), out.to_write())
-        return out.take()
+    with ParameterSets([(value,)]) as sets:
+        text: bytes = _native.value_text(sets._native, _flags(mode, spelling))
+        return text
 
 
 # ---- Recoding -----------------------------------------------------------------------------------
@@ -1392,10 +938,7 @@ class Recoder(_Object):
 
     def __init__(self, query: Text, statement: int = 1, limit: int = DEFAULT_LIMIT, *,
                  mode: Mode = Mode()) -> None:
-        super().__init__()
-        self._out = _Output()
-        _call("recoder_new", self._handle, *_lent(query), _fitting(statement, 32),
-              _fitting(limit, _SIZE_BITS), _flags(mode))
+        super().__init__(_native.recoder(query, statement, limit, _flags(mode)))
 
     def feed(self, piece: Union[bytes, bytearray, memoryview]) -> bytes:
         """Takes the next piece; gives the executions of the sets that are whole with it, before
@@ -1404,10 +947,12 @@ class Recoder(_Object):
         Raises MySQLSessionError with the fault and its payload, or REFUSED_PACKET_TOO_LARGE with
         its set, and from then on the same at each call.
         """
-        data, length = _lent(_received(piece))
-        with self._alone():
-            _call_at(_Stop(), "recoder_feed", self._at, data, length, self._out.to_write())
-            return self._out.take()
+        try:
+            written: bytes = self._native.feed(piece)
+        except BaseException:
+            self._native.ungive()
+            raise
+        return written
 
     def end(self) -> bytes:
         """Ends the stream; gives the prepare where it carried no set, else nothing. The recoder
@@ -1415,19 +960,22 @@ class Recoder(_Object):
 
         Raises MySQLSessionError by UNFINISHED where the stream isn't whole, and as `feed` did.
         """
-        with self._alone():
-            _call_at(_Stop(), "recoder_end", self._at, self._out.to_write())
-            return self._out.take()
+        try:
+            written: bytes = self._native.end()
+        except BaseException:
+            self._native.ungive()
+            raise
+        return written
 
     def rest(self) -> bytes:
         """What a call made and couldn't give, as MemoryError or KeyboardInterrupt ended it: mostly
         nothing. The next `feed` or `end` gives it too, before its own."""
-        with self._alone():
-            return self._out.take()
-
-    def close(self) -> None:
-        super().close()
-        self._out.close()
+        try:
+            written: bytes = self._native.rest()
+        except BaseException:
+            self._native.ungive()
+            raise
+        return written
 
 
 def recode(query: Text, stream: Union[bytes, bytearray, memoryview], statement: int = 1,
@@ -1451,9 +999,9 @@ class Column(NamedTuple):
     type: int
     """Mostly a number of `ColumnType`."""
     flags: int = 0
-    """Column Definition Flags: 1 is NOT_NULL, 32 UNSIGNED, 128 BINARY."""
+    """Bits of `ColumnFlag`."""
     charset: int = 45
-    """The number of its collation: 45 is utf8mb4_general_ci, 63 binary."""
+    """The id of its collation, as `Collation` has some."""
     length: int = 0
     decimals: int = 0
     schema: bytes = b""
@@ -1533,62 +1081,92 @@ class File(NamedTuple):
     name: bytes
 
 
+class ValueRows(NamedTuple):
+    """Rows with values, each of its column's type; else as `Rows`."""
+
+    columns: Tuple[Column, ...]
+    rows: List[Tuple[Any, ...]]
+    ended: bool
+    status: int
+    warnings: int
+    info: bytes
+    states: Tuple[State, ...]
+
+    def dicts(self) -> List[Dict[str, Any]]:
+        """The rows by the names of the columns. Raises RowError where two have one name."""
+        return _records_of(self.columns, self.rows, None)
+
+    def records(self, record: Callable[..., _Record]) -> List[_Record]:
+        """The rows as records of a dataclass or a NamedTuple, whose fields are found by the names of
+        the columns. The values are taken as they are: `Rows.rows_as` looks at the fields' types.
+
+        Raises RowError where a column of a field isn't there, or there are several of its name.
+        """
+        return _records_of(self.columns, self.rows, record)
+
+
+class ColumnValues(NamedTuple):
+    """A column of a table."""
+
+    values: Union[memoryview, List[Any]]
+    """Of whole numbers a view of the format "q", and "Q" of BIGINT UNSIGNED, of floats one of "d",
+    which hold 0 in the place of NULL. They lie in memory as arrays do, so that numpy.frombuffer and
+    others take them without a copy. Of all else, and where a converter is, a list."""
+    nulls: memoryview
+    """Of the format "?": whether the value of a row is NULL."""
+
+
+class Table(NamedTuple):
+    """Rows as columns, or those of them that came since the last taking; else as `Rows`."""
+
+    columns: Tuple[Column, ...]
+    row_count: int
+    arrays: Tuple[ColumnValues, ...]
+    ended: bool
+    status: int
+    warnings: int
+    info: bytes
+    states: Tuple[State, ...]
+
+    def tuples(self) -> List[Tuple[Any, ...]]:
+        """The rows as tuples."""
+        return list(zip(*([None if null else value for value, null in zip(*it)]
+                          for it in self.arrays)))
+
+
 Result = Union[Ok, Rows, Prepared, ServerError, File]
 """A result of a reply."""
 
+ValueResult = Union[Ok, ValueRows, Prepared, ServerError, File]
+"""A result of a reply, as `take_values` gives it."""
 
-def ends_reply(result: Result) -> bool:
+TableResult = Union[Ok, Table, Prepared, ServerError, File]
+"""A result of a reply, as `take_tables` gives it."""
+
+
+class Values:
+    """How cells become values: as their columns' types say, or by converters in place of that.
+
+    int, float, Decimal, datetime, date and timedelta, as `rows_as_dicts` has them; str of texts by
+    the character set of the column's collation, bytes where that is binary; None for NULL.
+
+    A converter is given a cell as `Cell` has it, bytes of a text row or the value of a binary one,
+    and never NULL. It is called for each cell of a column of its type (of `ColumnType`). What it
+    gives is the value, and what it raises ends the call.
+    """
+
+    def __init__(self, converters: Mapping[int, Callable[[Any], Any]] = {}) -> None:
+        self._native = _native.values({int(it): made for it, made in converters.items()})
+
+
+def ends_reply(result: Union[Result, ValueResult, TableResult]) -> bool:
     """Whether a result is the last one of its reply."""
-    if isinstance(result, Rows):
+    if isinstance(result, (Rows, ValueRows, Table)):
         return result.ended and not result.status & MORE_RESULTS
     return not isinstance(result, Ok) or not result.status & MORE_RESULTS
 
 
-def _column(shown: Any) -> Column:
-    """A column as it is shown."""
-    return Column(type=shown.type, flags=shown.flags, charset=shown.charset, length=shown.length,
-                  decimals=shown.decimals, **_texts(shown, _COLUMN_TEXTS))
-
-
-def _date(shown: Any, column_type: int) -> Cell:
-    """A date as it is shown: of a column of dates without a time a date."""
-    fields = DateFields(*(getattr(shown, name) for name, _ in _DATE))
-    try:
-        date = datetime.datetime(*fields)
-    except (ValueError, OverflowError):
-        return fields
-    if column_type == ColumnType.DATE and date.time() == datetime.time(0):
-        return date.date()
-    return date
-
-
-def _time(shown: Any) -> Cell:
-    """A duration as it is shown."""
-    fields = TimeFields(*(getattr(shown, name) for name, _ in _TIME))
-    try:
-        duration = datetime.timedelta(days=fields.days, hours=fields.hours, minutes=fields.minutes,
-                                      seconds=fields.seconds, microseconds=fields.microseconds)
-        duration = -duration if fields.negative else duration
-    except OverflowError:
-        return fields
-    return duration if _time_fields(duration) == fields else fields
-
-
-def _cell(shown: Any, column_type: int) -> Cell:
-    """The value of a cell as it is shown."""
-    if shown.kind == _Kind.DATE:
-        return _date(shown, column_type)
-    if shown.kind == _Kind.TIME:
-        return _time(shown)
-    if shown.kind == _Kind.FLOAT:
-        return float(struct.unpack("<f", struct.pack("<I", shown.uint_value))[0])
-    if shown.kind == _Kind.DOUBLE:
-        return float(struct.unpack("<d", struct.pack("<Q", shown.uint_value))[0])
-    return _content(shown)
-
-
-# Where a reply goes on, this stands in the place of the kind of its end.
-_GOES_ON = (1 << 32) - 1
+_FORM_CELLS, _FORM_VALUES, _FORM_COLUMNS = range(3)
 
 
 class ReplyReader(_Object):
@@ -1600,14 +1178,7 @@ class ReplyReader(_Object):
 
     def __init__(self, kind: ReplyKind, capabilities: int, first: int = 1,
                  limit: int = DEFAULT_LIMIT) -> None:
-        super().__init__()
-        self._end = _End(_GOES_ON)
-        # Results that wait to be given, and how many of those that the library lists are among
-        # them or were given.
-        self._shown: List[Result] = []
-        self._seen = 0
-        _call("reply_new", self._handle, _fitting(kind, 32), _fitting(capabilities, 32),
-              _fitting(first, 8), _fitting(limit, _SIZE_BITS))
+        super().__init__(_native.reply(kind, capabilities, first, limit))
 
     def feed(self, piece: Union[bytes, bytearray, memoryview]) -> None:
         """Reads the next bytes.
@@ -1615,7 +1186,7 @@ class ReplyReader(_Object):
         Raises MySQLSessionError with the reply's fault, from the first on at each call. The
         results before the fault are there, and `end` says where it is.
         """
-        _call("reply_feed", self._handle, *_lent(_received(piece)))
+        self._native.feed(piece)
 
     def take(self) -> List[Result]:
         """The results so far that weren't taken before: those that stand whole, and of rows that
@@ -1625,106 +1196,45 @@ class ReplyReader(_Object):
         MEMORY, by MemoryError or by KeyboardInterrupt, the next call gives them, and what came
         since behind them.
         """
-        with self._alone():
-            self._show()
-            if self._end.kind == _GOES_ON:
-                self._list_others("reply_take")
-                self._show()
-            given, self._shown = self._shown, []
-            return given
+        try:
+            results: List[Result] = self._native.take(_FORM_CELLS, None)
+        except BaseException:
+            self._native.ungive()
+            raise
+        return results
+
+    def take_values(self, values: Optional[Values] = None) -> List[ValueResult]:
+        """The same as `take`, but that rows are `ValueRows`: each cell is a value of its column's
+        type, or what a converter of `values` makes of it.
+
+        Raises RowError at the first cell that isn't as its column says, and what a converter raises.
+        The results stay then: the next call gives them, as `take` does by their cells.
+        """
+        native = None if values is None else values._native
+        try:
+            results: List[ValueResult] = self._native.take(_FORM_VALUES, native)
+        except BaseException:
+            self._native.ungive()
+            raise
+        return results
+
+    def take_tables(self, values: Optional[Values] = None) -> List[TableResult]:
+        """The same as `take_values`, but that rows are a `Table`, which has a column as an array."""
+        native = None if values is None else values._native
+        try:
+            results: List[TableResult] = self._native.take(_FORM_COLUMNS, native)
+        except BaseException:
+            self._native.ungive()
+            raise
+        return results
 
     def end(self) -> End:
         """Ends the reply, and says how it ends. The results that weren't taken stay.
 
-        Where a `take` failed, its results are shown first, and may raise as they did: the reply
-        goes on then.
+        Where a `take` failed, its results are shown first, by their cells, and may raise as they did:
+        the reply goes on then.
         """
-        with self._alone():
-            if self._end.kind == _GOES_ON:
-                self._show()
-                self._list_others("reply_end", ctypes.byref(self._end))
-            else:
-                _call("reply_end", self._at, ctypes.byref(self._end))
-            return _end_of(self._end)
-
-    def close(self) -> None:
-        super().close()
-        self._shown = []
-
-    def _show(self) -> None:
-        """Shows the listed results that weren't seen; they wait to be given."""
-        count = _count("reply_results", self._at)
-        results = [self._result(it) for it in range(self._seen, count)]
-        self._shown += results
-        self._seen = count
-
-    def _list_others(self, name: str, *arguments: object) -> None:
-        """Makes a call by which the library lists other results in the place of those that were
-        seen, which it frees."""
-        call = _calls[name]
-        # No signal is handled between these two lines, from Python 3.10 on: behind an interrupt no
-        # result is given twice, and none is lost.
-        self._seen = 0
-        code = call(self._at, *arguments)
-        if code:
-            raise MySQLSessionError(code)
-
-    def _result(self, number: int) -> Result:
-        """The result of this number."""
-        shown = _Result()
-        _call("reply_result", self._at, number, ctypes.byref(shown))
-        text = _bytes_at(shown.text, shown.len)
-        if shown.kind == _ResultKind.ROWS:
-            return self._rows(number, shown, text)
-        if shown.kind == _ResultKind.PREPARED:
-            return Prepared(shown.statement, shown.warnings,
-                            self._columns("reply_param", number, shown.params),
-                            self._columns("reply_column", number, shown.columns))
-        if shown.kind == _ResultKind.ERROR:
-            return ServerError(shown.error_code, bytes(shown.state[:shown.state_len]), text)
-        if shown.kind == _ResultKind.FILE:
-            return File(text)
-        return Ok(shown.affected_rows, shown.last_insert_id, shown.status, shown.warnings, text,
-                  self._states(number, shown.states))
-
-    def _rows(self, number: int, result: Any, info: bytes) -> Rows:
-        """The rows of the result of this number."""
-        handle, call, shown = self._at, _calls["reply_cell"], _Value()
-        columns = self._columns("reply_column", number, result.columns)
-        rows: List[Tuple[Cell, ...]] = []
-        for row in range(result.rows):
-            cells: List[Cell] = []
-            for place, column in enumerate(columns):
-                code = call(handle, number, row, place, ctypes.byref(shown))
-                if code:
-                    raise MySQLSessionError(code)
-                cells.append(_cell(shown, column.type))
-            rows.append(tuple(cells))
-        return Rows(columns, rows, result.ended, result.status, result.warnings, info,
-                    self._states(number, result.states))
-
-    def _columns(self, name: str, number: int, count: int) -> Tuple[Column, ...]:
-        """The columns, or the parameters, of the result of this number."""
-        columns = []
-        for place in range(count):
-            shown = _Column()
-            _call(name, self._at, number, place, ctypes.byref(shown))
-            columns.append(_column(shown))
-        return tuple(columns)
-
-    def _states(self, number: int, count: int) -> Tuple[State, ...]:
-        """The changes of the session's state that the result of this number tells, each from the
-        position at which the one before ends."""
-        handle, call = self._at, _calls["reply_state"]
-        position, kind, data, length = _SIZE(), _U8(), ctypes.c_void_p(), _SIZE()
-        to = [ctypes.byref(it) for it in (position, kind, data, length)]
-        states = []
-        for _ in range(count):
-            code = call(handle, number, *to)
-            if code:
-                raise MySQLSessionError(code)
-            states.append(State(kind.value, _bytes_at(data.value, length.value)))
-        return tuple(states)
+        return _end_of(*self._native.end())
 
 
 def read_reply(kind: ReplyKind, capabilities: int, reply: Union[bytes, bytearray, memoryview],
@@ -1794,6 +1304,11 @@ def _text(cell: Cell) -> str:
     return str(_only(bytes, cell).decode("utf-8"))
 
 
+def _text_in(codec: bytes) -> _Reader:
+    """What reads a text of another character set than UTF-8."""
+    return lambda cell: _only(bytes, cell).decode(codec.decode())
+
+
 def _bytes(cell: Cell) -> bytes:
     return bytes(_only(bytes, cell))
 
@@ -1848,51 +1363,90 @@ def _duration(cell: Cell) -> datetime.timedelta:
     return found
 
 
-# What reads a cell as a value of a type, be it bytes of a text row or a value of a binary one.
-_READERS: Dict[Any, _Reader] = {
-    bool: _truth, int: _whole, float: _float, decimal.Decimal: _decimal, str: _text, bytes: _bytes,
-    datetime.datetime: _moment, datetime.date: _day, datetime.timedelta: _duration,
+# Character sets but UTF-8, by Python's names of them, and the ids of their collations (MySQL
+# Reference Manual and MariaDB, "Supported Character Sets and Collations"). Those of which Python
+# knows none, and those that aren't here, are read as UTF-8.
+_CODEC_COLLATIONS: Dict[str, Iterable[int]] = {
+    "big5": (1, 84), "iso8859-2": (2, 9, 21, 27, 77), "cp850": (4, 80),
+    "cp1252": (5, 8, 15, 31, 47, 48, 49, 94), "hp-roman8": (6, 72), "koi8-r": (7, 74),
+    "euc_jp": (12, 91, 97, 98), "cp932": (13, 88, 95, 96), "cp1251": (14, 23, 50, 51, 52),
+    "iso8859-8": (16, 71), "tis-620": (18, 89), "euc_kr": (19, 85), "iso8859-13": (20, 41, 42, 79),
+    "koi8-u": (22, 75), "gb2312": (24, 86), "iso8859-7": (25, 70),
+    "cp1250": (26, 34, 44, 66, 99), "gbk": (28, 87), "cp1257": (29, 58, 59), "iso8859-9": (30, 78),
+    "utf-16-be": (35, 90, *range(128, 152), 159, 54, 55, *range(101, 125)), "utf-16-le": (56, 62),
+    "utf-32-be": (60, 61, *range(160, 184)), "cp866": (36, 68), "mac-latin2": (38, 43),
+    "mac-roman": (39, 53), "cp852": (40, 81), "cp1256": (57, 67), "gb18030": (248, 249, 250),
 }
-
-# What reads the cells of a column by its type; those that aren't here are texts or bytes.
-_COLUMN_READERS: Dict[int, _Reader] = {
-    **{it: _whole for it in (ColumnType.TINY, ColumnType.SHORT, ColumnType.LONG, ColumnType.INT24,
-                             ColumnType.LONGLONG, ColumnType.YEAR)},
-    **{it: _float for it in (ColumnType.FLOAT, ColumnType.DOUBLE)},
-    **{it: _decimal for it in (ColumnType.DECIMAL, ColumnType.NEWDECIMAL)},
-    **{it: _date_in for it in (ColumnType.TIMESTAMP, ColumnType.DATETIME, ColumnType.TIMESTAMP2,
-                               ColumnType.DATETIME2)},
-    **{it: _day_in for it in (ColumnType.DATE, ColumnType.NEWDATE)},
-    **{it: _duration_in for it in (ColumnType.TIME, ColumnType.TIME2)},
-    **{it: _bytes for it in (ColumnType.BIT, ColumnType.GEOMETRY, ColumnType.VECTOR)},
-    ColumnType.JSON: _text,
-}
+# MariaDB's collations without padding have ids that are greater by 1024.
+_CODECS: Dict[int, bytes] = {collation + more: name.encode() for name, ids
+                             in _CODEC_COLLATIONS.items() for collation in ids for more in (0, 1024)}
 
 # The collation of what is no text.
 _BINARY_COLLATION = 63
 
 
-def _reader_of(column: Column) -> _Reader:
-    """What reads a column's cells as the column says."""
-    plain = _bytes if column.charset == _BINARY_COLLATION else _text
-    return _COLUMN_READERS.get(column.type, plain)
+class _How(enum.IntEnum):
+    """How the extension reads cells, as its `enum how` has them; behind these by the reader alone,
+    and not at all."""
+
+    BYTES = 0
+    TEXT = 1
+    CODEC = 2
+    INT = 3
+    FLOAT = 4
+    DECIMAL = 5
+    DATE = 6
+    DATETIME = 7
+    TIME = 8
+    READER = 9
+    AS_IT_IS = 10
 
 
-def _or_none(read: _Reader) -> _Reader:
-    """The same reader, which leaves NULL as None."""
-    return lambda cell: None if cell is None else read(cell)
+# What reads a cell that the extension leaves to Python, as a column says.
+_HOW_READERS: Sequence[_Reader] = (_bytes, _text, _text, _whole, _float, _decimal, _day_in, _date_in,
+                                   _duration_in)
+
+# How a cell is read as a value of a type, and what reads it where the extension doesn't.
+_TYPE_READERS: Dict[Any, Tuple[_How, _Reader]] = {
+    bool: (_How.READER, _truth), int: (_How.INT, _whole), float: (_How.FLOAT, _float),
+    decimal.Decimal: (_How.DECIMAL, _decimal), str: (_How.CODEC, _text), bytes: (_How.BYTES, _bytes),
+    datetime.datetime: (_How.DATETIME, _moment), datetime.date: (_How.DATE, _day),
+    datetime.timedelta: (_How.TIME, _duration),
+}
+
+# How the cells of a column are read by its type; those that aren't here are texts or bytes.
+_COLUMN_HOWS: Dict[int, _How] = {
+    **{it: _How.INT for it in (ColumnType.TINY, ColumnType.SHORT, ColumnType.LONG, ColumnType.INT24,
+                               ColumnType.LONGLONG, ColumnType.YEAR)},
+    **{it: _How.FLOAT for it in (ColumnType.FLOAT, ColumnType.DOUBLE)},
+    **{it: _How.DECIMAL for it in (ColumnType.DECIMAL, ColumnType.NEWDECIMAL)},
+    **{it: _How.DATETIME for it in (ColumnType.TIMESTAMP, ColumnType.DATETIME,
+                                    ColumnType.TIMESTAMP2, ColumnType.DATETIME2)},
+    **{it: _How.DATE for it in (ColumnType.DATE, ColumnType.NEWDATE)},
+    **{it: _How.TIME for it in (ColumnType.TIME, ColumnType.TIME2)},
+    **{it: _How.BYTES for it in (ColumnType.BIT, ColumnType.GEOMETRY, ColumnType.VECTOR)},
+    ColumnType.JSON: _How.TEXT,
+}
+
+# A place of a row: its number, how it is read, by which codec, by what else, and whether NULL stays.
+_Reading = Tuple[int, int, Optional[bytes], _Reader, bool]
 
 
-def _reader_for(wanted: Any, column: Column) -> _Reader:
-    """What reads a column's cells as a value of a type: Any as the column says, Optional[..] with
+def _reading(at: int, wanted: Any, column: Column, is_optional: bool = False) -> _Reading:
+    """How a column's cells are read as a value of a type: Any as the column says, Optional[..] with
     None for NULL."""
+    codec = _CODECS.get(column.charset)
+    text = _text if codec is None else _text_in(codec)
     if wanted is Any:
-        return _or_none(_reader_of(column))
-    if wanted in _READERS:
-        return _READERS[wanted]
+        plain = _How.BYTES if column.charset == _BINARY_COLLATION else _How.CODEC
+        how = _COLUMN_HOWS.get(column.type, plain)
+        return at, how, codec, text if how == _How.CODEC else _HOW_READERS[how], True
+    if wanted in _TYPE_READERS:
+        how, read = _TYPE_READERS[wanted]
+        return at, how, codec, text if how == _How.CODEC else read, is_optional
     of, missing = typing.get_args(wanted), type(None)
     if len(of) == 2 and missing in of:
-        return _or_none(_reader_for(of[of[0] is missing], column))
+        return _reading(at, of[of[0] is missing], column, True)
     raise TypeError(f"no cell is read as {wanted}")
 
 
@@ -1907,24 +1461,6 @@ def _place(name: str, names: Sequence[str]) -> int:
         raise RowError("there are several columns of this name" if name in names
                        else "there is no column of this name", name)
     return names.index(name)
-
-
-def _values(columns: Sequence[Column], readers: Mapping[int, _Reader],
-            rows: Iterable[Sequence[Cell]]) -> Iterator[List[Any]]:
-    """The values at those places of rows that have readers, in the readers' order."""
-    names = _names(columns)
-    for number, row in enumerate(rows):
-        if len(row) != len(columns):
-            raise RowError(f"it has {len(row)} cells, and there are {len(columns)} columns", None,
-                           number)
-        values = []
-        for place, read in readers.items():
-            try:
-                values.append(read(row[place]))
-            except (ValueError, ArithmeticError):
-                why = "it is NULL" if row[place] is None else "it holds no value of the type wanted"
-                raise RowError(why, names[place], number) from None
-        yield values
 
 
 def _fields_of(record: Any) -> Dict[str, bool]:
@@ -1944,33 +1480,38 @@ def rows_as(record: Callable[..., _Record], columns: Sequence[Column],
     the columns.
 
     A field is of the type bool, int, float, Decimal, str, bytes, datetime, date or timedelta, or
-    Optional of it where it may be NULL; Any is what the column's own type says. Rows of queries and
-    of executions give the same values. Columns without a field are passed over; a field with a
-    default takes that where there is no such column.
+    Optional of it if it may be NULL. Any is what the column's own type says. Rows of queries and of
+    executions give the same values. Columns without a field are passed over; a field with a default
+    takes that where there is no such column.
 
-    Raises RowError where a column of a field isn't there, or there are several of its name, and at
-    the first cell that holds no value of its field's type; TypeError for another type.
+    Raises RowError if a column of a field isn't there, or there are several of its name. It is
+    raised too at the first cell that holds no value of its field's type. TypeError is for another
+    type.
     """
     names, types = _names(columns), typing.get_type_hints(record)
     fields = [name for name, has_default in _fields_of(record).items()
               if not has_default or name in names]
-    places = {_place(name, names): name for name in fields}
-    readers = {at: _reader_for(types[name], columns[at]) for at, name in places.items()}
-    return [record(**dict(zip(fields, values))) for values in _values(columns, readers, rows)]
+    readings = tuple(_reading(at, types[name], columns[at])
+                     for at, name in ((_place(name, names), name) for name in fields))
+    records: List[_Record] = _native.rows_of(rows, len(columns), names, readings, tuple(fields),
+                                             record)
+    return records
 
 
 def rows_as_dicts(columns: Sequence[Column],
                   rows: Iterable[Sequence[Cell]]) -> List[Dict[str, Any]]:
-    """Rows as dicts by the names of the columns, with values of their types: int, float, Decimal,
-    str, bytes (of columns that are no text), datetime, date, timedelta; dates and durations that
-    `datetime` lacks as DateFields and TimeFields; None for NULL.
+    """Rows as dicts by the names of the columns, with values of their types. These are int, float,
+    Decimal, str, bytes (of columns that are no text), datetime, date, timedelta. Dates and
+    durations that `datetime` lacks are DateFields and TimeFields, and NULL is None.
 
     Raises RowError where two columns have one name, and where a cell isn't as its column says.
     """
     names = _names(columns)
-    readers = {_place(name, names): _or_none(_reader_of(columns[at]))
-               for at, name in enumerate(names)}
-    return [dict(zip(names, values)) for values in _values(columns, readers, rows)]
+    readings = tuple(_reading(_place(name, names), Any, columns[at])
+                     for at, name in enumerate(names))
+    dicts: List[Dict[str, Any]] = _native.rows_of(rows, len(columns), names, readings, tuple(names),
+                                                  None)
+    return dicts
 
 
 def rows_as_tuples(columns: Sequence[Column], rows: Iterable[Sequence[Cell]],
@@ -1983,9 +1524,21 @@ def rows_as_tuples(columns: Sequence[Column], rows: Iterable[Sequence[Cell]],
     """
     if types and len(types) != len(columns):
         raise ValueError(f"there are {len(columns)} columns, and {len(types)} types")
-    readers = {at: _reader_for(types[at] if types else Any, column)
-               for at, column in enumerate(columns)}
-    return [tuple(values) for values in _values(columns, readers, rows)]
+    readings = tuple(_reading(at, types[at] if types else Any, column)
+                     for at, column in enumerate(columns))
+    tuples: List[Tuple[Any, ...]] = _native.rows_of(rows, len(columns), _names(columns), readings,
+                                                    None, None)
+    return tuples
+
+
+def _records_of(columns: Sequence[Column], rows: List[Tuple[Any, ...]], record: Any) -> List[Any]:
+    """Rows with values as dicts, or as records of a class."""
+    names = _names(columns)
+    fields = names if record is None else [
+        name for name, has_default in _fields_of(record).items() if not has_default or name in names]
+    readings = tuple((_place(name, names), _How.AS_IT_IS, None, None, True) for name in fields)
+    made: List[Any] = _native.rows_of(rows, len(columns), names, readings, tuple(fields), record)
+    return made
 
 
 # ---- Replies written ----------------------------------------------------------------------------
@@ -2002,89 +1555,92 @@ class ReplyWriter(_Object):
 
     def __init__(self, kind: ReplyKind, capabilities: int, first: int = 1,
                  limit: int = DEFAULT_LIMIT) -> None:
-        super().__init__()
-        self._out = _Output()
-        self._row = ParameterSets()
-        self._kind = kind
-        _call("writer_new", self._handle, _fitting(kind, 32), _fitting(capabilities, 32),
-              _fitting(first, 8), _fitting(limit, _SIZE_BITS))
+        super().__init__(_native.writer(kind, capabilities, first, limit))
 
     def ok(self, affected_rows: int = 0, last_insert_id: int = 0, status: int = AUTOCOMMIT,
            warnings: int = 0, info: Text = b"", more: bool = False) -> bytes:
         """An OK packet."""
-        with self._alone():
-            return self._put("writer_ok", _fitting(affected_rows, 64), _fitting(last_insert_id, 64),
-                             _fitting(status, 16), _fitting(warnings, 16), *_lent(info), more)
+        try:
+            written: bytes = self._native.ok(affected_rows, last_insert_id, status, warnings, more,
+                                              info)
+        except BaseException:
+            self._native.ungive()
+            raise
+        return written
 
     def error(self, code: int, state: Text, message: Text) -> bytes:
         """An error, which ends the reply. The SQL state has five bytes, or none."""
-        with self._alone():
-            return self._put("writer_error", _fitting(code, 16), *_lent(state), *_lent(message))
+        try:
+            written: bytes = self._native.error(code, state, message)
+        except BaseException:
+            self._native.ungive()
+            raise
+        return written
 
     def rows(self, columns: Iterable[Column]) -> bytes:
         """Begins rows under these columns. Their schemas, tables and original names aren't sent."""
-        with self._alone():
-            self._give(columns)
-            return self._put("writer_rows")
+        self._native.check()
+        described = _described(columns)
+        try:
+            written: bytes = self._native.rows(described)
+        except BaseException:
+            self._native.ungive()
+            raise
+        return written
 
     def row(self, values: Sequence[Parameter]) -> bytes:
         """A row: a value for each column. In the reply to an execution the value has to be of its
         column's type."""
-        with self._alone():
-            self._row.clear()
-            self._row.add(values)
-            return self._put("writer_row", self._row._handle, 0)
+        try:
+            written: bytes = self._native.row(values)
+        except BaseException:
+            self._native.ungive()
+            raise
+        return written
 
     def end_rows(self, status: int = AUTOCOMMIT, warnings: int = 0, more: bool = False) -> bytes:
         """Ends the rows."""
-        with self._alone():
-            return self._put("writer_end_rows", _fitting(status, 16), _fitting(warnings, 16), more)
+        try:
+            written: bytes = self._native.end_rows(status, warnings, more)
+        except BaseException:
+            self._native.ungive()
+            raise
+        return written
 
     def prepared(self, statement: int, params: Iterable[Column], columns: Iterable[Column],
                  warnings: int = 0) -> bytes:
         """A prepared statement: its id, its parameters and its columns."""
-        with self._alone():
-            params = tuple(params)
-            self._give([*params, *columns])
-            return self._put("writer_prepared", _fitting(statement, 32), len(params),
-                             _fitting(warnings, 16))
+        self._native.check()
+        described = _described(params)
+        count, described = len(described), described + _described(columns)
+        try:
+            written: bytes = self._native.prepared(statement, count, warnings, described)
+        except BaseException:
+            self._native.ungive()
+            raise
+        return written
 
     def end(self) -> None:
         """Raises MySQLSessionError where the reply isn't whole: WRITE_NO_RESULTS or
         WRITE_NOT_ENDED."""
-        _call_at(_Spot(), "writer_end", self._handle)
+        self._native.end()
 
     def rest(self) -> bytes:
         """What a call wrote and couldn't give, as MemoryError or KeyboardInterrupt ended it: mostly
         nothing. The next call that writes gives it too, before its own."""
-        with self._alone():
-            return self._out.take()
+        try:
+            written: bytes = self._native.rest()
+        except BaseException:
+            self._native.ungive()
+            raise
+        return written
 
-    def close(self) -> None:
-        super().close()
-        self._out.close()
-        self._row.close()
 
-    def _give(self, columns: Iterable[Column]) -> None:
-        """Gives columns for what is begun next."""
-        described = [(_fitting(it.type, 8), *_lent(it.name), _fitting(it.flags, 16),
-                      _fitting(it.charset, 16), _fitting(it.length, 32), _fitting(it.decimals, 8))
-                     for it in columns]
-        self._use_up()
-        for column in described:
-            _call("writer_column", self._at, *column)
-
-    def _use_up(self) -> None:
-        """Uses up the columns that a call gave which failed between, by results of which a reply to
-        this kind of command has none: nothing is written."""
-        other = "writer_rows" if self._kind == ReplyKind.PREPARE else "writer_prepared"
-        none = () if self._kind == ReplyKind.PREPARE else (0, 0, 0)
-        _calls[other](self._at, *none, self._out.to_write(), ctypes.byref(_Spot()))
-
-    def _put(self, name: str, *arguments: object) -> bytes:
-        """What a call appends."""
-        _call_at(_Spot(), name, self._at, *arguments, self._out.to_write())
-        return self._out.take()
+def _described(columns: Iterable[Column]) -> Tuple[Tuple[Any, ...], ...]:
+    """Columns as the extension takes them, whose fields are checked."""
+    return tuple((_fitting(it.type, 8), _fitting(it.flags, 16), _fitting(it.charset, 16),
+                  _fitting(it.length, 32), _fitting(it.decimals, 8), _as_bytes(it.name))
+                 for it in columns)
 
 
 # ---- Whole connections --------------------------------------------------------------------------
@@ -2250,6 +1806,8 @@ class GreetingEvent(_ServersEvent):
     status: int
     collation: int
     plugin: bytes
+    scramble: bytes = b""
+    """Both parts of the scramble, mostly 20 bytes, which a password is hashed with."""
 
 
 @dataclasses.dataclass(frozen=True)
@@ -2532,91 +2090,6 @@ class OtherEvent(_DataBase):
     """A payload that is laid out as no command, as it stands."""
 
 
-# Events by their kinds: what a kind is made of. Errors, OK packets and data first.
-_ERRORS = {1: RejectedEvent, 7: DeniedEvent, 21: ErrorEvent, 34: FarewellEvent}
-_OKS = {6: AcceptedEvent, 20: OkEvent, 26: ColumnsEndEvent, 29: RowsEndEvent}
-_DATA = {10: AuthMoreEvent, 12: PluginDataEvent, 13: AnswerEvent, 28: RawRowEvent,
-         33: FileDataEvent, 0x200: OtherEvent}
-_TEXT = {30: FileRequestEvent, 32: LineEvent, 0x102: InitDbEvent, 0x116: PrepareEvent}
-_PLUGINS = {8: AuthSwitchEvent, 11: NextFactorEvent}
-_STATEMENTS = {0x119: CloseEvent, 0x11a: ResetStatementEvent}
-# Commands without a class of their own: the fields that they have, by the struct's names.
-_FIELDS: Dict[int, Dict[str, str]] = {
-    0x104: {"table": "text", "pattern": "data"},
-    0x105: {"schema": "text"},
-    0x106: {"schema": "text"},
-    0x107: {"flags": "number"},
-    0x108: {"level": "number"},
-    0x10c: {"connection": "number"},
-    0x112: {"server": "number", "position": "position", "flags": "flags", "file": "text"},
-    0x113: {"database": "database", "table": "text"},
-    0x115: {"server": "number", "host": "text", "user": "user"},
-    0x11b: {"option": "number"},
-    0x11e: {"server": "number", "position": "position", "flags": "flags", "file": "text"},
-    0x120: {"arguments": "data"},
-}
-
-
-def _text_in(shown: _Event, name: str) -> bytes:
-    """A text of an event, by its name."""
-    length = "len" if name == "text" else name + "_len"
-    return _bytes_at(getattr(shown, name), getattr(shown, length))
-
-
-_EVENT_TEXTS = ("text", "user", "database", "plugin", "data")
-
-
-def _plain_event(shown: _Event) -> Optional[Event]:
-    """An event that its struct has whole, or None."""
-    kind = shown.kind
-    if kind in _ERRORS:
-        state = bytes(shown.state[:shown.state_len])
-        return _ERRORS[kind](shown.error_code, state, _text_in(shown, "text"))
-    if kind in _OKS:
-        return _OKS[kind](shown.affected_rows, shown.last_insert_id, shown.status, shown.warnings,
-                          _text_in(shown, "text"), _text_in(shown, "data"))
-    if kind in _DATA:
-        return _DATA[kind](_text_in(shown, "data"))
-    if kind in _TEXT:
-        return _TEXT[kind](_text_in(shown, "text"))
-    if kind in _PLUGINS:
-        return _PLUGINS[kind](_text_in(shown, "plugin"), _text_in(shown, "data"))
-    if kind in _STATEMENTS:
-        return _STATEMENTS[kind](shown.statement)
-    return _rarer_event(shown)
-
-
-def _rarer_event(shown: _Event) -> Optional[Event]:
-    """One of the kinds that have no like, or None."""
-    kind, text = shown.kind, _text_in(shown, "text")
-    if kind == 2:
-        return GreetingEvent(text, shown.number, shown.capabilities, shown.mariadb_capabilities,
-                             shown.status, shown.charset, _text_in(shown, "plugin"))
-    if kind in (3, 5):
-        of_kind = SecureRequestEvent if kind == 3 else CutOffLoginEvent
-        return of_kind(shown.capabilities, shown.mariadb_capabilities, shown.charset, shown.number)
-    if kind == 9:
-        return OldAuthSwitchEvent()
-    if kind == 22:
-        return ProgressEvent(shown.rows, shown.columns, shown.number, text)
-    if kind == 23:
-        return ColumnCountEvent(shown.columns, shown.follows)
-    if kind == 31:
-        return PreparedEvent(shown.statement, shown.params, shown.columns, shown.warnings,
-                             shown.follows)
-    if kind == 0x101:
-        return QuitEvent()
-    if kind == 0x118:
-        return LongDataEvent(shown.statement, shown.number, _text_in(shown, "data"))
-    if kind == 0x11c:
-        return FetchEvent(shown.statement, shown.rows)
-    return None
-
-
-# No event is shown yet.
-_NO_KIND = (1 << 32) - 1
-
-
 class Put(NamedTuple):
     """A payload that was put."""
 
@@ -2624,6 +2097,22 @@ class Put(NamedTuple):
     """Its packets, for the other side."""
     event: Event
     """What it says."""
+
+
+class _Standing(NamedTuple):
+    """How a connection stands, as mysql_session_standing has it."""
+
+    turn: int
+    phase: int
+    reason: int
+    capabilities: int
+    mariadb_capabilities: int
+    fault: int
+    fault_side: int
+    fault_byte: int
+    client_room: int
+    server_room: int
+    held: int
 
 
 class Connection(_Object):
@@ -2637,25 +2126,17 @@ class Connection(_Object):
         stream.sendall(connection.put(Side.CLIENT, put_login("ann", capabilities)).packets)
 
     A payload of the client has at most `client` bytes, one of the server `server`. `held` limits
-    what is held in all, by default twice as much as both: of each side as much waits unread as its
-    longest payload takes, and what is left is for what is kept of statements, columns and long
-    data. Where nothing is left, no statement is prepared and no column is read: CONNECTION_KEPT.
+    what is held in all, by default twice as much as both. Of each side as much waits unread as its
+    longest payload takes. What is left is for what is kept of statements, columns and long data.
+    Where nothing is left, no statement is prepared and no column is read: CONNECTION_KEPT.
 
     An event is a copy, and stays as it is. After a fault each call for an event raises it again;
     the events before it were told.
     """
 
-    _handle_type = _ConnectionHandle
-
     def __init__(self, *, client: int = DEFAULT_LIMIT, server: int = DEFAULT_LIMIT,
                  held: Optional[int] = None) -> None:
-        super().__init__()
-        # The event that was taken and not given: as it is shown, or one of no kind; and its copy,
-        # once that is made.
-        self._shown = _Event(kind=_NO_KIND)
-        self._copied: Optional[Event] = None
-        self._out = {side: _Output() for side in Side}
-        _call("connection_new", self._at, *self._limits(client, server, held))
+        super().__init__(_native.connection(*self._limits(client, server, held)))
 
     @classmethod
     def after_login(cls, capabilities: int, mariadb_capabilities: int = 0, *,
@@ -2664,8 +2145,8 @@ class Connection(_Object):
         """A connection behind a login that was made elsewhere, as over TLS: a command is due, and
         the capabilities are those that both sides have."""
         made = cls(client=client, server=server, held=held)
-        _call("connection_after_login", made._at, _fitting(capabilities, 32),
-              _fitting(mariadb_capabilities, 32), *cls._limits(client, server, held))
+        made._native = _native.connection_after_login(capabilities, mariadb_capabilities,
+                                                      *cls._limits(client, server, held))
         return made
 
     @staticmethod
@@ -2675,24 +2156,31 @@ class Connection(_Object):
             held = min(2 * (client + server), (1 << _SIZE_BITS) - 1)
         return [_fitting(it, _SIZE_BITS) for it in (client, server, held)]
 
+    def __repr__(self) -> str:
+        try:
+            turn, phase, fault = self.turn, self.phase, self.fault
+        except (MySQLSessionError, RuntimeError):  # it is closed, or another thread's
+            return object.__repr__(self)
+        due = phase.name if turn is None else f"{phase.name} of {turn.name}"
+        return f"<Connection: {due}>" if fault is None else f"<Connection: {fault}>"
+
     def feed(self, side: Side, data: Union[bytes, bytearray, memoryview]) -> Iterator[Event]:
         """Takes a piece of a side's stream, and gives the events that stand whole then.
 
         The piece is taken at once, whole; events are read as they are asked for, and those that
-        aren't asked for stay for the next call. Raises MySQLSessionError with CONNECTION_HELD where
-        more of the side would wait unread than its longest payload takes, which `room` tells
-        before, and with CONNECTION_CLOSED; nothing of the piece is taken then. The iterator raises
-        ConnectionFault.
+        aren't asked for stay for the next call. Behind a fault bytes are taken too, and never read.
+        Raises MySQLSessionError with CONNECTION_HELD if more of the side would wait unread than its
+        longest payload takes, which `room` tells before. With CONNECTION_CLOSED it is raised after
+        `close`. Nothing of the piece is taken then. The iterator raises ConnectionFault.
         """
-        _call("connection_feed", self._handle, Side(side), *_lent(_received(data)))
-        return iter(self)
+        native = self._native
+        native.feed(side if type(side) is Side else Side(side), data)
+        events: Iterator[Event] = native.events()
+        return events
 
     def __iter__(self) -> Iterator[Event]:
-        while True:
-            event = self.next_event()
-            if event is None:
-                return
-            yield event
+        events: Iterator[Event] = self._native.events()
+        return events
 
     def next_event(self) -> Optional[Event]:
         """The next event, or None where the payload that is due isn't there whole, or the
@@ -2700,14 +2188,44 @@ class Connection(_Object):
 
         Where it ends by MemoryError or by KeyboardInterrupt, the next call gives the same event.
         """
-        with self._alone():
-            if self._copied is None and self._shown.kind == _NO_KIND:
-                code = _calls["connection_next"](self._at, ctypes.byref(self._shown))
-                if code:
-                    raise self._fault(code)
-            self._copy()
-            event, self._copied = self._copied, None
-            return event
+        try:
+            event: Optional[Event] = self._native.next()
+        except BaseException:
+            self._native.ungive()
+            raise
+        return event
+
+    def take_rows(self, values: Optional[Values] = None) -> List[Tuple[Any, ...]]:
+        """The rows that stand next, up to the next other event: with cells as a `RowEvent` has them,
+        or with values as `ReplyReader.take_values` gives them. None where the next event is no row.
+
+        Raises ConnectionFault where that comes first. Raises RowError, with a row counted from those
+        of this call, and what a converter raises. The rows before it come by the next call, and that
+        row behind them, or by `next_event`.
+        """
+        native = None if values is None else values._native
+        rows: List[Tuple[Any, ...]] = []
+        try:
+            self._native.rows(rows, native)
+        except BaseException:
+            self._native.keep(rows, False)
+            raise
+        return rows
+
+    def take_table(self, values: Optional[Values] = None) -> Optional[Table]:
+        """The rows that stand next as a table, as `ReplyReader.take_tables` gives them: `ended` is
+        false, and what ends them is the next event. None where the next event is no row.
+
+        Raises as `take_rows`. The rows before one that is refused come by the next call.
+        """
+        native = _PLAIN._native if values is None else values._native
+        tables: List[Table] = []
+        try:
+            self._native.table(tables, native)
+        except BaseException:
+            self._native.keep(tables, True)
+            raise
+        return tables[0] if tables else None
 
     def put(self, side: Side, payload: Union[bytes, bytearray, memoryview]) -> Put:
         """Puts a payload of the side that is due, as if its packets had come: gives these, to be
@@ -2717,27 +2235,25 @@ class Connection(_Object):
         and `put_login` those of a login. A server's last words, an error where no answer is due,
         can't be put.
 
-        No command is refused for its layout: one that is laid out as none, as an execution of a
+        No command is refused for its layout. One that is laid out as none, as an execution of a
         statement that isn't known, is put, and its event is an OtherEvent. A server answers it by
         an error.
 
-        Raises MySQLSessionError, and nothing changes, by CONNECTION_NOT_ITS_TURN where it isn't the
-        side's turn, its stream has ended, bytes of it wait unread or the connection has failed; by
-        CONNECTION_TOO_LARGE past the side's limit; by the fault that the payload would be; by
-        CONNECTION_KEPT where more would be kept than the limit leaves; by MEMORY.
+        Raises MySQLSessionError, and nothing changes. CONNECTION_NOT_ITS_TURN: it isn't the side's
+        turn, its stream has ended, bytes of it wait unread or the connection has failed.
+        CONNECTION_TOO_LARGE: it is past the side's limit. The fault that the payload would be.
+        CONNECTION_KEPT: more would be kept than the limit leaves. Or MEMORY.
 
         Where MemoryError or KeyboardInterrupt ends the call the payload may be put: `unsent` has
         its packets then, and the side's next put gives them before its own.
         """
-        data, length = _lent(_received(payload))
-        out = self._out[Side(side)]
-        with self._alone():
-            self._copy()
-            shown = _Event()
-            _call("connection_put", self._at, Side(side), data, length, out.to_write(),
-                  ctypes.byref(shown))
-            event = self._event(shown)
-            return Put(out.take(), event)
+        side = side if type(side) is Side else Side(side)
+        try:
+            put: Put = self._native.put(side, payload)
+        except BaseException:
+            self._native.ungive()
+            raise
+        return put
 
     def put_packets(self, side: Side,
                     packets: Union[bytes, bytearray, memoryview]) -> Tuple[bytes, int]:
@@ -2748,73 +2264,60 @@ class Connection(_Object):
         the first is taken, with the long data before it: the next one is due behind its reply, and
         put by another call with what is left. A packet that is cut off at the end is left.
 
-        Nothing tells of a command that is laid out as none, whose event `put` gives: executions of
-        a statement that `statement` doesn't know, or for other capabilities than are in force.
+        Nothing tells of a command that is laid out as none, whose event `put` gives. Such are
+        executions of a statement that `statement` doesn't know, or for other capabilities than are
+        in force.
 
         Raises MySQLSessionError as `put` does where nothing is taken for it; a refusal behind a
         payload that was put comes at the call with what is left. Where MemoryError or
         KeyboardInterrupt ends the call, `unsent` has as many bytes as were taken.
         """
-        data, length = _lent(_received(packets))
-        out, used = self._out[Side(side)], _SIZE()
-        with self._alone():
-            self._copy()
-            code = _calls["connection_put_packets"](self._at, Side(side), data, length,
-                                                    out.to_write(), ctypes.byref(used))
-            if code and not used.value:
-                raise MySQLSessionError(code)
-            return out.take(), used.value
+        side = side if type(side) is Side else Side(side)
+        try:
+            put: Tuple[bytes, int] = self._native.put_packets(side, packets)
+        except BaseException:
+            self._native.ungive()
+            raise
+        return put
 
     def unsent(self, side: Side) -> bytes:
         """The packets of what was put of a side and couldn't be given, as MemoryError or
         KeyboardInterrupt ended the call: mostly none. The side's next put gives them too, before
         its own."""
-        with self._alone():
-            return self._out[Side(side)].take()
+        side = side if type(side) is Side else Side(side)
+        try:
+            written: bytes = self._native.unsent(side)
+        except BaseException:
+            self._native.ungive()
+            raise
+        return written
 
     def line(self) -> str:
         """The event that was told or put last as a line of text; behind `finish` how the connection
         stands, as `end Whole`."""
-        with self._alone():
-            return self._bytes("connection_line").decode("ascii")
+        return str(self._native.line())
 
     def columns(self) -> Tuple[Column, ...]:
         """The columns of the event that was told last: of a row all, of a column itself; of any
         other event none. So take them with the row: behind it another event is the last."""
-        columns: List[Column] = []
-        with self._alone():
-            while True:
-                shown = _Column()
-                number = len(columns)
-                code = _calls["connection_column"](self._at, number, ctypes.byref(shown))
-                if code == Code.OUT_OF_RANGE:
-                    return tuple(columns)
-                if code:
-                    raise MySQLSessionError(code)
-                columns.append(_column(shown))
+        columns: Tuple[Column, ...] = self._native.columns()
+        return columns
 
     def statement(self, number: int) -> Optional[Statement]:
         """The prepared statement that this id of a command stands for: 0xffffffff for that which
         was prepared last."""
-        data, length, params = ctypes.c_void_p(), _SIZE(), _U16()
-        with self._alone():
-            code = _calls["connection_statement"](
-                self._at, _fitting(number, 32), ctypes.byref(data), ctypes.byref(length),
-                ctypes.byref(params))
-            if code == Code.OUT_OF_RANGE:
-                return None
-            if code:
-                raise MySQLSessionError(code)
-            return Statement(_bytes_at(data.value, length.value), params.value)
+        statement: Optional[Statement] = self._native.statement(number)
+        return statement
 
     def rest(self, side: Side) -> bytes:
         """What of a side's stream is unread. Where the connection is over, it follows in a form of
         its own: TLS, compressed packets, a dump."""
-        with self._alone():
-            return self._bytes("connection_rest", Side(side))
+        rest: bytes = self._native.rest(Side(side))
+        return rest
 
     def room(self, side: Side) -> int:
-        """How many bytes of a side `feed` takes now."""
+        """How many bytes of a side `feed` takes now. Where it is 0, take events, or feed the side
+        whose turn it is."""
         standing = self._standing()
         is_server = Side(side) is Side.SERVER
         return int(standing.server_room if is_server else standing.client_room)
@@ -2861,157 +2364,31 @@ class Connection(_Object):
 
     def close_side(self, side: Side) -> None:
         """Ends a side's stream: no more comes of it."""
-        _call("connection_close", self._handle, Side(side))
+        self._native.close_side(Side(side))
 
     def finish(self) -> ConnectionEnd:
         """Ends both streams, and says how the connection stands. Take all events before."""
-        shown = _ConnectionEnd()
-        with self._alone():
-            self._copy()
-            _call("connection_finish", self._at, ctypes.byref(shown))
-        kind = ConnectionEndKind(shown.kind)
+        number, reason, side, fault, byte = self._native.finish()
+        kind = ConnectionEndKind(number)
         if kind == ConnectionEndKind.OVER:
-            return ConnectionEnd(kind, reason=Reason(shown.reason))
+            return ConnectionEnd(kind, reason=Reason(reason))
         if kind == ConnectionEndKind.UNFINISHED:
-            return ConnectionEnd(kind, side=Side(shown.side))
+            return ConnectionEnd(kind, side=Side(side))
         if kind == ConnectionEndKind.FAULT:
-            return ConnectionEnd(kind, None, Side(shown.side), Code(shown.fault), shown.byte)
+            return ConnectionEnd(kind, None, Side(side), Code(fault), byte)
         return ConnectionEnd(kind)
-
-    def close(self) -> None:
-        self._check()
-        # What was shown goes with the connection.
-        self._shown.kind, self._copied = _NO_KIND, None
-        super().close()
-        for out in self._out.values():
-            out.close()
-
-    def _copy(self) -> None:
-        """Copies the event that was taken, unless that is done: what is shown of it stays until the
-        library shows another one."""
-        if self._shown.kind != _NO_KIND:
-            self._copied = self._event(self._shown) if self._shown.kind else None
-            self._shown.kind = _NO_KIND
 
     def _standing(self) -> _Standing:
         """How the connection stands."""
-        shown = _Standing()
-        _call("connection_standing", self._handle, ctypes.byref(shown))
-        return shown
+        return _Standing(*self._native.standing())
 
-    def _fault(self, code: int) -> MySQLSessionError:
-        """The fault that was answered."""
-        shown = _Standing()
-        _call("connection_standing", self._at, ctypes.byref(shown))
-        if shown.fault != code:
-            return MySQLSessionError(code)
-        return ConnectionFault(code, Side(shown.fault_side), shown.fault_byte)
 
-    def _bytes(self, name: str, *arguments: object) -> bytes:
-        """A copy of the bytes that a call shows."""
-        data, length = ctypes.c_void_p(), _SIZE()
-        _call(name, self._at, *arguments, ctypes.byref(data), ctypes.byref(length))
-        return _bytes_at(data.value, length.value)
-
-    def _event(self, shown: _Event) -> Event:
-        """An event as it is shown."""
-        kind = shown.kind
-        plain = _plain_event(shown)
-        if plain is not None:
-            return plain
-        if kind == 4:
-            return LoginEvent(shown.capabilities, shown.mariadb_capabilities, shown.charset,
-                              shown.number, *self._login(shown))
-        if kind == 0x111:
-            user, database, plugin, response, attributes = self._login(shown)
-            return ChangeUserEvent(user, database, plugin, response, shown.charset, attributes)
-        if kind == 24:
-            return ColumnEvent(self._column())
-        if kind == 25:
-            return FieldEvent(self._column(), _text_in(shown, "data") if shown.flags else None)
-        if kind == 27:
-            return RowEvent(self._cells(shown.columns))
-        if kind == 0x103:
-            return QueryEvent(_text_in(shown, "text"), self._attributes(shown.attributes))
-        if kind == 0x117:
-            return ExecuteEvent(shown.statement, _text_in(shown, "text"), self._values(0, shown.params),
-                                self._attributes(shown.attributes), shown.flags)
-        if kind == 0x1fa:
-            rows = tuple(self._values(row, shown.params) for row in range(shown.rows))
-            return BulkExecuteEvent(shown.statement, _text_in(shown, "text"), rows)
-        return CommandEvent(kind & 0xFF, {
-            name: _text_in(shown, field) if field in _EVENT_TEXTS else getattr(shown, field)
-            for name, field in _FIELDS.get(kind, {}).items()})
-
-    def _login(self, shown: _Event) -> Tuple[bytes, bytes, bytes, bytes, Named]:
-        """What a login and a change of user have."""
-        user, database, plugin, data = (_text_in(shown, it) for it in _EVENT_TEXTS[1:])
-        return user, database, plugin, data, self._attributes(shown.attributes)
-
-    def _column(self, number: int = 0) -> Column:
-        """A column of the event."""
-        shown = _Column()
-        _call("connection_column", self._at, number, ctypes.byref(shown))
-        return _column(shown)
-
-    def _cells(self, count: int) -> Tuple[Cell, ...]:
-        """The cells of a row."""
-        call, handle, shown = _calls["connection_value"], self._at, _Value()
-        cells: List[Cell] = []
-        for place in range(count):
-            code = call(handle, 0, place, ctypes.byref(shown))
-            if code:
-                raise MySQLSessionError(code)
-            has_type = shown.kind == _Kind.DATE
-            cells.append(_cell(shown, self._column(place).type if has_type else 0))
-        return tuple(cells)
-
-    def _values(self, row: int, count: int) -> Tuple[Any, ...]:
-        """The values of an execution's row."""
-        shown, values = _Value(), []
-        for place in range(count):
-            _call("connection_value", self._at, row, place, ctypes.byref(shown))
-            special = shown.kind >= BulkKind.DEFAULT.value
-            values.append(BulkKind(shown.kind) if special else _cell(shown, 0))
-        return tuple(values)
-
-    def _attributes(self, count: int) -> Named:
-        """The attributes of the event."""
-        shown, found = _Value(), []
-        name, length = ctypes.c_void_p(), _SIZE()
-        for number in range(count):
-            _call("connection_attribute", self._at, number, ctypes.byref(name),
-                  ctypes.byref(length), ctypes.byref(shown))
-            found.append((_bytes_at(name.value, length.value), _cell(shown, 0)))
-        return tuple(found)
+def _fault(code: int, side: int, byte: int) -> ConnectionFault:
+    """A fault that the extension raises."""
+    return ConnectionFault(code, Side(side), byte)
 
 
 # ---- Packets ------------------------------------------------------------------------------------
-
-
-class _Piece:
-    """Bytes of a stream of packets from a place on, and what the library's call over them told: how
-    many it used, and whether a payload stands whole."""
-
-    def __init__(self, data: bytes, start: int = 0) -> None:
-        self.data = data
-        self.start = start
-        self.used = _SIZE()
-        self.whole = _BOOL()
-
-    def left(self) -> int:
-        """How many bytes weren't used."""
-        return len(self.data) - self.start - self.used.value
-
-    def behind(self) -> _Piece:
-        """The bytes that weren't used."""
-        return _Piece(self.data, len(self.data) - self.left())
-
-    def joined(self, more: bytes) -> _Piece:
-        """The bytes that weren't used, and more. A payload that stands whole still does."""
-        piece = _Piece(self.data[len(self.data) - self.left():] + more)
-        piece.whole = self.whole
-        return piece
 
 
 class PacketReader(_Object):
@@ -3025,18 +2402,11 @@ class PacketReader(_Object):
     """
 
     def __init__(self, first: int = 0, limit: int = DEFAULT_LIMIT) -> None:
-        super().__init__()
-        self._piece = _Piece(b"")
-        self._limit = _fitting(limit, _SIZE_BITS)
-        _call("packets_new", self._handle, _fitting(first, 8), self._limit)
+        super().__init__(_native.packets(first, limit))
 
     def feed(self, piece: Union[bytes, bytearray, memoryview]) -> None:
         """Takes the next bytes. They are read as payloads are asked for."""
-        data = _received(piece)
-        with self._alone():
-            if not self._at.at:
-                raise MySQLSessionError(Code.EMPTY_HANDLE)
-            self._piece = self._piece.joined(data)
+        self._native.feed(piece)
 
     def payload(self) -> Optional[bytes]:
         """The next payload; None where the bytes so far have no other whole one. Where MemoryError
@@ -3044,50 +2414,23 @@ class PacketReader(_Object):
 
         Raises MySQLSessionError: FAULT_TOO_LARGE, FAULT_OUT_OF_SYNC, each from then on.
         """
-        with self._alone():
-            # What the library has done it notes in the piece itself: so an interrupt behind its
-            # call has no bytes read twice, and no payload lost.
-            if not self._piece.whole.value:
-                self._read_on()
-            whole = self._piece.whole
-            if not whole.value:
-                return None
-            data, length = ctypes.c_void_p(), _SIZE()
-            _call("packets_payload", self._at, ctypes.byref(data), ctypes.byref(length))
-            payload = _bytes_at(data.value, length.value)
-            whole.value = False
-            return payload
+        try:
+            payload: Optional[bytes] = self._native.payload()
+        except BaseException:
+            self._native.ungive()
+            raise
+        return payload
 
     def __iter__(self) -> Iterator[bytes]:
         """The payloads that stand whole, each read when it is asked for."""
-        self._check()
+        self._native.check()
         return iter(self.payload, None)
 
     def restart(self, number: int = 0) -> None:
         """The next packet has this number: 0 as the first of each command has, or as what the other
         side sent in between makes it. Raises MySQLSessionError by UNFINISHED within a packet, and
         where a payload stands whole that `payload` couldn't give."""
-        first = _fitting(number, 8)
-        with self._alone():
-            if self._piece.whole.value:
-                raise MySQLSessionError(Code.UNFINISHED)
-            _call("packets_restart", self._at)
-            if first:
-                # The library restarts at 0 alone; between packets a new reader differs in nothing
-                # else.
-                _call("packets_new", self._at, first, self._limit)
-
-    def close(self) -> None:
-        super().close()
-        self._piece = _Piece(b"")
-
-    def _read_on(self) -> None:
-        """Has the library read on to the end of the next packet, or of the piece."""
-        piece = self._piece = self._piece.behind()
-        # `piece` holds the bytes until the call returns.
-        start = ctypes.cast(ctypes.c_char_p(piece.data), ctypes.c_void_p).value or 0
-        _call("packets_feed", self._at, start + piece.start, piece.left(),
-              ctypes.byref(piece.used), ctypes.byref(piece.whole))
+        self._native.restart(number)
 
 
 def put_packet(payload: Union[bytes, bytearray, memoryview], number: int = 0,
@@ -3096,10 +2439,8 @@ def put_packet(payload: Union[bytes, bytearray, memoryview], number: int = 0,
 
     Raises MySQLSessionError by FAULT_TOO_LARGE where the payload has more than `limit` bytes.
     """
-    following = _U8(_fitting(number, 8))
-    packet = _written("packet_put", *_lent(_received(payload)), ctypes.byref(following),
-                      _fitting(limit, _SIZE_BITS))
-    return packet, following.value
+    packet: Tuple[bytes, int] = _native.packet_put(payload, number, limit)
+    return packet
 
 
 # ---- Logging in ---------------------------------------------------------------------------------
@@ -3135,14 +2476,7 @@ class Login(NamedTuple):
 def read_greeting(payload: Union[bytes, bytearray, memoryview]) -> Greeting:
     """The greeting in the payload of a server's first packet. Raises MySQLSessionError:
     BAD_PACKET."""
-    # The texts that are shown lie in `data`, which holds them until they are copied.
-    data, length = _lent(_received(payload))
-    shown = _Greeting()
-    _call("greeting_read", data, length, ctypes.byref(shown))
-    return Greeting(connection=shown.connection, capabilities=shown.capabilities,
-                    mariadb_capabilities=shown.mariadb_capabilities, status=shown.status,
-                    collation=shown.collation, protocol=shown.protocol,
-                    **_texts(shown, _GREETING_TEXTS))
+    return Greeting(*_native.greeting_read(payload))
 
 
 def put_greeting(connection: int, version: Text, capabilities: int, scramble_1: bytes,
@@ -3155,10 +2489,9 @@ def put_greeting(connection: int, version: Text, capabilities: int, scramble_1: 
     MySQLSessionError by BAD_PACKET where the scrambles haven't 8 and 12 bytes, or a zero byte is in
     the version or the plugin's name.
     """
-    return _written("greeting_put", _fitting(connection, 32), _fitting(capabilities, 32),
-                    _fitting(mariadb_capabilities, 32), _fitting(collation, 8),
-                    _fitting(status, 16), *_lent(version), *_lent(scramble_1),
-                    *_lent(scramble_2), *_lent(plugin))
+    payload: bytes = _native.greeting_put(connection, capabilities, mariadb_capabilities, collation,
+                                          status, version, scramble_1, scramble_2, plugin)
+    return payload
 
 
 def read_login(payload: Union[bytes, bytearray, memoryview], offered: int = 2**32 - 1) -> Login:
@@ -3169,13 +2502,7 @@ def read_login(payload: Union[bytes, bytearray, memoryview], offered: int = 2**3
     """
     data = _received(payload)
     counted = int.from_bytes(data[:4], "little") & _fitting(offered, 32)
-    # The texts that are shown lie in `data`, which holds them until they are copied.
-    data = counted.to_bytes(len(data[:4]), "little") + data[4:]
-    shown = _Login()
-    _call("login_read", *_lent(data), ctypes.byref(shown))
-    return Login(capabilities=shown.capabilities,
-                 mariadb_capabilities=shown.mariadb_capabilities, collation=shown.collation,
-                 **_texts(shown, _LOGIN_TEXTS))
+    return Login(*_native.login_read(counted.to_bytes(len(data[:4]), "little") + data[4:]))
 
 
 def put_login(user: Text, capabilities: int, response: bytes = b"", database: Text = b"",
@@ -3184,13 +2511,14 @@ def put_login(user: Text, capabilities: int, response: bytes = b"", database: Te
     """The payload of a client's answer to a greeting.
 
     CONNECT_WITH_DB and PLUGIN_AUTH are set as the database and the plugin are given or not. The
-    response is what the plugin makes of the password and the scrambles; of an empty password none.
-    Raises MySQLSessionError by BAD_PACKET where a text can't be written whole: one with a zero
-    byte, or a response of more than 255 bytes without PLUGIN_AUTH_LENENC_CLIENT_DATA.
+    response is what the plugin makes of the password and the scramble, never the password's own
+    text, and of an empty password none: docs/LOGGING_IN.md says how it is made. Raises
+    MySQLSessionError by BAD_PACKET where a text can't be written whole: one with a zero byte, or a
+    response of more than 255 bytes without PLUGIN_AUTH_LENENC_CLIENT_DATA.
     """
-    return _written("login_put", _fitting(capabilities, 32), _fitting(mariadb_capabilities, 32),
-                    _fitting(max_packet_size, 32), *_lent(user), *_lent(response),
-                    *_lent(database), *_lent(plugin))
+    payload: bytes = _native.login_put(capabilities, mariadb_capabilities, max_packet_size, user,
+                                       response, database, plugin)
+    return payload
 
 
 # ---- Commands -----------------------------------------------------------------------------------
@@ -3260,9 +2588,11 @@ class Command:
                     plugin: Text = b"mysql_native_password", collation: int = 45) -> bytes:
         """Logs another user in, by the connection's capabilities.
 
-        The response is what the plugin makes of the password and the scramble. Raises ValueError
-        for a text with a zero byte, OverflowError for a response of more than 255 bytes.
+        The response is what the plugin makes of the password and the scramble, never the password's
+        own text. Raises ValueError for a text with a zero byte, OverflowError for a response of more
+        than 255 bytes.
         """
+        response = _received(response)
         length = bool(capabilities & Capability.SECURE_CONNECTION)
         answer = _number(len(response), 1) + response if length else _ended(response)
         named = _ended(plugin) if capabilities & Capability.PLUGIN_AUTH else b""
@@ -3307,7 +2637,7 @@ class Command:
         return b"\x1f"
 
 
-def executions(query: Text, sets: Union[ParameterSets, Iterable[Sequence[Parameter]]],
+def executions(query: Text, sets: Union[ParameterSets, Iterable[Params]],
                statement: int, road: Road = Road.EXECUTE, limit: int = DEFAULT_LIMIT, *,
                mode: Mode = Mode()) -> bytes:
     """The packets that execute a prepared statement with these sets, as `Connection.put_packets`
@@ -3338,14 +2668,14 @@ def register_replica(server: int, host: Text = b"", user: Text = b"", password: 
 
     Raises MySQLSessionError by BAD_PACKET for a text of more than 255 bytes.
     """
-    return _written("register_replica_put", _fitting(server, 32), *_lent(host), *_lent(user),
-                    *_lent(password), _fitting(port, 16))
+    payload: bytes = _native.register_replica_put(server, host, user, password, port)
+    return payload
 
 
 def binlog_dump(server: int, file: Text, position: int = 4, flags: int = 0) -> bytes:
     """The payload of a COM_BINLOG_DUMP: the binary log from a position of a file on."""
-    return _written("binlog_dump_put", _fitting(server, 32), _fitting(position, 32),
-                    _fitting(flags, 16), *_lent(file))
+    payload: bytes = _native.binlog_dump_put(server, position, flags, file)
+    return payload
 
 
 def binlog_dump_gtid(server: int, gtids: Text, file: Text = b"", position: int = 4,
@@ -3356,5 +2686,33 @@ def binlog_dump_gtid(server: int, gtids: Text, file: Text = b"", position: int =
 
     Raises MySQLSessionError by BAD_PACKET where they are no such text.
     """
-    return _written("binlog_dump_gtid_put", _fitting(server, 32), _fitting(position, 64),
-                    _fitting(flags, 16), *_lent(file), *_lent(gtids))
+    payload: bytes = _native.binlog_dump_gtid_put(server, position, flags, file, gtids)
+    return payload
+
+
+# ---- What the extension makes -------------------------------------------------------------------
+
+# Events by their kinds in the header; 0 stands for all commands that have no class of their own.
+_EVENTS: Dict[int, Type[Event]] = {
+    0: CommandEvent, 1: RejectedEvent, 2: GreetingEvent, 3: SecureRequestEvent, 4: LoginEvent,
+    5: CutOffLoginEvent, 6: AcceptedEvent, 7: DeniedEvent, 8: AuthSwitchEvent, 9: OldAuthSwitchEvent,
+    10: AuthMoreEvent, 11: NextFactorEvent, 12: PluginDataEvent, 13: AnswerEvent, 20: OkEvent,
+    21: ErrorEvent, 22: ProgressEvent, 23: ColumnCountEvent, 24: ColumnEvent, 25: FieldEvent,
+    26: ColumnsEndEvent, 27: RowEvent, 28: RawRowEvent, 29: RowsEndEvent, 30: FileRequestEvent,
+    31: PreparedEvent, 32: LineEvent, 33: FileDataEvent, 34: FarewellEvent, 0x101: QuitEvent,
+    0x102: InitDbEvent, 0x103: QueryEvent, 0x111: ChangeUserEvent, 0x116: PrepareEvent,
+    0x117: ExecuteEvent, 0x118: LongDataEvent, 0x119: CloseEvent, 0x11a: ResetStatementEvent,
+    0x11c: FetchEvent, 0x1fa: BulkExecuteEvent, 0x200: OtherEvent,
+}
+
+_native.setup({
+    "refused": _refused, "fault": _fault, "row_error": RowError, "column": Column,
+    "state_change": State, "ok": Ok, "rows": Rows, "prepared": Prepared, "server_error": ServerError,
+    "file": File, "value_rows": ValueRows, "table": Table, "column_values": ColumnValues,
+    "date_fields": DateFields, "time_fields": TimeFields, "bulk_default": BulkKind.DEFAULT,
+    "bulk_ignore": BulkKind.IGNORE, "statement": Statement, "put": Put, "codecs": _CODECS,
+    "readers": _HOW_READERS,
+    "events": {kind: (it, tuple(field.name for field in dataclasses.fields(it)))
+               for kind, it in _EVENTS.items()},
+})
+_PLAIN = Values()

@@ -2,6 +2,7 @@
 
 from __future__ import annotations
 
+import datetime
 import io
 import os
 import pathlib
@@ -19,6 +20,8 @@ RECORDINGS = HERE.parent.parent / "crates" / "connection_conformance" / "data"
 sys.path.insert(0, str(EXAMPLES))
 
 import captures  # noqa: E402  (found by the line above)
+import mysql_session as ms  # noqa: E402
+import read_capture  # noqa: E402
 import streams  # noqa: E402
 from captures import ACK, FIN, RST, SYN, Address  # noqa: E402
 
@@ -340,6 +343,57 @@ class Recordings(unittest.TestCase):
         ran = self.read(written(rest), "--port", "3306")
         self.assertIn("its greeting wasn't captured\n", ran.stdout)
         self.assertEqual(ran.returncode, 1)
+
+    def test_from_a_command_on(self) -> None:
+        """A capture that begins within a connection is read from the first command on, by the
+        capabilities that are told."""
+        for name in ("pipelined", "go-long-data", "java-bulk"):
+            sent = self.sent(name, 40000)
+            [(client, asked), (server, said)] = sent.items()
+            with ms.Connection() as machine:
+                machine.feed(ms.Side.CLIENT, asked)
+                machine.feed(ms.Side.SERVER, said)
+                count = 1 + next(number for number, event in enumerate(machine)
+                                 if isinstance(event, ms.AcceptedEvent))
+                words = f"{machine.capabilities:x},{machine.mariadb_capabilities:x}"
+                asked, said = machine.rest(ms.Side.CLIENT), machine.rest(ms.Side.SERVER)
+            packets = [Packet(server, client, 4990, 1000, ACK, b"of a reply"),
+                       *(Packet(client, server, 1000 + at, 5000, ACK, asked[at:at + 1400])
+                         for at in range(0, len(asked), 1400)),
+                       *(Packet(server, client, 5000 + at, 1000, ACK, said[at:at + 1400])
+                         for at in range(0, len(said), 1400)),
+                       Packet(client, server, 1000 + len(asked), 5000, ACK | FIN),
+                       Packet(server, client, 5000 + len(said), 1000, ACK | FIN)]
+            wanted = (RECORDINGS / (name + ".events")).read_text().splitlines()[count:]
+            options = ("--lines", "--port", "3306")
+            ran = self.read(written(packets), *options, "--capabilities", words)
+            self.assertEqual((self.lines(ran.stdout), ran.returncode), ({1: wanted}, 0), name)
+            ran = self.read(written(packets), *options)
+            self.assertEqual((self.lines(ran.stdout), ran.returncode),
+                             ({1: ["it has no greeting"]}, 1))
+
+    def test_saved(self) -> None:
+        """The bytes of a connection, in two files."""
+        sent = self.sent("pipelined", 40000)
+        with tempfile.TemporaryDirectory() as folder:
+            saved = os.path.join(folder, "saved")
+            packets = conversation(sent, random.Random(11))
+            self.assertEqual(self.read(written(packets), "--save", saved).returncode, 0)
+            self.assertEqual(sorted(os.listdir(saved)), ["1.client", "1.server"])
+            for end, side in zip(sent, ("client", "server")):
+                self.assertEqual(pathlib.Path(saved, "1." + side).read_bytes(), sent[end])
+
+    def test_values(self) -> None:
+        """NULL, dates and durations as a server's own client shows them."""
+        rows = [(None, "NULL"), (ms.DateFields(0, 0, 0), "0000-00-00"),
+                (ms.DateFields(2024, 0, 31, 1, 2, 3, 4), "2024-00-31 01:02:03.000004"),
+                (-datetime.timedelta(hours=100, microseconds=500000), "-100:00:00.500000"),
+                (datetime.timedelta(days=34, hours=22, minutes=59, seconds=59), "838:59:59"),
+                (ms.TimeFields(True, 1, 25, 61, 7), "-50:01:07"), (b"mat\xc3\xa9", "'mat\u00e9'"),
+                (b"\xff", "0xff"), ((1, None), "[1, NULL]"), (1.5, "1.5"),
+                (datetime.datetime(2024, 2, 29, 1, 2, 3), "2024-02-29 01:02:03")]
+        for value, text in rows:
+            self.assertEqual(read_capture.shown(value), text)
 
     def test_others(self) -> None:
         """Connections of other protocols are left out, and files that are no captures refused."""

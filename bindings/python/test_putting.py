@@ -95,6 +95,7 @@ class Putting(Case):
                 7, "8.0.0-test", CAPABILITIES, b"12345678", b"123456789012"))
             assert isinstance(greeting, ms.GreetingEvent)
             self.assertEqual((greeting.connection, greeting.version), (7, b"8.0.0-test"))
+            self.assertEqual(greeting.scramble, b"12345678123456789012")
             login = talk.say(Side.CLIENT, ms.put_login("ann", CAPABILITIES, b"answer", "shop"))
             assert isinstance(login, ms.LoginEvent)
             self.assertEqual((login.user, login.database, login.response),
@@ -242,8 +243,7 @@ class Refusals(Case):
     def unchanged(self, connection: ms.Connection) -> Iterator[None]:
         """Within it, nothing of how the connection stands changes, nor the line that was told."""
         def stands() -> object:
-            shown = connection._standing()
-            return [getattr(shown, name) for name, _ in shown._fields_], connection.line()
+            return connection._standing(), connection.line()
 
         before = stands()
         yield
@@ -353,7 +353,7 @@ class Kept(Case):
                     for statement in (1, 2):
                         put = failing.run(lambda: it.put(Side.CLIENT, Command.close(statement)))
                         sent += put.packets if put else b""
-                    failed = bool(failing.failed)
+                    failed = failing.failed
                     left = it.unsent(Side.CLIENT) if number % 2 else b""
                     sent += left + it.put(Side.CLIENT, Command.ping()).packets
                     if failed and not left and len(sent) < len(wanted):
@@ -361,7 +361,7 @@ class Kept(Case):
                         self.assertIn(sent, (wanted[9:], wanted[:9] + wanted[18:]))
                     else:
                         self.assertEqual(sent, wanted)
-                if not failed:
+                if failing.is_last():
                     break
 
     def test_many_packets(self) -> None:
@@ -377,40 +377,48 @@ class Kept(Case):
                     self.assertEqual(it.phase == ms.Phase.REPLY, sent == packets)
                 if not failing.failed:
                     self.assertEqual(given, (packets, len(packets)))
+                if failing.is_last():
                     break
 
     def test_event_behind_a_put(self) -> None:
         """An event that couldn't be given is given, though others were put since."""
         text = b"x" * 10000
         query = ms.QueryEvent(text, ())
-        for number in range(3):
+        for way, number, by_packets in itertools.product(Failing.WAYS, range(8), (False, True)):
             with ms.Connection.after_login(CAPABILITIES) as it:
                 it.feed(Side.CLIENT, framed(b"\x03" + text))
-                failing = Failing("no memory for bytes" if number else "interrupted", 0)
-                self.assertIsNone(failing.run(it.next_event))
-                self.assertTrue(failing.failed)
-                if number < 2:
-                    it.put(Side.SERVER, OK)
-                else:
+                failing = Failing(way, number)
+                given = failing.run(it.next_event)
+                if by_packets:
                     it.put_packets(Side.SERVER, framed(OK))
-                it.put(Side.CLIENT, Command.query(b"y" * 10000))
-                self.assertEqual(it.next_event(), query)
+                elif it.turn == Side.SERVER:
+                    it.put(Side.SERVER, OK)
+                if it.turn == Side.CLIENT and it.room(Side.CLIENT) and (given or failing.failed):
+                    with contextlib.suppress(ms.MySQLSessionError):
+                        it.put(Side.CLIENT, Command.query(b"y" * 10000))
+                if given is None:
+                    given = it.next_event()
+                self.assertEqual(given, query)
                 self.assertIsNone(it.next_event())
 
     def test_event_behind_the_end(self) -> None:
-        with ms.Connection.after_login(CAPABILITIES) as it:
-            it.feed(Side.CLIENT, framed(b"\x03" + b"x" * 10000))
-            self.assertIsNone(Failing("no memory for bytes", 0).run(it.next_event))
-            self.assertIsNone(Failing("interrupted", 0).run(it.finish))
-            it.finish()
-            self.assertEqual(it.next_event(), ms.QueryEvent(b"x" * 10000, ()))
+        for way, number in itertools.product(Failing.WAYS, range(8)):
+            with ms.Connection.after_login(CAPABILITIES) as it:
+                it.feed(Side.CLIENT, framed(b"\x03" + b"x" * 10000))
+                given = Failing(way, number).run(it.next_event)
+                Failing(way, number).run(it.finish)
+                it.finish()
+                if given is None:
+                    given = it.next_event()
+                self.assertEqual(given, ms.QueryEvent(b"x" * 10000, ()))
 
     def test_event_of_a_closed_connection(self) -> None:
         """Nothing of it is read any more."""
-        with ms.Connection.after_login(CAPABILITIES) as it:
-            it.feed(Side.CLIENT, framed(b"\x03" + b"x" * 10000))
-            self.assertIsNone(Failing("no memory for bytes", 0).run(it.next_event))
-        self.refuses(Code.EMPTY_HANDLE, it.next_event)
+        for way in Failing.WAYS:
+            with ms.Connection.after_login(CAPABILITIES) as it:
+                it.feed(Side.CLIENT, framed(b"\x03" + b"x" * 10000))
+                self.assertIsNone(Failing(way, 1).run(it.next_event))
+            self.refuses(Code.EMPTY_HANDLE, it.next_event)
 
 
 if __name__ == "__main__":

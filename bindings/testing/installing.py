@@ -52,6 +52,58 @@ def shared_object(library):
     compare(sorted(exports), sorted(declared_calls()))
 
 
+# The names that the extension calls of Python, each of the limited interface of 3.8. Later headers
+# declare some under the same macro that 3.8 lacks.
+LIMITED = """
+    PyBool_FromLong PyByteArray_AsString PyByteArray_FromStringAndSize PyByteArray_Resize
+    PyByteArray_Type PyBytes_AsString PyBytes_AsStringAndSize PyBytes_FromObject
+    PyBytes_FromStringAndSize PyBytes_Size PyBytes_Type PyCallable_Check PyCapsule_GetPointer
+    PyCapsule_New PyDict_Clear PyDict_Copy PyDict_DelItem PyDict_GetItemString
+    PyDict_GetItemWithError PyDict_New PyDict_Next PyDict_SetItem PyDict_SetItemString PyErr_CheckSignals PyErr_Clear
+    PyErr_ExceptionMatches PyErr_Fetch PyErr_Format PyErr_NoMemory PyErr_Occurred PyErr_Restore
+    PyErr_SetObject PyErr_SetString PyEval_RestoreThread PyEval_SaveThread PyExc_ArithmeticError
+    PyExc_ImportError PyExc_KeyError PyExc_OverflowError PyExc_RuntimeError PyExc_TypeError
+    PyExc_ValueError PyFloat_AsDouble PyFloat_FromDouble PyImport_ImportModule PyIter_Next
+    PyList_Append PyList_AsTuple PyList_GetItem PyList_GetSlice PyList_New PyList_SetItem
+    PyList_SetSlice PyList_Size PyList_Type PyLong_AsLongLong PyLong_AsLongLongAndOverflow
+    PyLong_AsUnsignedLongLong PyLong_FromLong PyLong_FromLongLong PyLong_FromSize_t
+    PyLong_FromUnsignedLong PyLong_FromUnsignedLongLong PyLong_Type PyMem_Free PyMem_Malloc
+    PyMem_Realloc PyMemoryView_FromObject PyMemoryView_Type PyModuleDef_Init PyModule_GetState
+    PyOS_string_to_double PyObject_Call PyObject_CallFunctionObjArgs PyObject_GC_UnTrack
+    PyObject_GenericSetAttr PyObject_GetAttrString PyObject_GetIter PyObject_IsInstance
+    PyObject_IsTrue PySequence_Concat PySequence_GetItem PySequence_Tuple PyThreadState_GetDict
+    PyTuple_GetItem PyTuple_New PyTuple_SetItem PyTuple_Size PyTuple_Type PyType_FromSpec
+    PyType_GenericAlloc PyType_GetFlags PyType_GetSlot PyType_IsSubtype PyType_Type
+    PyUnicode_AsUTF8String PyUnicode_Decode PyUnicode_DecodeASCII PyUnicode_DecodeUTF8
+    PyUnicode_FromEncodedObject PyUnicode_FromFormat PyUnicode_FromStringAndSize
+    PyUnicode_InternFromString PyUnicode_InternInPlace Py_GetVersion _PyArg_ParseTuple_SizeT
+    _PyObject_CallFunction_SizeT _PyObject_CallMethod_SizeT _Py_BuildValue_SizeT _Py_Dealloc
+    _Py_FalseStruct _Py_NoneStruct _Py_TrueStruct
+"""
+
+
+def extension(library):
+    """The extension shows one name, and calls what each Python from 3.8 on has."""
+    file = os.path.join(library, "_native.abi3.so")
+    shown = [line.split()[-1] for line in run(["nm", "-D", "--defined-only", file]).splitlines()]
+    compare(shown, ["PyInit__native"])
+    called = {line.split()[-1] for line in run(["nm", "-D", "--undefined-only", file]).splitlines()}
+    compare(sorted(it for it in called - set(LIMITED.split()) if it.startswith(("Py", "_Py"))), [])
+
+
+def without_headers(library, room):
+    """Without Python's headers or a compiler, what is lacking is said by its name."""
+    program = ("import make_native, sysconfig, sys; sysconfig.get_path = lambda name: '/nothing'; "
+               "print(make_native.lacking())")
+    how = {"env": python_environment(library), "cwd": room}
+    compare(run(["python3", "-c", program], **how), "there is no /nothing/Python.h, Python's headers: "
+            "apt-get install python3-dev\n")
+    how["env"] = {**how["env"], "CC": "no-such-compiler"}
+    program = "import make_wheel; make_wheel.build_wheel('.')"
+    compare(run(["python3", "-c", program], 1, **how), "there is no C compiler no-such-compiler: "
+            "apt-get install gcc libc6-dev\n")
+
+
 def build_word(library):
     """What the file beside the library says: whether it is proved."""
     with open(os.path.join(library, "mysql_session.build"), encoding="utf-8") as it:
@@ -114,11 +166,13 @@ class Installed:
 
 
 def wheel(library, room):
-    """The wheel has the module and the library, which work without the repository."""
+    """The wheel has the module and its extension, which work without the repository."""
     made = os.path.join(room, "wheel")
     os.makedirs(made)
     program = "import make_wheel, sys; print(make_wheel.build_wheel(sys.argv[1]))"
     name = run(["python3", "-c", program, made], env=python_environment(library)).strip()
+    if not name.endswith("-cp38-abi3-linux_x86_64.whl"):
+        raise Failure(f"its name is {name}")
     with zipfile.ZipFile(os.path.join(made, name)) as it:
         compare(it.testzip(), None)
         it.extractall(made)
@@ -140,6 +194,8 @@ def test_build(report, library, room):
     """Tests what `bindings/build` made, and how it is taken."""
     report.run("libmysql_session.so", shared_object, library)
     report.run("mysql_session.build", build_word, library)
+    report.run("_native.abi3.so", extension, library)
+    report.run("Python without headers or a compiler", without_headers, library, room)
     installed = Installed(library, room)
     if report.run("bindings/build --install", installed.install):
         if has("pkg-config"):

@@ -3,6 +3,7 @@
 import glob
 import os
 import re
+import subprocess
 
 from .support import (BINDINGS, C99, CPP17, Failure, ROOT, archive_in, compare, has,
                       python_environment, run, rust_environment)
@@ -140,6 +141,17 @@ def blocks_of(file):
             if language in ("c", "rust", "python") and kind == "text"]
 
 
+# What a program in C may need of another library.
+OPENSSL = "#include <openssl/sha.h>"
+
+
+def has_header(line):
+    """Whether the compiler finds what a line includes."""
+    ran = subprocess.run([*C99, "-fsyntax-only", "-x", "c", "-"], input=line + "\n", text=True,
+                         stdout=subprocess.DEVNULL, stderr=subprocess.DEVNULL)
+    return ran.returncode == 0
+
+
 class Programs:
     """Runs programs of documents as they stand there, in the repository's folder."""
 
@@ -158,7 +170,8 @@ class Programs:
         """Compiles and runs a program in C."""
         file = self.write("program.c", text)
         made = file + ".out"
-        run([*C99, f"-I{BINDINGS}/c", file, archive_in(self.library), "-o", made])
+        more = ["-lcrypto"] if OPENSSL in text else []
+        run([*C99, f"-I{BINDINGS}/c", file, archive_in(self.library), *more, "-o", made])
         return run([made], cwd=ROOT)
 
     def rust(self, text):
@@ -187,11 +200,15 @@ def test_documents(report, programs):
     documents = [os.path.join(ROOT, "README.md"), os.path.join(BINDINGS, "README.md")]
     documents += sorted(glob.glob(os.path.join(BINDINGS, "*", "README.md")))
     documents += sorted(glob.glob(os.path.join(ROOT, "docs", "EXAMPLES_*.md")))
+    documents.append(os.path.join(ROOT, "docs", "LOGGING_IN.md"))
     words = ["python3", os.path.join(TESTING, "commands.py")]
     report.run("the commands of the documents", run, words)
     for file in documents:
         name, blocks = os.path.relpath(file, ROOT), blocks_of(file)
         for number, block in enumerate(blocks):
+            if OPENSSL in block[1] and not has_header(OPENSSL):
+                print(f"left out: {name}, program {number} (apt-get install libssl-dev)", flush=True)
+                continue
             report.run(f"{name}, program {number} ({block[0]})", programs.test, *block)
         lacking = {"c", "rust", "python"} - {it[0] for it in blocks}
         if file == documents[0]:

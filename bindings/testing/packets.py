@@ -38,6 +38,7 @@ whole and byte by byte, where the same event has to come with its last byte and 
 each of its fronts is put, framed as if it were whole.
 """
 
+import datetime
 import functools
 import os
 import re
@@ -256,10 +257,15 @@ def column_of(kind):
 
 def fields_in(value):
     """A value as it was given: a date or a duration by its fields."""
-    if isinstance(value, ms.datetime.date):
-        return ms._date_fields(value)
-    if isinstance(value, ms.datetime.timedelta):
-        return ms._time_fields(value)
+    if isinstance(value, datetime.datetime):
+        return ms.DateFields(*value.timetuple()[:6], value.microsecond)
+    if isinstance(value, datetime.date):
+        return ms.DateFields(value.year, value.month, value.day)
+    if isinstance(value, datetime.timedelta):
+        is_negative = value < datetime.timedelta(0)
+        length = -value if is_negative else value
+        return ms.TimeFields(is_negative, length.days, length.seconds // 3600,
+                             length.seconds // 60 % 60, length.seconds % 60, length.microseconds)
     return value
 
 

@@ -56,8 +56,7 @@ def same(what, found, wanted):
 
 def standing(connection):
     """Returns how a connection stands, as a tuple."""
-    shown = connection._standing()
-    return tuple(getattr(shown, name) for name, _ in shown._fields_)
+    return tuple(connection._standing())
 
 
 def statements(connection):

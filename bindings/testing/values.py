@@ -7,7 +7,11 @@ what its rows are.
 """
 
 import ctypes
+import datetime
+import enum
+import math
 import os
+import struct
 import sys
 
 sys.path.insert(0, os.path.join(os.path.dirname(os.path.dirname(os.path.abspath(__file__))),
@@ -16,8 +20,8 @@ sys.dont_write_bytecode = True
 
 from mysql_session import (Code, Column, ColumnType, DateFields, EndKind, Mode, MySQLSessionError,
                            PacketReader, Receiver, ReplyKind, ReplyReader, ReplyWriter, Road,
-                           Spelling, TimeFields, _calls, _Kind, _Value, bind_text,
-                           is_safe_to_quote, literal, positional, put_packet, send)
+                           Spelling, TimeFields, bind_text, is_safe_to_quote, literal, positional,
+                           put_packet, send)
 from rows import Field, Report, compare, refusal, rows_of, words_for
 from streams import framed, pieces_of
 
@@ -33,6 +37,93 @@ def code_of(call, *given, **named):
     """The code by which a call is refused; OK where it isn't."""
     error = refusal(call, *given, **named)
     return error.code if error else Code.OK
+
+
+# ---- Cells as the library shows them ------------------------------------------------------------
+
+
+class _Kind(enum.IntEnum):
+    """Kinds of values, as mysql_session_kind and mysql_session_value_kind have them."""
+
+    NULL = 0
+    INT = 1
+    UINT = 2
+    BYTES = 3
+    FLOAT = 4
+    DOUBLE = 5
+    DATE = 6
+    TIME = 7
+
+
+class _Value(ctypes.Structure):
+    """A value, as mysql_session_value has it."""
+
+    _fields_ = [("kind", ctypes.c_uint32), ("negative", ctypes.c_bool),
+                *((it, ctypes.c_uint8) for it in ("month", "day", "hour", "minute", "second")),
+                ("year", ctypes.c_uint16), ("days", ctypes.c_uint32), ("micros", ctypes.c_uint32),
+                ("int_value", ctypes.c_int64), ("uint_value", ctypes.c_uint64),
+                ("bytes", ctypes.c_void_p), ("len", ctypes.c_size_t)]
+
+
+class Raw:
+    """The cells of the only row of a reply, by the shared object itself."""
+
+    def __init__(self):
+        folder = os.environ.get("MYSQL_SESSION_LIBRARY") or os.path.join(
+            os.path.dirname(os.path.dirname(os.path.abspath(__file__))), "out")
+        self.library = ctypes.CDLL(os.path.join(folder, "libmysql_session.so"))
+        self.library.mysql_session_free.restype = None
+
+    def call(self, name, *given):
+        """Makes a call that has to be done."""
+        compare(getattr(self.library, "mysql_session_" + name)(*given), 0, name)
+
+    def cells(self, reply_kind, reply, count):
+        """The cells, and the reply is freed behind them."""
+        at, cell = ctypes.c_void_p(), _Value()
+        handle = ctypes.byref(at)
+        try:
+            self.call("reply_new", handle, int(reply_kind), CAPABILITIES, 1, ctypes.c_size_t(1 << 24))
+            self.call("reply_feed", handle, reply, ctypes.c_size_t(len(reply)))
+            self.call("reply_take", handle)
+            for place in range(count):
+                places = (ctypes.c_size_t(it) for it in (0, 0, place))
+                self.call("reply_cell", handle, *places, ctypes.byref(cell))
+                yield shown(cell)
+        finally:
+            self.library.mysql_session_free(handle)
+
+
+RAW = Raw()
+
+
+def fields_in(cell):
+    """The fields of a date or a duration that the module gives."""
+    if isinstance(cell, datetime.datetime):
+        return (cell.year, cell.month, cell.day, cell.hour, cell.minute, cell.second,
+                cell.microsecond)
+    if isinstance(cell, datetime.date):
+        return cell.year, cell.month, cell.day, 0, 0, 0, 0
+    if isinstance(cell, datetime.timedelta):
+        is_negative = cell < datetime.timedelta(0)
+        length = -cell if is_negative else cell
+        return (is_negative, length.days, length.seconds // 3600, length.seconds // 60 % 60,
+                length.seconds % 60, length.microseconds)
+    return tuple(cell)
+
+
+def is_given_as(value, cell):
+    """Whether the module gives a value so."""
+    kind, *given = value
+    if kind == _Kind.NULL:
+        return cell is None
+    if kind in (_Kind.DATE, _Kind.TIME):
+        return fields_in(cell) == tuple(given)
+    if kind in (_Kind.FLOAT, _Kind.DOUBLE):
+        words, numbers = ("<I", "<f") if kind == _Kind.FLOAT else ("<Q", "<d")
+        number = struct.unpack(numbers, struct.pack(words, given[0]))[0]
+        return type(cell) is float and (cell == number or math.isnan(cell) and math.isnan(number))
+    return cell == given[0]
 
 
 # ---- Fields -----------------------------------------------------------------------------------
@@ -164,10 +255,10 @@ def cells_in(reply_kind, kinds, row):
         if code:
             return code
         compare(reader.end().kind, EndKind.WHOLE, "the reply ends")
-        cell, found = _Value(), []
-        for place in range(len(kinds)):
-            _calls["reply_cell"](reader._at, 0, 0, place, ctypes.byref(cell))
-            found.append(shown(cell))
+        [rows] = reader.take()
+        found = list(RAW.cells(reply_kind, reply_of(kinds, row), len(kinds)))
+        given = [is_given_as(*it) for it in zip(found, rows.rows[0])]
+        compare(given, [True] * len(kinds), f"{rows.rows[0]} for {found}")
         return found
 
 

@@ -2,10 +2,10 @@
 
 from __future__ import annotations
 
-import hashlib
 import os
 import socket
 import sys
+from hashlib import sha1, sha256
 from typing import Iterable, Iterator, List, Optional, Sequence, Tuple, Union
 
 sys.path.insert(0, os.path.join(os.path.dirname(os.path.abspath(__file__)), os.pardir))
@@ -23,7 +23,11 @@ CAPABILITIES = int(
     | Capability.SECURE_CONNECTION | Capability.MULTI_RESULTS | Capability.PS_MULTI_RESULTS
     | Capability.PLUGIN_AUTH | Capability.DEPRECATE_EOF | Capability.CONNECT_WITH_DB)
 
+# What is answered first where the server names a plugin that isn't known here.
 NATIVE = b"mysql_native_password"
+
+# What a server of caching_sha2_password says where it wants the password itself.
+FULL = b"\x04"
 
 Result = Union[ms.Ok, ms.Rows, ms.Prepared, ms.ServerError]
 
@@ -43,14 +47,21 @@ class Gone(Exception):
     """The server has closed the connection, or said its last words."""
 
 
-def native_answer(password: str, scramble: bytes) -> bytes:
-    """What proves a password by mysql_native_password: SHA1(password) with
-    SHA1(scramble + SHA1(SHA1(password))) over it, bit by bit; of no password no bytes."""
-    if not password:
-        return b""
-    hashed = hashlib.sha1(password.encode()).digest()
-    over = hashlib.sha1(scramble + hashlib.sha1(hashed).digest()).digest()
-    return bytes(one ^ other for one, other in zip(hashed, over))
+def native(password: bytes, scramble: bytes) -> bytes:
+    """What proves a password by mysql_native_password."""
+    once = sha1(password).digest()
+    mask = sha1(scramble + sha1(once).digest()).digest()
+    return bytes(one ^ other for one, other in zip(once, mask))
+
+
+def caching(password: bytes, scramble: bytes) -> bytes:
+    """The same by caching_sha2_password."""
+    once = sha256(password).digest()
+    mask = sha256(sha256(once).digest() + scramble).digest()
+    return bytes(one ^ other for one, other in zip(once, mask))
+
+
+PLUGINS = {NATIVE: native, b"caching_sha2_password": caching}
 
 
 class Results:
@@ -99,7 +110,6 @@ class Client:
         self._stream = stream
         self._limit = limit
         self.connection = ms.Connection(client=limit, server=limit, held=4 * limit)
-        self.greeting: Optional[ms.Greeting] = None
 
     def __enter__(self) -> Client:
         return self
@@ -119,25 +129,37 @@ class Client:
 
     def log_in(self, user: str, password: str = "", database: str = "",
                capabilities: int = CAPABILITIES, mariadb_capabilities: int = MARIADB_BULK) -> None:
-        """Logs in by mysql_native_password, with those of the capabilities that the server has.
+        """Logs in by mysql_native_password or caching_sha2_password, with those of the capabilities
+        that the server has.
 
         Raises Refused where the server refuses, PermissionError where it asks for another plugin
-        and there is a password.
+        and there is a password, or for the password itself, which needs TLS or its key.
         """
         greeting = self._greeted()
-        scramble = (greeting.scramble_1 + greeting.scramble_2).rstrip(b"\0")
+        plugin = greeting.plugin if greeting.plugin in PLUGINS else NATIVE
         # A server of MySQL has none of MariaDB's own.
         self._put(ms.put_login(
-            user, capabilities & greeting.capabilities, native_answer(password, scramble), database,
-            NATIVE, mariadb_capabilities & greeting.mariadb_capabilities, self._limit))
+            user, capabilities & greeting.capabilities,
+            self._response(plugin, password, greeting.scramble), database, plugin,
+            mariadb_capabilities & greeting.mariadb_capabilities, self._limit))
         while self.connection.phase not in (ms.Phase.COMMAND, ms.Phase.OVER):
             event = self._next()
             if isinstance(event, ms.AuthSwitchEvent):
-                if password and event.plugin != NATIVE:
-                    raise PermissionError(f"the server asks for {event.plugin.decode()}")
-                self._put(native_answer(password, event.data.rstrip(b"\0")))
+                self._put(self._response(event.plugin, password, event.data))
+            elif isinstance(event, ms.AuthMoreEvent) and event.data == FULL:
+                raise PermissionError("the server wants the password itself, over TLS or by its key")
             elif isinstance(event, ms.DeniedEvent):
                 raise Refused(ms.ServerError(event.code, event.state, event.message))
+
+    @staticmethod
+    def _response(plugin: bytes, password: str, scramble: bytes) -> bytes:
+        """What proves a password by a plugin; of no password no bytes."""
+        if not password:
+            return b""
+        if plugin not in PLUGINS:
+            raise PermissionError(f"the server asks for {plugin.decode()}")
+        # A zero may stand behind the 20 bytes.
+        return PLUGINS[plugin](password.encode(), scramble[:20])
 
     def ask(self, payload: bytes) -> Iterator[ms.Event]:
         """Sends a command; the events of its reply as they come, to its end."""
@@ -194,18 +216,13 @@ class Client:
             self._put(piece)
         self._put(b"")
 
-    def _greeted(self) -> ms.Greeting:
+    def _greeted(self) -> ms.GreetingEvent:
         """The server's greeting, which comes first."""
-        front = b""
-        event = None
-        while event is None:
-            piece = self._received()
-            front += piece
-            event = next(self.connection.feed(Side.SERVER, piece), None)
+        event = self._next()
         if isinstance(event, ms.RejectedEvent):
             raise Refused(ms.ServerError(event.code, event.state, event.message))
-        self.greeting = ms.read_greeting(front[4:4 + int.from_bytes(front[:3], "little")])
-        return self.greeting
+        assert isinstance(event, ms.GreetingEvent)
+        return event
 
     def _put(self, payload: bytes) -> None:
         """Sends a payload."""

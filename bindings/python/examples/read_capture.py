@@ -4,15 +4,24 @@
     read_capture.py file.pcap
     tcpdump -i lo -U -w - port 3306 | read_capture.py -
 
-A line for each packet of a connection, as soon as it stands whole: when its last byte was captured,
-the connection's number, whose it is, and what it says; and for each connection that has ended a
-line that sums it up. With --lines events are printed as the library writes them, with bytes in
-hexadecimal.
+A line for each packet of a connection, as soon as it is whole. It has when its last byte was
+captured, the connection's number, whose it is, and what it says. For each connection that has ended
+there is a line that sums it up. With --lines events are printed as the library writes them, with
+bytes in hexadecimal.
 
 Segments that come twice or in another order are put in order. Where bytes are missing in the
 capture, the connection is read up to there. Which end is the server is told by --port, else by who
-opened the connection, else by who greets. A connection whose greeting wasn't captured can't be
-read; one whose server doesn't greet as a MySQL server does is left out.
+opened the connection, else by who greets. One whose server doesn't greet as a MySQL server does is
+left out.
+
+A connection whose greeting wasn't captured, as of a pool, is read from its first command on.
+--capabilities has those that both of its sides have, as a hexadecimal word, and --port the server.
+By --lines the greeting and the login of another connection of that client tell them: the bits that
+both have. MariaDB's own stand behind a comma. Statements that were prepared before the capture
+aren't known: their executions are Other.
+
+With --save the bytes of each connection go to NUMBER.client and NUMBER.server in a folder, as replays
+and other examples take them.
 
 The status is 0 where all connections were read to their ends, 1 where not, and 2 where the file
 can't be read as a capture.
@@ -25,7 +34,7 @@ import dataclasses
 import datetime
 import os
 import sys
-from typing import BinaryIO, Dict, Iterator, List, Optional, Sequence
+from typing import BinaryIO, Dict, Iterator, List, Optional, Sequence, Tuple
 
 from captures import SECOND, CaptureError, Skipped, segments
 from streams import Connection, Connections, Piece
@@ -39,13 +48,16 @@ FRONT = 1 << 16
 
 GREETING, ERROR = 0x0A, 0xFF
 
+# The last number of a command, and that of a bulk execution.
+LAST_COMMAND, BULK = 0x20, 0xFA
+
 # What a client says that is no command.
 NO_COMMANDS = (ms.SecureRequestEvent, ms.LoginEvent, ms.CutOffLoginEvent, ms.AnswerEvent,
                ms.FileDataEvent)
 
 # Fields that aren't printed but with --lines.
 HIDDEN = ("capabilities", "mariadb_capabilities", "collation", "max_packet_size", "response",
-          "status", "state_changes", "columns_follow")
+          "scramble", "status", "state_changes", "columns_follow")
 
 
 def greets(front: bytes) -> bool:
@@ -61,8 +73,40 @@ def shown_time(time: int) -> str:
     return f"{moment:%Y-%m-%dT%H:%M:%S}.{rest // 1000:06}Z"
 
 
+def begins_command(front: bytes) -> bool:
+    """Whether bytes begin as a command does."""
+    return len(front) > 4 and front[3] == 0 and any(front[:3]) and (
+        0 < front[4] <= LAST_COMMAND or front[4] == BULK)
+
+
+def shown_duration(negative: bool, seconds: int, micros: int) -> str:
+    """A duration as a server's own client shows it."""
+    minutes, rest = divmod(seconds, 60)
+    sign, fraction = "-" * negative, f".{micros:06}" * bool(micros)
+    return f"{sign}{minutes // 60:02}:{minutes % 60:02}:{rest:02}{fraction}"
+
+
+def shown_moment(it: ms.DateFields) -> str:
+    """A date as a server's own client shows it."""
+    fraction = f".{it.microsecond:06}" * bool(it.microsecond)
+    time = f" {it.hour:02}:{it.minute:02}:{it.second:02}{fraction}"
+    return f"{it.year:04}-{it.month:02}-{it.day:02}" + time * any(it[3:])
+
+
 def shown(value: object) -> str:
-    """A field of an event."""
+    """A field of an event. NULL, dates and durations are as a server's own client shows them."""
+    if value is None:
+        return "NULL"
+    if isinstance(value, ms.DateFields):
+        return shown_moment(value)
+    if isinstance(value, ms.TimeFields):
+        hours = 24 * value.days + value.hours
+        return shown_duration(value.negative, 3600 * hours + 60 * value.minutes + value.seconds,
+                              value.microseconds)
+    if isinstance(value, datetime.timedelta):
+        length = abs(value)
+        return shown_duration(value < datetime.timedelta(0), 86400 * length.days + length.seconds,
+                              length.microseconds)
     if isinstance(value, bytes):
         try:
             return repr(value.decode())
@@ -112,8 +156,11 @@ class Server:
 class Reading:
     """A connection of a capture, as far as it is read."""
 
-    def __init__(self, of: Connection, ports: Sequence[int]) -> None:
+    def __init__(self, of: Connection, ports: Sequence[int],
+                 capabilities: Optional[Tuple[int, int]], folder: Optional[str]) -> None:
         self.of = of
+        self._capabilities, self._folder = capabilities, folder
+        self._files: Dict[ms.Side, BinaryIO] = {}
         self.why: Optional[str] = None  # why it isn't read any further
         self.user, self.commands, self.rows, self.errors = b"", 0, 0, 0
         self.last = of.began            # when its last piece was captured
@@ -136,18 +183,41 @@ class Reading:
             greeted = self._server.look(piece)
             if greeted is None:
                 return
-            if not greeted:
-                self.why = "its greeting wasn't captured"
+            self.machine = ms.Connection() if greeted else self._within()
+            if self.machine is None:
                 return
-            self.machine = ms.Connection()
         pieces, self._early = self._early or [piece], []
         for it in pieces:
             yield from self._feed(self.machine, it)
+
+    def _within(self) -> Optional[ms.Connection]:
+        """What reads it from a command on; what came before the first one is let go."""
+        if self._capabilities is None or self._server.end is None:
+            self.why = "its greeting wasn't captured"
+            return None
+        while self._early and (self._early[0].sender == self._server.end
+                               or not begins_command(self._early[0].data)):
+            del self._early[0]
+        return ms.Connection.after_login(*self._capabilities) if self._early else None
+
+    def _save(self, side: ms.Side, data: bytes) -> None:
+        """Writes the next bytes of a side to its file."""
+        if self._folder is not None:
+            if side not in self._files:
+                name = f"{self.of.number}.{side.name.lower()}"
+                self._files[side] = open(os.path.join(self._folder, name), "wb")
+            self._files[side].write(data)
+
+    def close(self) -> None:
+        """Ends the files."""
+        for file in self._files.values():
+            file.close()
 
     def _feed(self, machine: ms.Connection, piece: Piece) -> Iterator[ms.Event]:
         """Feeds the machine bytes of an end, or that it has ended."""
         side = ms.Side.SERVER if piece.sender == self._server.end else ms.Side.CLIENT
         data = piece.data
+        self._save(side, data)
         try:
             while data and machine.phase is not ms.Phase.OVER:
                 room = machine.room(side)
@@ -210,8 +280,10 @@ class Reading:
 class Reader:
     """Reads a capture, and prints what is in it."""
 
-    def __init__(self, ports: Sequence[int], lines: bool) -> None:
+    def __init__(self, ports: Sequence[int], lines: bool, capabilities: Optional[Tuple[int, int]],
+                 folder: Optional[str]) -> None:
         self._ports, self._lines = ports, lines
+        self._capabilities, self._folder = capabilities, folder
         self._readings: Dict[int, Reading] = {}
         self._others = 0
         self.whole = True
@@ -232,7 +304,8 @@ class Reader:
         """Prints the events that stand whole by the next bytes of an end."""
         number = piece.connection.number
         if number not in self._readings:
-            self._readings[number] = Reading(piece.connection, self._ports)
+            self._readings[number] = Reading(piece.connection, self._ports, self._capabilities,
+                                             self._folder)
         reading = self._readings[number]
         for event in reading.take(piece):
             line = reading.line() if self._lines else shown_event(event)
@@ -243,6 +316,7 @@ class Reader:
     def _end(self, reading: Reading) -> None:
         """Prints how a connection stands that has ended, or with which the capture ends."""
         del self._readings[reading.of.number]
+        reading.close()
         if not reading.is_ours:
             self._others += 1
             return
@@ -261,6 +335,12 @@ class Reader:
             print("not read: " + ", ".join(told))
 
 
+def capability_words(text: str) -> Tuple[int, int]:
+    """Capabilities, and behind a comma MariaDB's own, as hexadecimal words."""
+    word, _, own = text.partition(",")
+    return int(word, 16), int(own or "0", 16)
+
+
 def options() -> argparse.Namespace:
     """What the command line says."""
     parser = argparse.ArgumentParser(description="Reads the MySQL connections of a capture file.")
@@ -269,13 +349,18 @@ def options() -> argparse.Namespace:
                         help="a port of servers; without any, servers are known by their greeting")
     parser.add_argument("--lines", action="store_true",
                         help="events as the library writes them, with bytes in hexadecimal")
+    parser.add_argument("--capabilities", metavar="WORD[,WORD]", type=capability_words,
+                        help="of connections whose greeting wasn't captured: those of both sides")
+    parser.add_argument("--save", metavar="FOLDER", help="where the bytes of connections go")
     return parser.parse_args()
 
 
 def main() -> int:
     given = options()
-    reader = Reader(given.port, given.lines)
+    reader = Reader(given.port, given.lines, given.capabilities, given.save)
     try:
+        if given.save:
+            os.makedirs(given.save, exist_ok=True)
         if given.capture == "-":
             reader.read(sys.stdin.buffer)
         else:

@@ -10,8 +10,8 @@ is printed, and how the recorded stream ends.
 By text, values are literals. They are written for the server's SQL mode, as its status tells it at
 the login and behind each command; the connection is in UTF-8. Where the server that the stream was
 recorded at had NO_BACKSLASH_ESCAPES or ANSI_QUOTES in its SQL mode, --recorded-mode says so: texts
-are read by it. A MariaDB that itself has ANSI_QUOTES can't be replayed to: its status has a bit
-without a name in the protocol then, by which the library refuses its greeting and its answers.
+are read by it. A MariaDB that itself has ANSI_QUOTES can't be replayed to. Its status then has a bit
+without a name in the protocol, by which the library refuses its greeting and its answers.
 
 The status is 0 where the stream is whole and the server answered no error, 1 where not, and 2 where
 the replay itself failed.

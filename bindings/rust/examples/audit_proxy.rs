@@ -1,24 +1,24 @@
-//! An auditing proxy for whole connections: it stands between clients and a server, and prints a
-//! line for each login and for each command, once the server's reply is whole.
+//! An auditing proxy for whole connections. It is between clients and a server, and prints a line
+//! for each login. It prints a line for each command, once the server's reply is whole.
 //!
 //! ```text
 //! audit_proxy LISTEN UPSTREAM [--json] [--on-fault pass|cut] [--pass-first] [--plain]
 //!             [--longest BYTES] [--held BYTES]
 //! ```
 //!
-//! - A line has the time, the connection's number, its user and database, what was asked, with the
-//!   values of an execution, each result of the reply, and how long that took from the command's
-//!   last byte to the reply's. With `--json` it is an object of JSON.
-//! - Bytes are passed on unchanged, and only once they were read: a packet whole, a command that a
-//!   client sends ahead only once the reply to the one before it is whole. With `--pass-first` they
-//!   are passed on as they come, and read then. Where there is no room for more of a side, no more
-//!   is taken from its socket.
-//! - What can't be read, a fault, TLS, compression or a binary log, is told, and the connection is
-//!   passed on without being read from there on; with `--on-fault cut` it is ended.
-//! - With `--plain` TLS and compression are taken out of what the server offers: so no connection
-//!   goes over to them, and a client that insists on one is refused by itself.
-//! - `--longest` is the longest payload of either side, and `--held` how much is held of a
-//!   connection in all: four times that, where it isn't told.
+//! - A line has the time, the connection's number, its user and database, and what was asked, with
+//!   the values of an execution. Then it has each result of the reply, and how long that took from
+//!   the command's last byte to the reply's. With `--json` it is an object of JSON.
+//! - Bytes are passed on unchanged, and only once they were read. That is a whole packet, or a
+//!   command that a client sends ahead once the reply to the one before it is whole. With
+//!   `--pass-first` they are passed on as they come, and read then. Where there is no room for more
+//!   of a side, no more is taken from its socket.
+//! - What can't be read is told: a fault, TLS, compression or a binary log. The connection is
+//!   passed on without being read from there on. With `--on-fault cut` it is ended.
+//! - With `--plain` TLS and compression are taken out of what the server offers. So no connection
+//!   goes over to them, and a client that insists on one ends by itself.
+//! - `--longest` is the longest payload of either side. `--held` is how much is held of a
+//!   connection in all, by default four times that.
 
 #[path = "audit_proxy/audit.rs"]
 mod audit;

@@ -9,30 +9,29 @@
 //! all else is a text. Of rows the cells are printed with tabs between them, below the names of
 //! their columns.
 //!
-//! The user logs in by mysql_native_password. The environment variable MYSQL_PASSWORD_SHA1 has the
-//! digest of the password by SHA-1, as 40 hexadecimal digits; without it the password is empty.
+//! The user logs in by mysql_native_password or caching_sha2_password. The environment variable
+//! MYSQL_PASSWORD has the password; or MYSQL_PASSWORD_SHA1 its digest by SHA-1, as 40 hexadecimal
+//! digits, for the first plugin alone. Without both the password is empty. By caching_sha2_password the
+//! server may want the password itself, which needs TLS or its key, and isn't sent here.
 //! The status is 0 where the server answered no error, 1 where it did or the connection failed, and
 //! 2 where the words are wrong.
 
 #[path = "blocking_client/client.rs"]
 mod client;
-#[path = "blocking_client/native_password.rs"]
-mod native_password;
+#[path = "blocking_client/passwords.rs"]
+mod passwords;
 
 use client::{text_of, Account, Client, Failure, LIMIT};
 use mysql_session::{
     capability, command, executions, Capabilities, Event, OkPacket, ParameterSets, Value,
 };
-use native_password::digest_of;
+use passwords::Secret;
 use std::env;
 use std::io::{self, Write};
 use std::process::ExitCode;
 
 const USAGE: &str =
     "usage: blocking_client ADDRESS USER DATABASE QUERY [VALUE .. [-- VALUE ..] ..]";
-
-/// The environment variable that has the digest of the password.
-const VARIABLE: &str = "MYSQL_PASSWORD_SHA1";
 
 /// What this client has. It is no MariaDB, whose own capabilities it doesn't need.
 const CAPABILITIES: Capabilities = Capabilities {
@@ -71,13 +70,9 @@ fn run(
     query: &[u8],
     values: &[String],
 ) -> Result<bool, Failure> {
-    let password = match env::var(VARIABLE) {
-        Ok(digits) => Some(digest_of(&digits).ok_or("the password's digest isn't of 40 digits")?),
-        Err(_) => None,
-    };
     let account = Account {
         user: user.as_bytes(),
-        password,
+        password: Secret::of_environment()?,
         database: database.as_bytes(),
         capabilities: CAPABILITIES,
     };

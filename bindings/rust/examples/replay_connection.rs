@@ -1,4 +1,4 @@
-//! Puts the commands of a recorded connection on a live one to another server, and prints where the
+//! Puts the commands of a recorded connection on a live one to another server. It prints where the
 //! replies differ: in errors, in counts of rows, in statements.
 //!
 //! ```text
@@ -6,17 +6,17 @@
 //! ```
 //!
 //! CLIENT and SERVER are files with all bytes that the two sides sent, from the server's greeting
-//! on. The user logs in by mysql_native_password with the capabilities that were in force and that
-//! this server offers, and takes the database that the recorded client named, or another one; the
-//! digest of the password is that of MYSQL_PASSWORD_SHA1, as blocking_client has it.
+//! on. The user logs in with the capabilities that were in force and that this server offers. The
+//! user takes the database that the recorded client named, or another one. The password is that of
+//! MYSQL_PASSWORD or MYSQL_PASSWORD_SHA1, as blocking_client has it.
 //!
 //! - Commands are put one by one, each behind the whole reply to the one before it. A statement
 //!   gets the id that this server gave it. Bytes of files are those of the recording. Where this
 //!   server has no query attributes, they are left out.
-//! - A change of user is left out, as its password isn't known, and so are commands that end servers
+//! - A change of user is left out, as its password isn't known. So are commands that end servers
 //!   and connections, and those by which a server sends its binary log, a table or itself.
-//! - Texts are put as they are: by a server in another SQL mode, and in another character set than
-//!   utf8mb4, they are read as that server reads them.
+//! - Texts are put as they are. A server in another SQL mode, or with another character set than
+//!   utf8mb4, reads them in its way.
 //!
 //! The status is 0 where all replies are alike, 1 where some differ, and 2 where the replay failed.
 
@@ -25,15 +25,15 @@
 mod client;
 #[path = "replay_connection/execution.rs"]
 mod execution;
-#[path = "blocking_client/native_password.rs"]
-mod native_password;
+#[path = "blocking_client/passwords.rs"]
+mod passwords;
 #[path = "replay_connection/recording.rs"]
 mod recording;
 #[path = "replay_connection/reply.rs"]
 mod reply;
 
 use client::{Account, Client, Failure};
-use native_password::digest_of;
+use passwords::Secret;
 use recording::{Command, Recording};
 use reply::Reply;
 use std::collections::HashMap;
@@ -42,9 +42,6 @@ use std::fs;
 use std::process::ExitCode;
 
 const USAGE: &str = "usage: replay_connection CLIENT SERVER ADDRESS USER [--database NAME]";
-
-/// The environment variable that has the digest of the password.
-const VARIABLE: &str = "MYSQL_PASSWORD_SHA1";
 
 /// The id that stands for the statement that was prepared last, at a MariaDB.
 const LAST: u32 = u32::MAX;
@@ -94,13 +91,9 @@ fn run(
         println!("no command was recorded: {}", recording.end);
         return Ok(true);
     }
-    let password = match env::var(VARIABLE) {
-        Ok(digits) => Some(digest_of(&digits).ok_or("the password's digest isn't of 40 digits")?),
-        Err(_) => None,
-    };
     let account = Account {
         user: user.as_bytes(),
-        password,
+        password: Secret::of_environment()?,
         database: database.map_or(&recording.database, |name| name.as_bytes()),
         capabilities: recording.capabilities,
     };

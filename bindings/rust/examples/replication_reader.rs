@@ -6,12 +6,12 @@
 //!
 //! The user has an empty password, of the plugin mysql_native_password: the response to the
 //! server's greeting is empty then, as this library has no hashes. The log is read from its first
-//! file on, or from a position in a file, or behind a position of MariaDB's global transaction
-//! identifiers, as `0-1-42`. It is read to its end, or until N events were printed.
+//! file on, or from a position in a file. Or it is read behind a position of MariaDB's global
+//! transaction identifiers, as `0-1-42`. It is read to its end, or until N events were printed.
 //!
 //! Variables are set by texts, whose literals are for the server's mode: OK packets tell whether
-//! its SQL mode has NO_BACKSLASH_ESCAPES. A MariaDB whose SQL mode has ANSI_QUOTES can't be read:
-//! its status then has a bit without a name in the protocol, by which the library refuses the
+//! its SQL mode has NO_BACKSLASH_ESCAPES. A MariaDB whose SQL mode has ANSI_QUOTES can't be read.
+//! Its status then has a bit without a name in the protocol, by which the library refuses the
 //! greeting and each OK packet.
 
 mod common;

@@ -3,6 +3,7 @@
 use crate::codes::{certain, Error};
 use crate::handle::Handle;
 use crate::raw;
+use crate::readable::Readable;
 use std::fmt;
 use std::ops::Deref;
 
@@ -79,7 +80,7 @@ impl fmt::Debug for Bytes {
     fn fmt(&self, formatter: &mut fmt::Formatter<'_>) -> fmt::Result {
         formatter
             .debug_tuple("Bytes")
-            .field(&self.as_slice())
+            .field(&Readable(self.as_slice()))
             .finish()
     }
 }

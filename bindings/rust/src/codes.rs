@@ -228,8 +228,8 @@ pub(crate) fn answer(number: u32) -> Result<(), Code> {
     }
 }
 
-/// The same of a call that has no other answer than OK, by the kind of the object and by numbers
-/// that were looked up before.
+/// The same of a call that has no other answer than OK. It goes by the kind of the object and by
+/// numbers that were looked up before.
 pub(crate) fn certain(number: u32) {
     if let Err(code) = answer(number) {
         panic!("the library answers {}: {code}", code.number());

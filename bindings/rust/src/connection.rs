@@ -53,8 +53,8 @@ pub struct Limits {
     pub client: usize,
     /// The longest payload of the server.
     pub server: usize,
-    /// All that is held: of each side as much waits unread as its longest payload takes with its
-    /// headers; what this leaves beside both is for what is kept of statements, columns and long
+    /// All that is held. Of each side as much waits unread as its longest payload takes with its
+    /// headers. What this leaves beside both is for what is kept of statements, columns and long
     /// data. Where nothing is left, no statement is prepared and no column is read:
     /// [`Code::CONNECTION_KEPT`].
     pub held: usize,
@@ -221,7 +221,7 @@ pub struct Statement<'a> {
 /// A connection's handle.
 ///
 /// Each call of the library takes the connection out of it and puts it back, also one that only
-/// looks at it: so a shared handle is one that changes, and it isn't `Sync`.
+/// looks at it. So a shared handle is one that changes, and it isn't `Sync`.
 #[derive(Debug)]
 pub(crate) struct ConnectionHandle(UnsafeCell<raw::Connection>);
 
@@ -253,10 +253,10 @@ impl Drop for ConnectionHandle {
     }
 }
 
-/// Reads a whole connection: it is fed the bytes of both sides, in any pieces and order, and tells
-/// what was said, each payload as one event.
+/// Reads a whole connection. It is fed the bytes of both sides, in any pieces and order, and tells
+/// each payload as one event.
 ///
-/// Each payload is due of one side, so that what comes of the other waits until its turn: the
+/// In each state one side's payload is due. What comes of the other waits until its turn, so the
 /// events don't depend on how the bytes arrive. The payload that is due may also be put: so the
 /// same connection is a client's, a server's, or that of a proxy between them.
 ///
@@ -293,7 +293,8 @@ pub struct Connection {
     shown: Shown,
 }
 
-/// An event as the library shows it. Its pointers are good as long as the connection doesn't change.
+/// An event as the library shows it. Its pointers are good as long as the connection doesn't
+/// change.
 struct Shown(raw::Event);
 
 // SAFETY: the pointers are to what the connection holds, with which they are kept.
@@ -323,7 +324,7 @@ impl Connection {
         Ok(Connection::of(handle))
     }
 
-    /// A connection behind a login that was made elsewhere, as by TLS or by a pool: a command is
+    /// A connection behind a login that was made elsewhere, as by TLS or by a pool. A command is
     /// due, and these capabilities are in force, which both sides have.
     ///
     /// ```
@@ -365,12 +366,13 @@ impl Connection {
         }
     }
 
-    /// Takes a piece of a side's stream, whole; nothing of it is read yet.
+    /// Takes a piece of a side's stream, whole; nothing of it is read yet. A piece has at most
+    /// [`Connection::room`] bytes. Behind a fault bytes are taken too, and never read.
     ///
     /// # Errors
-    /// [`Code::CONNECTION_CLOSED`]; [`Code::CONNECTION_HELD`] where more of the side would wait
-    /// unread than its longest payload takes: take events first, or feed the side whose turn it is;
-    /// [`Code::MEMORY`]. Nothing of the piece is taken then.
+    /// [`Code::CONNECTION_CLOSED`], [`Code::CONNECTION_HELD`] or [`Code::MEMORY`]. Nothing of the
+    /// piece is taken then. [`Code::CONNECTION_HELD`] says that more of the side would wait unread
+    /// than its longest payload takes. Take events first, or feed the side whose turn it is.
     pub fn feed(&mut self, side: Side, piece: &[u8]) -> Result<(), Error> {
         self.forget();
         // SAFETY: "Handles": by `ConnectionHandle::get`; "Bytes go in": the piece is a slice.
@@ -410,7 +412,7 @@ impl Connection {
     /// third connection that is fed both streams tells the same events, in whatever pieces they
     /// come. A server's last words, which answer nothing, can't be put so.
     ///
-    /// No command is refused for its layout: one that is laid out as none, as an execution of a
+    /// No command is refused for its layout. One that is laid out as none, as an execution of a
     /// statement that isn't known, is put, and the answer is [`Event::Other`]. A server answers it
     /// by an error.
     ///
@@ -433,11 +435,16 @@ impl Connection {
     /// ```
     ///
     /// # Errors
-    /// The first that holds: [`Code::CONNECTION_NOT_ITS_TURN`] where a payload of the side isn't
-    /// due, bytes of it wait unread, its stream has ended, or the connection has failed;
-    /// [`Code::CONNECTION_TOO_LARGE`]; the fault of a payload that can't be read here;
-    /// [`Code::CONNECTION_KEPT`]; [`Code::MEMORY`]. The connection and `out` are as they were then,
-    /// but that [`Connection::event`] shows none.
+    /// The first that holds:
+    ///
+    /// - [`Code::CONNECTION_NOT_ITS_TURN`]: a payload of the side isn't due, bytes of it wait
+    ///   unread, its stream has ended, or the connection has failed;
+    /// - [`Code::CONNECTION_TOO_LARGE`];
+    /// - the fault of a payload that can't be read here;
+    /// - [`Code::CONNECTION_KEPT`];
+    /// - [`Code::MEMORY`].
+    ///
+    /// The connection and `out` are as they were then, but that [`Connection::event`] shows none.
     pub fn put(&mut self, side: Side, payload: &[u8], out: &mut Bytes) -> Result<Event<'_>, Error> {
         self.forget();
         // SAFETY: "Handles": by `ConnectionHandle::get` and `Handle::get`, which are different ones
@@ -462,16 +469,16 @@ impl Connection {
 
     /// Puts framed packets of a side, one after another while they are due, as
     /// [`executions`](crate::executions), [`send`](crate::send) and a
-    /// [`ReplyWriter`](crate::ReplyWriter) make them; they get the numbers that are due. The answer
-    /// is how many bytes of them were taken: all, or those before the first packet whose turn hasn't
-    /// come. A packet that is cut off at the end is left. No event is shown of what was put.
+    /// [`ReplyWriter`](crate::ReplyWriter) make them. They get the numbers that are due. The answer
+    /// is how many bytes of them were taken: all, or those before the first packet whose turn
+    /// hasn't come. A packet that is cut off at the end is left. No event is shown of what was put.
     ///
     /// So nothing tells of a command that is laid out as none, which [`Connection::put`] answers as
-    /// [`Event::Other`]: executions of a statement that [`Connection::statement`] doesn't know, and
-    /// those for other capabilities than are in force.
+    /// [`Event::Other`]. Such are executions of a statement that [`Connection::statement`] doesn't
+    /// know, and those for other capabilities than are in force.
     ///
-    /// So an execution with its long data and a whole reply are one call each, and a list of
-    /// executions is put up to the first one, which has a reply:
+    /// So an execution with its long data and a whole reply are one call each. A list of executions
+    /// is put up to the first one, which has a reply:
     ///
     /// ```
     /// use mysql_session::{
@@ -496,10 +503,14 @@ impl Connection {
     ///
     /// # Errors
     /// Of the first payload that is due and isn't put, with the [`At::Byte`] of the packets at
-    /// which it begins; what was put before it stands: [`Code::CONNECTION_TOO_LARGE`];
-    /// [`Code::CONNECTION_OUT_OF_SYNC`] where it has more packets, whose numbers don't go on from
-    /// one another; the fault of a payload that can't be read here; [`Code::CONNECTION_KEPT`];
-    /// [`Code::MEMORY`].
+    /// which it begins. What was put before it stays.
+    ///
+    /// - [`Code::CONNECTION_TOO_LARGE`];
+    /// - [`Code::CONNECTION_OUT_OF_SYNC`]: it has more packets, whose numbers don't go on from one
+    ///   another;
+    /// - the fault of a payload that can't be read here;
+    /// - [`Code::CONNECTION_KEPT`];
+    /// - [`Code::MEMORY`].
     pub fn put_packets(
         &mut self,
         side: Side,
@@ -532,10 +543,10 @@ impl Connection {
         (self.shown.0.kind != 0).then(|| unsafe { Event::of(&self.handle, &self.shown.0) })
     }
 
-    /// The changes of the session's state that the event has which was told or put last, as its OK
-    /// packet has them: of each the number of its type, and its data behind their length. No bytes
-    /// where the event is no OK packet or has none (MySQL: Client/Server Protocol, "Session State
-    /// Information").
+    /// The changes of the session's state of the event that was told or put last, as its OK packet
+    /// has them. Of each there are the number of its type, and its data behind their length. No
+    /// bytes where the event is no OK packet or has none (MySQL: Client/Server Protocol, "Session
+    /// State Information").
     ///
     /// ```
     /// use mysql_session::{capability, command, Bytes, Capabilities, Connection, Limits, Side};
@@ -561,8 +572,9 @@ impl Connection {
         }
     }
 
-    /// The event that was told or put last as a line of text, without its end: whose it is, its name,
-    /// its fields. Behind [`Connection::finish`] it is how the connection stands, as `end Whole`.
+    /// The event that was told or put last as a line of text, without its end: whose it is, its
+    /// name, its fields. Behind [`Connection::finish`] it is how the connection stands, as
+    /// `end Whole`.
     ///
     /// # Errors
     /// [`Code::OUT_OF_RANGE`] where no event was told; [`Code::MEMORY`].
@@ -577,7 +589,9 @@ impl Connection {
         Ok(std::str::from_utf8(bytes).expect("a line is in ASCII"))
     }
 
-    /// How many bytes of a side [`Connection::feed`] takes now.
+    /// How many bytes of a side [`Connection::feed`] takes now. If it is 0, take events, or feed
+    /// the side whose turn it is. Ask so before a stream is read into as many bytes, since a read
+    /// of none looks like the stream's end.
     pub fn room(&self, side: Side) -> usize {
         let standing = self.standing();
         match side {

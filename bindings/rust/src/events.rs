@@ -6,10 +6,12 @@
 use crate::connection::{Capabilities, ConnectionHandle, Side};
 use crate::event_values::{column_of, Attributes, BulkRows, EventRow, Values};
 use crate::raw;
+use crate::readable::{debug_with_texts, Readable};
 use crate::results::{Column, ErrorPacket, OkPacket};
+use std::fmt;
 
 /// What one payload of a connection says.
-#[derive(Clone, Copy, Debug)]
+#[derive(Clone, Copy)]
 #[non_exhaustive]
 pub enum Event<'a> {
     /// The server refuses the connection in place of a greeting.
@@ -187,7 +189,7 @@ pub enum Event<'a> {
 }
 
 /// What a server greets with.
-#[derive(Clone, Copy, Debug, PartialEq, Eq)]
+#[derive(Clone, Copy, PartialEq, Eq)]
 pub struct ServerGreeting<'a> {
     /// The server's version.
     pub version: &'a [u8],
@@ -203,6 +205,8 @@ pub struct ServerGreeting<'a> {
     pub plugin: &'a [u8],
 }
 
+debug_with_texts!(ServerGreeting: connection, capabilities, status, collation; version, plugin);
+
 /// The front of a client's answer to a greeting.
 #[derive(Clone, Copy, Debug, PartialEq, Eq)]
 pub struct ClientRequest {
@@ -215,7 +219,7 @@ pub struct ClientRequest {
 }
 
 /// What a client logs in with.
-#[derive(Clone, Copy, Debug)]
+#[derive(Clone, Copy)]
 pub struct ClientLogin<'a> {
     /// The front of it.
     pub request: ClientRequest,
@@ -231,8 +235,10 @@ pub struct ClientLogin<'a> {
     pub attributes: Attributes<'a>,
 }
 
+debug_with_texts!(ClientLogin: request, attributes; user, database, plugin, response);
+
 /// A change of user.
-#[derive(Clone, Copy, Debug)]
+#[derive(Clone, Copy)]
 pub struct ClientChange<'a> {
     /// The user's name.
     pub user: &'a [u8],
@@ -248,8 +254,10 @@ pub struct ClientChange<'a> {
     pub attributes: Attributes<'a>,
 }
 
+debug_with_texts!(ClientChange: collation, attributes; user, database, plugin, response);
+
 /// A command without a variant of its own. What it doesn't have is 0 or empty.
-#[derive(Clone, Copy, Debug, PartialEq, Eq)]
+#[derive(Clone, Copy, PartialEq, Eq)]
 pub struct OtherCommand<'a> {
     /// Its number in the protocol.
     pub number: u8,
@@ -268,6 +276,8 @@ pub struct OtherCommand<'a> {
     /// The position of a dump.
     pub position: u64,
 }
+
+debug_with_texts!(OtherCommand: number, value, flags, position; text, database, user, data);
 
 impl<'a> Event<'a> {
     /// What the library showed.
@@ -364,6 +374,134 @@ impl Event<'_> {
             Event::FileData(_) => "FileData",
             Event::Farewell(_) => "Farewell",
         }
+    }
+}
+
+/// Texts are printed as such, where they are UTF-8.
+impl fmt::Debug for Event<'_> {
+    fn fmt(&self, formatter: &mut fmt::Formatter<'_>) -> fmt::Result {
+        let name = self.name();
+        match self {
+            Event::OldAuthSwitch | Event::Quit | Event::Ping | Event::ResetConnection => {
+                formatter.write_str(name)
+            }
+            Event::Rejected(it) | Event::Denied(it) | Event::Error(it) | Event::Farewell(it) => {
+                formatter.debug_tuple(name).field(it).finish()
+            }
+            Event::Accepted(it) | Event::Ok(it) | Event::ColumnsEnd(it) | Event::RowsEnd(it) => {
+                formatter.debug_tuple(name).field(it).finish()
+            }
+            Event::SecureRequest(it) | Event::CutOffLogin(it) => {
+                formatter.debug_tuple(name).field(it).finish()
+            }
+            Event::Greeting(it) => formatter.debug_tuple(name).field(it).finish(),
+            Event::Login(it) => formatter.debug_tuple(name).field(it).finish(),
+            Event::ChangeUser(it) => formatter.debug_tuple(name).field(it).finish(),
+            Event::Command(it) => formatter.debug_tuple(name).field(it).finish(),
+            Event::Column(it) => formatter.debug_tuple(name).field(it).finish(),
+            Event::Row(it) => formatter.debug_tuple(name).field(it).finish(),
+            Event::AuthMore(data)
+            | Event::PluginData(data)
+            | Event::Answer(data)
+            | Event::InitDb(data)
+            | Event::Other(data)
+            | Event::RawRow(data)
+            | Event::FileRequest(data)
+            | Event::Line(data)
+            | Event::FileData(data) => formatter.debug_tuple(name).field(&Readable(data)).finish(),
+            _ => self.fields(formatter.debug_struct(name)),
+        }
+    }
+}
+
+impl Event<'_> {
+    /// The fields of an event that has some, as `Debug` prints them.
+    fn fields(&self, mut to: fmt::DebugStruct<'_, '_>) -> fmt::Result {
+        match self {
+            Event::AuthSwitch { plugin, data } | Event::NextFactor { plugin, data } => {
+                to.field("plugin", &Readable(plugin))
+                    .field("data", &Readable(data));
+            }
+            Event::Query { text, attributes } => {
+                to.field("text", &Readable(text))
+                    .field("attributes", attributes);
+            }
+            Event::Prepare { text } => {
+                to.field("text", &Readable(text));
+            }
+            Event::Execute {
+                statement,
+                text,
+                values,
+                attributes,
+                cursor,
+            } => {
+                to.field("statement", statement)
+                    .field("text", &Readable(text));
+                to.field("values", values)
+                    .field("attributes", attributes)
+                    .field("cursor", cursor);
+            }
+            Event::BulkExecute {
+                statement,
+                text,
+                rows,
+            } => {
+                to.field("statement", statement)
+                    .field("text", &Readable(text))
+                    .field("rows", rows);
+            }
+            Event::LongData {
+                statement,
+                place,
+                data,
+            } => {
+                to.field("statement", statement)
+                    .field("place", place)
+                    .field("data", &Readable(data));
+            }
+            Event::Close { statement } | Event::ResetStatement { statement } => {
+                to.field("statement", statement);
+            }
+            Event::Fetch { statement, rows } => {
+                to.field("statement", statement).field("rows", rows);
+            }
+            Event::Progress {
+                stage,
+                stages,
+                progress,
+                text,
+            } => {
+                to.field("stage", stage).field("stages", stages);
+                to.field("progress", progress)
+                    .field("text", &Readable(text));
+            }
+            Event::ColumnCount {
+                count,
+                columns_follow,
+            } => {
+                to.field("count", count)
+                    .field("columns_follow", columns_follow);
+            }
+            Event::Field { column, default } => {
+                to.field("column", column)
+                    .field("default", &default.map(Readable));
+            }
+            Event::Prepared {
+                statement,
+                parameters,
+                columns,
+                warnings,
+                columns_follow,
+            } => {
+                to.field("statement", statement)
+                    .field("parameters", parameters);
+                to.field("columns", columns).field("warnings", warnings);
+                to.field("columns_follow", columns_follow);
+            }
+            _ => (),
+        }
+        to.finish()
     }
 }
 

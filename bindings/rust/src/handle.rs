@@ -8,7 +8,7 @@ use std::ptr::null_mut;
 /// A handle that stands for an object, which goes with it.
 ///
 /// Each call of the library takes the object out of the handle and puts it back, also one that only
-/// looks at it: so a shared handle is one that changes. It is neither `Send` nor `Sync`, as the
+/// looks at it. So a shared handle is one that changes. It is neither `Send` nor `Sync`, as the
 /// header wants it in the thread that made it.
 #[derive(Debug)]
 pub(crate) struct Handle(UnsafeCell<raw::Handle>);

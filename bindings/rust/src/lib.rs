@@ -1,21 +1,22 @@
-//! MySQL and MariaDB connections, and parameter sets of queries, as bytes and back: safe Rust over the
-//! library for C of this repository, which is compiled from proved code.
+//! MySQL and MariaDB connections, and parameter sets of queries, as bytes and back. This is safe
+//! Rust over the library for C of this repository, which is compiled from proved code.
 //!
 //! - [`Receiver`] reads a stream of commands about one query, and shows its parameter sets;
 //!   [`Recoder`] and [`recode`] make one form of it.
-//! - [`send`] appends [`ParameterSets`] as commands to [`Bytes`], by text, by execution or by bulk;
-//!   [`executions`] has those of a statement that was prepared before; [`bind_text`] puts one set
-//!   into the query's text.
+//! - [`send`] appends [`ParameterSets`] as commands to [`Bytes`], by text, by execution or in bulk.
+//!   [`executions`] has those of a statement that was prepared before. And [`bind_text`] puts one
+//!   set into the query's text.
 //! - [`Mode`] is how a server reads a text, and [`Spelling`] how byte strings are written in one:
 //!   calls whose names end with `_in` take them.
 //! - [`ReplyReader`] reads a server's reply; [`ReplyWriter`] writes one.
 //! - [`Connection`] reads a whole connection, and tells each payload of either side as an
 //!   [`Event`]. A client and a server put theirs on it; [`command`] makes payloads of commands.
 //! - [`FromValue`] and [`FromRow`] make types of Rust, and tuples, of cells and rows.
-//! - [`capability`] and [`column_type`] have numbers of the protocol by their names.
-//! - [`PacketReader`] cuts a stream into payloads, [`put_packet`] frames them; [`Greeting`] and
-//!   [`Login`], [`RegisterReplica`], [`BinlogDump`] and [`BinlogDumpGtid`] are payloads of a
-//!   connection's beginning and of a replica.
+//! - [`capability`], [`status`], [`column_type`], [`column_flag`], [`cursor`], [`session_state`]
+//!   and [`collation`] have numbers of the protocol by their names.
+//! - [`PacketReader`] cuts a stream into payloads, and [`put_packet`] frames them.
+//! - [`Greeting`] and [`Login`], [`RegisterReplica`], [`BinlogDump`] and [`BinlogDumpGtid`] are
+//!   payloads of a connection's beginning and of a replica.
 //!
 //! No call opens a socket, and none waits: bytes come in as slices, and go out as [`Bytes`].
 //!
@@ -25,15 +26,15 @@
 //! threads share nothing.
 //!
 //! Texts of values ([`Road::Text`], [`bind_text`], [`value_text`]) are safe for a server whose SQL
-//! mode has neither NO_BACKSLASH_ESCAPES nor ANSI_QUOTES, over a connection in UTF-8 or another
-//! character set that is safe to quote ([`is_safe_to_quote`]); for any other a value may end its
+//! mode has neither NO_BACKSLASH_ESCAPES nor ANSI_QUOTES. The connection is in UTF-8 or another
+//! character set that is safe to quote ([`is_safe_to_quote`]). For any other a value may end its
 //! literal. For a server in another mode there are [`send_in`], [`bind_text_in`] and
-//! [`value_text_in`]; [`Spelling::Hexadecimal`] is safe in each character set that a client may
+//! [`value_text_in`]. [`Spelling::Hexadecimal`] is safe in each character set that a client may
 //! have, and executions at each server.
 //!
-//! A call that isn't done answers an [`Error`], and a stream that can't be read on a [`Fault`], by
-//! a [`Code`] that the library has a text for. A call panics only where the linked library isn't
-//! the one that this crate declares.
+//! A call that isn't done answers an [`Error`], and a stream that can't be read on a [`Fault`].
+//! Each has a [`Code`], which the library has a text for. A call panics only where the linked
+//! library isn't the one that this crate declares.
 #![deny(missing_docs)]
 #![deny(unsafe_op_in_unsafe_fn)]
 #![warn(clippy::all, clippy::undocumented_unsafe_blocks)]
@@ -41,10 +42,13 @@
 mod bytes;
 pub mod capability;
 mod codes;
+pub mod collation;
+pub mod column_flag;
 pub mod column_type;
 pub mod command;
 mod connection;
 mod conversions;
+pub mod cursor;
 mod event_values;
 mod events;
 mod handle;
@@ -52,13 +56,16 @@ mod login;
 mod modes;
 mod packets;
 mod raw;
+mod readable;
 mod receiver;
 mod recoder;
 mod replication;
 mod reply;
 mod results;
 mod sending;
+pub mod session_state;
 mod sets;
+pub mod status;
 mod texts;
 mod values;
 mod writer;

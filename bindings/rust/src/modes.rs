@@ -6,8 +6,8 @@ use crate::raw;
 /// The SQL mode of a server, as far as it changes how a text is read. The default has neither.
 ///
 /// Two modes change where a string ends. What is made for a server in one of them may be something
-/// else in another: a value may end its literal there, and what stands behind the quote is read as
-/// SQL. So take the mode that the server tells, at the login and whenever it tells another.
+/// else in another. A value may end its literal there, and what follows the quote is read as SQL.
+/// So take the mode that the server tells, at the login and whenever it tells another.
 ///
 /// (MySQL Reference Manual, "Server SQL Modes".)
 ///
@@ -60,8 +60,8 @@ impl Mode {
     /// The mode that the value of the variable `sql_mode` tells: names between commas, their
     /// letters in any case.
     ///
-    /// ANSI_QUOTES is also told by each name that stands for it and others: ANSI, and DB2, MAXDB,
-    /// MSSQL, ORACLE and POSTGRESQL, which MariaDB has, and MySQL before 8.0. Other names say
+    /// ANSI_QUOTES is also told by each name that contains it. These are ANSI, and DB2, MAXDB,
+    /// MSSQL, ORACLE and POSTGRESQL, which MariaDB and MySQL before 8.0 have. Other names say
     /// nothing of how a text is read.
     ///
     /// (MySQL Reference Manual, "Server SQL Modes", "Server Tracking of Client Session State";

@@ -1,8 +1,8 @@
 //! The declarations of `bindings/c/mysql_session.h`, one for one.
 //!
-//! What the header promises, and what the program that calls owes it, stands there. A field that is
-//! a pointer to bytes and the field with their length behind it are one [`Text`] here, which C lays
-//! out the same.
+//! What the header promises, and what the program that calls owes it, stands there. A pointer to
+//! bytes and the field with their length behind it are one [`Text`] here, which C lays out the
+//! same.
 
 use std::ffi::c_void;
 use std::ptr::null;

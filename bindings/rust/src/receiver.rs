@@ -63,7 +63,7 @@ impl Receiver {
     }
 
     /// A receiver of a stream of commands about this query, which were sent to a server in this
-    /// mode: for one in another mode texts, and the query's placeholders, may be others than this
+    /// mode. For one in another mode texts, and the query's placeholders, may be others than this
     /// receiver reads.
     ///
     /// # Errors

@@ -63,7 +63,7 @@ pub struct ReplyReader {
 }
 
 impl ReplyReader {
-    /// A reader of the reply to a command of this kind, whose first chunk has the number `first`:
+    /// A reader of the reply to a command of this kind. `first` is the number of its first chunk:
     /// the one after the command's last packet, mostly 1. The capabilities are those that client
     /// and server agreed on. A payload has at most `limit` bytes.
     ///

@@ -1,13 +1,14 @@
 //! Results of a reply: OK packets, rows, prepared statements, errors, requests for files.
 //!
 //! All that is shown of a result borrows from the reader that has it. Its bytes stay as they are
-//! while results, states, cells and columns are looked at; any other call takes the reader's
+//! while results, states, cells and columns are looked at. Any other call takes the reader's
 //! `&mut self` or the reader itself, and so ends the borrow.
 
 use crate::codes::{answer, certain, in_range, Code, Error};
 use crate::conversions::{cell_as, row_as, FromRow, FromValue, RowError};
 use crate::handle::Handle;
 use crate::raw;
+use crate::readable::{debug_with_texts, Readable};
 use crate::values::Value;
 use std::iter::FusedIterator;
 
@@ -15,7 +16,7 @@ use std::iter::FusedIterator;
 const MORE_RESULTS: u16 = 8;
 
 /// An OK packet, as far as it is read and written.
-#[derive(Clone, Copy, Debug, Default, PartialEq, Eq, Hash)]
+#[derive(Clone, Copy, Default, PartialEq, Eq, Hash)]
 pub struct OkPacket<'a> {
     /// How many rows were changed.
     pub affected_rows: u64,
@@ -29,8 +30,10 @@ pub struct OkPacket<'a> {
     pub info: &'a [u8],
 }
 
+debug_with_texts!(OkPacket: affected_rows, last_insert_id, status, warnings; info);
+
 /// An error of the server.
-#[derive(Clone, Copy, Debug, Default, PartialEq, Eq, Hash)]
+#[derive(Clone, Copy, Default, PartialEq, Eq, Hash)]
 pub struct ErrorPacket<'a> {
     /// The error's number.
     pub code: u16,
@@ -40,8 +43,20 @@ pub struct ErrorPacket<'a> {
     pub message: &'a [u8],
 }
 
+impl std::fmt::Debug for ErrorPacket<'_> {
+    fn fmt(&self, formatter: &mut std::fmt::Formatter<'_>) -> std::fmt::Result {
+        let state = self.state.as_ref().map(|state| Readable(state));
+        formatter
+            .debug_struct("ErrorPacket")
+            .field("code", &self.code)
+            .field("state", &state)
+            .field("message", &Readable(self.message))
+            .finish()
+    }
+}
+
 /// A result of a reply.
-#[derive(Clone, Copy, Debug)]
+#[derive(Clone, Copy)]
 pub enum ReplyResult<'a> {
     /// An OK packet.
     Ok(Done<'a>),
@@ -53,6 +68,21 @@ pub enum ReplyResult<'a> {
     Error(ErrorPacket<'a>),
     /// The server wants the file of this name, and ends the reply.
     File(&'a [u8]),
+}
+
+impl std::fmt::Debug for ReplyResult<'_> {
+    fn fmt(&self, formatter: &mut std::fmt::Formatter<'_>) -> std::fmt::Result {
+        match self {
+            ReplyResult::Ok(done) => formatter.debug_tuple("Ok").field(done).finish(),
+            ReplyResult::Rows(rows) => formatter.debug_tuple("Rows").field(rows).finish(),
+            ReplyResult::Prepared(it) => formatter.debug_tuple("Prepared").field(it).finish(),
+            ReplyResult::Error(error) => formatter.debug_tuple("Error").field(error).finish(),
+            ReplyResult::File(name) => formatter
+                .debug_tuple("File")
+                .field(&Readable(name))
+                .finish(),
+        }
+    }
 }
 
 impl<'a> ReplyResult<'a> {
@@ -162,13 +192,15 @@ pub struct Done<'a> {
 }
 
 /// A change of the session's state that a server tells of.
-#[derive(Clone, Copy, Debug, PartialEq, Eq, Hash)]
+#[derive(Clone, Copy, PartialEq, Eq, Hash)]
 pub struct SessionState<'a> {
     /// The number of the protocol's type of Session State Information, as 0 for a system variable.
     pub kind: u8,
     /// The bytes that this type has.
     pub data: &'a [u8],
 }
+
+debug_with_texts!(SessionState: kind; data);
 
 impl<'a> Done<'a> {
     /// Whether another result follows.
@@ -449,7 +481,7 @@ pub struct ColumnType {
 }
 
 /// A column of a result set, or a parameter of a prepared statement.
-#[derive(Clone, Copy, Debug, Default, PartialEq, Eq, Hash)]
+#[derive(Clone, Copy, Default, PartialEq, Eq, Hash)]
 pub struct Column<'a> {
     /// What cells it has.
     pub column_type: ColumnType,
@@ -464,6 +496,8 @@ pub struct Column<'a> {
     /// The column, as the table names it.
     pub org_name: &'a [u8],
 }
+
+debug_with_texts!(Column: column_type; schema, table, org_table, name, org_name);
 
 /// The columns of a result.
 fn columns_of(

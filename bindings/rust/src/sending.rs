@@ -11,9 +11,9 @@ use crate::sets::ParameterSets;
 pub enum Road {
     /// A text query for each set, in which values are literals.
     ///
-    /// Safe for a server in the mode that the call takes, or in the default mode where it takes
-    /// none, over a connection in UTF-8 or another character set that is safe to quote
-    /// ([`is_safe_to_quote`](crate::is_safe_to_quote)); for any other a value may end its literal.
+    /// Safe for a server in the mode that the call takes, or in the default mode if it takes none.
+    /// The connection is in UTF-8 or another character set that is safe to quote
+    /// ([`is_safe_to_quote`](crate::is_safe_to_quote)). For any other a value may end its literal.
     Text = 0,
     /// One prepare, and an execution for each set. Safe for any server.
     Execute = 1,
@@ -28,10 +28,10 @@ pub enum Road {
 /// names, so that a query with `:name` refuses them by [`Code::REFUSED_PARAMS`].
 ///
 /// By [`Road::Text`] values are literals in the query's text. **Safe for** a server whose SQL mode
-/// has neither NO_BACKSLASH_ESCAPES nor ANSI_QUOTES, over a connection in UTF-8 or another
+/// has neither NO_BACKSLASH_ESCAPES nor ANSI_QUOTES. The connection is in UTF-8 or another
 /// character set that is safe to quote ([`is_safe_to_quote`](crate::is_safe_to_quote)). For a
-/// server in another mode a value may end its literal, and what stands behind the quote is read as
-/// SQL: [`send_in`] takes the mode. By the other roads it is safe for any server.
+/// server in another mode a value may end its literal, and what follows the quote is read as SQL.
+/// So [`send_in`] takes the mode. By the other roads it is safe for any server.
 ///
 /// The limit is the `max_allowed_packet` of the receiving side, at least 4; a payload has at most
 /// `limit - 4` bytes.
@@ -74,12 +74,12 @@ pub fn send(
 /// Appends the commands that [`send`] appends, for a server in this mode and with byte strings
 /// spelled so. A receiver in this mode reads the sets back.
 ///
-/// By [`Road::Text`] it is **safe for** a server in this mode: by [`Spelling::Quoted`] over a
-/// connection in UTF-8 or another character set that is safe to quote
-/// ([`is_safe_to_quote`](crate::is_safe_to_quote)), by [`Spelling::Hexadecimal`] in any character
-/// set in which bytes below 80 that follow one another are themselves. For a server in another mode
-/// a value may end its literal. By the other roads it is safe for any server, and the mode says
-/// which bytes of the query's own text are placeholders.
+/// By [`Road::Text`] it is **safe for** a server in this mode. By [`Spelling::Quoted`] the
+/// connection is in UTF-8 or another character set that is safe to quote
+/// ([`is_safe_to_quote`](crate::is_safe_to_quote)). By [`Spelling::Hexadecimal`] it is in any
+/// character set in which bytes below 80 that follow one another are themselves. For a server in
+/// another mode a value may end its literal. By the other roads it is safe for any server, and the
+/// mode says which bytes of the query's own text are placeholders.
 ///
 /// # Errors
 /// Those of [`send`].
@@ -132,12 +132,12 @@ pub fn send_in(
 }
 
 /// The packets that execute a prepared statement with each of these sets, as
-/// [`Connection::put_packets`](crate::Connection::put_packets) takes them: those of [`send`] by
-/// [`Road::Execute`], without the prepare in front of them. The statement's id is that of the
-/// server's reply to the prepare.
+/// [`Connection::put_packets`](crate::Connection::put_packets) takes them. They are those of
+/// [`send`] by [`Road::Execute`], without the prepare in front of them. The statement's id is that
+/// of the server's reply to the prepare.
 ///
-/// They are laid out for a connection where [`CLIENT_QUERY_ATTRIBUTES`] isn't in force, and for a
-/// server in any mode that reads the query's placeholders as the default mode does; else there is
+/// They are laid out for a connection where [`CLIENT_QUERY_ATTRIBUTES`] isn't in force. The server
+/// is in any mode that reads the query's placeholders as the default mode does; else there is
 /// [`send_in`].
 ///
 /// ```
@@ -212,10 +212,10 @@ fn behind_payload(mut packets: &[u8]) -> &[u8] {
 /// Appends to `out` the text of one set, by its number from 0: the query with a literal in the
 /// place of each placeholder. It is what a text query has behind its first byte.
 ///
-/// **Safe for** a server whose SQL mode has neither NO_BACKSLASH_ESCAPES nor ANSI_QUOTES, over a
-/// connection in UTF-8 or another character set that is safe to quote
+/// **Safe for** a server whose SQL mode has neither NO_BACKSLASH_ESCAPES nor ANSI_QUOTES. The
+/// connection is in UTF-8 or another character set that is safe to quote
 /// ([`is_safe_to_quote`](crate::is_safe_to_quote)). For a server in another mode a value may end
-/// its literal, and what stands behind the quote is read as SQL: [`bind_text_in`] takes the mode.
+/// its literal, and what follows the quote is read as SQL. So [`bind_text_in`] takes the mode.
 ///
 /// # Errors
 /// [`Code::OUT_OF_RANGE`] where there is no such set, [`Code::MIXED`], [`Code::MEMORY`],
@@ -246,10 +246,10 @@ pub fn bind_text(
 /// Appends the text that [`bind_text`] appends, for a server in this mode and with byte strings
 /// spelled so.
 ///
-/// **Safe for** a server in this mode: by [`Spelling::Quoted`] over a connection in UTF-8 or
-/// another character set that is safe to quote ([`is_safe_to_quote`](crate::is_safe_to_quote)), by
-/// [`Spelling::Hexadecimal`] in any character set in which bytes below 80 that follow one another
-/// are themselves. For a server in another mode a value may end its literal.
+/// **Safe for** a server in this mode. By [`Spelling::Quoted`] the connection is in UTF-8 or
+/// another character set that is safe to quote ([`is_safe_to_quote`](crate::is_safe_to_quote)). By
+/// [`Spelling::Hexadecimal`] it is in any character set in which bytes below 80 that follow one
+/// another are themselves. For a server in another mode a value may end its literal.
 ///
 /// # Errors
 /// Those of [`bind_text`].

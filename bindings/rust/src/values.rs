@@ -1,9 +1,11 @@
 //! Values that are sent, and that rows hold.
 
 use crate::raw;
+use crate::readable::Readable;
+use std::fmt;
 
 /// What a place of a parameter set holds that was read from a stream of commands.
-#[derive(Clone, Copy, Debug, PartialEq, Eq, Hash)]
+#[derive(Clone, Copy, PartialEq, Eq, Hash)]
 pub enum Content<'a> {
     /// NULL.
     Null,
@@ -13,6 +15,20 @@ pub enum Content<'a> {
     UInt(u64),
     /// Bytes, as they stand in the receiver.
     Bytes(&'a [u8]),
+}
+
+impl fmt::Debug for Content<'_> {
+    fn fmt(&self, formatter: &mut fmt::Formatter<'_>) -> fmt::Result {
+        match self {
+            Content::Null => formatter.write_str("Null"),
+            Content::Int(number) => formatter.debug_tuple("Int").field(number).finish(),
+            Content::UInt(number) => formatter.debug_tuple("UInt").field(number).finish(),
+            Content::Bytes(bytes) => formatter
+                .debug_tuple("Bytes")
+                .field(&Readable(bytes))
+                .finish(),
+        }
+    }
 }
 
 impl<'a> Content<'a> {
@@ -71,8 +87,8 @@ pub struct Time {
 /// A value: a parameter that is sent, or what a cell of a row holds.
 ///
 /// Whole numbers of the widths up to 32 bits, `i64` and `bool` become [`Value::Int`], a `u64`
-/// [`Value::UInt`], a text or bytes [`Value::Bytes`], and `None` becomes [`Value::Null`].
-#[derive(Clone, Copy, Debug, PartialEq)]
+/// [`Value::UInt`]. A text or bytes become [`Value::Bytes`], and `None` becomes [`Value::Null`].
+#[derive(Clone, Copy, PartialEq)]
 pub enum Value<'a> {
     /// NULL.
     Null,
@@ -90,6 +106,24 @@ pub enum Value<'a> {
     Date(Date),
     /// A duration.
     Time(Time),
+}
+
+impl fmt::Debug for Value<'_> {
+    fn fmt(&self, formatter: &mut fmt::Formatter<'_>) -> fmt::Result {
+        match self {
+            Value::Null => formatter.write_str("Null"),
+            Value::Int(number) => formatter.debug_tuple("Int").field(number).finish(),
+            Value::UInt(number) => formatter.debug_tuple("UInt").field(number).finish(),
+            Value::Bytes(bytes) => formatter
+                .debug_tuple("Bytes")
+                .field(&Readable(bytes))
+                .finish(),
+            Value::Float(number) => formatter.debug_tuple("Float").field(number).finish(),
+            Value::Double(number) => formatter.debug_tuple("Double").field(number).finish(),
+            Value::Date(date) => formatter.debug_tuple("Date").field(date).finish(),
+            Value::Time(time) => formatter.debug_tuple("Time").field(time).finish(),
+        }
+    }
 }
 
 impl<'a> Value<'a> {

@@ -215,7 +215,7 @@ impl ReplyWriter {
         answer(code).map_err(|code| refusal(code, spot))
     }
 
-    /// Makes a call that appends to `out`: with the writer's handle, that of `out`, which is
+    /// Makes a call that appends to `out`. It has the writer's handle, that of `out`, which is
     /// another one, and a local for where it is refused.
     fn write(
         &mut self,

@@ -296,9 +296,20 @@ fn numbers_of_the_protocol_are_those_of_the_header() {
     wanted.insert("CLIENT_REMEMBER_OPTIONS".to_string(), 1 << 31);
     assert_eq!(wanted.len(), 38);
     assert_eq!(wanted, constants("src/capability.rs", "u32"));
-    let wanted = numbers("mysql_session_column_type", "TYPE_");
-    assert!(wanted.len() > 30);
-    assert_eq!(wanted, constants("src/column_type.rs", "u8"));
+    let enums = [
+        ("column_type", "TYPE_", "u8", 34),
+        ("status", "", "u16", 15),
+        ("column_flag", "", "u16", 16),
+        ("cursor", "", "u32", 4),
+        ("collation", "COLLATION_", "u16", 9),
+    ];
+    for (name, prefix, kind, count) in enums {
+        let wanted = numbers(&format!("mysql_session_{name}"), prefix);
+        assert_eq!(wanted.len(), count, "{name}");
+        assert_eq!(wanted, constants(&format!("src/{name}.rs"), kind), "{name}");
+    }
+    let wanted = numbers("mysql_session_state_type", "");
+    assert_eq!(wanted, constants("src/session_state.rs", "u8"));
 }
 
 #[test]

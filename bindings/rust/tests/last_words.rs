@@ -3,9 +3,9 @@
 #[path = "../examples/blocking_client/client.rs"]
 #[allow(dead_code)] // what prints errors isn't used here
 mod client;
-#[path = "../examples/blocking_client/native_password.rs"]
+#[path = "../examples/blocking_client/passwords.rs"]
 #[allow(dead_code)] // no password is asked for here
-mod native_password;
+mod passwords;
 
 use client::{Account, Client, Failure};
 use mysql_session::{

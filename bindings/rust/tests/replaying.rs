@@ -5,9 +5,9 @@
 mod client;
 #[path = "../examples/replay_connection/execution.rs"]
 mod execution;
-#[path = "../examples/blocking_client/native_password.rs"]
+#[path = "../examples/blocking_client/passwords.rs"]
 #[allow(dead_code)] // as above
-mod native_password;
+mod passwords;
 #[path = "../examples/replay_connection/recording.rs"]
 mod recording;
 #[path = "../examples/replay_connection/reply.rs"]

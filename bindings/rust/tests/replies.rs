@@ -127,7 +127,7 @@ fn columns_are_shown_beside_rows() -> Result<(), Error> {
     assert_eq!((end.packet.status, end.packet.warnings), (2, 3));
     // All that was shown before stands still.
     assert_eq!(columns[0].name, b"number");
-    assert_eq!(format!("{row:?}"), "[Bytes([55]), Bytes([116, 101, 97])]");
+    assert_eq!(format!("{row:?}"), r#"[Bytes("7"), Bytes("tea")]"#);
     Ok(())
 }
 
@@ -515,4 +515,12 @@ fn writing_is_refused_with_its_place() -> Result<(), Error> {
     let writer = ReplyWriter::new(ReplyKind::Query, CAPABILITIES, 1, LIMIT)?;
     assert_eq!(writer.end().unwrap_err().code(), Code::WRITE_NO_RESULTS);
     Ok(())
+}
+
+#[test]
+fn bytes_are_printed_as_texts() {
+    let value = |bytes: &'static [u8]| format!("{:?}", Value::Bytes(bytes));
+    assert_eq!(value("K\u{e4}se".as_bytes()), "Bytes(\"K\u{e4}se\")");
+    assert_eq!(value(b"\xffa\""), r#"Bytes(b"\xffa\"")"#);
+    assert_eq!(value(b""), r#"Bytes("")"#);
 }

@@ -1,5 +1,5 @@
-//! The audit of a connection: what both sides say becomes lines, one for each command whose reply
-//! is whole, for each login, and for the connection's end.
+//! The audit of a connection: what both sides say becomes lines. There is one for each command
+//! whose reply is whole, for each login, and for the connection's end.
 
 use crate::commands::asked;
 use crate::lines::{Answer, Format, Heading, Outcome, Told};

@@ -3,8 +3,8 @@
 use crate::lines::{Format, Told};
 use mysql_session::{Attributes, BulkRow, Event, OtherCommand};
 
-/// What a client asks for; none where the event is something else, or asks for nothing: what long
-/// data bring is told with the execution that they are for.
+/// What a client asks for. None, if the event is something else, or asks for nothing: what long
+/// data bring is told with their execution.
 pub fn asked(format: Format, event: &Event) -> Option<Told> {
     let told = match event {
         Event::CutOffLogin(_) => Told::new("login"),

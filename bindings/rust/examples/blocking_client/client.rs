@@ -1,6 +1,6 @@
 //! A client over a socket and a connection: what it puts is written, what comes is read.
 
-use crate::native_password::{answer, Digest};
+use crate::passwords::Secret;
 use mysql_session::{
     capability, command, Bytes, Capabilities, Connection, ErrorPacket, Event, Greeting, Limits,
     Login, Side,
@@ -18,7 +18,11 @@ pub const LIMIT: usize = 1 << 30;
 /// How much is held of a connection in all.
 const HELD: usize = 4 * LIMIT;
 
-const PLUGIN: &[u8] = b"mysql_native_password";
+/// What is answered first where the server names a plugin that isn't known here.
+const NATIVE: &[u8] = b"mysql_native_password";
+
+/// What a server of caching_sha2_password says where it wants the password itself.
+const FULL: &[u8] = b"\x04";
 
 /// What takes a connection to where it isn't read.
 const HIDDEN: u32 = capability::CLIENT_COMPRESS
@@ -28,8 +32,8 @@ const HIDDEN: u32 = capability::CLIENT_COMPRESS
 /// Who logs in.
 pub struct Account<'a> {
     pub user: &'a [u8],
-    /// The digest of the password, or none of an empty one.
-    pub password: Option<Digest>,
+    /// The password, or none of an empty one.
+    pub password: Option<Secret>,
     /// The database, or no bytes.
     pub database: &'a [u8],
     /// What the client has.
@@ -140,29 +144,51 @@ impl Client {
         }
         let greeting = Greeting::read(&payload)?;
         let nonce = [greeting.scramble_1, greeting.scramble_2].concat();
+        let (plugin, response) = match response(account, greeting.plugin, &nonce) {
+            Some(response) => (greeting.plugin, response),
+            None => (
+                NATIVE,
+                response(account, NATIVE, &nonce).unwrap_or_default(),
+            ),
+        };
         let mut login = Bytes::new()?;
         Login {
             capabilities: account.capabilities.protocol & greeting.capabilities & !HIDDEN,
             mariadb_capabilities: account.capabilities.mariadb & greeting.mariadb_capabilities,
             user: account.user,
-            response: &response(account, &nonce),
+            response: &response,
             database: account.database,
-            plugin: PLUGIN,
+            plugin,
             ..Login::default()
         }
         .put(LIMIT as u32, &mut login)?;
         self.send(&login)?;
+        self.authenticate(account)
+    }
+
+    /// Answers what the server asks for behind the login.
+    fn authenticate(&mut self, account: &Account<'_>) -> Result<(), Failure> {
         loop {
-            let nonce = match self.next()? {
+            let response = match self.next()? {
                 Event::Accepted(_) => return Ok(()),
                 Event::Denied(error) => return Err(text_of(&error).into()),
-                // A nonce ends with a zero.
-                Event::AuthSwitch { plugin, data } if plugin == PLUGIN => {
-                    data.strip_suffix(b"\0").unwrap_or(data).to_vec()
+                Event::AuthSwitch { plugin, data } => {
+                    // A nonce ends with a zero.
+                    let nonce = data.strip_suffix(b"\0").unwrap_or(data);
+                    response(account, plugin, nonce).ok_or_else(|| {
+                        format!("the server asks for {}", String::from_utf8_lossy(plugin))
+                    })?
                 }
+                Event::AuthMore(FULL) => {
+                    return Err(
+                        "the server wants the password itself, over TLS or by its key".into(),
+                    )
+                }
+                // The server has the password's digest: its OK packet follows.
+                Event::AuthMore(_) => continue,
                 event => return Err(format!("the server asks for more: {event:?}").into()),
             };
-            self.send(&response(account, &nonce))?;
+            self.send(&response)?;
         }
     }
 
@@ -181,10 +207,13 @@ impl Client {
     }
 }
 
-/// What a client answers to a nonce: nothing where the password is empty.
-fn response(account: &Account<'_>, nonce: &[u8]) -> Vec<u8> {
-    let password = account.password.as_ref();
-    password.map_or(Vec::new(), |password| answer(password, nonce).to_vec())
+/// What a client answers to a nonce by a plugin: nothing where the password is empty, and none where the
+/// plugin isn't known here.
+fn response(account: &Account<'_>, plugin: &[u8], nonce: &[u8]) -> Option<Vec<u8>> {
+    match &account.password {
+        Some(password) => password.answer(plugin, nonce),
+        None => Some(Vec::new()),
+    }
 }
 
 /// An error of the server's, as its own clients print it.

@@ -129,8 +129,8 @@ impl Recording {
     }
 }
 
-/// The statement that a command is about: COM_STMT_EXECUTE, _SEND_LONG_DATA, _CLOSE, _RESET, _FETCH
-/// and _BULK_EXECUTE have its id behind their number, also where the rest is laid out otherwise.
+/// The statement that a command is about. COM_STMT_EXECUTE, _SEND_LONG_DATA, _CLOSE, _RESET, _FETCH
+/// and _BULK_EXECUTE have its id behind their number, also if the rest is laid out otherwise.
 fn statement_of(payload: &[u8]) -> Option<u32> {
     match payload {
         [0x17..=0x1a | 0x1c | 0xfa, a, b, c, d, ..] => Some(u32::from_le_bytes([*a, *b, *c, *d])),
