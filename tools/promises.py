@@ -1,4 +1,4 @@
-"""The tables of docs/PROVED.md: what each call promises, by which definition."""
+"""The tables of docs/api/promises.md: what each call promises, by which definition."""
 import re
 import sys
 
@@ -64,7 +64,7 @@ def link(name, path, home):
     """The link to a definition, with its file, and its crate where that is another one."""
     where = path.relative_to(CRATES)
     crate_of = '' if where.parts[0] == home else f' of {where.parts[0]}'
-    return f'[`{name}`](../crates/{where}) in {path.stem}{crate_of}'
+    return f'[`{name}`](../../crates/{where}) in {path.stem}{crate_of}'
 
 
 def modules(module):
@@ -112,7 +112,7 @@ def row(name, item, is_law, home):
         return None
     files = ', '.join(link(one, file_of(one, home), home) for one in names)
     shown = f'law `{name}`' if is_law else f'`{name}`'
-    files = files or f'[its contract](../{item.path.relative_to(ROOT)})'
+    files = files or f'[its contract](../../{item.path.relative_to(ROOT)})'
     return f'| {shown} | {plain(said).replace("|", chr(92) + "|")} | {files} |'
 
 
@@ -129,5 +129,5 @@ def tables():
             found = [one for one in found if one]
             rows += [f'| **{home}** | | |', *found] if found else []
         if rows:
-            lines += [f'### {face}', '', '| call | what it promises | definition |', '|---|---|---|', *rows, '']
+            lines += [f'## {face}', '', '| call | what it promises | definition |', '|---|---|---|', *rows, '']
     return lines
