@@ -159,8 +159,8 @@ fn put_lines(words: &mut String, lines: &[&[Token<'_>]], start: &str) -> Result<
     Ok(())
 }
 
-/// Compares what a reply says, whose rows are written, with its lines and, where all its rows were
-/// lent, with what else it says in one piece.
+/// Compares what a reply says, whose rows are written, with its lines. Where all its rows were
+/// lent, it also compares it with what the reply says in one piece.
 fn check_reply(
     alloc: Global,
     reply: &Reply,
@@ -210,8 +210,8 @@ fn said_beside_rows(alloc: Global, sides: Sides, stream: &[u8]) -> Result<String
     Ok(said(alloc, &reply)?)
 }
 
-/// Compares what a reply says with what is wanted: whole and in pieces of each size up to 100, all
-/// of its rows lent, and in turn lent or kept.
+/// Compares what a reply says with what is wanted. It is read whole and in pieces of each size up
+/// to 100, with all of its rows lent, and in turn lent or kept.
 fn check_ways(
     alloc: Global,
     sides: Sides,

@@ -1,5 +1,5 @@
-//! What a caller proves of types of its own: an amount that is sent as a parameter and read out of
-//! rows, and a struct of each row. docs/EXAMPLES.md shows them. Its other programs are run without
+//! What a caller proves of types of its own. An amount is sent as a parameter and read out of rows,
+//! and each row becomes a struct. docs/EXAMPLES.md shows them. Its other programs are run without
 //! proofs.
 #![tactic(auto)]
 

@@ -5,3 +5,4 @@ pub mod WrittenCells
 pub mod ShortForms
 pub mod TypedBack
 pub mod TypedRead
+pub mod Parted

@@ -4,7 +4,7 @@
 //!     let text = value.as_sql(alloc, no_backslash_escape)?;
 
 ghost use Rattle.mysql_cells.specs.AsSql.{EachHexadecimalIsSafe, EachSqlIsLiteral, HasLiteral, OneHexadecimal};
-ghost use Rattle.mysql_cells.specs.AsSql.{PutsLiteral, PutsSql, SqlIsLiteral};
+ghost use Rattle.mysql_cells.specs.AsSql.{EachStaysInComment, PutsLiteral, PutsSql, SqlIsLiteral, StaysInComment};
 ghost use Rattle.mysql_queries.specs.Sql.{default_mode};
 ghost use Rattle.mysql_cells.specs.Values.{literal_of, spelled_sql, sql_of, with_zero_sign};
 ghost use Rattle.mysql_cells.specs.declared.as_sql.AsSqlError.TheVariants as as_sql_error;
@@ -13,11 +13,10 @@ ghost use Rattle.std.specs.Prelude.{◌≡◌, ◌↔◌, Err, IfOk, None, Some,
 use crate::date_text::{is_zero_time, put_date, put_time};
 use crate::laws::fields_fit;
 use crate::quoting::put_bytes;
-use crate::spelling::Spelling;
 use crate::value::Value;
 use itoa::Buffer;
-use mysql_queries::Mode;
-use mysql_queries::laws::content_of_a_spelling;
+use mysql_queries::laws::{content_of_a_spelling, literals_bring_no_pair};
+use mysql_queries::{Mode, Spelling};
 use std::alloc::{AllocError, AllocFailed, Global};
 use thiserror::Error;
 
@@ -54,51 +53,73 @@ pub fn sql_text_is_a_literal()
     content_of_a_spelling();
 }
 
-/// In hexadecimal spelling literals are the same for each mode, and have safe bytes alone.
+/// In hexadecimal spelling literals are the same for each mode, in a comment and elsewhere, and have
+/// safe bytes alone.
 ///
-/// Those are bytes below 80 but the three quotes and the backslash. Quotes stand around a date, a
-/// time and no bytes. So a literal is one in every mode, and in every character set in which bytes
-/// below 80 that follow one another are themselves.
+/// Those are bytes below 80 but the three quotes, the backslash, the star and the slash. Quotes are
+/// around a date, a time and no bytes. So a literal is one in every mode and in every comment. It is
+/// one in every character set in which bytes below 80 that follow one another are themselves.
 pub fn hexadecimal_is_safe()
     ensures one { OneHexadecimal }
     ensures safe { EachHexadecimalIsSafe }
 {}
 
-/// The SQL text of a value is a literal of what it means, and so is the literal that is bound for it.
+/// A literal that is bound in a comment brings no `/*` and no `*/` into it.
+///
+/// That holds in each mode and spelling.
+pub fn literals_stay_in_comments()
+    ensures { EachStaysInComment }
+{
+    literals_bring_no_pair();
+}
+
+/// The SQL text of a value is a literal of what it means. So is the literal that is bound for it,
+/// which leaves comments as they are.
 fn text_is_a_literal(value: &Value)
     ensures plain { SqlIsLiteral value.now }
     ensures literal { HasLiteral value.now }
+    ensures comment { StaysInComment value.now }
 {
     sql_text_is_a_literal();
+    literals_stay_in_comments();
     fields_fit(value);
 }
 
 /// Appends the SQL text of a value for a server in a mode.
 ///
-/// Byte strings are by their spelling, and the sign of an all-zero time stands only where it is
-/// kept. A refusal may leave a part behind.
+/// Byte strings are by their spelling. In a comment that a server may skip they have no `/*` and no
+/// `*/`. The sign of an all-zero time is written only where it is kept. A refusal may leave a part
+/// behind.
 ///
 /// # Errors
 /// - `Float` for a float: nothing is appended then.
 /// - `Memory`
 ///
-/// Follows the MySQL Reference Manual, "Literal Values".
+/// Follows the MySQL Reference Manual, "Literal Values", "Character Set Introducers", "Comments".
 pub fn put_sql(
     out: &mut Vec<u8>,
     value: &Value,
     no_backslash_escape: bool,
     spelling: Spelling,
+    in_comment: bool,
     zero_sign: bool,
 ) -> Result<(), AsSqlError>
-    ensures text { PutsSql (spelled_sql no_backslash_escape spelling (with_zero_sign zero_sign value.now))
+    ensures text { PutsSql (spelled_sql no_backslash_escape spelling in_comment (with_zero_sign zero_sign value.now))
         out.old.items out.new.items result }
     ensures plain { SqlIsLiteral value.now }
     ensures literal { HasLiteral value.now }
+    ensures comment { StaysInComment value.now }
 {
     text_is_a_literal(value);
     match value {
         Value::NULL => out.extend_from_slice(b"NULL")?,
-        Value::Bytes(bytes) => put_bytes(out, bytes.as_slice(), no_backslash_escape, spelling)?,
+        Value::Bytes(bytes) => put_bytes(
+            out,
+            bytes.as_slice(),
+            no_backslash_escape,
+            spelling,
+            in_comment,
+        )?,
         Value::Int(number) => out.extend_from_slice(Buffer::new().format(*number).as_bytes())?,
         Value::UInt(number) => out.extend_from_slice(Buffer::new().format(*number).as_bytes())?,
         Value::Float(_) | Value::Double(_) => return Err(AsSqlError::Float),
@@ -116,7 +137,8 @@ pub fn put_sql(
 
 /// Appends the literal of a value for a server in the default mode.
 ///
-/// That is its SQL text, byte strings in quotes, an all-zero time without its sign.
+/// That is its SQL text, byte strings in quotes, an all-zero time without its sign. It is for a
+/// placeholder in no comment.
 ///
 /// # Errors
 /// - `Float` for a float.
@@ -134,7 +156,8 @@ pub fn push_literal(out: &mut Vec<u8>, value: &Value) -> Result<(), AsSqlError>
 
 /// Appends the literal of a value for a server in a mode.
 ///
-/// That is its SQL text, byte strings by their spelling, an all-zero time without its sign.
+/// That is its SQL text, byte strings by their spelling, an all-zero time without its sign. It is for
+/// a placeholder in no comment.
 ///
 /// # Errors
 /// - `Float` for a float.
@@ -153,7 +176,14 @@ pub fn push_literal_in(
     ensures literal { HasLiteral value.now }
 {
     let start = out.len();
-    let put = put_sql(out, value, mode.no_backslash_escapes, spelling, false);
+    let put = put_sql(
+        out,
+        value,
+        mode.no_backslash_escapes,
+        spelling,
+        false,
+        false,
+    );
     if put.is_err() {
         out.truncate(start);
     }
@@ -167,8 +197,8 @@ impl Value {
     ///
     /// **Safe for** a server that takes backslash escapes, over a connection in UTF-8. With
     /// `no_backslash_escape` it is for one in the SQL mode NO_BACKSLASH_ESCAPES: single quotes are
-    /// doubled, and no other byte is escaped. By the wrong one of both, or in a character set with
-    /// a quote or a backslash among the bytes of a character, a value may end its literal.
+    /// doubled, and no other byte is escaped. By the wrong one of both a value may end its literal.
+    /// So it may in a character set with a quote or a backslash among the bytes of a character.
     ///
     /// Promise: exactly the stated text of the value is written, in the mode that it is for a
     /// literal of its content (`sql_of`, `SqlIsLiteral`).
@@ -185,7 +215,14 @@ impl Value {
     {
         fields_fit(self);
         let mut text = Vec::new(alloc);
-        put_sql(&mut text, self, no_backslash_escape, Spelling::Quoted, true)?;
+        put_sql(
+            &mut text,
+            self,
+            no_backslash_escape,
+            Spelling::Quoted,
+            false,
+            true,
+        )?;
         Ok(unsafe { String::from_utf8_unchecked(text) })
     }
 }

@@ -84,8 +84,8 @@ fn or_eof<T>(first: Option<T>) -> Result<T, WireError>
 /// read. Of a date or a time the fields that its length leaves out are 0, and bytes behind its last
 /// field are skipped.
 ///
-/// Promise: exactly what stands first is read by the type and its sign, in spellings too that no
-/// writer chooses; a refusal leaves all bytes (`cell_at`).
+/// Promise: exactly what stands first is read by the type and its sign. Spellings that no writer
+/// chooses are read too. A refusal leaves all bytes (`cell_at`).
 ///
 /// # Errors
 /// - `UnsupportedType` for a type without cells.
@@ -143,8 +143,8 @@ pub fn read_text_cell(alloc: Global, buf: &mut ParseBuf) -> Result<Value, WireEr
     }
 }
 
-/// The cell of the value by the type that the value is sent by: whole numbers in 8 bytes, bytes
-/// behind their length, dates and times in the shortest form that keeps them. NULL has no byte.
+/// The cell of the value by the type that the value is sent by. Whole numbers have 8 bytes. Bytes
+/// follow their length. Dates and times have the shortest form that keeps them. NULL has no byte.
 ///
 /// Follows "Binary Protocol Value" of the client/server protocol documentation.
 impl MySerialize for Value {

@@ -11,7 +11,6 @@ pub mod deserializer;
 mod into_content;
 pub mod laws;
 mod quoting;
-pub mod spelling;
 pub mod typed_cell;
 pub mod value;
 
@@ -19,6 +18,6 @@ pub use as_sql::AsSqlError;
 pub use cell_form::CellForm;
 pub use cells::{read_cell, read_text_cell};
 pub use deserializer::{BinValue, TextValue, ValueDeserializer};
-pub use spelling::Spelling;
+pub use mysql_queries::Spelling;
 pub use typed_cell::{Cell, cell_of, put_cell};
 pub use value::Value;

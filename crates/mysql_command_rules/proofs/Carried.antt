@@ -6,7 +6,6 @@ use Rattle.mysql_wire.specs.Framing.{chunks}
 use Rattle.mysql_wire.specs.Stream.{IsSplit, framings}
 use Rattle.mysql_wire.specs.Stream.Rest.{Empty}
 use Rattle.mysql_wire.specs.Stream.Numbering.{EachFromZero}
-use Rattle.mysql_values.specs.Spelling.{Spelling}
 use Rattle.mysql_values.specs.Sql.{Sql}
 use Rattle.mysql_values.specs.Value.{Value}
 use Rattle.mysql_receive.specs.declared.audit.End.TheVariants.{Whole}
@@ -14,8 +13,8 @@ use Rattle.mysql_receive.specs.Audit as audit
 use Rattle.mysql_receive.specs.Audit.{Audited}
 use Rattle.mysql_receive.specs.Query.{Statement, statement_of}
 use Rattle.mysql_receive.specs.Reading.{Set}
-use Rattle.mysql_command_rules.specs.SpelledRoad.{SpelledRoad}
-use Rattle.mysql_command_rules.specs.SpelledRoad.{Text, Execute, Bulk}
+use Rattle.mysql_command_rules.specs.declared.road.Road.{Road}
+use Rattle.mysql_command_rules.specs.declared.road.Road.TheVariants.{Text, Execute, Bulk}
 use Rattle.mysql_command_rules.specs.Cause.{cause_of}
 use Rattle.mysql_command_rules.specs.Laws.{ReadsEach, SentPayloadsRead, SentValuesAreCarried}
 use Rattle.mysql_command_rules.specs.Reading.{HaveContents, SentReadable}
@@ -38,25 +37,25 @@ splits limit payloads within = record {
 -- ---- carried
 
 -- no cause speaks against the values that were sent
-pub no_cause : (road : SpelledRoad) (query : Sql) (sets : List (List ℕ) → List Given) (id limit : ℕ) (old new : List ℕ) (sends : SendsGiven road query sets id limit old new)
+pub no_cause : (road : Road) (query : Sql) (sets : List (List ℕ) → List Given) (id limit : ℕ) (old new : List ℕ) (sends : SendsGiven road query sets id limit old new)
     → cause_of road (statement_of query sends.tokens id) limit (map Ok sends.values) ≡ None
 no_cause road query sets id limit old new sends = ap (λ given. cause_of road (statement_of query sends.tokens id) limit given) (sym sends.given) ∙ sends.none
 
 -- fewer payloads were sent than there are bytes
-pub few_sent : (road : SpelledRoad) (query : Sql) (sets : List (List ℕ) → List Given) (id limit : ℕ) (old new : List ℕ) → length new < 2 ^ 64 → (sends : SendsGiven road query sets id limit old new) → length sends.sent < 2 ^ 64
+pub few_sent : (road : Road) (query : Sql) (sets : List (List ℕ) → List Given) (id limit : ℕ) (old new : List ℕ) → length new < 2 ^ 64 → (sends : SendsGiven road query sets id limit old new) → length sends.sent < 2 ^ 64
 few_sent road query sets id limit old new short sends =
     let stream : List ℕ = framings (payloads_of sends.sent) EachFromZero in
     let payloads : length (payloads_of sends.sent) ≡ length sends.sent = length-map sends.sent (λ s. s.payload) in
     omega (arith, short, payloads, as_long (payloads_of sends.sent), ap length sends.appended, length-append old stream)
 
 -- the law of each road
-law_of : ((spelling : Spelling) → SentPayloadsRead (Text spelling)) → SentPayloadsRead Execute → SentPayloadsRead Bulk → (road : SpelledRoad) → SentPayloadsRead road
-law_of text execute bulk (Text spelling) = text spelling
+law_of : SentPayloadsRead Text → SentPayloadsRead Execute → SentPayloadsRead Bulk → (road : Road) → SentPayloadsRead road
+law_of text execute bulk Text = text
 law_of text execute bulk Execute = execute
 law_of text execute bulk Bulk = bulk
 
 -- what was sent reads, payload by payload
-pub reads_each : ((spelling : Spelling) → SentPayloadsRead (Text spelling)) → SentPayloadsRead Execute → SentPayloadsRead Bulk → (road : SpelledRoad) (query : Sql) (sets : List (List ℕ) → List Given) (id limit : ℕ) (old new : List ℕ) → id < 2 ^ 32 → 4 ≤ limit
+pub reads_each : SentPayloadsRead Text → SentPayloadsRead Execute → SentPayloadsRead Bulk → (road : Road) (query : Sql) (sets : List (List ℕ) → List Given) (id limit : ℕ) (old new : List ℕ) → id < 2 ^ 32 → 4 ≤ limit
     → (q : SentReadable road query sets id limit old new) → ReadsEach (statement_of query q.sends.tokens id) limit q.sends.sent
 reads_each text execute bulk road query sets id limit old new small room q =
     let none = no_cause road query sets id limit old new q.sends in
@@ -76,7 +75,7 @@ audited c limit sent reads few = (
   },
 )
 
-pub carried : ((spelling : Spelling) → SentPayloadsRead (Text spelling)) → SentPayloadsRead Execute → SentPayloadsRead Bulk → SentValuesAreCarried
+pub carried : SentPayloadsRead Text → SentPayloadsRead Execute → SentPayloadsRead Bulk → SentValuesAreCarried
 carried text execute bulk road query sets id limit old new small room short q =
     let statement : Statement = statement_of query q.sends.tokens id in
     let sent : List SentPayload = q.sends.sent in

@@ -3,7 +3,6 @@ use Rattle.std.proofs.Common.{◌≡◌, ℕ, suc, ◌+◌, ◌-◌, ◌^◌, �
 use Rattle.std.specs.List.{flat_map}
 use Rattle.std.specs.Option.{option_or}
 use Rattle.std.proofs.lemmas.List.{length-map}
-use Rattle.mysql_values.specs.Spelling.{Spelling}
 use Rattle.mysql_values.specs.Sql.{Sql}
 use Rattle.mysql_values.specs.Laws.{OneTokens}
 use Rattle.mysql_values.specs.Value.{Value}
@@ -14,8 +13,8 @@ use Rattle.mysql_receive.specs.Audit.{Audited}
 use Rattle.mysql_receive.specs.Laws.{FrontsReadOn}
 use Rattle.mysql_receive.specs.Query.{Statement, place_count, statement_of}
 use Rattle.mysql_receive.specs.Reading.{Set}
-use Rattle.mysql_command_rules.specs.SpelledRoad.{SpelledRoad}
-use Rattle.mysql_command_rules.specs.SpelledRoad.{Text, Execute, Bulk}
+use Rattle.mysql_command_rules.specs.declared.road.Road.{Road}
+use Rattle.mysql_command_rules.specs.declared.road.Road.TheVariants.{Text, Execute, Bulk}
 use Rattle.mysql_command_rules.specs.Cause.{first_of_sets, query_cause, set_cause, sets_cause}
 use Rattle.mysql_command_rules.specs.Laws.{CarriesValues, ReadsEach, SentPayloadsRead, SentSetsAreDelivered, SentValuesAreCarried}
 use Rattle.mysql_command_rules.specs.Reading.{FrontsRead, HaveContents}
@@ -33,8 +32,8 @@ placed_count : (start : ℕ) (cut : List Part) → length (placed_from start cut
 placed_count start [] = refl
 placed_count start (part ∷ cut) = ap (λ n. suc n) (placed_count (start + part.count) cut)
 
-has_fewest : TightTypedHasFewest → (road : SpelledRoad) (statement : Statement) (room : ℕ) (sets : List (List Value)) (sent : List SentPayload) → AreSent road statement room sets sent → HasFewest road statement room sets sent
-has_fewest law (Text spelling) statement room sets sent is = tt
+has_fewest : TightTypedHasFewest → (road : Road) (statement : Statement) (room : ℕ) (sets : List (List Value)) (sent : List SentPayload) → AreSent road statement room sets sent → HasFewest road statement room sets sent
+has_fewest law Text statement room sets sent is = tt
 has_fewest law Execute statement room sets sent is = tt
 has_fewest law Bulk statement room sets sent is = λ other is_cut fits.
     let few : length is.0 ≤ length other = law room (place_count statement.query) sets is.0 other is.1 is_cut fits in
@@ -55,7 +54,7 @@ fronts once law query tokens id limit sent has reads few front back audit joined
     contents_in_a_row (take found.0 sent) (take found.0 all) (first_zip (λ payload sets. HaveContents payload.sets sets) found.0 sent all reads.contents) in
     (found.0, found.1, whole ∙ ap (λ l. map (map Some) l) (sym found.2), found.3)
 
-pub delivered : ((spelling : Spelling) → SentPayloadsRead (Text spelling)) → SentPayloadsRead Execute → SentPayloadsRead Bulk → SentValuesAreCarried → OneTokens → FrontsReadOn → TightTypedHasFewest → SentSetsAreDelivered
+pub delivered : SentPayloadsRead Text → SentPayloadsRead Execute → SentPayloadsRead Bulk → SentValuesAreCarried → OneTokens → FrontsReadOn → TightTypedHasFewest → SentSetsAreDelivered
 delivered text execute bulk carried once fronts_read fewest road query sets id limit old new small room short q =
     let tokens : List (List ℕ) = q.sends.tokens in
     let values : List (List Value) = q.sends.values in

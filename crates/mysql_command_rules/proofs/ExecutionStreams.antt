@@ -7,7 +7,7 @@ use Rattle.mysql_stmt.specs.Executions.{execute_command, needs_long_data}
 use Rattle.mysql_receive.specs.InForce.{StatementState, after, nothing_yet, state_after}
 use Rattle.mysql_receive.specs.Laws.{WrittenCellsAreHeld}
 use Rattle.mysql_receive.specs.Query.{Statement, place_count, statement_of}
-use Rattle.mysql_command_rules.specs.SpelledRoad.{Execute}
+use Rattle.mysql_command_rules.specs.declared.road.Road.TheVariants.{Execute}
 use Rattle.mysql_command_rules.specs.Cause.{first_of_sets, max_places, prepare_cause, set_cause}
 use Rattle.mysql_command_rules.specs.Commands.{pieces_from, prepare_command}
 use Rattle.mysql_command_rules.specs.Laws.{SentPayloadsRead}

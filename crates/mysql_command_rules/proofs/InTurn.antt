@@ -18,8 +18,8 @@ use Rattle.mysql_values.specs.Value.{Value}
 use Rattle.mysql_receive.specs.Query.{Statement, place_count, statement_of}
 use Rattle.mysql_command_rules.specs.declared.refusal.Refusal.{Refusal}
 use Rattle.mysql_command_rules.specs.declared.refusal.Refusal.TheVariants as refusals
-use Rattle.mysql_command_rules.specs.SpelledRoad.{SpelledRoad}
-use Rattle.mysql_command_rules.specs.SpelledRoad.{Text, Execute, Bulk}
+use Rattle.mysql_command_rules.specs.declared.road.Road.{Road}
+use Rattle.mysql_command_rules.specs.declared.road.Road.TheVariants.{Text, Execute, Bulk}
 use Rattle.mysql_command_rules.specs.Cause.{cause_of, first_of_sets, query_cause, set_cause, sets_cause}
 use Rattle.mysql_command_rules.specs.InTurn.{AllAreSent, FrontsStay, ListsGive, MadeInTurn, OneMoreIsRefused, OneMoreIsSent, QueriesAreRefused, QueriesBegin, SentInTurn}
 use Rattle.mysql_command_rules.specs.MadeSets.{AllMade, IsSetAt, MadeUpTo}
@@ -78,8 +78,8 @@ first_of_append cause n (given ∷ sets) others =
 -- ---- what is sent
 
 -- nothing speaks against all sets together
-none_together : (road : SpelledRoad) → IsApart road → (statement : Statement) (room : ℕ) (sets : List (List Value)) → sets_cause road statement room sets ≡ None
-none_together (Text spelling) apart statement room sets = refl
+none_together : (road : Road) → IsApart road → (statement : Statement) (room : ℕ) (sets : List (List Value)) → sets_cause road statement room sets ≡ None
+none_together Text apart statement room sets = refl
 none_together Execute apart statement room sets = refl
 none_together Bulk apart statement room sets = absurd apart
 
@@ -87,15 +87,15 @@ flat_more : {X A : Type 0} (f : X → List A) (xs : List X) (x : X) → flat_map
 flat_more f xs x = ap (λ l. flat_map f xs ++ l) (sym (append-nil (f x))) ∙ sym (flat_map-append f xs (x ∷ []))
 
 -- nothing is sent of no sets but what stands before all
-sent_before : (road : SpelledRoad) → IsApart road → (statement : Statement) (room : ℕ) → AreSent road statement room [] (front_of road statement)
-sent_before (Text spelling) apart statement room = refl
+sent_before : (road : Road) → IsApart road → (statement : Statement) (room : ℕ) → AreSent road statement room [] (front_of road statement)
+sent_before Text apart statement room = refl
 sent_before Execute apart statement room = refl
 sent_before Bulk apart statement room = absurd apart
 
 -- one more set is sent
-sent_more : (road : SpelledRoad) → IsApart road → (statement : Statement) (room : ℕ) (sets : List (List Value)) (values : List Value) (sent : List SentPayload) → AreSent road statement room sets sent
+sent_more : (road : Road) → IsApart road → (statement : Statement) (room : ℕ) (sets : List (List Value)) (values : List Value) (sent : List SentPayload) → AreSent road statement room sets sent
     → AreSent road statement room (sets ++ values ∷ []) (sent ++ one_set road statement values)
-sent_more (Text spelling) apart statement room sets values sent are = ap (λ l. l ++ as_text spelling statement values) are ∙ flat_more (as_text spelling statement) sets values
+sent_more Text apart statement room sets values sent are = ap (λ l. l ++ as_text statement values) are ∙ flat_more (as_text statement) sets values
 sent_more Execute apart statement room sets values sent are =
     ap (λ l. l ++ as_execution statement values) are ∙ ap (λ l. prepare_of statement ∷ l) (flat_more (as_execution statement) sets values)
 sent_more Bulk apart statement room sets values sent are = absurd apart
@@ -134,7 +134,7 @@ refused road query sets id limit refusal tokens has this =
 
 -- ---- one set behind others
 
-module _ (once : OneTokens) (road : SpelledRoad) (apart : IsApart road) (query : Sql) (sets : List (List ℕ) → List Given) (id limit number : ℕ) (given : List (List ℕ) → Given) (at : GivesAt sets number given)
+module _ (once : OneTokens) (road : Road) (apart : IsApart road) (query : Sql) (sets : List (List ℕ) → List Given) (id limit number : ℕ) (given : List (List ℕ) → Given) (at : GivesAt sets number given)
     (old out : List ℕ) (s : SentReadable road query (first_sets number sets) id limit old out) where
   abbrev statement : Statement
   statement = statement_of query s.sends.tokens id
@@ -230,7 +230,7 @@ module _ (once : OneTokens) (road : SpelledRoad) (apart : IsApart road) (query :
 -- ---- behind the last set
 
 -- what is said over sets is said over others that give the same
-pub over_same : (road : SpelledRoad) (query : Sql) (sets others : List (List ℕ) → List Given) (id limit : ℕ) (old new : List ℕ) → GiveTheSame sets others → SentReadable road query sets id limit old new
+pub over_same : (road : Road) (query : Sql) (sets others : List (List ℕ) → List Given) (id limit : ℕ) (old new : List ℕ) → GiveTheSame sets others → SentReadable road query sets id limit old new
     → SentReadable road query others id limit old new
 over_same road query sets others id limit old new same s = record {
   sends = record {
@@ -247,7 +247,7 @@ over_same road query sets others id limit old new same s = record {
 }
 
 -- and what refuses them
-pub refused_same : (road : SpelledRoad) (query : Sql) (sets others : List (List ℕ) → List Given) (id limit : ℕ) (refusal : Refusal) → GiveTheSame sets others → RefusesGiven road query sets id limit refusal
+pub refused_same : (road : Road) (query : Sql) (sets others : List (List ℕ) → List Given) (id limit : ℕ) (refusal : Refusal) → GiveTheSame sets others → RefusesGiven road query sets id limit refusal
     → RefusesGiven road query others id limit refusal
 refused_same road query sets others id limit refusal same (inl memory) = inl memory
 refused_same road query sets others id limit refusal same (inr why) = inr (record {
@@ -275,7 +275,7 @@ of_list sets number params inside is names =
     slice_get-map (given_by names) sets number ∙ ap (λ o. option_map (given_by names) o) (slice_get_read sets (length sets) number params refl inside is)
 
 -- a query that is refused without sets is refused with any
-pub refused_with_any : (road : SpelledRoad) → IsApart road → (query : Sql) (sets : List (List ℕ) → List Given) (id limit : ℕ) (refusal : Refusal) → RefusesGiven road query (λ names. []) id limit refusal
+pub refused_with_any : (road : Road) → IsApart road → (query : Sql) (sets : List (List ℕ) → List Given) (id limit : ℕ) (refusal : Refusal) → RefusesGiven road query (λ names. []) id limit refusal
     → RefusesGiven road query sets id limit refusal
 refused_with_any road apart query sets id limit refusal (inl memory) = inl memory
 refused_with_any road apart query sets id limit refusal (inr why) =

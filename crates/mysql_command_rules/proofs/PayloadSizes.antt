@@ -8,8 +8,8 @@ use Rattle.mysql_receive.specs.Query.{Statement, place_count}
 use Rattle.mysql_stmt.specs.Executions.{needs_long_data}
 use Rattle.mysql_command_rules.specs.declared.refusal.Refusal.{Refusal}
 use Rattle.mysql_command_rules.specs.declared.refusal.Refusal.TheVariants as refusals
-use Rattle.mysql_command_rules.specs.SpelledRoad.{SpelledRoad}
-use Rattle.mysql_command_rules.specs.SpelledRoad.{Text, Execute, Bulk}
+use Rattle.mysql_command_rules.specs.declared.road.Road.{Road}
+use Rattle.mysql_command_rules.specs.declared.road.Road.TheVariants.{Text, Execute, Bulk}
 use Rattle.mysql_command_rules.specs.Cause.{cause_if, first_of_sets, prepare_cause, query_cause, set_cause, sets_cause}
 use Rattle.mysql_command_rules.specs.Laws.{RequestsHaveTheirSize, SentPayloadsFit}
 use Rattle.mysql_command_rules.specs.Sent.{AreSent, SentPayload, as_execution, payloads_of, prepare_of, whole_command}
@@ -42,11 +42,11 @@ prepare_within : (statement : Statement) (most : ℕ) → prepare_cause statemen
 prepare_within statement most none = (preparable statement.query most none).short
 
 -- what is sent by each road
-within : RequestsHaveTheirSize → (road : SpelledRoad) (statement : Statement) (limit : ℕ) (values : List (List Value)) (sent : List SentPayload) → query_cause road statement (limit - 4) ≡ None
+within : RequestsHaveTheirSize → (road : Road) (statement : Statement) (limit : ℕ) (values : List (List Value)) (sent : List SentPayload) → query_cause road statement (limit - 4) ≡ None
     → first_of_sets (set_cause (whole_command road statement) (place_count statement.query) (limit - 4)) 0 (map Ok values) ≡ None → AreSent road statement (limit - 4) values sent → Within (limit - 4) (payloads_of sent)
-within sizes (Text spelling) statement limit values sent query none are =
+within sizes Text statement limit values sent query none are =
     subst (λ (l : List SentPayload). Within (limit - 4) (payloads_of l)) (sym are)
-    (subst (λ (l : List (List ℕ)). Within (limit - 4) l) (sym (payloads_are spelling statement values)) (short_each (whole_command (Text spelling) statement) (place_count statement.query) (limit - 4) 0 values none))
+    (subst (λ (l : List (List ℕ)). Within (limit - 4) l) (sym (payloads_are statement values)) (short_each (whole_command Text statement) (place_count statement.query) (limit - 4) 0 values none))
 within sizes Execute statement limit values sent query none are =
     subst (λ (l : List SentPayload). Within (limit - 4) (payloads_of l)) (sym are) (prepare_within statement (limit - 4) query, executions_within (limit - 4) 0 statement values none)
 within sizes Bulk statement limit values sent query none are =

@@ -5,13 +5,12 @@ use Rattle.std.specs.List.{AllByRecursion, flat_map, list_all, position_from}
 use Rattle.std.specs.Option.{option_map, option_or}
 use Rattle.mysql_values.specs.Place.{Place}
 use Rattle.mysql_values.specs.Queries.{first_not_alone, is_mixed}
-use Rattle.mysql_values.specs.Spelling.{Spelling}
 use Rattle.mysql_values.specs.Value.{Value}
 use Rattle.mysql_receive.specs.InForce.{StatementState, nothing_yet, state_after}
 use Rattle.mysql_receive.specs.Query.{Query, Statement, all_alone, place_count, statement_of}
 use Rattle.mysql_receive.specs.Reading.{Set, TextReadsAs}
 use Rattle.mysql_command_rules.specs.declared.refusal.Refusal.TheVariants as refusals
-use Rattle.mysql_command_rules.specs.SpelledRoad.{Text}
+use Rattle.mysql_command_rules.specs.declared.road.Road.TheVariants.{Text}
 use Rattle.mysql_command_rules.specs.Cause.{cause_if, first_of_sets, places_cause, set_cause}
 use Rattle.mysql_command_rules.specs.Laws.{SentPayloadsRead}
 use Rattle.mysql_command_rules.specs.Reading.{IsReadable}
@@ -42,38 +41,38 @@ places_alone places none =
     unmapped (Some place) none = cc
 
 -- the queries of sets, in a row
-pub payloads_are : (spelling : Spelling) (statement : Statement) (sets : List (List Value)) → payloads_of (flat_map (as_text spelling statement) sets) ≡ map (whole_command (Text spelling) statement) sets
-payloads_are spelling statement [] = refl
-payloads_are spelling statement (values ∷ sets) = ap (λ l. whole_command (Text spelling) statement values ∷ l) (payloads_are spelling statement sets)
+pub payloads_are : (statement : Statement) (sets : List (List Value)) → payloads_of (flat_map (as_text statement) sets) ≡ map (whole_command Text statement) sets
+payloads_are statement [] = refl
+payloads_are statement (values ∷ sets) = ap (λ l. whole_command Text statement values ∷ l) (payloads_are statement sets)
 
 -- a query that reads as its values' contents reads as what they hold
-as_held : (spelling : Spelling) (query : Query) (values : List Value) → IsReadable (Text spelling) query values → TextReadsAs query.sql (query_text_of spelling query values) (map held values)
-as_held spelling query values is = subst (λ (l : Set). TextReadsAs query.sql (query_text_of spelling query values) l) (what_is_held values is.0 is.1) is.2
+as_held : (query : Query) (values : List Value) → IsReadable Text query values → TextReadsAs query.sql (query_text_of query values) (map held values)
+as_held query values is = subst (λ (l : Set). TextReadsAs query.sql (query_text_of query values) l) (what_is_held values is.0 is.1) is.2
 
 -- each query reads as what its values hold, whatever is in force
-reads_from : (spelling : Spelling) (statement : Statement) (alone : IsTrue (all_alone statement.query)) (sets : List (List Value)) → AllByRecursion (IsReadable (Text spelling) statement.query) sets
-    → (s : StatementState) → ReadFrom statement s (flat_map (as_text spelling statement) sets)
-reads_from spelling statement alone [] readable s = tt
-reads_from spelling statement alone (values ∷ sets) readable s =
-    ((alone, (_, as_held spelling statement.query values readable.0, refl)), reads_from spelling statement alone sets readable.1 s)
+reads_from : (statement : Statement) (alone : IsTrue (all_alone statement.query)) (sets : List (List Value)) → AllByRecursion (IsReadable Text statement.query) sets
+    → (s : StatementState) → ReadFrom statement s (flat_map (as_text statement) sets)
+reads_from statement alone [] readable s = tt
+reads_from statement alone (values ∷ sets) readable s =
+    ((alone, (_, as_held statement.query values readable.0, refl)), reads_from statement alone sets readable.1 s)
 
 -- queries leave in force what was
-nothing_changes : (spelling : Spelling) (statement : Statement) (s : StatementState) (sets : List (List Value)) → state_after statement s (payloads_of (flat_map (as_text spelling statement) sets)) ≡ s
-nothing_changes spelling statement s [] = refl
-nothing_changes spelling statement s (values ∷ sets) = nothing_changes spelling statement s sets
+nothing_changes : (statement : Statement) (s : StatementState) (sets : List (List Value)) → state_after statement s (payloads_of (flat_map (as_text statement) sets)) ≡ s
+nothing_changes statement s [] = refl
+nothing_changes statement s (values ∷ sets) = nothing_changes statement s sets
 
 -- what is sent of sets without a cause reads as these sets
-pub queries_read : (spelling : Spelling) → SentPayloadsRead (Text spelling)
-queries_read spelling query tokens id limit values sent has small room none is readable =
+pub queries_read : SentPayloadsRead Text
+queries_read query tokens id limit values sent has small room none is readable =
     let statement : Statement = statement_of query tokens id in
-    let sets : Option _ = first_of_sets (set_cause (whole_command (Text spelling) statement) (place_count statement.query) (limit - 4)) 0 (map Ok values) in
+    let sets : Option _ = first_of_sets (set_cause (whole_command Text statement) (place_count statement.query) (limit - 4)) 0 (map Ok values) in
     let parts = neither (places_cause statement.query.places) (option_or sets None) none in
     let sets_none = neither sets None parts.1 in
-    let queries = flat_map (as_text spelling statement) values in
+    let queries = flat_map (as_text statement) values in
     let reads : ReadsHeld statement limit queries = record {
-      within = subst (λ (l : List (List ℕ)). AllByRecursion (λ payload. length payload ≤ limit) l) (sym (payloads_are spelling statement values))
-          (within_limit limit (map (whole_command (Text spelling) statement) values) (short_each (whole_command (Text spelling) statement) (place_count statement.query) (limit - 4) 0 values sets_none.0));
-      each = read_each statement nothing_yet queries (reads_from spelling statement (places_alone statement.query.places parts.0) values readable nothing_yet);
-      ends = not_waiting statement (state_after statement nothing_yet (payloads_of queries)) (λ place. ap (λ (t : StatementState). t.long_data place) (nothing_changes spelling statement nothing_yet values));
+      within = subst (λ (l : List (List ℕ)). AllByRecursion (λ payload. length payload ≤ limit) l) (sym (payloads_are statement values))
+          (within_limit limit (map (whole_command Text statement) values) (short_each (whole_command Text statement) (place_count statement.query) (limit - 4) 0 values sets_none.0));
+      each = read_each statement nothing_yet queries (reads_from statement (places_alone statement.query.places parts.0) values readable nothing_yet);
+      ends = not_waiting statement (state_after statement nothing_yet (payloads_of queries)) (λ place. ap (λ (t : StatementState). t.long_data place) (nothing_changes statement nothing_yet values));
     } in
-    reads_contents (Text spelling) statement (limit - 4) values sent is (whole_command (Text spelling) statement) (place_count statement.query) (limit - 4) sets_none.0 statement limit (subst (λ l. ReadsHeld statement limit l) (sym is) reads)
+    reads_contents Text statement (limit - 4) values sent is (whole_command Text statement) (place_count statement.query) (limit - 4) sets_none.0 statement limit (subst (λ l. ReadsHeld statement limit l) (sym is) reads)

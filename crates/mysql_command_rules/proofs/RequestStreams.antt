@@ -17,7 +17,7 @@ use Rattle.mysql_receive.specs.Laws.{WrittenCellsAreHeld}
 use Rattle.mysql_receive.specs.Query.{Statement, place_count, statement_of}
 use Rattle.mysql_command_rules.specs.declared.refusal.Refusal.{Refusal}
 use Rattle.mysql_command_rules.specs.declared.refusal.Refusal.TheVariants as refusals
-use Rattle.mysql_command_rules.specs.SpelledRoad.{Bulk}
+use Rattle.mysql_command_rules.specs.declared.road.Road.TheVariants.{Bulk}
 use Rattle.mysql_command_rules.specs.Cause.{bulk_cause, cause_if, first_of_sets, prepare_cause, query_cause, set_cause}
 use Rattle.mysql_command_rules.specs.Commands.{bulk_request, prepare_command, types_size}
 use Rattle.mysql_command_rules.specs.Laws.{RequestsHaveTheirSize, SentPayloadsRead}

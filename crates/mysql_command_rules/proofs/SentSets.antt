@@ -5,7 +5,6 @@ use Rattle.std.specs.List.{AllByRecursion, flat_map}
 use Rattle.std.proofs.lemmas.List.{drop-drop, take_all}
 use Rattle.std.proofs.lemmas.List.Sums.{sum_by-cons}
 use Rattle.std.proofs.Math.Seq.{take-add}
-use Rattle.mysql_values.specs.Spelling.{Spelling}
 use Rattle.mysql_values.specs.Value.{Value}
 use Rattle.mysql_bulk_builder.specs.Cut.{rows_of}
 use Rattle.mysql_bulk_builder.specs.TypedCut.{Part, placed_from}
@@ -13,8 +12,8 @@ use Rattle.mysql_receive.specs.Audit.{Reads}
 use Rattle.mysql_receive.specs.InForce.{is_waiting, nothing_yet, state_after}
 use Rattle.mysql_receive.specs.Query.{Statement, place_count}
 use Rattle.mysql_stmt.specs.Executions.{execute_command, needs_long_data}
-use Rattle.mysql_command_rules.specs.SpelledRoad.{SpelledRoad}
-use Rattle.mysql_command_rules.specs.SpelledRoad.{Text, Execute, Bulk}
+use Rattle.mysql_command_rules.specs.declared.road.Road.{Road}
+use Rattle.mysql_command_rules.specs.declared.road.Road.TheVariants.{Text, Execute, Bulk}
 use Rattle.mysql_command_rules.specs.Cause.{first_of_sets, set_cause}
 use Rattle.mysql_command_rules.specs.Commands.{bulk_request, pieces_from}
 use Rattle.mysql_command_rules.specs.Laws.{ReadsEach}
@@ -22,9 +21,9 @@ use Rattle.mysql_command_rules.specs.Sent.{AreSent, SentPayload, as_execution, a
 use Rattle.mysql_command_rules.proofs.Contents.{all_hold}
 use Rattle.mysql_command_rules.proofs.Held.{HoldsAll, contents_each, contents_of}
 
-text_sets : (spelling : Spelling) (statement : Statement) (sets : List (List Value)) → sets_of (flat_map (as_text spelling statement) sets) ≡ sets
-text_sets spelling statement [] = refl
-text_sets spelling statement (values ∷ sets) = ap (λ l. values ∷ l) (text_sets spelling statement sets)
+text_sets : (statement : Statement) (sets : List (List Value)) → sets_of (flat_map (as_text statement) sets) ≡ sets
+text_sets statement [] = refl
+text_sets statement (values ∷ sets) = ap (λ l. values ∷ l) (text_sets statement sets)
 
 -- payloads on the way are no set's, and the last one is its set's
 one_execution : (payloads : List (List ℕ)) (values : List Value) (command : List ℕ) (later : List SentPayload) → sets_of ((map on_the_way payloads ++ last_of values command ∷ []) ++ later) ≡ values ∷ sets_of later
@@ -49,8 +48,8 @@ request_sets payload sets start (part ∷ cut) =
     ∙ sym (take-add part.count later (drop start sets))
     ∙ ap (λ n. take n (drop start sets)) (sym (sum_by-cons (λ part. part.count) part cut))
 
-pub sets_are : (road : SpelledRoad) (statement : Statement) (room : ℕ) (sets : List (List Value)) (sent : List SentPayload) → AreSent road statement room sets sent → sets_of sent ≡ sets
-sets_are (Text spelling) statement room sets sent is = ap (λ l. sets_of l) is ∙ text_sets spelling statement sets
+pub sets_are : (road : Road) (statement : Statement) (room : ℕ) (sets : List (List Value)) (sent : List SentPayload) → AreSent road statement room sets sent → sets_of sent ≡ sets
+sets_are Text statement room sets sent is = ap (λ l. sets_of l) is ∙ text_sets statement sets
 sets_are Execute statement room sets sent is = ap (λ l. sets_of l) is ∙ execution_sets statement sets
 sets_are Bulk statement room sets sent is =
     ap (λ l. sets_of l) is.2
@@ -65,7 +64,7 @@ pub record ReadsHeld (c : Statement) (limit : ℕ) (sent : List SentPayload) : T
   pub ends : is_waiting c (state_after c nothing_yet (payloads_of sent)) ≡ false
 
 -- where they are what is sent of sets that are no cause, they read as the contents of these
-pub reads_contents : (road : SpelledRoad) (statement : Statement) (room : ℕ) (values : List (List Value)) (sent : List SentPayload) → AreSent road statement room values sent
+pub reads_contents : (road : Road) (statement : Statement) (room : ℕ) (values : List (List Value)) (sent : List SentPayload) → AreSent road statement room values sent
     → (command : List Value → List ℕ) (places bytes : ℕ) → first_of_sets (set_cause command places bytes) 0 (map Ok values) ≡ None → (c : Statement) (limit : ℕ) → ReadsHeld c limit sent → ReadsEach c limit sent
 reads_contents road statement room values sent are command places bytes none c limit reads = record {
   within = reads.within;

@@ -11,6 +11,7 @@ use Rattle.mysql_values.specs.Queries.{Alternates, HasPlaces, IsParsed, Slices, 
 use Rattle.mysql_values.specs.Content.{Content}
 use Rattle.mysql_values.specs.Place.{Place}
 use Rattle.mysql_values.specs.Mode.{Mode}
+use Rattle.mysql_values.specs.Spelling.{Spelling}
 
 -- a piece of a text from this start on
 abbrev pub piece_from : List ℕ → ℕ → List Place → ℕ → List ℕ
@@ -45,19 +46,19 @@ laid text start (p ∷ ps) (l ∷ ls) e =
 
 -- ---- literals between pieces
 
-record Between (mode : Mode) (pieces : List (List ℕ)) (contents : List Content) (text : List ℕ) : Type 0 where
+record Between (mode : Mode) (spelling : Spelling) (pieces : List (List ℕ)) (contents : List Content) (text : List ℕ) : Type 0 where
   literals : List (List ℕ)
   count : suc (length literals) ≡ length pieces
-  each : AllZip (IsLiteral mode) literals contents
+  each : AllZip (IsLiteral mode spelling) literals contents
   spelled : text ≡ interleaved pieces literals
 
-between : (m : Mode) (pieces : List (List ℕ)) (contents : List Content) (text : List ℕ) → Alternates m pieces contents text → Between m pieces contents text
-between m [] contents text h = absurd h
-between m (piece ∷ []) [] text h = record { literals = []; count = refl; each = tt; spelled = h ∙ sym (append-nil piece) }
-between m (piece ∷ []) (x ∷ xs) text h = absurd h
-between m (piece ∷ next ∷ pieces) [] text h = absurd h
-between m (piece ∷ next ∷ pieces) (x ∷ xs) text h =
-    let others = between m (next ∷ pieces) xs h.1 h.4 in
+between : (m : Mode) (sp : Spelling) (pieces : List (List ℕ)) (contents : List Content) (text : List ℕ) → Alternates m sp pieces contents text → Between m sp pieces contents text
+between m sp [] contents text h = absurd h
+between m sp (piece ∷ []) [] text h = record { literals = []; count = refl; each = tt; spelled = h ∙ sym (append-nil piece) }
+between m sp (piece ∷ []) (x ∷ xs) text h = absurd h
+between m sp (piece ∷ next ∷ pieces) [] text h = absurd h
+between m sp (piece ∷ next ∷ pieces) (x ∷ xs) text h =
+    let others = between m sp (next ∷ pieces) xs h.1 h.4 in
     record {
       literals = h.0 ∷ others.literals;
       count = omega (arith, others.count);
@@ -65,15 +66,15 @@ between m (piece ∷ next ∷ pieces) (x ∷ xs) text h =
       spelled = h.3 ∙ ap (λ (l : List ℕ). piece ++ (h.0 ++ l)) others.spelled;
     }
 
-alternates : (m : Mode) (pieces literals : List (List ℕ)) (contents : List Content) → length pieces ≡ suc (length literals) → AllZip (IsLiteral m) literals contents → Alternates m pieces contents (interleaved pieces literals)
-alternates m [] ls xs e each = absurd (omega (arith, e))
-alternates m (piece ∷ []) [] [] e each = append-nil piece
-alternates m (piece ∷ []) [] (x ∷ xs) e each = absurd each
-alternates m (piece ∷ []) (l ∷ ls) xs e each = absurd (omega (arith, e))
-alternates m (piece ∷ next ∷ pieces) [] xs e each = absurd (omega (arith, e))
-alternates m (piece ∷ next ∷ pieces) (l ∷ ls) [] e each = absurd each
-alternates m (piece ∷ next ∷ pieces) (l ∷ ls) (x ∷ xs) e each =
-    (l, interleaved (next ∷ pieces) ls, each.0, refl, alternates m (next ∷ pieces) ls xs (omega (arith, e)) each.1)
+alternates : (m : Mode) (sp : Spelling) (pieces literals : List (List ℕ)) (contents : List Content) → length pieces ≡ suc (length literals) → AllZip (IsLiteral m sp) literals contents → Alternates m sp pieces contents (interleaved pieces literals)
+alternates m sp [] ls xs e each = absurd (omega (arith, e))
+alternates m sp (piece ∷ []) [] [] e each = append-nil piece
+alternates m sp (piece ∷ []) [] (x ∷ xs) e each = absurd each
+alternates m sp (piece ∷ []) (l ∷ ls) xs e each = absurd (omega (arith, e))
+alternates m sp (piece ∷ next ∷ pieces) [] xs e each = absurd (omega (arith, e))
+alternates m sp (piece ∷ next ∷ pieces) (l ∷ ls) [] e each = absurd each
+alternates m sp (piece ∷ next ∷ pieces) (l ∷ ls) (x ∷ xs) e each =
+    (l, interleaved (next ∷ pieces) ls, each.0, refl, alternates m sp (next ∷ pieces) ls xs (omega (arith, e)) each.1)
 
 length_slices : (text : List ℕ) (start : ℕ) (places : List Place) → length (slices_between text start places) ≡ suc (length places)
 length_slices text start [] = refl
@@ -103,12 +104,12 @@ parsed_is one slices query parsed places are is =
 pub record Filling (query : Sql) (places : List Place) (text : List ℕ) (contents : List Content) : Type 0 where
   pub literals : List (List ℕ)
   pub count : length literals ≡ length places
-  pub each : AllZip (IsLiteral query.mode) literals contents
+  pub each : AllZip (IsLiteral query.mode query.spelling) literals contents
   pub spelled : text ≡ filled_from query.text 0 places literals
 
 pub filling_of : OnePlaces → PiecesAreSlices → (query : Sql) (places : List Place) (text : List ℕ) (contents : List Content) → HasPlaces query places → Slices query text contents → Filling query places text contents
 filling_of one slices query places text contents are is =
-    let found = between query.mode (slices_between query.text 0 places) contents text (subst (λ (ps : List (List ℕ)). Alternates query.mode ps contents text) (pieces_are one slices query places is.tokens are is.has) is.alternates) in
+    let found = between query.mode query.spelling (slices_between query.text 0 places) contents text (subst (λ (ps : List (List ℕ)). Alternates query.mode query.spelling ps contents text) (pieces_are one slices query places is.tokens are is.has) is.alternates) in
     let count : length found.literals ≡ length places = omega (arith, found.count, length_slices query.text 0 places) in
     record { literals = found.literals; count = count; each = found.each; spelled = found.spelled ∙ laid query.text 0 places found.literals count }
 
@@ -118,7 +119,7 @@ slices_of one slices query places text contents are is =
     record {
       tokens = are.0;
       has = are.1;
-      alternates = subst (λ (t : List ℕ). Alternates query.mode (pieces_of are.0) contents t) (sym back)
-          (subst (λ (ps : List (List ℕ)). Alternates query.mode ps contents (interleaved (slices_between query.text 0 places) is.literals)) (sym (pieces_are one slices query places are.0 are are.1))
-          (alternates query.mode (slices_between query.text 0 places) is.literals contents (omega (arith, is.count, length_slices query.text 0 places)) is.each));
+      alternates = subst (λ (t : List ℕ). Alternates query.mode query.spelling (pieces_of are.0) contents t) (sym back)
+          (subst (λ (ps : List (List ℕ)). Alternates query.mode query.spelling ps contents (interleaved (slices_between query.text 0 places) is.literals)) (sym (pieces_are one slices query places are.0 are are.1))
+          (alternates query.mode query.spelling (slices_between query.text 0 places) is.literals contents (omega (arith, is.count, length_slices query.text 0 places)) is.each));
     }

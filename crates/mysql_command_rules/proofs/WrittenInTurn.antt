@@ -12,7 +12,7 @@ use Rattle.mysql_values.specs.Sql.{Sql}
 use Rattle.mysql_values.specs.declared.params.Params.{Params}
 use Rattle.mysql_values.specs.Laws.{OneTokens}
 use Rattle.mysql_command_rules.specs.declared.refusal.Refusal.{Refusal}
-use Rattle.mysql_command_rules.specs.SpelledRoad.{SpelledRoad}
+use Rattle.mysql_command_rules.specs.declared.road.Road.{Road}
 use Rattle.mysql_command_rules.specs.declared.send_to_error.SendToError.{SendToError}
 use Rattle.mysql_command_rules.specs.declared.send_to_error.SendToError.TheVariants.{Refused, Io}
 use Rattle.mysql_command_rules.specs.Buffering.{Flushes, StopsAt, TakesFront, whole_sets}
@@ -42,7 +42,7 @@ no_bytes i = omega arith
 first_of_list : (sets : List Params) (count : ℕ) → GiveTheSame (first_sets count (all_given sets)) (all_given (take count sets))
 first_of_list sets count names = take-map (given_by names) count sets
 
-module _ (road : SpelledRoad) (query : Sql) (sets : List Params) (id limit number : ℕ) (old mid new : Option (List ℕ)) (buffered : List ℕ) (w : WrittenSoFar road query sets id limit old mid buffered number) where
+module _ (road : Road) (query : Sql) (sets : List Params) (id limit number : ℕ) (old mid new : Option (List ℕ)) (buffered : List ℕ) (w : WrittenSoFar road query sets id limit old mid buffered number) where
   -- one more is sent from what was buffered, and a front of it is flushed
   on : (more left : List ℕ) → SentReadable road query (first_sets (number + 1) (all_given sets)) id limit [] (w.written ++ more) → Flushes mid new more left → WrittenSoFar road query sets id limit old new left (number + 1)
   on more left s f = record {
@@ -77,12 +77,12 @@ module _ (road : SpelledRoad) (query : Sql) (sets : List Params) (id limit numbe
   }
 
 -- what is written of sets is written of others that give the same
-writes_same : (road : SpelledRoad) (query : Sql) (sets others : List (List ℕ) → List Given) (id limit : ℕ) (old new : Option (List ℕ)) → GiveTheSame sets others → Writes road query sets id limit old new → Writes road query others id limit old new
+writes_same : (road : Road) (query : Sql) (sets others : List (List ℕ) → List Given) (id limit : ℕ) (old new : Option (List ℕ)) → GiveTheSame sets others → Writes road query sets id limit old new → Writes road query others id limit old new
 writes_same road query sets others id limit old new same w =
     record { stream = w.stream; bytes = w.bytes; taken = w.taken; carries = over_same road query sets others id limit [] w.stream same w.carries }
 
 -- what is appended to what is buffered is appended to what was written with it
-behind_written : (road : SpelledRoad) (query : Sql) (id limit number : ℕ) (given : List (List ℕ) → Given) (written buffered more : List ℕ) → AppendsOne road query id limit number given buffered more
+behind_written : (road : Road) (query : Sql) (id limit number : ℕ) (given : List (List ℕ) → Given) (written buffered more : List ℕ) → AppendsOne road query id limit number given buffered more
     → AppendsOne road query id limit number given (written ++ buffered) (written ++ more)
 behind_written road query id limit number given written buffered more (tokens, has, a) = (
   tokens,
@@ -96,7 +96,7 @@ behind_written road query id limit number given written buffered more (tokens, h
   },
 )
 
-module _ (once : OneTokens) (road : SpelledRoad) (apart : IsApart road) (query : Sql) (sets : List Params) (id limit number : ℕ) (old mid new : Option (List ℕ)) (buffered more : List ℕ) (params : Params)
+module _ (once : OneTokens) (road : Road) (apart : IsApart road) (query : Sql) (sets : List Params) (id limit number : ℕ) (old mid new : Option (List ℕ)) (buffered more : List ℕ) (params : Params)
     (inside : number < length sets) (at : params ≡ get_or sets number params) (w : WrittenSoFar road query sets id limit old mid buffered number) where
   in_turn : SentInTurn
   in_turn = sent_in_turn once

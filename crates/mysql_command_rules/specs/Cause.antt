@@ -14,8 +14,8 @@ pub use Rattle.mysql_receive.specs.Query.{max_places}
 use Rattle.mysql_receive.specs.Query.{Query, Statement, place_count}
 use Rattle.mysql_command_rules.specs.declared.refusal.Refusal.{Refusal}
 use Rattle.mysql_command_rules.specs.declared.refusal.Refusal.TheVariants as refusal
-use Rattle.mysql_command_rules.specs.SpelledRoad.{SpelledRoad}
-use Rattle.mysql_command_rules.specs.SpelledRoad.{Text, Execute, Bulk}
+use Rattle.mysql_command_rules.specs.declared.road.Road.{Road}
+use Rattle.mysql_command_rules.specs.declared.road.Road.TheVariants.{Text, Execute, Bulk}
 use Rattle.mysql_command_rules.specs.Commands.{prepare_command}
 use Rattle.mysql_command_rules.specs.Sets.{Given, values_of}
 use Rattle.mysql_command_rules.specs.Sent.{whole_command}
@@ -51,8 +51,8 @@ prepare_cause query room = first_some (
     cause_if (nat_lt room (length (prepare_command query.parsed))) refusal.PrepareTooLarge ∷ [])
 
 -- what speaks against the query by a road, with payloads of at most so many bytes
-abbrev pub query_cause : SpelledRoad → Statement → ℕ → Option Refusal
-query_cause (Text spelling) statement room = places_cause statement.query.places
+abbrev pub query_cause : Road → Statement → ℕ → Option Refusal
+query_cause Text statement room = places_cause statement.query.places
 query_cause Execute statement room = prepare_cause statement.query room
 query_cause Bulk statement room =
     option_or (prepare_cause statement.query room)
@@ -67,14 +67,14 @@ bulk_cause columns room rows = first_some (
     option_map (λ set. refusal.RowTooLarge set) (row_too_large room columns rows) ∷ [])
 
 -- what speaks against all sets together, which by bulk share requests
-abbrev pub sets_cause : SpelledRoad → Statement → ℕ → List (List Value) → Option Refusal
-sets_cause (Text spelling) statement room sets = None
+abbrev pub sets_cause : Road → Statement → ℕ → List (List Value) → Option Refusal
+sets_cause Text statement room sets = None
 sets_cause Execute statement room sets = None
 sets_cause Bulk statement room sets = bulk_cause (place_count statement.query) room sets
 
 -- The first cause for which sets are not sent by a road: against the query, then set by set, then
 -- against all sets together. A packet has four bytes beside its payload.
-abbrev pub cause_of : SpelledRoad → Statement → ℕ → List Given → Option Refusal
+abbrev pub cause_of : Road → Statement → ℕ → List Given → Option Refusal
 cause_of road statement limit sets = first_some (
     query_cause road statement (limit - 4) ∷
     first_of_sets (set_cause (whole_command road statement) (place_count statement.query) (limit - 4)) 0 sets ∷

@@ -6,7 +6,7 @@ use Rattle.mysql_values.specs.Tokens.{HasTokens}
 use Rattle.mysql_values.specs.declared.params.Params.{Params}
 use Rattle.mysql_receive.specs.Query.{statement_of}
 use Rattle.mysql_command_rules.specs.declared.refusal.Refusal.{Refusal}
-use Rattle.mysql_command_rules.specs.SpelledRoad.{SpelledRoad}
+use Rattle.mysql_command_rules.specs.declared.road.Road.{Road}
 use Rattle.mysql_command_rules.specs.Cause.{query_cause}
 use Rattle.mysql_command_rules.specs.MadeSets.{AllMade, IsSetAt, MadeUpTo}
 use Rattle.mysql_command_rules.specs.OneSet.{AppendsOne, GivesAt, IsApart, RefusesOne, first_sets, front_of}
@@ -18,7 +18,7 @@ use Rattle.mysql_command_rules.specs.Sets.{Given, all_given, given_by}
 -- a query against which nothing speaks begins the stream of no sets
 abbrev pub QueriesBegin : Type 0
 QueriesBegin =
-    (road : SpelledRoad) → IsApart road →
+    (road : Road) → IsApart road →
     (query : Sql) (sets : List (List ℕ) → List Given) (id limit : ℕ) (old new : List ℕ)
     (tokens : List (List ℕ)) → HasTokens query.mode query.text tokens →
     query_cause road (statement_of query tokens id) (limit - 4) ≡ None →
@@ -28,7 +28,7 @@ QueriesBegin =
 -- what speaks against the query is the first cause, whichever sets it has
 abbrev pub QueriesAreRefused : Type 0
 QueriesAreRefused =
-    (road : SpelledRoad) (query : Sql) (sets : List (List ℕ) → List Given) (id limit : ℕ)
+    (road : Road) (query : Sql) (sets : List (List ℕ) → List Given) (id limit : ℕ)
     (refusal : Refusal) (tokens : List (List ℕ)) → HasTokens query.mode query.text tokens →
     query_cause road (statement_of query tokens id) (limit - 4) ≡ Some refusal →
     RefusesGiven road query sets id limit refusal
@@ -36,7 +36,7 @@ QueriesAreRefused =
 -- the next set is sent behind those before it
 abbrev pub OneMoreIsSent : Type 0
 OneMoreIsSent =
-    (road : SpelledRoad) → IsApart road →
+    (road : Road) → IsApart road →
     (query : Sql) (sets : List (List ℕ) → List Given) (id limit number : ℕ) (old mid new : List ℕ)
     (given : List (List ℕ) → Given) → GivesAt sets number given →
     SentReadable road query (first_sets number sets) id limit old mid →
@@ -46,7 +46,7 @@ OneMoreIsSent =
 -- where the next set is refused, all are, and so are the first ones up to it
 abbrev pub OneMoreIsRefused : Type 0
 OneMoreIsRefused =
-    (road : SpelledRoad) → IsApart road →
+    (road : Road) → IsApart road →
     (query : Sql) (sets : List (List ℕ) → List Given) (id limit number : ℕ) (old mid : List ℕ)
     (given : List (List ℕ) → Given) → GivesAt sets number given →
     SentReadable road query (first_sets number sets) id limit old mid →
@@ -57,7 +57,7 @@ OneMoreIsRefused =
 -- where no set is left all are sent
 abbrev pub AllAreSent : Type 0
 AllAreSent =
-    (road : SpelledRoad) (query : Sql) (sets : List (List ℕ) → List Given) (id limit number : ℕ)
+    (road : Road) (query : Sql) (sets : List (List ℕ) → List Given) (id limit number : ℕ)
     (old new : List ℕ) → ((names : List (List ℕ)) → length (sets names) ≤ number) →
     SentReadable road query (first_sets number sets) id limit old new →
     SentReadable road query sets id limit old new
@@ -65,7 +65,7 @@ AllAreSent =
 -- what stood before the sets stands in front of what is appended behind them
 abbrev pub FrontsStay : Type 0
 FrontsStay =
-    (road : SpelledRoad) (query : Sql) (sets : List (List ℕ) → List Given) (id limit : ℕ)
+    (road : Road) (query : Sql) (sets : List (List ℕ) → List Given) (id limit : ℕ)
     (old mid new : List ℕ) → SentReadable road query sets id limit old mid →
     take (length mid) new ≡ mid → take (length old) new ≡ old
 

@@ -5,7 +5,7 @@ use Rattle.std.specs.List.{AllByRecursion, AllZip}
 use Rattle.mysql_values.specs.AsSql.{FitsFields}
 use Rattle.mysql_values.specs.Mode.{Mode}
 use Rattle.mysql_values.specs.Spelling.TheVariants.{Hexadecimal}
-use Rattle.mysql_values.specs.Sql.{Sql, read_in}
+use Rattle.mysql_values.specs.Sql.{Sql, read_by}
 use Rattle.mysql_values.specs.Value.{Value}
 use Rattle.mysql_values.specs.declared.params.Params.{Params}
 use Rattle.mysql_values.specs.Params.{IsMeaning}
@@ -17,7 +17,8 @@ use Rattle.mysql_receive.specs.Query.{Statement, statement_of}
 use Rattle.mysql_receive.specs.Reading.{Set}
 use Rattle.mysql_bulk_builder.specs.Cut.{Row, rows_size}
 use Rattle.mysql_bulk_builder.specs.TypedCut.{Typing}
-use Rattle.mysql_command_rules.specs.SpelledRoad.{SpelledRoad, Text}
+use Rattle.mysql_command_rules.specs.declared.road.Road.{Road}
+use Rattle.mysql_command_rules.specs.declared.road.Road.TheVariants.{Text}
 use Rattle.mysql_command_rules.specs.Commands.{bulk_request, types_size}
 use Rattle.mysql_command_rules.specs.Sets.{GiveTheSame, Given, all_given}
 use Rattle.mysql_command_rules.specs.Sent.{AreSent, SentPayload, payloads_of}
@@ -35,7 +36,7 @@ pub record ReadsEach (statement : Statement) (limit : ℕ) (sent : List SentPayl
   pub ends : is_waiting statement (state_after statement nothing_yet (payloads_of sent)) ≡ false
 
 -- What is sent of sets without a cause that can be read back reads as these sets, by each road.
-abbrev pub SentPayloadsRead : SpelledRoad → Type 0
+abbrev pub SentPayloadsRead : Road → Type 0
 SentPayloadsRead road =
     (query : Sql) (tokens : List (List ℕ)) (id limit : ℕ) (values : List (List Value)) (sent : List SentPayload)
     → HasTokens query.mode query.text tokens → id < 2 ^ 32 → 4 ≤ limit
@@ -48,7 +49,7 @@ SentPayloadsRead road =
 -- a packet with its header.
 abbrev pub SentPayloadsFit : Type 0
 SentPayloadsFit =
-    (road : SpelledRoad) (statement : Statement) (limit : ℕ) (values : List (List Value)) (sent : List SentPayload)
+    (road : Road) (statement : Statement) (limit : ℕ) (values : List (List Value)) (sent : List SentPayload)
     → cause_of road statement limit (map Ok values) ≡ None →
     AreSent road statement (limit - 4) values sent →
     AllByRecursion (λ s. length s.payload ≤ limit - 4) sent
@@ -64,7 +65,7 @@ pub record CarriesValues (query : Sql) (values : List (List Value)) (id limit : 
 -- Values that were sent, in fewer than 2 ^ 64 bytes, are carried by what was appended, whichever sets gave them.
 abbrev pub SentValuesAreCarried : Type 0
 SentValuesAreCarried =
-    (road : SpelledRoad) (query : Sql) (sets : List (List ℕ) → List Given) (id limit : ℕ)
+    (road : Road) (query : Sql) (sets : List (List ℕ) → List Given) (id limit : ℕ)
     (old new : List ℕ) → id < 2 ^ 32 → 4 ≤ limit → length new < 2 ^ 64
     → (sent : SentReadable road query sets id limit old new) → CarriesValues query sent.sends.values id limit old new
 
@@ -75,14 +76,14 @@ OneStatement = (query : Sql) (id : ℕ) (statement other : Statement) →
 
 -- Sets that were sent, in fewer than 2 ^ 64 bytes, are read back, each front of their stream reads
 -- as the sets that stand whole in it, and by bulk no requests could be fewer.
-pub record IsDelivered (road : SpelledRoad) (query : Sql) (sets : List (List ℕ) →
+pub record IsDelivered (road : Road) (query : Sql) (sets : List (List ℕ) →
     List Given) (id limit : ℕ) (old new : List ℕ) : Type 0 where
   pub read_back : ReadsBack query sets id limit old new
   pub whole : SendsWhole road query sets id limit old new
 
 abbrev pub SentSetsAreDelivered : Type 0
 SentSetsAreDelivered =
-    (road : SpelledRoad) (query : Sql) (sets : List (List ℕ) → List Given) (id limit : ℕ)
+    (road : Road) (query : Sql) (sets : List (List ℕ) → List Given) (id limit : ℕ)
     (old new : List ℕ) → id < 2 ^ 32 → 4 ≤ limit → length new < 2 ^ 64
     → SentReadable road query sets id limit old new → IsDelivered road query sets id limit old new
 
@@ -119,11 +120,11 @@ TokensInEachMode = (mode other : Mode) (text : List ℕ) (tokens : List (List �
 -- those of all values in a program do.
 abbrev pub HexadecimalInEachMode : Type 0
 HexadecimalInEachMode =
-    (query : Sql) (other : Mode) (sets : List (List ℕ) → List Given) (id limit : ℕ) (old new : List ℕ)
-    (sent : SentReadable (Text Hexadecimal) query sets id limit old new) →
+    (text : List ℕ) (mode other : Mode) (sets : List (List ℕ) → List Given) (id limit : ℕ) (old new : List ℕ)
+    (sent : SentReadable Text (read_by mode Hexadecimal text) sets id limit old new) →
     AllByRecursion (λ values. AllByRecursion (λ value. FitsFields value) values) sent.sends.values →
-    HasTokens other query.text sent.sends.tokens →
-    SentReadable (Text Hexadecimal) (read_in other query.text) sets id limit old new
+    HasTokens other text sent.sends.tokens →
+    SentReadable Text (read_by other Hexadecimal text) sets id limit old new
 
 -- A bulk request takes seven bytes, the types that it carries, and its rows.
 abbrev pub RequestsHaveTheirSize : Type 0

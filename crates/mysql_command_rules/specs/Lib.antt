@@ -1,4 +1,3 @@
-pub mod SpelledRoad
 pub mod Commands
 pub mod Sets
 pub mod Sent

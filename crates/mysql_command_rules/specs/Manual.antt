@@ -56,7 +56,7 @@ pub record IsFilled (query : Query) (text : List ℕ) (set : Set) : Type 0 where
   pub alone : IsTrue (all_alone query)
   pub literals : List (List ℕ)
   pub count : length literals ≡ place_count query
-  pub each : AllZip (IsLiteral query.sql.mode) literals set
+  pub each : AllZip (IsLiteral query.sql.mode query.sql.spelling) literals set
   pub spelled : text ≡ filled_with query literals
 
 -- TYPES AND CELLS

@@ -15,8 +15,8 @@ use Rattle.mysql_receive.specs.declared.audit.End.TheVariants.{Whole}
 use Rattle.mysql_receive.specs.Audit.{Audit, AuditOf, IsNoFault}
 use Rattle.mysql_receive.specs.Query.{Query, statement_of}
 use Rattle.mysql_receive.specs.Reading.{Set, TextReadsAs}
-use Rattle.mysql_command_rules.specs.SpelledRoad.{SpelledRoad}
-use Rattle.mysql_command_rules.specs.SpelledRoad.{Text, Execute, Bulk}
+use Rattle.mysql_command_rules.specs.declared.road.Road.{Road}
+use Rattle.mysql_command_rules.specs.declared.road.Road.TheVariants.{Text, Execute, Bulk}
 use Rattle.mysql_command_rules.specs.Sets.{Given}
 use Rattle.mysql_command_rules.specs.Sent.{SentPayload, payloads_of, query_text_of, sets_of, stream_of}
 use Rattle.mysql_command_rules.specs.Sending.{HasFewest, SendsGiven}
@@ -59,7 +59,7 @@ FrontsRead query id limit sent =
 
 -- what was appended of sets that give this for the query's names: each front of it reads as the
 -- sets that stand whole in it, and by bulk no requests could be fewer
-pub record SendsWhole (road : SpelledRoad) (query : Sql) (sets : List (List ℕ) →
+pub record SendsWhole (road : Road) (query : Sql) (sets : List (List ℕ) →
     List Given) (id limit : ℕ) (old new : List ℕ) : Type 0 where
   pub sends : SendsGiven road query sets id limit old new
   pub fronts : FrontsRead query id limit sends.sent
@@ -67,14 +67,14 @@ pub record SendsWhole (road : SpelledRoad) (query : Sql) (sets : List (List ℕ)
 
 -- what was sent of a set's values can be read back: by text the query reads as their contents, by
 -- the other roads their numbers fit their fields
-abbrev pub IsReadable : SpelledRoad → Query → List Value → Type 0
-IsReadable (Text spelling) query values = (contents : Set) × (map content_of values ≡ map Some contents) ×
-    TextReadsAs query.sql (query_text_of spelling query values) contents
+abbrev pub IsReadable : Road → Query → List Value → Type 0
+IsReadable Text query values = (contents : Set) × (map content_of values ≡ map Some contents) ×
+    TextReadsAs query.sql (query_text_of query values) contents
 IsReadable Execute query values = AllByRecursion (λ value. FitsFields value) values
 IsReadable Bulk query values = AllByRecursion (λ value. FitsFields value) values
 
 -- what is sent of sets that give this for the query's names, and what was sent of each can be read back
-pub record SentReadable (road : SpelledRoad) (query : Sql) (sets : List (List ℕ) →
+pub record SentReadable (road : Road) (query : Sql) (sets : List (List ℕ) →
     List Given) (id limit : ℕ) (old new : List ℕ) : Type 0 where
   pub sends : SendsGiven road query sets id limit old new
   pub readable : AllByRecursion (IsReadable road (statement_of query sends.tokens id).query) sends.values

@@ -7,27 +7,26 @@ use Rattle.mysql_wire.specs.Stream.{framings}
 use Rattle.mysql_wire.specs.Stream.Numbering.{EachFromZero}
 use Rattle.mysql_values.specs.Queries.{interleaved, slices_between}
 use Rattle.mysql_values.specs.Value.{Value}
-use Rattle.mysql_values.specs.Values.{literal_of}
+use Rattle.mysql_values.specs.Binding.{literals_in}
 use Rattle.mysql_stmt.specs.Executions.{execute_command, needs_long_data}
 use Rattle.mysql_bulk_builder.specs.Cut.{rows_of}
 use Rattle.mysql_bulk_builder.specs.TypedCut.{IsTightTyped, Part, placed}
 use Rattle.mysql_receive.specs.Query.{Query, Statement, place_count}
-use Rattle.mysql_values.specs.Spelling.{Spelling}
-use Rattle.mysql_command_rules.specs.SpelledRoad.{SpelledRoad}
-use Rattle.mysql_command_rules.specs.SpelledRoad.{Text, Execute, Bulk}
+use Rattle.mysql_command_rules.specs.declared.road.Road.{Road}
+use Rattle.mysql_command_rules.specs.declared.road.Road.TheVariants.{Text, Execute, Bulk}
 use Rattle.mysql_command_rules.specs.Commands.{bulk_request, pieces_from, prepare_command, query_command}
 
 -- the text of a query with values: its slices between its placeholders, and between them the
--- literal of each value by the query's mode, empty where it has none
-abbrev pub query_text_of : Spelling → Query → List Value → List ℕ
-query_text_of spelling query values =
+-- literal of each value in its place, empty where it has none
+abbrev pub query_text_of : Query → List Value → List ℕ
+query_text_of query values =
     interleaved (slices_between query.sql.text 0 query.places)
-    (map (λ value. unwrap_or (literal_of query.sql.mode spelling value) []) values)
+    (map (λ literal. unwrap_or literal []) (literals_in query.sql query.places values))
 
 -- the command that carries all of a set's values, by which the set's size counts; by bulk, where
 -- sets share requests, none does
-abbrev pub whole_command : SpelledRoad → Statement → List Value → List ℕ
-whole_command (Text spelling) statement values = query_command (query_text_of spelling statement.query values)
+abbrev pub whole_command : Road → Statement → List Value → List ℕ
+whole_command Text statement values = query_command (query_text_of statement.query values)
 whole_command Execute statement values = execute_command statement.id values false
 whole_command Bulk statement values = []
 
@@ -49,8 +48,8 @@ abbrev pub prepare_of : Statement → SentPayload
 prepare_of statement = on_the_way (prepare_command statement.query.parsed)
 
 -- a set by text: its query
-abbrev pub as_text : Spelling → Statement → List Value → List SentPayload
-as_text spelling statement values = last_of values (whole_command (Text spelling) statement values) ∷ []
+abbrev pub as_text : Statement → List Value → List SentPayload
+as_text statement values = last_of values (whole_command Text statement values) ∷ []
 
 -- a set as an execution: before it, where it would exceed one packet's most bytes, its byte strings
 abbrev pub as_execution : Statement → List Value → List SentPayload
@@ -70,8 +69,8 @@ as_requests statement sets cut =
 -- What is sent of sets with these values, in payloads of at most so many bytes: by text their
 -- queries; by execute a prepare and their executions; by bulk a prepare and the requests of the
 -- tight cut.
-abbrev pub AreSent : SpelledRoad → Statement → ℕ → List (List Value) → List SentPayload → Type 0
-AreSent (Text spelling) statement room sets sent = sent ≡ flat_map (as_text spelling statement) sets
+abbrev pub AreSent : Road → Statement → ℕ → List (List Value) → List SentPayload → Type 0
+AreSent Text statement room sets sent = sent ≡ flat_map (as_text statement) sets
 AreSent Execute statement room sets sent = sent ≡ prepare_of statement ∷ flat_map (as_execution statement) sets
 AreSent Bulk statement room sets sent =
     (cut : List Part) × IsTightTyped room (place_count statement.query) sets cut ×

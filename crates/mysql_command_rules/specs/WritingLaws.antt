@@ -6,7 +6,7 @@ use Rattle.mysql_wire.specs.Bytes.{AreBytes}
 use Rattle.mysql_values.specs.Sql.{Sql}
 use Rattle.mysql_values.specs.declared.params.Params.{Params}
 use Rattle.mysql_command_rules.specs.declared.refusal.Refusal.{Refusal}
-use Rattle.mysql_command_rules.specs.SpelledRoad.{SpelledRoad}
+use Rattle.mysql_command_rules.specs.declared.road.Road.{Road}
 use Rattle.mysql_command_rules.specs.declared.send_to_error.SendToError.{SendToError}
 use Rattle.mysql_command_rules.specs.declared.send_to_error.SendToError.TheVariants.{Refused}
 use Rattle.mysql_command_rules.specs.Buffering.{Flushes, StopsAt, TakesFront}
@@ -19,14 +19,14 @@ use Rattle.mysql_command_rules.specs.Writing.{FailsAmong, Stops, Writes, Written
 -- what stands before the first set is buffered
 abbrev pub WritingBegins : Type 0
 WritingBegins =
-    (road : SpelledRoad) (query : Sql) (sets : List Params) (id limit : ℕ) (old : Option (List ℕ))
+    (road : Road) (query : Sql) (sets : List Params) (id limit : ℕ) (old : Option (List ℕ))
     (buffered : List ℕ) → SentReadable road query (first_sets 0 (all_given sets)) id limit [] buffered →
     WrittenSoFar road query sets id limit old old buffered 0
 
 -- where the query is refused nothing is written
 abbrev pub RefusedBefore : Type 0
 RefusedBefore =
-    (road : SpelledRoad) → IsApart road →
+    (road : Road) → IsApart road →
     (query : Sql) (sets : List Params) (id limit : ℕ) (old new : Option (List ℕ)) → Keeps old new →
     (refusal : Refusal) → RefusesGiven road query (all_given []) id limit refusal →
     Stops road query sets id limit old new (Refused refusal 0)
@@ -34,7 +34,7 @@ RefusedBefore =
 -- one more set is buffered behind those before it, and a front of the buffer is flushed
 abbrev pub OneMoreIsWritten : Type 0
 OneMoreIsWritten =
-    (road : SpelledRoad) → IsApart road →
+    (road : Road) → IsApart road →
     (query : Sql) (sets : List Params) (id limit number : ℕ) (old mid new : Option (List ℕ))
     (buffered more left : List ℕ) (params : Params) → number < length sets →
     params ≡ get_or sets number params →
@@ -46,7 +46,7 @@ OneMoreIsWritten =
 -- the next set is refused, or the writer fails
 abbrev pub StopsWithOneMore : Type 0
 StopsWithOneMore =
-    (road : SpelledRoad) → IsApart road →
+    (road : Road) → IsApart road →
     (query : Sql) (sets : List Params) (id limit number : ℕ) (old mid new : Option (List ℕ))
     (buffered more : List ℕ) (params : Params) → number < length sets →
     params ≡ get_or sets number params →
@@ -62,7 +62,7 @@ StopsWithOneMore =
 -- the buffer is flushed behind the last set
 abbrev pub AllAreWritten : Type 0
 AllAreWritten =
-    (road : SpelledRoad) (query : Sql) (sets : List Params) (id limit number : ℕ)
+    (road : Road) (query : Sql) (sets : List Params) (id limit number : ℕ)
     (old mid new : Option (List ℕ)) (buffered : List ℕ) → length sets ≤ number →
     WrittenSoFar road query sets id limit old mid buffered number → AreBytes buffered →
     Appends mid new buffered → Writes road query (all_given sets) id limit old new
@@ -70,7 +70,7 @@ AllAreWritten =
 -- or the writer fails within it
 abbrev pub FailsBehindAll : Type 0
 FailsBehindAll =
-    (road : SpelledRoad) (query : Sql) (sets : List Params) (id limit number : ℕ)
+    (road : Road) (query : Sql) (sets : List Params) (id limit number : ℕ)
     (old mid new : Option (List ℕ)) (buffered : List ℕ) → number ≤ length sets →
     WrittenSoFar road query sets id limit old mid buffered number → AreBytes buffered →
     TakesFront mid new buffered → FailsAmong road query sets id limit old new

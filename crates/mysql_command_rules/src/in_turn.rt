@@ -8,8 +8,8 @@ use mysql_values::laws::tokens_of_a_text;
 
 /// Sets are sent in turn by text and by execute.
 ///
-/// A query against which nothing speaks begins a stream, each set against which nothing speaks is
-/// sent behind those before it, and the first that is refused is why all are.
+/// A query against which nothing speaks begins a stream. Each set against which nothing speaks is
+/// sent behind those before it. The first that is refused is why all are.
 pub fn sent_in_turn()
     ensures { SentInTurn }
 {

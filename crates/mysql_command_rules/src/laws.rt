@@ -5,8 +5,7 @@ ghost use Rattle.mysql_command_rules.specs.Laws.{RequestsHaveTheirSize, RoadsRea
 ghost use Rattle.mysql_command_rules.specs.Laws.{SentPayloadsFit, SentPayloadsRead, SentSetsAreDelivered};
 ghost use Rattle.mysql_command_rules.specs.Laws.{SentStreamsJoin, SentValuesAreCarried, SetsMeanEach};
 ghost use Rattle.mysql_command_rules.specs.Laws.{TokensInEachMode};
-ghost use Rattle.mysql_command_rules.specs.SpelledRoad as roads;
-ghost use Rattle.mysql_values.specs.Spelling.{Spelling};
+ghost use Rattle.mysql_command_rules.specs.declared.road.Road.TheVariants as roads;
 
 use mysql_bulk_builder::laws::{tight_typed_has_fewest, types_in_force_serve};
 use mysql_cells::as_sql::hexadecimal_is_safe;
@@ -17,7 +16,7 @@ use mysql_values::laws::{
 
 /// Text queries read as the sets whose values they carry.
 pub fn queries_read()
-    ensures { (spelling : Spelling) → SentPayloadsRead (roads.Text spelling) }
+    ensures { SentPayloadsRead roads.Text }
 {}
 
 /// A prepare and executions, with long data before those that need it, read as the sets whose values they carry.

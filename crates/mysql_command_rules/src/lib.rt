@@ -1,6 +1,6 @@
-//! The rules of commands that carry parameter sets: what is sent by each road, why not, how it is
-//! read back, and the same in the manual's words. What the crates that send share stands here too:
-//! sets that are made one at a time, and packets that are buffered for a writer.
+//! The rules of commands that carry parameter sets. They say what is sent by each road, why not,
+//! and how it is read back. The manual's words say the same. What the crates that send share stands
+//! here too: sets that are made one at a time, and packets that are buffered for a writer.
 #![tactic(auto)]
 
 mod buffering;

@@ -43,7 +43,7 @@ pub fn texts_are_filled_queries()
 /// A stream audits as whole with sets exactly where it is the framings of commands with them.
 ///
 /// The manual lays out these commands one after another, each by what those before it leave in
-/// force, with no data that waits at the end.
+/// force. No data waits at the end.
 ///
 /// Follows the MySQL Client/Server Protocol, "MySQL Packets" and "Command Phase".
 pub fn whole_streams_are_framed_commands()

@@ -46,10 +46,10 @@ pub trait Intermediate<T>: Sized {
 /// A type that a [`Value`] converts to.
 ///
 /// A whole number is read from `Int`, `UInt` and texts of an optional sign and digits, in its
-/// range; a `bool` from 0 and 1 as `Int`, as `UInt` and as texts; a text from `Bytes` that are
-/// UTF-8, a list of bytes from `Bytes`, an array from `Bytes` of its length; a `Duration` from a
-/// `Time` that isn't negative and from texts such as `838:59:59.5`; an `Option` is None of `NULL`;
-/// and a [`Value`] is any value.
+/// range. A `bool` is read from 0 and 1 as `Int`, as `UInt` and as texts. A text is read from
+/// `Bytes` that are UTF-8, a list of bytes from `Bytes`, an array from `Bytes` of its length. A
+/// `Duration` is read from a `Time` that isn't negative and from texts such as `838:59:59.5`. An
+/// `Option` is None of `NULL`, and a `Value` is any value.
 ///
 /// No conversion of a value that is handed over asks for memory; a copy of a borrowed one does. An
 /// impl says by `converted` what each value converts to.

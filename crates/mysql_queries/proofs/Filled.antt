@@ -2,11 +2,12 @@
 use Rattle.std.proofs.Common.{◌≡◌, ◌≢◌, ℕ, Bool, true, false, not, ◌&&◌, ◌||◌, ◌==◌, ◌⊎◌, List, [], ◌∷◌, ◌++◌, refl, sym, ap, ◌∙◌, inl, inr, append_assoc, arith, subst}
 use Rattle.std.specs.List.{concat, AllByRecursion}
 use Rattle.mysql_queries.specs.Tokens.{Kind, Quoted, LineComment, BlockComment, Name, Mark, Plain, kind_of, IsName, HasShape, IsToken, AreTokens, HasTokens, AtNameEnd, colon, question, dash, is_name_start, is_name_byte}
+use Rattle.mysql_queries.specs.Comments.{with_skipped}
 use Rattle.mysql_queries.specs.Literals.{IsLiteral}
 use Rattle.mysql_queries.specs.Sql.{Sql}
 use Rattle.mysql_queries.specs.declared.mode.Mode.{Mode}
 use Rattle.mysql_queries.specs.declared.content.Content.{Content}
-use Rattle.mysql_queries.specs.Queries.{is_name_kind, is_mark_kind, is_place, Replaces, is_joining, stands_alone, place_at, places_from, AllAlone}
+use Rattle.mysql_queries.specs.Queries.{is_name_kind, is_mark_kind, is_place, Replaces, is_joining, stands_alone, place_at, places_behind, places_from, AllAlone}
 use Rattle.std.proofs.Common.{◌+◌, ◌-◌, length, get_or, slice_index, length-append}
 use Rattle.std.proofs.Math.Seq.{get_or-append_seam}
 use Rattle.std.proofs.lemmas.Bool.Decides.{nat_tests}
@@ -14,14 +15,15 @@ use Rattle.mysql_queries.proofs.FirstBytes.{and_true, bool_tells, Tells, kind_te
 use Rattle.mysql_queries.proofs.OneToken.{not_empty}
 use Rattle.mysql_queries.proofs.Follow.{IsApart, Agrees, last_of, agree_front, IsNoName, token_same, or_first, not_equal, BeginsApart}
 use Rattle.mysql_queries.proofs.Spellings.{LiteralStart, literal_start, LiteralTokens, literal_tokens}
+use Rattle.mysql_queries.specs.declared.spelling.Spelling.{Spelling}
 
 -- a text that is tokens with literals for the placeholders
-abbrev pub Spells : Mode → List (List ℕ) → List Content → List ℕ → Type 0
-Spells m [] contents text = (contents ≡ []) × (text ≡ [])
-Spells m (token ∷ tokens) contents text =
-    ((is_place token ≡ false) × (rest : List ℕ) × (text ≡ token ++ rest) × Spells m tokens contents rest)
+abbrev pub Spells : Mode → Spelling → List (List ℕ) → List Content → List ℕ → Type 0
+Spells m sp [] contents text = (contents ≡ []) × (text ≡ [])
+Spells m sp (token ∷ tokens) contents text =
+    ((is_place token ≡ false) × (rest : List ℕ) × (text ≡ token ++ rest) × Spells m sp tokens contents rest)
     ⊎ ((is_place token ≡ true) × (content : Content) × (next : List Content) × (spelling : List ℕ) × (rest : List ℕ)
-    × (contents ≡ content ∷ next) × IsLiteral m spelling content × (text ≡ spelling ++ rest) × Spells m tokens next rest)
+    × (contents ≡ content ∷ next) × IsLiteral m sp spelling content × (text ≡ spelling ++ rest) × Spells m sp tokens next rest)
 
 -- a placeholder begins with a colon or is a question mark
 place_kind : (b : ℕ) (x : List ℕ) (k : Kind) → Tells b x k → is_name_kind k || is_mark_kind k ≡ true → (b ≡ colon) ⊎ (b ≡ question)
@@ -129,33 +131,33 @@ stands_apart before t after q e h =
     let b : stands_alone ((before ++ t) ++ after) (length before) (length before + length t) ≡ true = subst (λ y. stands_alone y (length before) (length before + length t) ≡ true) (e ∙ sym (append_assoc before t after)) h in
     (free_before before (t ++ after) (and_true _ _ a).0, free_after (before ++ t) after (length before + length t) (sym (length-append before t)) (and_true _ _ b).1)
 
-alone_after : (before q : List ℕ) (ts : List (List ℕ)) → q ≡ before ++ concat ts → AllByRecursion (λ place. place.alone ≡ true) (places_from q (length before) ts) → AloneFrom (last_of space before) ts
-alone_after before q [] e h = tt
-alone_after before q (t ∷ ts) e h =
+alone_after : (before q sk : List ℕ) (ts : List (List ℕ)) → q ≡ before ++ concat ts → AllByRecursion (λ place. place.alone ≡ true) (places_behind q sk (length before) ts) → AloneFrom (last_of space before) ts
+alone_after before q sk [] e h = tt
+alone_after before q sk (t ∷ ts) e h =
     let last : last_of space (before ++ t) ≡ last_of (last_of space before) t = last_more space before t in
     let f : q ≡ (before ++ t) ++ concat ts = e ∙ sym (append_assoc before t (concat ts)) in
     let n : length before + length t ≡ length (before ++ t) = sym (length-append before t) in
     elim (bool_tells (is_place t)) [
-      | inl p ↦ (let k : AllByRecursion (λ place. place.alone ≡ true) (place_at q t (length before) (length before + length t) ∷ places_from q (length before + length t) ts) = rw p at h in
-          ((λ _. stands_apart before t (concat ts) q e k.0), subst (λ b. AloneFrom b ts) last (alone_after (before ++ t) q ts f (subst (λ m. AllByRecursion (λ place. place.alone ≡ true) (places_from q m ts)) n k.1))))
-      | inr p ↦ (let k : AllByRecursion (λ place. place.alone ≡ true) (places_from q (length before + length t) ts) = rw p at h in
-          ((λ r. absurd (let g : true ≡ false = sym r ∙ p in cc)), subst (λ b. AloneFrom b ts) last (alone_after (before ++ t) q ts f (subst (λ m. AllByRecursion (λ place. place.alone ≡ true) (places_from q m ts)) n k))))
+      | inl p ↦ (let k : AllByRecursion (λ place. place.alone ≡ true) (place_at q sk t (length before) (length before + length t) ∷ places_behind q sk (length before + length t) ts) = rw p at h in
+          ((λ _. stands_apart before t (concat ts) q e k.0), subst (λ b. AloneFrom b ts) last (alone_after (before ++ t) q sk ts f (subst (λ m. AllByRecursion (λ place. place.alone ≡ true) (places_behind q sk m ts)) n k.1))))
+      | inr p ↦ (let k : AllByRecursion (λ place. place.alone ≡ true) (places_behind q (with_skipped q (length before) sk) (length before + length t) ts) = rw p at h in
+          ((λ r. absurd (let g : true ≡ false = sym r ∙ p in cc)), subst (λ b. AloneFrom b ts) last (alone_after (before ++ t) q (with_skipped q (length before) sk) ts f (subst (λ m. AllByRecursion (λ place. place.alone ≡ true) (places_behind q (with_skipped q (length before) sk) m ts)) n k))))
     ]
 
 pub alone_from : (q : Sql) (ts : List (List ℕ)) → HasTokens q.mode q.text ts → AllAlone q → AloneFrom space ts
-alone_from q ts h a = alone_after [] q.text ts (sym h.joined) (a (places_from q.text 0 ts) (ts, h, refl))
+alone_from q ts h a = alone_after [] q.text [] ts (sym h.joined) (a (places_from q.text 0 ts) (ts, h, refl))
 
 -- the query and the text go on alike up to a placeholder
 place_agrees : (m : Mode) (last : ℕ) (t x s y : List ℕ) → IsToken m t x → is_place t ≡ true → IsApart last → LiteralStart s → Agrees last (t ++ x) (s ++ y)
 place_agrees m last [] x s y i p a l = absurd (not_empty m x i)
 place_agrees m last (b ∷ t) x s y i p a l = subst (λ z. Agrees last ((b ∷ t) ++ x) (z ++ y)) (sym l.joined) (inr (record { apart = a; place = place_begins b t p; no_star = l.no_star; no_mark = l.no_mark; no_plus = l.no_plus }))
 
-pub text_agrees : (m : Mode) (ts : List (List ℕ)) (last : ℕ) (cs : List Content) (text : List ℕ) → AreTokens m ts → AloneFrom last ts → Spells m ts cs text → Agrees last (concat ts) text
-text_agrees m [] last cs text i a h = subst (Agrees last []) (sym h.1) tt
-text_agrees m (t ∷ ts) last cs text i a (inl (p, r, e, h)) =
-    subst (Agrees last (t ++ concat ts)) (sym e) (agree_front last t (concat ts) r (text_agrees m ts (last_of last t) cs r i.1 a.1 h))
-text_agrees m (t ∷ ts) last cs text i a (inr (p, c, next, s, r, e, l, f, h)) =
-    subst (Agrees last (t ++ concat ts)) (sym f) (place_agrees m last t (concat ts) s r i.0 p (a.0 p).0 (literal_start m s c l))
+pub text_agrees : (m : Mode) (sp : Spelling) (ts : List (List ℕ)) (last : ℕ) (cs : List Content) (text : List ℕ) → AreTokens m ts → AloneFrom last ts → Spells m sp ts cs text → Agrees last (concat ts) text
+text_agrees m sp [] last cs text i a h = subst (Agrees last []) (sym h.1) tt
+text_agrees m sp (t ∷ ts) last cs text i a (inl (p, r, e, h)) =
+    subst (Agrees last (t ++ concat ts)) (sym e) (agree_front last t (concat ts) r (text_agrees m sp ts (last_of last t) cs r i.1 a.1 h))
+text_agrees m sp (t ∷ ts) last cs text i a (inr (p, c, next, s, r, e, l, f, h)) =
+    subst (Agrees last (t ++ concat ts)) (sym f) (place_agrees m last t (concat ts) s r i.0 p (a.0 p).0 (literal_start m sp s c l))
 
 -- what follows a placeholder begins apart, in the query and in the text
 apart_same : (last : ℕ) (x y : List ℕ) → Agrees last x y → BeginsApart x → BeginsApart y
@@ -168,30 +170,30 @@ apart_same last (b ∷ x) (c ∷ y) (inr h) a = elim h.place [
   | inr e ↦ (let f : true ≡ false = sym (ap is_joining e) ∙ a in cc)
 ]
 
-pub rest_apart : (m : Mode) (ts : List (List ℕ)) (last : ℕ) (cs : List Content) (text : List ℕ) → AreTokens m ts → AloneFrom last ts → Spells m ts cs text → BeginsApart (concat ts) → BeginsApart text
-rest_apart m ts last cs text i a h b = apart_same last (concat ts) text (text_agrees m ts last cs text i a h) b
+pub rest_apart : (m : Mode) (sp : Spelling) (ts : List (List ℕ)) (last : ℕ) (cs : List Content) (text : List ℕ) → AreTokens m ts → AloneFrom last ts → Spells m sp ts cs text → BeginsApart (concat ts) → BeginsApart text
+rest_apart m sp ts last cs text i a h b = apart_same last (concat ts) text (text_agrees m sp ts last cs text i a h) b
 
 -- the tokens of the text
-pub record Lexed (m : Mode) (ts : List (List ℕ)) (cs : List Content) (text : List ℕ) : Type 0 where
+pub record Lexed (m : Mode) (sp : Spelling) (ts : List (List ℕ)) (cs : List Content) (text : List ℕ) : Type 0 where
   pub tokens : List (List ℕ)
   pub has : HasTokens m text tokens
-  pub replaces : Replaces m ts cs tokens
+  pub replaces : Replaces m sp ts cs tokens
 
-lexed_token : (m : Mode) (t : List ℕ) (ts : List (List ℕ)) (last : ℕ) (cs : List Content) (text r : List ℕ) → AreTokens m (t ∷ ts) → AloneFrom last (t ∷ ts) → is_place t ≡ false → text ≡ t ++ r → Spells m ts cs r → Lexed m ts cs r → Lexed m (t ∷ ts) cs text
-lexed_token m t ts last cs text r i a p e h o = record {
+lexed_token : (m : Mode) (sp : Spelling) (t : List ℕ) (ts : List (List ℕ)) (last : ℕ) (cs : List Content) (text r : List ℕ) → AreTokens m (t ∷ ts) → AloneFrom last (t ∷ ts) → is_place t ≡ false → text ≡ t ++ r → Spells m sp ts cs r → Lexed m sp ts cs r → Lexed m sp (t ∷ ts) cs text
+lexed_token m sp t ts last cs text r i a p e h o = record {
   tokens = t ∷ o.tokens;
   has = record {
     joined = ap (λ y. t ++ y) o.has.joined ∙ sym e;
-    each = (token_same m last t (concat ts) (concat o.tokens) (no_name m t (concat ts) i.0 p) (subst (Agrees (last_of last t) (concat ts)) (sym o.has.joined) (text_agrees m ts (last_of last t) cs r i.1 a.1 h)) i.0, o.has.each);
+    each = (token_same m last t (concat ts) (concat o.tokens) (no_name m t (concat ts) i.0 p) (subst (Agrees (last_of last t) (concat ts)) (sym o.has.joined) (text_agrees m sp ts (last_of last t) cs r i.1 a.1 h)) i.0, o.has.each);
   };
   replaces = inl (p, o.tokens, refl, o.replaces);
 }
 
-lexed_place : (m : Mode) (t : List ℕ) (ts : List (List ℕ)) (last : ℕ) (cs : List Content) (text : List ℕ) (c : Content) (next : List Content) (s r : List ℕ) → AreTokens m (t ∷ ts) → AloneFrom last (t ∷ ts) → is_place t ≡ true
-    → cs ≡ c ∷ next → IsLiteral m s c → text ≡ s ++ r → Spells m ts next r → Lexed m ts next r → Lexed m (t ∷ ts) cs text
-lexed_place m t ts last cs text c next s r i a p e l f h o =
-    let k : LiteralTokens m s = literal_tokens m s c l in
-    let b : BeginsApart r = rest_apart m ts (last_of last t) next r i.1 a.1 h (a.0 p).1 in
+lexed_place : (m : Mode) (sp : Spelling) (t : List ℕ) (ts : List (List ℕ)) (last : ℕ) (cs : List Content) (text : List ℕ) (c : Content) (next : List Content) (s r : List ℕ) → AreTokens m (t ∷ ts) → AloneFrom last (t ∷ ts) → is_place t ≡ true
+    → cs ≡ c ∷ next → IsLiteral m sp s c → text ≡ s ++ r → Spells m sp ts next r → Lexed m sp ts next r → Lexed m sp (t ∷ ts) cs text
+lexed_place m sp t ts last cs text c next s r i a p e l f h o =
+    let k : LiteralTokens m s = literal_tokens m sp s c l in
+    let b : BeginsApart r = rest_apart m sp ts (last_of last t) next r i.1 a.1 h (a.0 p).1 in
     record {
       tokens = k.tokens ++ o.tokens;
       has = record {
@@ -201,14 +203,14 @@ lexed_place m t ts last cs text c next s r i a p e l f h o =
       replaces = inr (p, c, next, s, k.tokens, o.tokens, e, l, k.has, refl, o.replaces);
     }
 
-pub lexed : (m : Mode) (ts : List (List ℕ)) (last : ℕ) (cs : List Content) (text : List ℕ) → AreTokens m ts → AloneFrom last ts → Spells m ts cs text → Lexed m ts cs text
-lexed m [] last cs text i a h = record { tokens = []; has = record { joined = sym h.1; each = tt }; replaces = (h.0, refl) }
-lexed m (t ∷ ts) last cs text i a (inl (p, r, e, h)) = lexed_token m t ts last cs text r i a p e h (lexed m ts (last_of last t) cs r i.1 a.1 h)
-lexed m (t ∷ ts) last cs text i a (inr (p, c, next, s, r, e, l, f, h)) = lexed_place m t ts last cs text c next s r i a p e l f h (lexed m ts (last_of last t) next r i.1 a.1 h)
+pub lexed : (m : Mode) (sp : Spelling) (ts : List (List ℕ)) (last : ℕ) (cs : List Content) (text : List ℕ) → AreTokens m ts → AloneFrom last ts → Spells m sp ts cs text → Lexed m sp ts cs text
+lexed m sp [] last cs text i a h = record { tokens = []; has = record { joined = sym h.1; each = tt }; replaces = (h.0, refl) }
+lexed m sp (t ∷ ts) last cs text i a (inl (p, r, e, h)) = lexed_token m sp t ts last cs text r i a p e h (lexed m sp ts (last_of last t) cs r i.1 a.1 h)
+lexed m sp (t ∷ ts) last cs text i a (inr (p, c, next, s, r, e, l, f, h)) = lexed_place m sp t ts last cs text c next s r i a p e l f h (lexed m sp ts (last_of last t) next r i.1 a.1 h)
 
 -- the text joins what replaces the tokens
-pub spells_joined : (m : Mode) (ts : List (List ℕ)) (cs : List Content) (us : List (List ℕ)) → Replaces m ts cs us → Spells m ts cs (concat us)
-spells_joined m [] cs us h = (h.0, ap concat h.1)
-spells_joined m (t ∷ ts) cs us (inl (p, others, e, h)) = inl (p, concat others, ap concat e, spells_joined m ts cs others h)
-spells_joined m (t ∷ ts) cs us (inr (p, c, next, s, ls, others, e, l, k, f, h)) =
-    inr (p, c, next, s, concat others, e, l, ap concat f ∙ concat_append ls others ∙ ap (λ y. y ++ concat others) k.joined, spells_joined m ts next others h)
+pub spells_joined : (m : Mode) (sp : Spelling) (ts : List (List ℕ)) (cs : List Content) (us : List (List ℕ)) → Replaces m sp ts cs us → Spells m sp ts cs (concat us)
+spells_joined m sp [] cs us h = (h.0, ap concat h.1)
+spells_joined m sp (t ∷ ts) cs us (inl (p, others, e, h)) = inl (p, concat others, ap concat e, spells_joined m sp ts cs others h)
+spells_joined m sp (t ∷ ts) cs us (inr (p, c, next, s, ls, others, e, l, k, f, h)) =
+    inr (p, c, next, s, concat others, e, l, ap concat f ∙ concat_append ls others ∙ ap (λ y. y ++ concat others) k.joined, spells_joined m sp ts next others h)

@@ -13,7 +13,7 @@ cut_at t from end h =
     let e : from + (end - from) ≡ end = omega arith in
     sym (take-append-drop (end - from) (drop from t)) ∙ ap (λ y. take (end - from) (drop from t) ++ y) (drop-drop (end - from) from t ∙ ap (λ n. drop n t) e)
 
-slice_is : (t front : List ℕ) (from end : ℕ) → from ≤ end → drop from t ≡ front ++ drop end t → slice_range t from end ≡ front
+pub slice_is : (t front : List ℕ) (from end : ℕ) → from ≤ end → drop from t ≡ front ++ drop end t → slice_range t from end ≡ front
 slice_is t front from end l h =
     let e : from + (end - from) ≡ end = omega arith in
     front_is (drop from t) front (end - from) (h ∙ ap (λ y. front ++ y) (ap (λ n. drop n t) (sym e) ∙ sym (drop-drop (end - from) from t)))

@@ -31,3 +31,8 @@ pub mod AllAlone
 pub mod FirstTokens
 pub mod AloneKinds
 pub mod ByteTables
+pub mod Skipping
+pub mod Counting
+pub mod Introduced
+pub mod Stretches
+pub mod Pairs

@@ -4,7 +4,7 @@ use Rattle.std.specs.List.{AllByRecursion}
 use Rattle.std.specs.Cmp.Lexicographic.{pointwise, same_text, other_text}
 use Rattle.std.proofs.lemmas.Bool.Decides.{nat_tests, eqb_tells}
 use Rattle.mysql_queries.specs.Tokens.{has_escapes, inside_bytes, single_quote, backslash, dash}
-use Rattle.mysql_queries.specs.Literals.{lower, is_digit, is_hex, hex_value, digits_value, inside_content, AreDigits, IsNumber, IsHexLiteral, SpellsInHex, IsLiteral}
+use Rattle.mysql_queries.specs.Literals.{lower, is_digit, is_hex, hex_value, digits_value, inside_content, AreDigits, IsNumber, IsHexLiteral, IsIntroducer, SpellsInHex, IsLiteral, text_introducer, binary_introducer}
 use Rattle.mysql_queries.specs.declared.mode.Mode.{Mode}
 use Rattle.mysql_queries.specs.LiteralRuns.{EndsBefore, begins_hex, IsDigitRun, IsHexRun, IsLiteralRun}
 use Rattle.mysql_queries.specs.LiteralViews.{IsNoLiteral}
@@ -16,18 +16,21 @@ use Rattle.mysql_queries.proofs.Runs.{one_run}
 use Rattle.mysql_queries.proofs.Decimals.{ends_run}
 use Rattle.mysql_queries.proofs.HexDigits.{hex_front, IsNoHex}
 use Rattle.mysql_queries.proofs.StringParts.{StringTo, IsNoString, no_string}
-use Rattle.mysql_queries.proofs.Fronts.{IsNoNull, no_quoted, no_hexadecimal, no_number}
+use Rattle.mysql_queries.proofs.Fronts.{IsNoIntroduced, IsNoNull, no_introduced, no_quoted, no_hexadecimal, no_number}
+use Rattle.mysql_queries.proofs.Introduced.{none_behind, none_first, none_without}
 use Rattle.mysql_queries.proofs.OneRead.{one_hex_run}
 use Rattle.mysql_queries.proofs.QuerySlices.{drop_front, take_all_front}
+use Rattle.mysql_queries.specs.declared.spelling.Spelling.{Spelling}
+use Rattle.mysql_queries.specs.declared.spelling.Spelling.TheVariants.{Hexadecimal, Quoted}
 
 -- the literal at the front of a text
-pub record LiteralAt (mode : Mode) (text : List ℕ) : Type 0 where
+pub record LiteralAt (mode : Mode) (sp : Spelling) (text : List ℕ) : Type 0 where
   pub run : List ℕ
   pub rest : List ℕ
   pub content : Content
   pub joined : text ≡ run ++ rest
-  pub is_run : IsLiteralRun mode run rest
-  pub literal : IsLiteral mode run content
+  pub is_run : IsLiteralRun mode sp run rest
+  pub literal : IsLiteral mode sp run content
 
 pub list_tells : (x y : List ℕ) → (x ≡ y) ⊎ (x ≢ y)
 list_tells x y = elim (bool_tells (pointwise nat_eq x y)) [ inl h ↦ inl (same_text x y (sym h)) | inr h ↦ inr (other_text x y (sym h)) ]
@@ -40,8 +43,8 @@ ends_before test [] h = tt
 ends_before test (b ∷ r) h = h
 
 -- a text that begins with a single quote
-string_tells : (mode : Mode) (x : List ℕ) → LiteralAt mode (single_quote ∷ x) ⊎ IsNoString (has_escapes mode single_quote) (single_quote ∷ x)
-string_tells mode x =
+string_tells : (mode : Mode) (sp : Spelling) (x : List ℕ) → LiteralAt mode sp (single_quote ∷ x) ⊎ IsNoString (has_escapes mode single_quote) (single_quote ∷ x)
+string_tells mode sp x =
     let o : InsideOf (has_escapes mode single_quote) single_quote x = some_inside (has_escapes mode single_quote) single_quote (length x) x (omega arith) in
     let body : List ℕ = flat_map (inside_bytes single_quote) o.parts in
     let front : List ℕ = single_quote ∷ body in
@@ -81,8 +84,16 @@ pairs_tell (a ∷ b ∷ digits) h = elim (pairs_tell digits h.1.1) [
     none a b digits k (c ∷ bytes) s = k bytes s.3
 
 -- a text that begins with `0x`
-hex_tells : (mode : Mode) (t : List ℕ) → begins_hex t ≡ true → LiteralAt mode t ⊎ IsNoHex t
-hex_tells mode t b =
+record HexAt (text : List ℕ) : Type 0 where
+  run : List ℕ
+  rest : List ℕ
+  bytes : List ℕ
+  joined : text ≡ run ++ rest
+  is_run : IsHexRun run rest
+  literal : IsHexLiteral run bytes
+
+hex_only : (t : List ℕ) → begins_hex t ≡ true → HexAt t ⊎ IsNoHex t
+hex_only t b =
     let o : RunOf (λ c. is_hex c ≡ true) (λ c. is_hex c ≡ false) (drop 2 t) = some_run _ _ (λ c. bool_tells (is_hex c)) (drop 2 t) in
     let run : List ℕ = 0x30 ∷ 0x78 ∷ o.run in
     let text : t ≡ run ++ o.rest = (hex_front t b).0 ∙ ap (λ y. 0x30 ∷ 0x78 ∷ y) o.joined in
@@ -90,7 +101,7 @@ hex_tells mode t b =
     elim (pairs_tell o.run o.each) [
       | inl k ↦ elim (list_tells k.0 []) [
         | inl e ↦ inr (λ other rest bytes j r h. same run other o.rest rest here r (sym text ∙ j) h (λ ds s. h.some (empty o.run k.0 bytes k.1 e (subst (λ d. SpellsInHex d bytes) ds s))))
-        | inr e ↦ inl (record { run = run; rest = o.rest; content = Bytes k.0; joined = text; is_run = inr (inr (inl here)); literal = inr (record { digits = o.run; spelled = refl; spells = k.1; some = e }) })
+        | inr e ↦ inl (record { run = run; rest = o.rest; bytes = k.0; joined = text; is_run = here; literal = record { digits = o.run; spelled = refl; spells = k.1; some = e } })
       ]
       | inr k ↦ inr (λ other rest bytes j r h. same run other o.rest rest here r (sym text ∙ j) h (λ ds s. k bytes (subst (λ d. SpellsInHex d bytes) ds s)))
     ]
@@ -109,6 +120,12 @@ hex_tells mode t b =
     empty (x ∷ y ∷ digits) [] others h e k = elim h [ ]
     empty (x ∷ y ∷ digits) (b ∷ bytes) others h e k = cc
 
+hex_tells : (mode : Mode) (sp : Spelling) (t : List ℕ) → begins_hex t ≡ true → LiteralAt mode sp t ⊎ IsNoHex t
+hex_tells mode sp t b = elim (hex_only t b) [
+  | inl k ↦ inl (record { run = k.run; rest = k.rest; content = Bytes k.bytes; joined = k.joined; is_run = inr (inr (inl k.is_run)); literal = inr (inl k.literal) })
+  | inr n ↦ inr n
+]
+
 -- no row of digits there is a number
 abbrev pub IsNoNumber : List ℕ → Type 0
 IsNoNumber t = (run rest : List ℕ) (z : ℤ) → t ≡ run ++ rest → IsDigitRun run rest → IsNumber run z → ⊥
@@ -120,8 +137,8 @@ no_dash_digit : (others after x : List ℕ) → AreDigits others → dash ∷ x 
 no_dash_digit [] after x h e = h.some refl
 no_dash_digit (b ∷ others) after x h e = let f : b ≡ dash = cc in let g : true ≡ false = sym h.each.0 ∙ ap is_digit f in cc
 
-negative_tells : (mode : Mode) (x : List ℕ) → begins_hex (dash ∷ x) ≡ false → LiteralAt mode (dash ∷ x) ⊎ IsNoNumber (dash ∷ x)
-negative_tells mode x b =
+negative_tells : (mode : Mode) (sp : Spelling) (x : List ℕ) → begins_hex (dash ∷ x) ≡ false → LiteralAt mode sp (dash ∷ x) ⊎ IsNoNumber (dash ∷ x)
+negative_tells mode sp x b =
     let o : RunOf (λ c. is_digit c ≡ true) (λ c. is_digit c ≡ false) x = some_run _ _ (λ c. bool_tells (is_digit c)) x in
     let ends : EndsBefore is_digit o.rest = ends_before is_digit o.rest o.ends in
     let text : dash ∷ x ≡ (dash ∷ o.run) ++ o.rest = ap (λ y. dash ∷ y) o.joined in
@@ -141,14 +158,14 @@ negative_tells mode x b =
           rest = o.rest;
           content = Number (neg_ℤ (pos (digits_value o.run)));
           joined = text;
-          is_run = inr (inr (inr (record { digits = o.run; each = o.each; spelled = inr refl; ends = ends; other = subst (λ y. begins_hex y ≡ false) text b })));
+          is_run = inr (inr (inr (inl (record { digits = o.run; each = o.each; spelled = inr refl; ends = ends; other = subst (λ y. begins_hex y ≡ false) text b }))));
           literal = record { digits = o.run; are = record { each = o.each; some = e }; value = inr (refl, refl, k) };
         })
       ]
     ]
 
-positive_tells : (mode : Mode) (t : List ℕ) → begins_hex t ≡ false → ((x : List ℕ) → t ≡ dash ∷ x → ⊥) → LiteralAt mode t ⊎ IsNoNumber t
-positive_tells mode t b d =
+positive_tells : (mode : Mode) (sp : Spelling) (t : List ℕ) → begins_hex t ≡ false → ((x : List ℕ) → t ≡ dash ∷ x → ⊥) → LiteralAt mode sp t ⊎ IsNoNumber t
+positive_tells mode sp t b d =
     let o : RunOf (λ c. is_digit c ≡ true) (λ c. is_digit c ≡ false) t = some_run _ _ (λ c. bool_tells (is_digit c)) t in
     let ends : EndsBefore is_digit o.rest = ends_before is_digit o.rest o.ends in
     let only : (run rest : List ℕ) (z : ℤ) → t ≡ run ++ rest → IsDigitRun run rest → IsNumber run z → (o.run ≢ []) × (digits_value o.run < 2 ^ 64) = λ run rest z e r h. elim h.value [
@@ -164,39 +181,79 @@ positive_tells mode t b d =
           rest = o.rest;
           content = Number (pos (digits_value o.run));
           joined = o.joined;
-          is_run = inr (inr (inr (record { digits = o.run; each = o.each; spelled = inl refl; ends = ends; other = subst (λ y. begins_hex y ≡ false) o.joined b })));
+          is_run = inr (inr (inr (inl (record { digits = o.run; each = o.each; spelled = inl refl; ends = ends; other = subst (λ y. begins_hex y ≡ false) o.joined b }))));
           literal = record { digits = o.run; are = record { each = o.each; some = e }; value = inl (refl, refl, k) };
         })
         | inr k ↦ inr (λ run rest z j r h. let m : digits_value o.run < 2 ^ 64 = (only run rest z j r h).1 in absurd (omega (arith, m, k)))
       ]
     ]
 
-number_tells : (mode : Mode) (t : List ℕ) → begins_hex t ≡ false → LiteralAt mode t ⊎ IsNoNumber t
-number_tells mode [] b = positive_tells mode [] b (λ x e. cc)
-number_tells mode (c ∷ x) b = elim (eqb_tells c dash) [
-  | inl e ↦ subst (λ y. LiteralAt mode (y ∷ x) ⊎ IsNoNumber (y ∷ x)) (sym e.1) (negative_tells mode x (subst (λ y. begins_hex (y ∷ x) ≡ false) e.1 b))
-  | inr e ↦ positive_tells mode (c ∷ x) b (λ y f. e.1 (cc))
+number_tells : (mode : Mode) (sp : Spelling) (t : List ℕ) → begins_hex t ≡ false → LiteralAt mode sp t ⊎ IsNoNumber t
+number_tells mode sp [] b = positive_tells mode sp [] b (λ x e. cc)
+number_tells mode sp (c ∷ x) b = elim (eqb_tells c dash) [
+  | inl e ↦ subst (λ y. LiteralAt mode sp (y ∷ x) ⊎ IsNoNumber (y ∷ x)) (sym e.1) (negative_tells mode sp x (subst (λ y. begins_hex (y ∷ x) ≡ false) e.1 b))
+  | inr e ↦ positive_tells mode sp (c ∷ x) b (λ y f. e.1 (cc))
 ]
 
-other_tells : (mode : Mode) (t : List ℕ) → IsNoNull t → (0 < length t → get_or t 0 0 ≢ single_quote) → LiteralAt mode t ⊎ IsNoLiteral mode t
-other_tells mode t n q = elim (bool_tells (begins_hex t)) [
-  | inl b ↦ elim (hex_tells mode t b) [ inl k ↦ inl k | inr k ↦ inr (no_hexadecimal mode t n q b k) ]
-  | inr b ↦ elim (number_tells mode t b) [ inl k ↦ inl k | inr k ↦ inr (no_number mode t n q b k) ]
+-- what follows an introducer, or that none comes first
+introducer_tells : (introducer t : List ℕ) → ((rest : List ℕ) × (t ≡ introducer ++ rest)) ⊎ ((rest : List ℕ) → t ≡ introducer ++ rest → ⊥)
+introducer_tells introducer t = elim (list_tells (take (length introducer) t) introducer) [
+  | inl e ↦ inl (drop (length introducer) t, sym (take-append-drop (length introducer) t) ∙ ap (λ y. y ++ drop (length introducer) t) e)
+  | inr n ↦ inr (λ rest e. n (ap (take (length introducer)) e ∙ take_all_front introducer rest))
 ]
 
-no_null_tells : (mode : Mode) (t : List ℕ) → IsNoNull t → LiteralAt mode t ⊎ IsNoLiteral mode t
-no_null_tells mode [] n = other_tells mode [] n (λ h. absurd (omega arith))
-no_null_tells mode (c ∷ x) n = elim (eqb_tells c single_quote) [
-  | inl e ↦ elim (string_tells mode x) [
-    | inl k ↦ inl (subst (λ y. LiteralAt mode (y ∷ x)) (sym e.1) k)
-    | inr k ↦ inr (no_quoted mode (c ∷ x) n e.1 (subst (λ y. IsNoString (has_escapes mode single_quote) (y ∷ x)) (sym e.1) k))
+-- behind an introducer a literal in hexadecimal stands, or none does
+behind_tells : (mode : Mode) (introducer t rest : List ℕ) → IsIntroducer introducer → t ≡ introducer ++ rest → LiteralAt mode Hexadecimal t ⊎ IsNoIntroduced Hexadecimal t
+behind_tells mode introducer t rest is e = elim (bool_tells (begins_hex rest)) [
+  | inl b ↦ elim (hex_only rest b) [
+    | inl k ↦ inl (record {
+      run = introducer ++ k.run;
+      rest = k.rest;
+      content = Bytes k.bytes;
+      joined = e ∙ ap (λ y. introducer ++ y) k.joined ∙ sym (append_assoc introducer k.run k.rest);
+      is_run = inr (inr (inr (inr (record { allowed = refl; introducer = introducer; literal = k.run; is = is; spelled = refl; hexadecimal = k.is_run }))));
+      literal = inr (inr (record { allowed = refl; introducer = introducer; literal = k.run; is = is; spelled = refl; hexadecimal = k.literal }));
+    })
+    | inr n ↦ inr (none_behind t introducer rest is e n)
   ]
-  | inr e ↦ other_tells mode (c ∷ x) n (λ _. e.1)
+  | inr b ↦ inr (none_behind t introducer rest is e (none_first rest b))
+]
+
+introduced_tells : (mode : Mode) (sp : Spelling) (t : List ℕ) → LiteralAt mode sp t ⊎ IsNoIntroduced sp t
+introduced_tells mode Quoted t = inr (no_introduced t)
+introduced_tells mode Hexadecimal t = elim (introducer_tells text_introducer t) [
+  | inl f ↦ behind_tells mode text_introducer t f.0 (inl refl) f.1
+  | inr m ↦ elim (introducer_tells binary_introducer t) [
+    | inl g ↦ behind_tells mode binary_introducer t g.0 (inr refl) g.1
+    | inr n ↦ inr (none_without t (λ introducer rest is e. elim is [
+      | inl i ↦ m rest (e ∙ ap (λ y. y ++ rest) i)
+      | inr i ↦ n rest (e ∙ ap (λ y. y ++ rest) i)
+    ]))
+  ]
+]
+
+other_tells : (mode : Mode) (sp : Spelling) (t : List ℕ) → IsNoNull t → (0 < length t → get_or t 0 0 ≢ single_quote) → LiteralAt mode sp t ⊎ IsNoLiteral mode sp t
+other_tells mode sp t n q = elim (bool_tells (begins_hex t)) [
+  | inl b ↦ elim (hex_tells mode sp t b) [ inl k ↦ inl k | inr k ↦ inr (no_hexadecimal mode sp t n q b k) ]
+  | inr b ↦ elim (introduced_tells mode sp t) [
+    | inl k ↦ inl k
+    | inr i ↦ elim (number_tells mode sp t b) [ inl k ↦ inl k | inr k ↦ inr (no_number mode sp t n q b k i) ]
+  ]
+]
+
+no_null_tells : (mode : Mode) (sp : Spelling) (t : List ℕ) → IsNoNull t → LiteralAt mode sp t ⊎ IsNoLiteral mode sp t
+no_null_tells mode sp [] n = other_tells mode sp [] n (λ h. absurd (omega arith))
+no_null_tells mode sp (c ∷ x) n = elim (eqb_tells c single_quote) [
+  | inl e ↦ elim (string_tells mode sp x) [
+    | inl k ↦ inl (subst (λ y. LiteralAt mode sp (y ∷ x)) (sym e.1) k)
+    | inr k ↦ inr (no_quoted mode sp (c ∷ x) n e.1 (subst (λ y. IsNoString (has_escapes mode single_quote) (y ∷ x)) (sym e.1) k))
+  ]
+  | inr e ↦ other_tells mode sp (c ∷ x) n (λ _. e.1)
 ]
 
 -- what stands at the front of a text is a literal, or none is
-pub literal_tells : (mode : Mode) (t : List ℕ) → LiteralAt mode t ⊎ IsNoLiteral mode t
-literal_tells mode t = elim (list_tells (map lower (take 4 t)) (codes "null")) [
+pub literal_tells : (mode : Mode) (sp : Spelling) (t : List ℕ) → LiteralAt mode sp t ⊎ IsNoLiteral mode sp t
+literal_tells mode sp t = elim (list_tells (map lower (take 4 t)) (codes "null")) [
   | inl e ↦ inl (record { run = take 4 t; rest = drop 4 t; content = Null; joined = sym (take-append-drop 4 t); is_run = inl e; literal = e })
-  | inr e ↦ no_null_tells mode t (λ h. e h.1)
+  | inr e ↦ no_null_tells mode sp t (λ h. e h.1)
 ]

@@ -3,7 +3,7 @@ use Rattle.std.proofs.Common.{◌≡◌, ◌≢◌, ℕ, Bool, true, false, ◌=
 use Rattle.std.specs.List.{AllByRecursion}
 use Rattle.std.proofs.lemmas.Bool.Decides.{nat_tests}
 use Rattle.mysql_queries.specs.Tokens.{has_escapes, AreTokens, BeginsOtherwise, single_quote, dash, inside_bytes, backslash}
-use Rattle.mysql_queries.specs.Literals.{lower, is_digit, digits_value, IsNumber, IsString, inside_content, SpellsInHex, IsHexLiteral, IsLiteral}
+use Rattle.mysql_queries.specs.Literals.{lower, is_digit, digits_value, IsNumber, IsString, inside_content, SpellsInHex, IsHexLiteral, IsIntroduced, IsIntroducer, IsLiteral, text_introducer, binary_introducer}
 use Rattle.mysql_queries.specs.declared.content.Content.{Content}
 use Rattle.mysql_queries.specs.declared.content.Content.TheVariants.{Null, Number, Bytes}
 use Rattle.mysql_queries.specs.declared.mode.Mode.{Mode}
@@ -11,8 +11,9 @@ use Rattle.mysql_queries.specs.Queries.{is_joining}
 use Rattle.mysql_queries.proofs.Quotes.{one_inside}
 use Rattle.mysql_queries.proofs.Runs.{one_run, EndsRun}
 use Rattle.mysql_queries.proofs.Follow.{BeginsApart, or_first, not_equal, last_of}
-use Rattle.mysql_queries.proofs.Spellings.{is_word, AreWord, IsWord, literal_form, apart_bytes, apart_otherwise}
+use Rattle.mysql_queries.proofs.Spellings.{is_word, AreWord, IsWord, IsIntroducedWord, literal_form, apart_bytes, apart_otherwise}
 use Rattle.mysql_queries.proofs.Filled.{Spells, AloneFrom, rest_apart}
+use Rattle.mysql_queries.specs.declared.spelling.Spelling.{Spelling}
 
 pub word_joins : (b : ℕ) → is_word b ≡ true → is_joining b ≡ true
 word_joins b h = or_first _ _ (or_first _ _ (or_first _ _ (or_first _ _ (or_first _ _ (or_first _ _ (or_first _ _ (or_first _ _ (or_first _ _ h))))))))
@@ -59,27 +60,73 @@ one_word s u r q v w a b h = elim v.spelled [
   ]
 ]
 
+pub same_rest : (t r q : List ℕ) → t ++ r ≡ t ++ q → r ≡ q
+same_rest [] r q h = h
+same_rest (b ∷ t) r q h = same_rest t r q (cc)
+
+-- one of the two introducers goes on otherwise than the other
+other_introducers : (x y : List ℕ) → text_introducer ++ x ≡ binary_introducer ++ y → ⊥
+other_introducers x y h = let f : ◌≡◌ {A = ℕ} 0x75 0x62 = cc in absurd (omega arith)
+
+quote_no_introducer : (x y : List ℕ) → 0x5f ∷ y ≡ single_quote ∷ x → ⊥
+quote_no_introducer x y h = let f : ◌≡◌ {A = ℕ} 0x5f single_quote = cc in absurd (omega arith)
+
+-- an introducer comes first where its first byte does
+introduced_front : (s r : List ℕ) (w : IsIntroducedWord s) → (x : List ℕ) × (s ++ r ≡ 0x5f ∷ x)
+introduced_front s r w = elim w.is [
+  | inl e ↦ ((codes "utf8mb4 " ++ w.run) ++ r, ap (λ y. y ++ r) (w.spelled ∙ ap (λ y. y ++ w.run) e))
+  | inr e ↦ ((codes "binary " ++ w.run) ++ r, ap (λ y. y ++ r) (w.spelled ∙ ap (λ y. y ++ w.run) e))
+]
+
+word_no_introducer : (s r x : List ℕ) → IsWord s → s ++ r ≡ 0x5f ∷ x → ⊥
+word_no_introducer s r x w h = elim w.spelled [
+  | inl e ↦ run_no_byte w.run r x 0x5f refl w.each w.some (subst (λ y. y ++ r ≡ 0x5f ∷ x) e h)
+  | inr e ↦ (let k : dash ∷ (w.run ++ r) ≡ 0x5f ∷ x = subst (λ y. y ++ r ≡ 0x5f ∷ x) e h in let g : dash ≡ 0x5f = cc in absurd (omega arith))
+]
+
+-- two introducers that begin one text are one
+pub one_introducer : (i j x y : List ℕ) → IsIntroducer i → IsIntroducer j → i ++ x ≡ j ++ y → (i ≡ j) × (x ≡ y)
+one_introducer i j x y (inl e) (inl f) h = (e ∙ sym f, same_rest text_introducer x y (subst (λ k. k ++ x ≡ text_introducer ++ y) e (subst (λ k. i ++ x ≡ k ++ y) f h)))
+one_introducer i j x y (inl e) (inr f) h = absurd (other_introducers x y (subst (λ k. k ++ x ≡ binary_introducer ++ y) e (subst (λ k. i ++ x ≡ k ++ y) f h)))
+one_introducer i j x y (inr e) (inl f) h = absurd (other_introducers y x (sym (subst (λ k. k ++ x ≡ text_introducer ++ y) e (subst (λ k. i ++ x ≡ k ++ y) f h))))
+one_introducer i j x y (inr e) (inr f) h = (e ∙ sym f, same_rest binary_introducer x y (subst (λ k. k ++ x ≡ binary_introducer ++ y) e (subst (λ k. i ++ x ≡ k ++ y) f h)))
+
+one_introduced : (s u r q : List ℕ) → IsIntroducedWord s → IsIntroducedWord u → BeginsApart r → BeginsApart q → s ++ r ≡ u ++ q → (s ≡ u) × (r ≡ q)
+one_introduced s u r q v w a b h =
+    let e : v.introducer ++ (v.run ++ r) ≡ w.introducer ++ (w.run ++ q) = sym (append_assoc v.introducer v.run r) ∙ ap (λ y. y ++ r) (sym v.spelled) ∙ h ∙ ap (λ y. y ++ q) w.spelled ∙ append_assoc w.introducer w.run q in
+    let f : (v.introducer ≡ w.introducer) × (v.run ++ r ≡ w.run ++ q) = one_introducer v.introducer w.introducer (v.run ++ r) (w.run ++ q) v.is w.is e in
+    let o : (v.run ≡ w.run) × (r ≡ q) = one_run (λ c. is_word c ≡ true) v.run w.run r q v.each w.each (word_ends r a) (word_ends q b) f.1 in
+    (v.spelled ∙ ap (λ y. y ++ v.run) f.0 ∙ ap (λ y. w.introducer ++ y) o.0 ∙ sym w.spelled, o.1)
+
 -- two literals that begin one text and before which it goes on apart are one
-pub one_spelling : (mode : Mode) (s u r q : List ℕ) (c d : Content) → IsLiteral mode s c → IsLiteral mode u d → BeginsApart r → BeginsApart q → s ++ r ≡ u ++ q → (s ≡ u) × (r ≡ q)
-one_spelling mode s u r q c d i j a b h = elim (literal_form mode s c i) [
-  | inl m ↦ elim (literal_form mode u d j) [
+pub one_spelling : (mode : Mode) (sp : Spelling) (s u r q : List ℕ) (c d : Content) → IsLiteral mode sp s c → IsLiteral mode sp u d → BeginsApart r → BeginsApart q → s ++ r ≡ u ++ q → (s ≡ u) × (r ≡ q)
+one_spelling mode sp s u r q c d i j a b h = elim (literal_form mode sp s c i) [
+  | inl m ↦ elim (literal_form mode sp u d j) [
     | inl n ↦ (let o : (s ≡ u) × (r ≡ q) × (m.0 ≡ n.0) = one_string (has_escapes mode single_quote) s u m.0 n.0 r q m.1 n.1 (apart_otherwise r a) (apart_otherwise q b) h in (o.0, o.1))
-    | inr n ↦ absurd (word_no_quote u q ((flat_map (inside_bytes single_quote) m.1.parts ++ single_quote ∷ []) ++ r) n (sym h ∙ ap (λ y. y ++ r) m.1.spelled))
+    | inr (inl n) ↦ absurd (word_no_quote u q ((flat_map (inside_bytes single_quote) m.1.parts ++ single_quote ∷ []) ++ r) n (sym h ∙ ap (λ y. y ++ r) m.1.spelled))
+    | inr (inr n) ↦ absurd (quote_no_introducer _ (introduced_front u q n).0 (sym (h ∙ (introduced_front u q n).1) ∙ ap (λ y. y ++ r) m.1.spelled))
   ]
-  | inr m ↦ elim (literal_form mode u d j) [
+  | inr (inl m) ↦ elim (literal_form mode sp u d j) [
     | inl n ↦ absurd (word_no_quote s r ((flat_map (inside_bytes single_quote) n.1.parts ++ single_quote ∷ []) ++ q) m (h ∙ ap (λ y. y ++ q) n.1.spelled))
-    | inr n ↦ one_word s u r q m n a b h
+    | inr (inl n) ↦ one_word s u r q m n a b h
+    | inr (inr n) ↦ absurd (word_no_introducer s r (introduced_front u q n).0 m (h ∙ (introduced_front u q n).1))
+  ]
+  | inr (inr m) ↦ elim (literal_form mode sp u d j) [
+    | inl n ↦ absurd (quote_no_introducer _ (introduced_front s r m).0 (sym (sym h ∙ (introduced_front s r m).1) ∙ ap (λ y. y ++ q) n.1.spelled))
+    | inr (inl n) ↦ absurd (word_no_introducer u q (introduced_front s r m).0 n (sym h ∙ (introduced_front s r m).1))
+    | inr (inr n) ↦ one_introduced s u r q m n a b h
   ]
 ]
 
--- Which literal a spelling is, by its first two bytes: a string, NULL, hexadecimal or a number.
+-- Which literal a spelling is, by its first two bytes: a string, NULL, one behind an introducer,
+-- hexadecimal or a number.
 unfoldable pub second_sort : List ℕ → ℕ
 second_sort [] = 3
 second_sort (b ∷ x) = if b == 0x78 then 2 else 3
 
 unfoldable pub sort_of : List ℕ → ℕ
 sort_of [] = 3
-sort_of (a ∷ x) = if a == 0x27 then 0 else (if lower a == 0x6e then 1 else second_sort x)
+sort_of (a ∷ x) = if a == 0x27 then 0 else (if lower a == 0x6e then 1 else (if a == 0x5f then 4 else second_sort x))
 
 pub null_sort : (s : List ℕ) → map lower s ≡ codes "null" → sort_of s ≡ 1
 unfolding sort_of
@@ -108,7 +155,12 @@ digit_lower a h e = grind (arith, nat_tests)
 pub digits_sort : (s : List ℕ) → AllByRecursion (λ b. is_digit b ≡ true) s → sort_of s ≡ 3
 unfolding sort_of
 digits_sort [] h = refl
-digits_sort (a ∷ x) h = rw (not_equal a 0x27 (apart_bytes is_digit a 0x27 h.0 refl), not_equal (lower a) 0x6e (digit_lower a h.0)) (digits_second x h.1)
+digits_sort (a ∷ x) h = rw (not_equal a 0x27 (apart_bytes is_digit a 0x27 h.0 refl), not_equal (lower a) 0x6e (digit_lower a h.0), not_equal a 0x5f (apart_bytes is_digit a 0x5f h.0 refl)) (digits_second x h.1)
+
+pub introduced_sort : (introducer x : List ℕ) → IsIntroducer introducer → sort_of (introducer ++ x) ≡ 4
+unfolding sort_of
+introduced_sort introducer x (inl e) = rw e refl
+introduced_sort introducer x (inr e) = rw e refl
 
 pub dash_sort : (x : List ℕ) → AllByRecursion (λ b. is_digit b ≡ true) x → sort_of (dash ∷ x) ≡ 3
 unfolding sort_of
@@ -148,49 +200,63 @@ one_hex (m ∷ n ∷ d) [] c h k = elim h [ ]
 one_hex (m ∷ n ∷ d) (x ∷ b) [] h k = elim k [ ]
 one_hex (m ∷ n ∷ d) (x ∷ b) (y ∷ c) h k = let e : b ≡ c = one_hex d b c h.3 k.3 in let f : x ≡ y = h.2 ∙ sym k.2 in cc
 
-one_bytes : (escapes : Bool) (s b c : List ℕ) → IsString escapes s b ⊎ IsHexLiteral s b → IsString escapes s c ⊎ IsHexLiteral s c → b ≡ c
-one_bytes escapes s b c (inl h) (inl k) = (one_string escapes s s b c [] [] h k tt tt refl).2
-one_bytes escapes s b c (inl h) (inr k) = absurd (two_sorts s 0 2 (string_sort escapes s b h) (hex_sort s c k) (λ e. absurd (omega arith)))
-one_bytes escapes s b c (inr h) (inl k) = absurd (two_sorts s 2 0 (hex_sort s b h) (string_sort escapes s c k) (λ e. absurd (omega arith)))
-one_bytes escapes s b c (inr h) (inr k) =
+one_hex_literal : (s b c : List ℕ) → IsHexLiteral s b → IsHexLiteral s c → b ≡ c
+one_hex_literal s b c h k =
     let e : 0x30 ∷ 0x78 ∷ h.digits ≡ 0x30 ∷ 0x78 ∷ k.digits = sym h.spelled ∙ k.spelled in
     let f : h.digits ≡ k.digits = cc in
     one_hex k.digits b c (subst (λ d. SpellsInHex d b) f h.spells) k.spells
 
-bytes_sort : (escapes : Bool) (s b : List ℕ) → IsString escapes s b ⊎ IsHexLiteral s b → (sort_of s ≡ 0) ⊎ (sort_of s ≡ 2)
-bytes_sort escapes s b (inl h) = inl (string_sort escapes s b h)
-bytes_sort escapes s b (inr h) = inr (hex_sort s b h)
+-- the spellings of bytes
+abbrev AreSpelled : (escapes : Bool) → Spelling → List ℕ → List ℕ → Type 0
+AreSpelled escapes sp s b = IsString escapes s b ⊎ (IsHexLiteral s b ⊎ IsIntroduced sp s b)
 
-no_bytes : (escapes : Bool) (s b : List ℕ) (n : ℕ) → sort_of s ≡ n → n ≢ 0 → n ≢ 2 → IsString escapes s b ⊎ IsHexLiteral s b → ⊥
-no_bytes escapes s b n e p q h = elim (bytes_sort escapes s b h) [ inl f ↦ p (sym e ∙ f) | inr f ↦ q (sym e ∙ f) ]
+introduced_is : (sp : Spelling) (s b : List ℕ) → IsIntroduced sp s b → sort_of s ≡ 4
+introduced_is sp s b h = subst (λ y. sort_of y ≡ 4) (sym h.spelled) (introduced_sort h.introducer h.literal h.is)
+
+one_introduced_bytes : (sp : Spelling) (s b c : List ℕ) → IsIntroduced sp s b → IsIntroduced sp s c → b ≡ c
+one_introduced_bytes sp s b c h k =
+    let o : (h.introducer ≡ k.introducer) × (h.literal ≡ k.literal) = one_introducer h.introducer k.introducer h.literal k.literal h.is k.is (sym h.spelled ∙ k.spelled) in
+    one_hex_literal k.literal b c (subst (λ y. IsHexLiteral y b) o.1 h.hexadecimal) k.hexadecimal
+
+one_bytes : (escapes : Bool) (sp : Spelling) (s b c : List ℕ) → AreSpelled escapes sp s b → AreSpelled escapes sp s c → b ≡ c
+one_bytes escapes sp s b c (inl h) (inl k) = (one_string escapes s s b c [] [] h k tt tt refl).2
+one_bytes escapes sp s b c (inl h) (inr (inl k)) = absurd (two_sorts s 0 2 (string_sort escapes s b h) (hex_sort s c k) (λ e. absurd (omega arith)))
+one_bytes escapes sp s b c (inl h) (inr (inr k)) = absurd (two_sorts s 0 4 (string_sort escapes s b h) (introduced_is sp s c k) (λ e. absurd (omega arith)))
+one_bytes escapes sp s b c (inr (inl h)) (inl k) = absurd (two_sorts s 2 0 (hex_sort s b h) (string_sort escapes s c k) (λ e. absurd (omega arith)))
+one_bytes escapes sp s b c (inr (inl h)) (inr (inl k)) = one_hex_literal s b c h k
+one_bytes escapes sp s b c (inr (inl h)) (inr (inr k)) = absurd (two_sorts s 2 4 (hex_sort s b h) (introduced_is sp s c k) (λ e. absurd (omega arith)))
+one_bytes escapes sp s b c (inr (inr h)) (inl k) = absurd (two_sorts s 4 0 (introduced_is sp s b h) (string_sort escapes s c k) (λ e. absurd (omega arith)))
+one_bytes escapes sp s b c (inr (inr h)) (inr (inl k)) = absurd (two_sorts s 4 2 (introduced_is sp s b h) (hex_sort s c k) (λ e. absurd (omega arith)))
+one_bytes escapes sp s b c (inr (inr h)) (inr (inr k)) = one_introduced_bytes sp s b c h k
+
+no_bytes : (escapes : Bool) (sp : Spelling) (s b : List ℕ) (n : ℕ) → sort_of s ≡ n → n ≢ 0 → n ≢ 2 → n ≢ 4 → AreSpelled escapes sp s b → ⊥
+no_bytes escapes sp s b n e p q r (inl h) = p (sym e ∙ string_sort escapes s b h)
+no_bytes escapes sp s b n e p q r (inr (inl h)) = q (sym e ∙ hex_sort s b h)
+no_bytes escapes sp s b n e p q r (inr (inr h)) = r (sym e ∙ introduced_is sp s b h)
 
 -- a spelling has at most one content
-pub one_content : (mode : Mode) (s : List ℕ) (c d : Content) → IsLiteral mode s c → IsLiteral mode s d → c ≡ d
-one_content mode s Null Null h k = refl
-one_content mode s Null (Number z) h k = absurd (two_sorts s 1 3 (null_sort s h) (number_sort s z k) (λ e. absurd (omega arith)))
-one_content mode s Null (Bytes b) h k = absurd (no_bytes (has_escapes mode single_quote) s b 1 (null_sort s h) (λ e. absurd (omega arith)) (λ e. absurd (omega arith)) k)
-one_content mode s (Number z) Null h k = absurd (two_sorts s 3 1 (number_sort s z h) (null_sort s k) (λ e. absurd (omega arith)))
-one_content mode s (Number z) (Number y) h k = ap Number (one_number s z y h k)
-one_content mode s (Number z) (Bytes b) h k = absurd (no_bytes (has_escapes mode single_quote) s b 3 (number_sort s z h) (λ e. absurd (omega arith)) (λ e. absurd (omega arith)) k)
-one_content mode s (Bytes b) Null h k = absurd (no_bytes (has_escapes mode single_quote) s b 1 (null_sort s k) (λ e. absurd (omega arith)) (λ e. absurd (omega arith)) h)
-one_content mode s (Bytes b) (Number z) h k = absurd (no_bytes (has_escapes mode single_quote) s b 3 (number_sort s z k) (λ e. absurd (omega arith)) (λ e. absurd (omega arith)) h)
-one_content mode s (Bytes b) (Bytes c) h k = ap Bytes (one_bytes (has_escapes mode single_quote) s b c h k)
-
-pub same_rest : (t r q : List ℕ) → t ++ r ≡ t ++ q → r ≡ q
-same_rest [] r q h = h
-same_rest (b ∷ t) r q h = same_rest t r q (cc)
+pub one_content : (mode : Mode) (sp : Spelling) (s : List ℕ) (c d : Content) → IsLiteral mode sp s c → IsLiteral mode sp s d → c ≡ d
+one_content mode sp s Null Null h k = refl
+one_content mode sp s Null (Number z) h k = absurd (two_sorts s 1 3 (null_sort s h) (number_sort s z k) (λ e. absurd (omega arith)))
+one_content mode sp s Null (Bytes b) h k = absurd (no_bytes (has_escapes mode single_quote) sp s b 1 (null_sort s h) (λ e. absurd (omega arith)) (λ e. absurd (omega arith)) (λ e. absurd (omega arith)) k)
+one_content mode sp s (Number z) Null h k = absurd (two_sorts s 3 1 (number_sort s z h) (null_sort s k) (λ e. absurd (omega arith)))
+one_content mode sp s (Number z) (Number y) h k = ap Number (one_number s z y h k)
+one_content mode sp s (Number z) (Bytes b) h k = absurd (no_bytes (has_escapes mode single_quote) sp s b 3 (number_sort s z h) (λ e. absurd (omega arith)) (λ e. absurd (omega arith)) (λ e. absurd (omega arith)) k)
+one_content mode sp s (Bytes b) Null h k = absurd (no_bytes (has_escapes mode single_quote) sp s b 1 (null_sort s k) (λ e. absurd (omega arith)) (λ e. absurd (omega arith)) (λ e. absurd (omega arith)) h)
+one_content mode sp s (Bytes b) (Number z) h k = absurd (no_bytes (has_escapes mode single_quote) sp s b 3 (number_sort s z k) (λ e. absurd (omega arith)) (λ e. absurd (omega arith)) (λ e. absurd (omega arith)) h)
+one_content mode sp s (Bytes b) (Bytes c) h k = ap Bytes (one_bytes (has_escapes mode single_quote) sp s b c h k)
 
 -- a text has at most one list of contents
-pub one_filling : (mode : Mode) (ts : List (List ℕ)) (last : ℕ) (cs ds : List Content) (text : List ℕ) → AreTokens mode ts → AloneFrom last ts → Spells mode ts cs text → Spells mode ts ds text → cs ≡ ds
-one_filling mode [] last cs ds text i a h k = h.0 ∙ sym k.0
-one_filling mode (t ∷ ts) last cs ds text i a (inl (p, r, e, h)) (inl (q, r', e', k)) =
-    one_filling mode ts (last_of last t) cs ds r i.1 a.1 h (subst (Spells mode ts ds) (sym (same_rest t r r' (sym e ∙ e'))) k)
-one_filling mode (t ∷ ts) last cs ds text i a (inl m) (inr n) = absurd (let f : true ≡ false = sym n.0 ∙ m.0 in cc)
-one_filling mode (t ∷ ts) last cs ds text i a (inr m) (inl n) = absurd (let f : true ≡ false = sym m.0 ∙ n.0 in cc)
-one_filling mode (t ∷ ts) last cs ds text i a (inr (p, c, cs', s, r, e, l, f, h)) (inr (q, d, ds', u, r', e', m, f', k)) =
-    let b : BeginsApart r = rest_apart mode ts (last_of last t) cs' r i.1 a.1 h (a.0 p).1 in
-    let b' : BeginsApart r' = rest_apart mode ts (last_of last t) ds' r' i.1 a.1 k (a.0 p).1 in
-    let o : (s ≡ u) × (r ≡ r') = one_spelling mode s u r r' c d l m b b' (sym f ∙ f') in
-    let n : c ≡ d = one_content mode u c d (subst (λ y. IsLiteral mode y c) o.0 l) m in
-    let g : cs' ≡ ds' = one_filling mode ts (last_of last t) cs' ds' r i.1 a.1 h (subst (Spells mode ts ds') (sym o.1) k) in
+pub one_filling : (mode : Mode) (sp : Spelling) (ts : List (List ℕ)) (last : ℕ) (cs ds : List Content) (text : List ℕ) → AreTokens mode ts → AloneFrom last ts → Spells mode sp ts cs text → Spells mode sp ts ds text → cs ≡ ds
+one_filling mode sp [] last cs ds text i a h k = h.0 ∙ sym k.0
+one_filling mode sp (t ∷ ts) last cs ds text i a (inl (p, r, e, h)) (inl (q, r', e', k)) =
+    one_filling mode sp ts (last_of last t) cs ds r i.1 a.1 h (subst (Spells mode sp ts ds) (sym (same_rest t r r' (sym e ∙ e'))) k)
+one_filling mode sp (t ∷ ts) last cs ds text i a (inl m) (inr n) = absurd (let f : true ≡ false = sym n.0 ∙ m.0 in cc)
+one_filling mode sp (t ∷ ts) last cs ds text i a (inr m) (inl n) = absurd (let f : true ≡ false = sym m.0 ∙ n.0 in cc)
+one_filling mode sp (t ∷ ts) last cs ds text i a (inr (p, c, cs', s, r, e, l, f, h)) (inr (q, d, ds', u, r', e', m, f', k)) =
+    let b : BeginsApart r = rest_apart mode sp ts (last_of last t) cs' r i.1 a.1 h (a.0 p).1 in
+    let b' : BeginsApart r' = rest_apart mode sp ts (last_of last t) ds' r' i.1 a.1 k (a.0 p).1 in
+    let o : (s ≡ u) × (r ≡ r') = one_spelling mode sp s u r r' c d l m b b' (sym f ∙ f') in
+    let n : c ≡ d = one_content mode sp u c d (subst (λ y. IsLiteral mode sp y c) o.0 l) m in
+    let g : cs' ≡ ds' = one_filling mode sp ts (last_of last t) cs' ds' r i.1 a.1 h (subst (Spells mode sp ts ds') (sym o.1) k) in
     e ∙ ap (λ y. c ∷ y) g ∙ ap (λ y. y ∷ ds') n ∙ sym e'

@@ -26,19 +26,19 @@ pub lexed_is_sliced : LexedIsSliced
 lexed_is_sliced query text contents h = record {
   tokens = h.tokens;
   has = h.has;
-  alternates = spelled_pieces query.mode h.tokens contents text (subst (Spells query.mode h.tokens contents) h.text_has.joined (spells_joined query.mode h.tokens contents h.replaced h.replaces));
+  alternates = spelled_pieces query.mode query.spelling h.tokens contents text (subst (Spells query.mode query.spelling h.tokens contents) h.text_has.joined (spells_joined query.mode query.spelling h.tokens contents h.replaced h.replaces));
 }
 
 pub sliced_is_lexed : SlicedIsLexed
 sliced_is_lexed query text contents a h =
-    let o : Lexed query.mode h.tokens contents text = lexed query.mode h.tokens space contents text h.has.each (alone_from query h.tokens h.has a) (pieces_spell query.mode h.tokens contents text h.alternates) in
+    let o : Lexed query.mode query.spelling h.tokens contents text = lexed query.mode query.spelling h.tokens space contents text h.has.each (alone_from query h.tokens h.has a) (pieces_spell query.mode query.spelling h.tokens contents text h.alternates) in
     record { tokens = h.tokens; has = h.has; replaced = o.tokens; text_has = o.has; replaces = o.replaces }
 
 pub read_once : OneReading
 read_once query text contents others a h k =
     let e : k.tokens ≡ h.tokens = one_tokens query.mode query.text k.tokens h.tokens k.has h.has in
-    one_filling query.mode h.tokens space contents others text h.has.each (alone_from query h.tokens h.has a) (pieces_spell query.mode h.tokens contents text h.alternates)
-    (subst (λ t. Spells query.mode t others text) e (pieces_spell query.mode k.tokens others text k.alternates))
+    one_filling query.mode query.spelling h.tokens space contents others text h.has.each (alone_from query h.tokens h.has a) (pieces_spell query.mode query.spelling h.tokens contents text h.alternates)
+    (subst (λ t. Spells query.mode query.spelling t others text) e (pieces_spell query.mode query.spelling k.tokens others text k.alternates))
 
 pub one_places : OnePlaces
 one_places query places others h k = h.2 ∙ ap (places_from query.text 0) (one_tokens query.mode query.text h.0 k.0 h.1 k.1) ∙ sym k.2
@@ -48,4 +48,4 @@ begins_apart [] h = tt
 begins_apart (b ∷ r) h = h
 
 pub runs_are_read : LiteralIsRun
-runs_are_read m spelling rest content h a = literal_is_run m spelling content rest h (begins_apart rest a)
+runs_are_read m sp literal rest content h a = literal_is_run m sp literal content rest h (begins_apart rest a)

@@ -3,13 +3,14 @@ use Rattle.std.proofs.Common.{◌≡◌, ◌≢◌, ℕ, Bool, true, false, ◌|
 use Rattle.std.specs.List.{concat, AllByRecursion}
 use Rattle.std.proofs.lemmas.Bool.Decides.{nat_tests}
 use Rattle.mysql_queries.specs.Tokens.{has_escapes, Quoted, Plain, kind_of, is_within, IsQuoted, HasShape, IsToken, AreTokens, HasTokens, BeginsOtherwise, single_quote, star, dash, inside_bytes}
-use Rattle.mysql_queries.specs.Literals.{lower, is_digit, IsNumber, IsString, is_hex, SpellsInHex, IsHexLiteral, IsLiteral}
+use Rattle.mysql_queries.specs.Literals.{lower, is_digit, IsNumber, IsString, is_hex, SpellsInHex, IsHexLiteral, IsIntroduced, IsIntroducer, IsLiteral, text_introducer, binary_introducer}
 use Rattle.mysql_queries.specs.declared.content.Content.{Content}
 use Rattle.mysql_queries.specs.declared.content.Content.TheVariants.{Null, Number, Bytes}
 use Rattle.mysql_queries.specs.declared.mode.Mode.{Mode}
 use Rattle.mysql_queries.specs.Queries.{is_joining}
 use Rattle.mysql_queries.proofs.FirstBytes.{bool_tells}
 use Rattle.mysql_queries.proofs.Follow.{BeginsApart, or_true, or_first, not_equal}
+use Rattle.mysql_queries.specs.declared.spelling.Spelling.{Spelling}
 
 -- a digit or a letter
 abbrev pub is_word : ℕ → Bool
@@ -73,12 +74,32 @@ spells_word (a ∷ c ∷ digits) (b ∷ bytes) h = (hex_word a h.0, (hex_word c 
 hex_literal_word : (spelling bytes : List ℕ) → IsHexLiteral spelling bytes → IsWord spelling
 hex_literal_word spelling bytes h = record { run = 0x30 ∷ 0x78 ∷ h.digits; each = (refl, (refl, spells_word h.digits bytes h.spells)); some = λ e. cc; spelled = inl h.spelled }
 
--- a literal is a quoted string, or a word
-pub literal_form : (mode : Mode) (spelling : List ℕ) (content : Content) → IsLiteral mode spelling content → ((bytes : List ℕ) × IsString (has_escapes mode single_quote) spelling bytes) ⊎ IsWord spelling
-literal_form mode spelling Null h = inr (null_word spelling h)
-literal_form mode spelling (Number z) h = inr (number_word spelling z h)
-literal_form mode spelling (Bytes bytes) (inl h) = inl (bytes, h)
-literal_form mode spelling (Bytes bytes) (inr h) = inr (hex_literal_word spelling bytes h)
+-- an introducer and a word behind it, without a dash
+pub record IsIntroducedWord (text : List ℕ) : Type 0 where
+  pub introducer : List ℕ
+  pub run : List ℕ
+  pub is : IsIntroducer introducer
+  pub each : AreWord run
+  pub some : run ≢ []
+  pub spelled : text ≡ introducer ++ run
+
+introduced_word : (sp : Spelling) (text bytes : List ℕ) → IsIntroduced sp text bytes → IsIntroducedWord text
+introduced_word sp text bytes h = record {
+  introducer = h.introducer;
+  run = 0x30 ∷ 0x78 ∷ h.hexadecimal.digits;
+  is = h.is;
+  each = (refl, (refl, spells_word h.hexadecimal.digits bytes h.hexadecimal.spells));
+  some = λ e. cc;
+  spelled = h.spelled ∙ ap (λ y. h.introducer ++ y) h.hexadecimal.spelled;
+}
+
+-- a literal is a quoted string, a word, or a word behind an introducer
+pub literal_form : (mode : Mode) (sp : Spelling) (spelling : List ℕ) (content : Content) → IsLiteral mode sp spelling content → ((bytes : List ℕ) × IsString (has_escapes mode single_quote) spelling bytes) ⊎ (IsWord spelling ⊎ IsIntroducedWord spelling)
+literal_form mode sp spelling Null h = inr (inl (null_word spelling h))
+literal_form mode sp spelling (Number z) h = inr (inl (number_word spelling z h))
+literal_form mode sp spelling (Bytes bytes) (inl h) = inl (bytes, h)
+literal_form mode sp spelling (Bytes bytes) (inr (inl h)) = inr (inl (hex_literal_word spelling bytes h))
+literal_form mode sp spelling (Bytes bytes) (inr (inr h)) = inr (inr (introduced_word sp spelling bytes h))
 
 -- a byte in the set is none outside it
 pub apart_bytes : (p : ℕ → Bool) (b c : ℕ) → p b ≡ true → p c ≡ false → b ≢ c
@@ -100,23 +121,53 @@ word_start spelling w = elim w.spelled [ inl e ↦ of_run spelling w.run w.each 
     of_run spelling [] h n e = absurd (n refl)
     of_run spelling (b ∷ run) h n e = record { first = b; others = run; joined = e; no_star = apart_bytes is_word b star h.0 refl; no_mark = apart_bytes is_word b 0x21 h.0 refl; no_plus = apart_bytes is_word b 0x2b h.0 refl }
 
-pub literal_start : (mode : Mode) (spelling : List ℕ) (content : Content) → IsLiteral mode spelling content → LiteralStart spelling
-literal_start mode spelling content h = elim (literal_form mode spelling content h) [
-  | inl s ↦ record { first = single_quote; others = flat_map (inside_bytes single_quote) s.1.parts ++ single_quote ∷ []; joined = s.1.spelled; no_star = λ k. absurd (omega arith); no_mark = λ k. absurd (omega arith); no_plus = λ k. absurd (omega arith) }
-  | inr w ↦ word_start spelling w
+introduced_start : (spelling : List ℕ) → IsIntroducedWord spelling → LiteralStart spelling
+introduced_start spelling w = elim w.is [
+  | inl e ↦ record { first = 0x5f; others = codes "utf8mb4 " ++ w.run; joined = w.spelled ∙ ap (λ y. y ++ w.run) e; no_star = λ k. absurd (omega arith); no_mark = λ k. absurd (omega arith); no_plus = λ k. absurd (omega arith) }
+  | inr e ↦ record { first = 0x5f; others = codes "binary " ++ w.run; joined = w.spelled ∙ ap (λ y. y ++ w.run) e; no_star = λ k. absurd (omega arith); no_mark = λ k. absurd (omega arith); no_plus = λ k. absurd (omega arith) }
 ]
 
--- each byte of a word is a token
-word_kind : (b : ℕ) (x : List ℕ) → is_word b ≡ true → kind_of (b ∷ x) ≡ Plain
-word_kind b x h =
-    let e1 : (b == 0x27) ≡ false = not_equal b 0x27 (apart_bytes is_word b 0x27 h refl) in
-    let e2 : (b == 0x22) ≡ false = not_equal b 0x22 (apart_bytes is_word b 0x22 h refl) in
-    let e3 : (b == 0x60) ≡ false = not_equal b 0x60 (apart_bytes is_word b 0x60 h refl) in
-    let e4 : (b == 0x23) ≡ false = not_equal b 0x23 (apart_bytes is_word b 0x23 h refl) in
-    let e5 : (b == 0x2d) ≡ false = not_equal b 0x2d (apart_bytes is_word b 0x2d h refl) in
-    let e6 : (b == 0x2f) ≡ false = not_equal b 0x2f (apart_bytes is_word b 0x2f h refl) in
-    let e7 : (b == 0x3a) ≡ false = not_equal b 0x3a (apart_bytes is_word b 0x3a h refl) in
-    let e8 : (b == 0x3f) ≡ false = not_equal b 0x3f (apart_bytes is_word b 0x3f h refl) in
+pub literal_start : (mode : Mode) (sp : Spelling) (spelling : List ℕ) (content : Content) → IsLiteral mode sp spelling content → LiteralStart spelling
+literal_start mode sp spelling content h = elim (literal_form mode sp spelling content h) [
+  | inl s ↦ record { first = single_quote; others = flat_map (inside_bytes single_quote) s.1.parts ++ single_quote ∷ []; joined = s.1.spelled; no_star = λ k. absurd (omega arith); no_mark = λ k. absurd (omega arith); no_plus = λ k. absurd (omega arith) }
+  | inr (inl w) ↦ word_start spelling w
+  | inr (inr w) ↦ introduced_start spelling w
+]
+
+-- what words and introducers are made of: a digit, a letter, the underscore or the blank
+abbrev is_bare : ℕ → Bool
+is_bare b = is_word b || (b == 0x5f) || (b == 0x20)
+
+abbrev AreBare : List ℕ → Type 0
+AreBare run = AllByRecursion (λ b. is_bare b ≡ true) run
+
+word_bare : (b : ℕ) → is_word b ≡ true → is_bare b ≡ true
+word_bare b h = or_first _ _ (or_first _ _ h)
+
+words_bare : (run : List ℕ) → AreWord run → AreBare run
+words_bare run h = all_map (λ b. is_word b ≡ true) (λ b. is_bare b ≡ true) word_bare run h
+
+bare_append : (xs ys : List ℕ) → AreBare xs → AreBare ys → AreBare (xs ++ ys)
+bare_append [] ys h k = k
+bare_append (x ∷ xs) ys h k = (h.0, bare_append xs ys h.1 k)
+
+text_bare : AreBare text_introducer
+text_bare = (refl, (refl, (refl, (refl, (refl, (refl, (refl, (refl, (refl, tt)))))))))
+
+binary_bare : AreBare binary_introducer
+binary_bare = (refl, (refl, (refl, (refl, (refl, (refl, (refl, (refl, tt))))))))
+
+-- each byte of them is a token
+bare_kind : (b : ℕ) (x : List ℕ) → is_bare b ≡ true → kind_of (b ∷ x) ≡ Plain
+bare_kind b x h =
+    let e1 : (b == 0x27) ≡ false = not_equal b 0x27 (apart_bytes is_bare b 0x27 h refl) in
+    let e2 : (b == 0x22) ≡ false = not_equal b 0x22 (apart_bytes is_bare b 0x22 h refl) in
+    let e3 : (b == 0x60) ≡ false = not_equal b 0x60 (apart_bytes is_bare b 0x60 h refl) in
+    let e4 : (b == 0x23) ≡ false = not_equal b 0x23 (apart_bytes is_bare b 0x23 h refl) in
+    let e5 : (b == 0x2d) ≡ false = not_equal b 0x2d (apart_bytes is_bare b 0x2d h refl) in
+    let e6 : (b == 0x2f) ≡ false = not_equal b 0x2f (apart_bytes is_bare b 0x2f h refl) in
+    let e7 : (b == 0x3a) ≡ false = not_equal b 0x3a (apart_bytes is_bare b 0x3a h refl) in
+    let e8 : (b == 0x3f) ≡ false = not_equal b 0x3f (apart_bytes is_bare b 0x3f h refl) in
     rw (e1, e2, e3, e4, e5, e6, e7, e8) refl
 
 dash_kind : (b : ℕ) (x : List ℕ) → is_word b ≡ true → kind_of (dash ∷ b ∷ x) ≡ Plain
@@ -135,9 +186,12 @@ concat_singles (b ∷ x) us = ap (λ y. b ∷ y) (concat_singles x us)
 plain_token : (mode : Mode) (b : ℕ) (x : List ℕ) → kind_of (b ∷ x) ≡ Plain → IsToken mode (b ∷ []) x
 plain_token mode b x e = subst (λ k. HasShape mode k (b ∷ []) x) (sym e) (b, refl)
 
+bare_tokens : (mode : Mode) (run : List ℕ) → AreBare run → (us : List (List ℕ)) → AreTokens mode us → AreTokens mode (singles run ++ us)
+bare_tokens mode [] h us k = k
+bare_tokens mode (b ∷ run) h us k = (plain_token mode b (concat (singles run ++ us)) (bare_kind b (concat (singles run ++ us)) h.0), bare_tokens mode run h.1 us k)
+
 word_tokens : (mode : Mode) (run : List ℕ) → AreWord run → (us : List (List ℕ)) → AreTokens mode us → AreTokens mode (singles run ++ us)
-word_tokens mode [] h us k = k
-word_tokens mode (b ∷ run) h us k = (plain_token mode b (concat (singles run ++ us)) (word_kind b (concat (singles run ++ us)) h.0), word_tokens mode run h.1 us k)
+word_tokens mode run h = bare_tokens mode run (words_bare run h)
 
 dash_tokens : (mode : Mode) (run : List ℕ) → AreWord run → run ≢ [] → (us : List (List ℕ)) → AreTokens mode us → AreTokens mode (singles (dash ∷ run) ++ us)
 dash_tokens mode [] h n us k = absurd (n refl)
@@ -165,6 +219,11 @@ word_literal mode spelling w = elim w.spelled [
   | inr e ↦ subst (LiteralTokens mode) (sym e) (singles_tokens mode (dash ∷ w.run) (dash_tokens mode w.run w.each w.some))
 ]
 
+introduced_literal : (mode : Mode) (spelling : List ℕ) → IsIntroducedWord spelling → LiteralTokens mode spelling
+introduced_literal mode spelling w =
+    let bare : AreBare w.introducer = elim w.is [ inl e ↦ subst AreBare (sym e) text_bare | inr e ↦ subst AreBare (sym e) binary_bare ] in
+    subst (LiteralTokens mode) (sym w.spelled) (singles_tokens mode (w.introducer ++ w.run) (bare_tokens mode (w.introducer ++ w.run) (bare_append w.introducer w.run bare (words_bare w.run w.each))))
+
 pub apart_otherwise : (r : List ℕ) → BeginsApart r → BeginsOtherwise single_quote r
 apart_otherwise [] h = tt
 apart_otherwise (b ∷ r) h = λ e. let f : true ≡ false = sym (ap is_joining e) ∙ h in cc
@@ -182,5 +241,5 @@ string_literal mode spelling bytes s = record {
   stay = λ us k a. (string_token mode spelling bytes s (concat us) (apart_otherwise (concat us) a), k);
 }
 
-pub literal_tokens : (mode : Mode) (spelling : List ℕ) (content : Content) → IsLiteral mode spelling content → LiteralTokens mode spelling
-literal_tokens mode spelling content h = elim (literal_form mode spelling content h) [ inl s ↦ string_literal mode spelling s.0 s.1 | inr w ↦ word_literal mode spelling w ]
+pub literal_tokens : (mode : Mode) (sp : Spelling) (spelling : List ℕ) (content : Content) → IsLiteral mode sp spelling content → LiteralTokens mode spelling
+literal_tokens mode sp spelling content h = elim (literal_form mode sp spelling content h) [ inl s ↦ string_literal mode spelling s.0 s.1 | inr (inl w) ↦ word_literal mode spelling w | inr (inr w) ↦ introduced_literal mode spelling w ]

@@ -2,6 +2,7 @@ pub mod Tokens
 pub mod Sql
 pub mod Modes
 pub mod Literals
+pub mod Comments
 pub mod Queries
 pub mod Written
 pub mod Laws
@@ -11,6 +12,7 @@ pub mod LiteralRuns
 pub mod LiteralViews
 pub mod Parsed
 pub mod PlaceKinds
+pub mod SkippedComments
 pub mod Query
 pub mod ParsedQuery
 pub mod TextViews

@@ -5,6 +5,7 @@ use Rattle.mysql_queries.specs.LiteralRuns.{IsLiteralRun}
 use Rattle.mysql_queries.specs.Literals.{IsLiteral}
 use Rattle.mysql_queries.specs.declared.content.Content.{Content}
 use Rattle.mysql_queries.specs.declared.mode.Mode.{Mode}
+use Rattle.mysql_queries.specs.declared.spelling.Spelling.{Spelling}
 use Rattle.mysql_queries.specs.declared.content.Content.TheVariants as content
 use Rattle.mysql_queries.specs.declared.literals.Literal.{Literal}
 use Rattle.mysql_queries.specs.declared.literals.Literal.TheVariants.{Null, Number, Bytes}
@@ -23,11 +24,11 @@ IsHeld Bytes items = Unit {0}
 
 -- a literal stands at the front of the text before the rest: all of its form that stands there, and
 -- it spells what was read
-abbrev pub ReadsLiteral : Mode → List ℕ → Literal → List ℕ → List ℕ → Type 0
-ReadsLiteral mode text literal items rest = (run : List ℕ) × (text ≡ run ++ rest) ×
-    IsLiteralRun mode run rest × IsLiteral mode run (literal_content literal items)
+abbrev pub ReadsLiteral : Mode → Spelling → List ℕ → Literal → List ℕ → List ℕ → Type 0
+ReadsLiteral mode spelling text literal items rest = (run : List ℕ) × (text ≡ run ++ rest) ×
+    IsLiteralRun mode spelling run rest × IsLiteral mode spelling run (literal_content literal items)
 
 -- no run at the front of the text is a literal
-abbrev pub IsNoLiteral : Mode → List ℕ → Type 0
-IsNoLiteral mode text = (run rest : List ℕ) (content : Content) → text ≡ run ++ rest →
-    IsLiteralRun mode run rest → IsLiteral mode run content → ⊥
+abbrev pub IsNoLiteral : Mode → Spelling → List ℕ → Type 0
+IsNoLiteral mode spelling text = (run rest : List ℕ) (content : Content) → text ≡ run ++ rest →
+    IsLiteralRun mode spelling run rest → IsLiteral mode spelling run content → ⊥

@@ -1,6 +1,7 @@
--- The literals of a SQL text and their contents, by the mode of the server that reads it. MySQL
--- Reference Manual, "Literal Values": "String Literals", "Numeric Literals", "Hexadecimal Literals",
--- "NULL Values"; "Server SQL Modes" (NO_BACKSLASH_ESCAPES).
+-- The literals of a SQL text and their contents, by the mode of the server that reads it and the
+-- spelling of byte strings in it. MySQL Reference Manual, "Literal Values": "String Literals",
+-- "Numeric Literals", "Hexadecimal Literals", "NULL Values"; "Server SQL Modes"
+-- (NO_BACKSLASH_ESCAPES); "Character Set Introducers".
 use Rattle.std.specs.Prelude.{◌≡◌, ◌≢◌, ℕ, ◌+◌, ◌-◌, ◌*◌, ◌^◌, ◌<◌, ◌≤◌, Bool, true, ◌||◌, ◌==◌, nat_le, if◌then◌else◌}
 use Rattle.std.specs.Prelude.{◌⊎◌, List, [], ◌∷◌, ◌++◌, map, fold, flat_map, codes, ℤ, pos, neg_ℤ}
 use Rattle.std.specs.List.{AllByRecursion}
@@ -9,6 +10,8 @@ use Rattle.mysql_queries.specs.declared.content.Content.TheVariants.{Null, Numbe
 use Rattle.mysql_queries.specs.Tokens.{is_within, single_quote, backslash, dash, Inside, Byte, Escape, Doubled}
 use Rattle.mysql_queries.specs.Tokens.{inside_bytes, IsInside, has_escapes}
 use Rattle.mysql_queries.specs.declared.mode.Mode.{Mode}
+use Rattle.mysql_queries.specs.declared.spelling.Spelling.{Spelling}
+use Rattle.mysql_queries.specs.declared.spelling.Spelling.TheVariants.{Hexadecimal}
 
 -- an ASCII letter in lower case
 abbrev pub lower : ℕ → ℕ
@@ -82,9 +85,32 @@ pub record IsHexLiteral (spelling bytes : List ℕ) : Type 0 where
   pub spells : SpellsInHex digits bytes
   pub some : bytes ≢ []
 
--- the spellings of each content: NULL in any case, a number, bytes in quotes or in hexadecimal
-abbrev pub IsLiteral : Mode → List ℕ → Content → Type 0
-IsLiteral mode spelling Null = map lower spelling ≡ codes "null"
-IsLiteral mode spelling (Number z) = IsNumber spelling z
-IsLiteral mode spelling (Bytes bytes) =
-    IsString (has_escapes mode single_quote) spelling bytes ⊎ IsHexLiteral spelling bytes
+-- The introducers that make a text, or a string of bytes, of a literal in hexadecimal, which is a
+-- number where a number is wanted. Each is in lower case, with one blank.
+-- MySQL Reference Manual, "Character Set Introducers", "Hexadecimal Literals".
+abbrev pub text_introducer : List ℕ
+text_introducer = codes "_utf8mb4 "
+
+abbrev pub binary_introducer : List ℕ
+binary_introducer = codes "_binary "
+
+-- one of the two
+abbrev pub IsIntroducer : List ℕ → Type 0
+IsIntroducer introducer = (introducer ≡ text_introducer) ⊎ (introducer ≡ binary_introducer)
+
+-- an introducer and a literal in hexadecimal, where byte strings are spelled so
+pub record IsIntroduced (spelling : Spelling) (text bytes : List ℕ) : Type 0 where
+  pub allowed : spelling ≡ Hexadecimal
+  pub introducer : List ℕ
+  pub literal : List ℕ
+  pub is : IsIntroducer introducer
+  pub spelled : text ≡ introducer ++ literal
+  pub hexadecimal : IsHexLiteral literal bytes
+
+-- The texts of each content: NULL in any case, a number, bytes in quotes, in hexadecimal, or in
+-- hexadecimal behind an introducer.
+abbrev pub IsLiteral : Mode → Spelling → List ℕ → Content → Type 0
+IsLiteral mode spelling text Null = map lower text ≡ codes "null"
+IsLiteral mode spelling text (Number z) = IsNumber text z
+IsLiteral mode spelling text (Bytes bytes) = IsString (has_escapes mode single_quote) text bytes ⊎
+    (IsHexLiteral text bytes ⊎ IsIntroduced spelling text bytes)

@@ -5,12 +5,12 @@ use Rattle.std.specs.Cow.{cow_slice_items}
 use Rattle.mysql_queries.specs.Parsed.{names_at}
 use Rattle.mysql_queries.specs.Queries.{HasPlaces, first_not_alone, is_mixed}
 use Rattle.mysql_queries.specs.Query.{Query}
-use Rattle.mysql_queries.specs.Sql.{Sql, read_in}
+use Rattle.mysql_queries.specs.Sql.{Sql, read_by}
 use Rattle.mysql_queries.specs.declared.parsed_query.ParsedQuery.TheInside.{Inside}
 
--- its text, as a server in its mode reads it
+-- its text, as a server in its mode reads it, with byte strings in its spelling
 abbrev pub sql_of_inside : Inside → Sql
-sql_of_inside q = read_in q.mode (cow_slice_items q.text)
+sql_of_inside q = read_by q.mode q.spelling (cow_slice_items q.text)
 
 -- that, and its placeholders
 abbrev pub query_of : Inside → Query

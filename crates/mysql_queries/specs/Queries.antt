@@ -1,16 +1,18 @@
 -- Placeholders of a query, the pieces between them, and the texts that a query and contents make,
 -- all of them as a server in the query's mode reads them. MySQL Reference Manual, "PREPARE
 -- Statement" (parameter markers); names as placeholders are a form of client libraries.
-use Rattle.std.specs.Prelude.{◌≡◌, ℕ, ◌+◌, ◌-◌, ◌≤◌, ◌<◌, Bool, true, false, not, ◌&&◌, ◌||◌, ◌==◌, nat_le}
+use Rattle.std.specs.Prelude.{◌≡◌, ℕ, ◌+◌, ◌-◌, ◌≤◌, ◌<◌, Bool, true, false, not, ◌&&◌, ◌||◌, ◌==◌, nat_le, nat_lt}
 use Rattle.std.specs.Prelude.{if◌then◌else◌, ◌⊎◌, List, [], ◌∷◌, ◌++◌, length, drop, slice_index, slice_range, Option}
-use Rattle.std.specs.List.{AllByRecursion, concat, list_any, join_with_byte, position_from}
+use Rattle.std.specs.List.{AllByRecursion, AllZip, concat, list_any, join_with_byte, position_from}
 use Rattle.mysql_queries.specs.declared.placeholders.Place.{Place}
 use Rattle.mysql_queries.specs.Tokens.{is_within, is_quote, dash, colon, question, backslash, kind_of, Kind, Quoted}
 use Rattle.mysql_queries.specs.Tokens.{LineComment, BlockComment, Name, Mark, Plain, HasTokens}
+use Rattle.mysql_queries.specs.Comments.{BringsNoPair, in_comment, with_skipped}
 use Rattle.mysql_queries.specs.Literals.{IsLiteral}
 use Rattle.mysql_queries.specs.Sql.{Sql}
 use Rattle.mysql_queries.specs.declared.content.Content.{Content}
 use Rattle.mysql_queries.specs.declared.mode.Mode.{Mode}
+use Rattle.mysql_queries.specs.declared.spelling.Spelling.{Spelling}
 
 abbrev pub is_name_kind : Kind → Bool
 is_name_kind Name = true
@@ -46,32 +48,33 @@ pieces_of [] = [] ∷ []
 pieces_of (token ∷ tokens) = if is_place token then [] ∷ pieces_of tokens else before_first token (pieces_of tokens)
 
 -- a piece, a literal of a content, the next piece, and so on to the last piece
-abbrev pub Alternates : Mode → List (List ℕ) → List Content → List ℕ → Type 0
-Alternates mode [] contents text = ⊥
-Alternates mode (piece ∷ []) [] text = text ≡ piece
-Alternates mode (piece ∷ []) (content ∷ contents) text = ⊥
-Alternates mode (piece ∷ next ∷ pieces) [] text = ⊥
-Alternates mode (piece ∷ next ∷ pieces) (content ∷ contents) text =
-    (spelling : List ℕ) × (rest : List ℕ) × IsLiteral mode spelling content ×
-    (text ≡ piece ++ (spelling ++ rest)) × Alternates mode (next ∷ pieces) contents rest
+abbrev pub Alternates : Mode → Spelling → List (List ℕ) → List Content → List ℕ → Type 0
+Alternates mode spelling [] contents text = ⊥
+Alternates mode spelling (piece ∷ []) [] text = text ≡ piece
+Alternates mode spelling (piece ∷ []) (content ∷ contents) text = ⊥
+Alternates mode spelling (piece ∷ next ∷ pieces) [] text = ⊥
+Alternates mode spelling (piece ∷ next ∷ pieces) (content ∷ contents) text =
+    (literal : List ℕ) × (rest : List ℕ) × IsLiteral mode spelling literal content ×
+    (text ≡ piece ++ (literal ++ rest)) × Alternates mode spelling (next ∷ pieces) contents rest
 
 -- the text is the query's pieces with literals of the contents between them
 pub record Slices (query : Sql) (text : List ℕ) (contents : List Content) : Type 0 where
   pub tokens : List (List ℕ)
   pub has : HasTokens query.mode query.text tokens
-  pub alternates : Alternates query.mode (pieces_of tokens) contents text
+  pub alternates : Alternates query.mode query.spelling (pieces_of tokens) contents text
 
 -- Tokens with each placeholder replaced by the tokens of a literal of its content. A token that is
 -- no placeholder is kept.
-abbrev pub Replaces : Mode → List (List ℕ) → List Content → List (List ℕ) → Type 0
-Replaces mode [] contents replaced = (contents ≡ []) × (replaced ≡ [])
-Replaces mode (token ∷ tokens) contents replaced =
+abbrev pub Replaces : Mode → Spelling → List (List ℕ) → List Content → List (List ℕ) → Type 0
+Replaces mode spelling [] contents replaced = (contents ≡ []) × (replaced ≡ [])
+Replaces mode spelling (token ∷ tokens) contents replaced =
     ((is_place token ≡ false) × (others : List (List ℕ)) × (replaced ≡ token ∷ others) ×
-    Replaces mode tokens contents others)
-    ⊎ ((is_place token ≡ true) × (content : Content) × (next : List Content) × (spelling : List ℕ) ×
-    (literal : List (List ℕ)) × (others : List (List ℕ))
-    × (contents ≡ content ∷ next) × IsLiteral mode spelling content × HasTokens mode spelling literal ×
-    (replaced ≡ literal ++ others) × Replaces mode tokens next others)
+    Replaces mode spelling tokens contents others)
+    ⊎ ((is_place token ≡ true) × (content : Content) × (next : List Content) × (literal : List ℕ) ×
+    (literal_tokens : List (List ℕ)) × (others : List (List ℕ))
+    × (contents ≡ content ∷ next) × IsLiteral mode spelling literal content ×
+    HasTokens mode literal literal_tokens ×
+    (replaced ≡ literal_tokens ++ others) × Replaces mode spelling tokens next others)
 
 -- the text's tokens are the query's with each placeholder replaced by the tokens of a literal of its content
 pub record Lexes (query : Sql) (text : List ℕ) (contents : List Content) : Type 0 where
@@ -79,7 +82,7 @@ pub record Lexes (query : Sql) (text : List ℕ) (contents : List Content) : Typ
   pub has : HasTokens query.mode query.text tokens
   pub replaced : List (List ℕ)
   pub text_has : HasTokens query.mode text replaced
-  pub replaces : Replaces query.mode tokens contents replaced
+  pub replaces : Replaces query.mode query.spelling tokens contents replaced
 
 -- a byte that could run together with a literal: a letter, a digit, one of `_$.@:?\`, a quote, or from 0x80 on
 abbrev pub is_joining : ℕ → Bool
@@ -95,18 +98,30 @@ stands_alone query start end =
     ((start == 0) || (not (is_joining (slice_index query (start - 1))) && not (slice_index query (start - 1) == dash)))
     && ((end == length query) || not (is_joining (slice_index query end)))
 
--- a placeholder from start up to end
-abbrev pub place_at : List ℕ → List ℕ → ℕ → ℕ → Place
-place_at query token start end =
-    record { start = start; end = end; name = is_name token; alone = stands_alone query start end }
+-- a placeholder from start up to end, before which comments that a server may skip begin at these places
+abbrev pub place_at : List ℕ → List ℕ → List ℕ → ℕ → ℕ → Place
+place_at query skipped token start end =
+    record {
+      start = start;
+      end = end;
+      name = is_name token;
+      alone = stands_alone query start end;
+      in_comment = in_comment query skipped start;
+    }
 
--- the placeholders among tokens of the query that begin at start
+-- The placeholders among tokens of the query that begin at start, before which comments that a
+-- server may skip begin at these places. So does one at a token that begins with `/*!` or `/*+`: it
+-- is the slash alone.
+abbrev pub places_behind : List ℕ → List ℕ → ℕ → List (List ℕ) → List Place
+places_behind query skipped start [] = []
+places_behind query skipped start (token ∷ tokens) =
+    if is_place token then place_at query skipped token start (start + length token) ∷
+    places_behind query skipped (start + length token) tokens
+    else places_behind query (with_skipped query start skipped) (start + length token) tokens
+
+-- the placeholders among tokens of the query that begin at start, before which no such comment begins
 abbrev pub places_from : List ℕ → ℕ → List (List ℕ) → List Place
-places_from query start [] = []
-places_from query start (token ∷ tokens) =
-    if is_place token then place_at query token start (start + length token) ∷
-    places_from query (start + length token) tokens
-    else places_from query (start + length token) tokens
+places_from query start tokens = places_behind query [] start tokens
 
 -- the slices of the query from start on: before, between and after these placeholders
 abbrev pub slices_between : List ℕ → ℕ → List Place → List (List ℕ)
@@ -159,10 +174,25 @@ interleaved pieces [] = concat pieces
 interleaved [] (literal ∷ literals) = []
 interleaved (piece ∷ pieces) (literal ∷ literals) = piece ++ (literal ++ interleaved pieces literals)
 
+-- What stands in a text for the query's bytes from start up to end: these bytes, with literals in
+-- the places of the placeholders among them.
+abbrev pub stretch : List ℕ → ℕ → ℕ → List Place → List (List ℕ) → List ℕ
+stretch query start end [] literals = slice_range query start end
+stretch query start end (place ∷ places) [] = slice_range query start end
+stretch query start end (place ∷ places) (literal ∷ literals) =
+    if nat_lt place.start start then stretch query start end places literals
+    else (if nat_le end place.start then slice_range query start end
+    else slice_range query start place.start ++ (literal ++ stretch query place.end end places literals))
+
+-- in each place in a comment the literal brings in no `/*` and no `*/`
+abbrev pub StayInComments : List Place → List (List ℕ) → Type 0
+StayInComments places literals =
+    AllZip (λ place literal. place.in_comment ≡ true → BringsNoPair literal) places literals
+
 -- each of these is a literal of the content beside it
-abbrev pub AreLiterals : Mode → List (List ℕ) → List Content → Type 0
-AreLiterals mode [] [] = Unit {0}
-AreLiterals mode [] (content ∷ contents) = ⊥
-AreLiterals mode (literal ∷ literals) [] = ⊥
-AreLiterals mode (literal ∷ literals) (content ∷ contents) =
-    IsLiteral mode literal content × AreLiterals mode literals contents
+abbrev pub AreLiterals : Mode → Spelling → List (List ℕ) → List Content → Type 0
+AreLiterals mode spelling [] [] = Unit {0}
+AreLiterals mode spelling [] (content ∷ contents) = ⊥
+AreLiterals mode spelling (literal ∷ literals) [] = ⊥
+AreLiterals mode spelling (literal ∷ literals) (content ∷ contents) =
+    IsLiteral mode spelling literal content × AreLiterals mode spelling literals contents

@@ -1,7 +1,8 @@
-//! Literals in hexadecimal.
+//! Literals in hexadecimal, also behind an introducer.
 
-ghost use Rattle.mysql_queries.specs.LiteralRuns.{IsHexRun, begins_hex};
-ghost use Rattle.mysql_queries.specs.Literals.{IsHexLiteral, hex_value, is_hex};
+ghost use Rattle.mysql_queries.specs.LiteralRuns.{IsHexRun, IsIntroducedRun, begins_hex};
+ghost use Rattle.mysql_queries.specs.Literals.{IsHexLiteral, IsIntroduced, IsIntroducer, hex_value, is_hex};
+ghost use Rattle.mysql_queries.specs.declared.spelling.Spelling.TheVariants.{Hexadecimal};
 ghost use Rattle.std.specs.Prelude.{
   OnErr,
   vec_capacity,
@@ -44,6 +45,17 @@ fn value_of(b: u8) -> u8
     }
 }
 
+/// Whether `0x` comes first.
+pub fn hex_first(text: &[u8]) -> bool
+    ensures { result ≡ begins_hex text.now }
+{
+    match text {
+        [a, b, ..] => *a == b'0' && *b == b'x',
+        [_] => false,
+        [] => false,
+    }
+}
+
 /// Reads a literal that begins with `0x`, and puts its content into the buffer.
 ///
 /// The answer is how many bytes it takes, or None where its digits are none or odd in number.
@@ -69,5 +81,44 @@ pub fn read_hex(text: &[u8], buf: &mut Vec<u8>) -> Result<Option<usize>, AllocEr
         Ok(None)
     } else {
         Ok(Some(i))
+    }
+}
+
+/// What follows the introducer that a text begins with; None where it begins with none.
+fn behind_introducer(text: &[u8]) -> Option<&[u8]>
+    ensures found { IfSome result (λ rest. (introducer : List ℕ) × IsIntroducer introducer ×
+        (text.entry.now ≡ introducer ++ rest.now)) }
+    ensures none { IfNone result ((introducer rest : List ℕ) → IsIntroducer introducer →
+        text.entry.now ≡ introducer ++ rest → ⊥) }
+{
+    match text.strip_prefix(b"_utf8mb4 ") {
+        Some(rest) => Some(rest),
+        None => text.strip_prefix(b"_binary "),
+    }
+}
+
+/// Reads an introducer and a literal in hexadecimal behind it, and puts its content into the buffer.
+///
+/// The answer is how many bytes both take, or None where they aren't there.
+pub fn read_introduced(text: &[u8], buf: &mut Vec<u8>) -> Result<Option<usize>, AllocError>
+    ensures in_range { IfOk result (λ found. IfSome found (λ n. n ≤ length text.now)) }
+    ensures run { IfOk result
+        (λ found. IfSome found (λ n. IsIntroducedRun Hexadecimal (take n text.now) (drop n text.now))) }
+    ensures content { IfOk result
+        (λ found. IfSome found (λ n. IsIntroduced Hexadecimal (take n text.now) buf.new.items)) }
+    ensures none { IfOk result
+        (λ found. IfNone found ((run rest bytes : List ℕ) → text.now ≡ run ++ rest →
+        IsIntroducedRun Hexadecimal run rest → IsIntroduced Hexadecimal run bytes → ⊥)) }
+    ensures full { OnErr result (vec_capacity buf.old < length text.now) }
+{
+    let Some(literal) = behind_introducer(text) else {
+        return Ok(None);
+    };
+    if !hex_first(literal) {
+        return Ok(None);
+    }
+    match read_hex(literal, buf)? {
+        Some(len) => Ok(Some(text.len() - literal.len() + len)),
+        None => Ok(None),
     }
 }

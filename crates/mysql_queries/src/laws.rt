@@ -1,15 +1,19 @@
 //! Laws of tokens, literals and queries. The functions change nothing: their contracts are the laws.
 
 ghost use Rattle.mysql_queries.specs.Laws.{
+  CommentsKeepTheirPairs,
+  FilledHasThePairs,
   FilledIsRead,
   LexedIsSliced,
   LiteralIsRun,
   NamesAreSlices,
+  NoPairIsNotCounted,
   OneContent,
   OnePlaces,
   OneRead,
   OneReading,
   OneTokens,
+  OpenAllAlong,
   PiecesAreSlices,
   PlainIsRead,
   PlacesInOrder,
@@ -17,6 +21,7 @@ ghost use Rattle.mysql_queries.specs.Laws.{
   SomeTokens,
   TextIsDecided,
   WorkedSpellings,
+  WrittenBringsNoPair,
   WrittenIsRead,
 };
 
@@ -34,7 +39,7 @@ pub fn pieces_of_a_query()
     ensures order { PlacesInOrder }
 {}
 
-/// A spelling has at most one content.
+/// A literal has at most one content.
 pub fn content_of_a_spelling()
     ensures one { OneContent }
     ensures run { LiteralIsRun }
@@ -63,4 +68,17 @@ pub fn texts_are_decided()
 /// Each placeholder has to stand alone.
 pub fn filled_text_is_read()
     ensures { FilledIsRead }
+{}
+
+/// In a comment that a server may skip no literal begins or ends a comment.
+///
+/// Take a query with literals for its placeholders, from where such a comment begins to a placeholder
+/// in it. It has the `/*` and the `*/` of the query itself, in order, and no others. So a server that
+/// skips the comment skips to the query's own end of it, by counting comments inside or not.
+pub fn literals_bring_no_pair()
+    ensures written { WrittenBringsNoPair }
+    ensures filled { FilledHasThePairs }
+    ensures comments { CommentsKeepTheirPairs }
+    ensures counted { NoPairIsNotCounted }
+    ensures all_along { OpenAllAlong }
 {}

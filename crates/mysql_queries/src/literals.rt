@@ -5,7 +5,7 @@
 //!         let is_null = literal == Literal::Null;
 //!     }
 
-ghost use Rattle.mysql_queries.specs.LiteralRuns.{IsLiteralRun, begins_hex};
+ghost use Rattle.mysql_queries.specs.LiteralRuns.{IsLiteralRun};
 ghost use Rattle.mysql_queries.specs.LiteralViews.{IsHeld, IsNoLiteral, ReadsLiteral, literal_content};
 ghost use Rattle.mysql_queries.specs.Literals.{IsLiteral, lower};
 ghost use Rattle.mysql_queries.specs.Sql.{default_mode};
@@ -31,9 +31,10 @@ ghost use Rattle.std.specs.Prelude.{
   ℕ,
 };
 
-use crate::hexadecimal::read_hex;
+use crate::hexadecimal::{hex_first, read_hex, read_introduced};
 use crate::mode::Mode;
 use crate::numbers::read_number;
+use crate::spelling::Spelling;
 use crate::strings::read_string;
 use std::alloc::AllocError;
 
@@ -66,28 +67,21 @@ fn null_first(text: &[u8]) -> bool
     }
 }
 
-fn hex_first(text: &[u8]) -> bool
-    ensures { result ≡ begins_hex text.now }
-{
-    match text {
-        [a, b, ..] => *a == b'0' && *b == b'x',
-        [_] => false,
-        [] => false,
-    }
-}
-
 /// The literal at the front of a text, and how many bytes it takes.
 fn literal_len(
     text: &[u8],
     mode: Mode,
+    spelling: Spelling,
     buf: &mut Vec<u8>,
 ) -> Result<Option<(Literal, usize)>, AllocError>
     ensures in_range { IfOk result (λ found. IfSome found (λ x. x.1 ≤ length text.now)) }
-    ensures run { IfOk result (λ found. IfSome found (λ x. IsLiteralRun mode (take x.1 text.now) (drop x.1 text.now))) }
+    ensures run { IfOk result
+        (λ found. IfSome found (λ x. IsLiteralRun mode spelling (take x.1 text.now)
+        (drop x.1 text.now))) }
     ensures content { IfOk result
-        (λ found. IfSome found (λ x. IsLiteral mode (take x.1 text.now)
+        (λ found. IfSome found (λ x. IsLiteral mode spelling (take x.1 text.now)
         (literal_content x.0 buf.new.items))) }
-    ensures none { IfOk result (λ found. IfNone found (IsNoLiteral mode text.now)) }
+    ensures none { IfOk result (λ found. IfNone found (IsNoLiteral mode spelling text.now)) }
     ensures full { OnErr result (vec_capacity buf.old < length text.now) }
 {
     if null_first(text) {
@@ -105,6 +99,11 @@ fn literal_len(
             None => Ok(None),
         };
     }
+    if matches!(spelling, Spelling::Hexadecimal) {
+        if let Some(len) = read_introduced(text, buf)? {
+            return Ok(Some((Literal::Bytes, len)));
+        }
+    }
     match read_number(text) {
         Some((n, len)) => Ok(Some((Literal::Number(n), len))),
         None => Ok(None),
@@ -114,10 +113,11 @@ fn literal_len(
 /// Reads the literal at the front of a text, and gives what follows it.
 ///
 /// What the buffer held goes, and a literal's bytes are put into it. All that stands there of the
-/// literal's form is read: all digits, `0x` with all hexadecimal digits, a body in single quotes to
-/// its closing quote. None where that is no literal.
+/// literal's form is read. That is all digits, `0x` with all hexadecimal digits, or a body in
+/// single quotes to its closing quote. None where that is no literal.
 ///
-/// **Read as** by a server in the default mode: [`read_literal_in`] takes the mode.
+/// **Read as** by a server in the default mode, without introducers: [`read_literal_in`] takes the
+/// mode and the spelling.
 ///
 /// Promise: the longest run of a literal's form is taken and its content answered, or that this run
 /// is no literal (`IsLiteralRun`, `IsNoLiteral`).
@@ -130,23 +130,27 @@ pub fn read_literal<'a>(
 ) -> Result<Option<(Literal, &'a [u8])>, AllocError>
     // What is read is all of its form that stands there, and spells the content.
     ensures found { IfOk result (λ found. IfSome found
-        (λ x. ReadsLiteral default_mode text.entry.now x.0 buf.new.items x.1.now)) }
+        (λ x. ReadsLiteral default_mode Spelling.Quoted text.entry.now x.0 buf.new.items x.1.now)) }
     // Nothing is read only where that is no literal.
-    ensures none { IfOk result (λ found. IfNone found (IsNoLiteral default_mode text.entry.now)) }
+    ensures none { IfOk result (λ found. IfNone found (IsNoLiteral default_mode Spelling.Quoted text.entry.now)) }
     // The buffer holds the bytes of a literal of bytes, else nothing.
     ensures held { IfOk result (λ found. IfSome found (λ x. IsHeld x.0 buf.new.items)) }
     ensures empty { IfOk result (λ found. IfNone found (buf.new.items ≡ [])) }
     ensures refused { OnErr result (buf.new.items ≡ []) }
     ensures full { OnErr result (vec_capacity buf.old < length text.entry.now) }
 {
-    read_literal_in(text, Mode::default(), buf)
+    read_literal_in(text, Mode::default(), Spelling::Quoted, buf)
 }
 
 /// Reads the literal at the front of a text for a server in this mode, and gives what follows it.
 ///
 /// What the buffer held goes, and a literal's bytes are put into it. All that stands there of the
-/// literal's form is read: all digits, `0x` with all hexadecimal digits, a body in single quotes to
-/// its closing quote. None where that is no literal.
+/// literal's form is read. That is all digits, `0x` with all hexadecimal digits, or a body in
+/// single quotes to its closing quote. By `Spelling::Hexadecimal` `0x` and its digits are also read
+/// behind `_utf8mb4 ` and `_binary `, written so. None where that is no literal.
+///
+/// Whether bytes behind `_utf8mb4 ` are UTF-8 isn't looked at: a server refuses a statement in which
+/// they aren't.
 ///
 /// Promise: the longest run of a literal's form is taken and its content answered, or that this run
 /// is no literal (`IsLiteralRun`, `IsNoLiteral`).
@@ -154,24 +158,26 @@ pub fn read_literal<'a>(
 /// # Errors
 /// - `AllocError`, only where the buffer has no room for as many bytes as the text.
 ///
-/// (MySQL Reference Manual, "Literal Values", "Server SQL Modes" (NO_BACKSLASH_ESCAPES).)
+/// (MySQL Reference Manual, "Literal Values", "Character Set Introducers", "Server SQL Modes"
+/// (NO_BACKSLASH_ESCAPES).)
 pub fn read_literal_in<'a>(
     text: &'a [u8],
     mode: Mode,
+    spelling: Spelling,
     buf: &mut Vec<u8>,
 ) -> Result<Option<(Literal, &'a [u8])>, AllocError>
     // What is read is all of its form that stands there, and spells the content.
     ensures found { IfOk result (λ found. IfSome found
-        (λ x. ReadsLiteral mode text.entry.now x.0 buf.new.items x.1.now)) }
+        (λ x. ReadsLiteral mode spelling text.entry.now x.0 buf.new.items x.1.now)) }
     // Nothing is read only where that is no literal.
-    ensures none { IfOk result (λ found. IfNone found (IsNoLiteral mode text.entry.now)) }
+    ensures none { IfOk result (λ found. IfNone found (IsNoLiteral mode spelling text.entry.now)) }
     // The buffer holds the bytes of a literal of bytes, else nothing.
     ensures held { IfOk result (λ found. IfSome found (λ x. IsHeld x.0 buf.new.items)) }
     ensures empty { IfOk result (λ found. IfNone found (buf.new.items ≡ [])) }
     ensures refused { OnErr result (buf.new.items ≡ []) }
     ensures full { OnErr result (vec_capacity buf.old < length text.entry.now) }
 {
-    let found = literal_len(text, mode, buf);
+    let found = literal_len(text, mode, spelling, buf);
     if !matches!(found, Ok(Some((Literal::Bytes, _)))) {
         buf.clear();
     }

@@ -1,17 +1,17 @@
 //! How a server reads a text, by its SQL mode.
 //!
-//! Two modes change where a string ends: NO_BACKSLASH_ESCAPES, in which a backslash is a byte like
-//! any other, and ANSI_QUOTES, in which double quotes are those of identifiers. What is made for a
-//! server in one mode may be something else in another.
+//! Two modes change where a string ends. In NO_BACKSLASH_ESCAPES a backslash is a byte like any
+//! other. In ANSI_QUOTES double quotes are those of identifiers. What is made for a server in one
+//! mode may be something else in another.
 //!
 //! ```
 //! let mode = Mode { no_backslash_escapes: true, ansi_quotes: false };
 //! let places = places_in(alloc, b"SELECT '\\', ?", mode)?; // one placeholder, behind the string
 //! ```
 
-ghost use Rattle.mysql_queries.specs.Modes.{hides_quotes, is_one_of, is_safe_to_quote as is_safe};
-ghost use Rattle.mysql_queries.specs.Modes.{mode_of_sql_mode, mode_of_status, names_of_sql_mode};
-ghost use Rattle.std.specs.List.{list_any};
+ghost use Rattle.mysql_queries.specs.Modes.{hides_quotes, is_known_mode, is_one_of, is_safe_to_quote as is_safe};
+ghost use Rattle.mysql_queries.specs.Modes.{mode_of_sql_mode, mode_of_status, names_of_sql_mode, within_blanks};
+ghost use Rattle.std.specs.List.{list_all, list_any};
 ghost use Rattle.std.specs.Prelude.{◌≡◌, map};
 ghost use Rattle.std.specs.Str.{str_eq_ignore_ascii_case};
 
@@ -52,37 +52,79 @@ impl Mode {
         }
     }
 
-    /// The mode that the value of the variable `sql_mode` tells: names between commas, their
-    /// letters in any case.
+    /// The mode that the value of the variable `sql_mode` tells.
     ///
-    /// ANSI_QUOTES is also told by each name that stands for it and others: ANSI, and DB2, MAXDB,
-    /// MSSQL, ORACLE and POSTGRESQL, which MariaDB has, and MySQL before 8.0. Other names say
-    /// nothing of how a text is read.
+    /// It has names between commas, their letters in any case; blanks around them don't count.
     ///
-    /// Promise: each part of the mode is whether one of its names stands in the value (`mode_of_sql_mode`).
+    /// ANSI_QUOTES is also told by each name that has it among others. These are ANSI, and DB2, MAXDB,
+    /// ORACLE and POSTGRESQL, which MariaDB has, and MySQL before 8.0. Those bring PIPES_AS_CONCAT
+    /// and IGNORE_SPACE too, which change nothing of where a string or a name ends. ORACLE also
+    /// makes placeholders of `:1` and `:A`, which aren't placeholders here. The other names of both
+    /// manuals say nothing of how a text is read, and an empty value tells the default mode.
     ///
-    /// (MySQL Reference Manual, "Server SQL Modes" (Combination SQL Modes), "Server Tracking of
-    /// Client Session State"; MariaDB Server Documentation, "SQL_MODE".)
-    pub fn of_sql_mode(value: &[u8]) -> Mode
+    /// None where it has a name that neither manual lists, or MSSQL, in which `[` and `]` quote a
+    /// name: the mode isn't known then. Take `Spelling::Hexadecimal` or executions.
+    ///
+    /// Promise: each part of the mode is whether the value has one of its names. There is no mode
+    /// exactly where one of the names isn't known (`mode_of_sql_mode`).
+    ///
+    /// (MySQL Reference Manual, "Server SQL Modes" (Combination SQL Modes), also of 5.7, "Server
+    /// Tracking of Client Session State"; MariaDB Server Documentation, "SQL_MODE".)
+    pub fn of_sql_mode(value: &[u8]) -> Option<Mode>
         ensures { result ≡ mode_of_sql_mode value.now }
     {
-        Mode {
+        if !are_known(value) {
+            return None;
+        }
+        Some(Mode {
             no_backslash_escapes: tells_one_of(value, &MODES_WITHOUT_ESCAPES),
             ansi_quotes: tells_one_of(value, &MODES_WITH_ANSI_QUOTES),
-        }
+        })
     }
 }
 
 const MODES_WITHOUT_ESCAPES: [&[u8]; 1] = [b"NO_BACKSLASH_ESCAPES"];
 
-const MODES_WITH_ANSI_QUOTES: [&[u8]; 7] = [
+const MODES_WITH_ANSI_QUOTES: [&[u8]; 6] = [
     b"ANSI_QUOTES",
     b"ANSI",
     b"DB2",
     b"MAXDB",
-    b"MSSQL",
     b"ORACLE",
     b"POSTGRESQL",
+];
+
+// All others that either manual lists, but for MSSQL, and the empty name.
+const MODES_OF_OTHER_THINGS: [&[u8]; 29] = [
+    b"",
+    b"ALLOW_INVALID_DATES",
+    b"EMPTY_STRING_IS_NULL",
+    b"ERROR_FOR_DIVISION_BY_ZERO",
+    b"HIGH_NOT_PRECEDENCE",
+    b"IGNORE_BAD_TABLE_OPTIONS",
+    b"IGNORE_SPACE",
+    b"MYSQL323",
+    b"MYSQL40",
+    b"NO_AUTO_CREATE_USER",
+    b"NO_AUTO_VALUE_ON_ZERO",
+    b"NO_DIR_IN_CREATE",
+    b"NO_ENGINE_SUBSTITUTION",
+    b"NO_FIELD_OPTIONS",
+    b"NO_KEY_OPTIONS",
+    b"NO_TABLE_OPTIONS",
+    b"NO_UNSIGNED_SUBTRACTION",
+    b"NO_ZERO_DATE",
+    b"NO_ZERO_IN_DATE",
+    b"ONLY_FULL_GROUP_BY",
+    b"PAD_CHAR_TO_FULL_LENGTH",
+    b"PIPES_AS_CONCAT",
+    b"REAL_AS_FLOAT",
+    b"SIMULTANEOUS_ASSIGNMENT",
+    b"STRICT_ALL_TABLES",
+    b"STRICT_TRANS_TABLES",
+    b"TIME_ROUND_FRACTIONAL",
+    b"TIME_TRUNCATE_FRACTIONAL",
+    b"TRADITIONAL",
 ];
 
 fn same_name(name: &[u8], other: &[u8]) -> bool
@@ -97,6 +139,30 @@ fn is_listed(name: &[u8], names: &[&[u8]]) -> bool
     names.iter().any(|listed| same_name(name, listed))
 }
 
+/// A name without the blanks around it.
+fn within(name: &[u8]) -> &[u8]
+    ensures { result.now ≡ within_blanks name.entry.now }
+{
+    name.trim_ascii()
+}
+
+fn is_known(name: &[u8]) -> bool
+    ensures { result ≡ is_known_mode name.now }
+{
+    is_listed(name, &MODES_WITHOUT_ESCAPES)
+        || is_listed(name, &MODES_WITH_ANSI_QUOTES)
+        || is_listed(name, &MODES_OF_OTHER_THINGS)
+}
+
+/// Whether each name in the value of `sql_mode` tells how a text is read.
+fn are_known(value: &[u8]) -> bool
+    ensures { result ≡ list_all is_known_mode (names_of_sql_mode value.now) }
+{
+    value
+        .split(|b| *b == b',')
+        .all(|name| is_known(within(name)))
+}
+
 /// Whether one of some names stands in the value of `sql_mode`.
 fn tells_one_of(value: &[u8], names: &[&[u8]]) -> bool
     ensures { result ≡ list_any (is_one_of (map (λ listed. listed.now) names.now))
@@ -104,7 +170,7 @@ fn tells_one_of(value: &[u8], names: &[&[u8]]) -> bool
 {
     value
         .split(|b| *b == b',')
-        .any(|name| is_listed(name, names))
+        .any(|name| is_listed(within(name), names))
 }
 
 // Collations of big5, sjis, gb2312, gbk, cp932 and gb18030, in this order.

@@ -7,7 +7,7 @@
 ghost use Rattle.mysql_queries.specs.Parsed.{HasNames, names_at};
 ghost use Rattle.mysql_queries.specs.Queries.{HasMixed, HasPlaces, IsParsed, first_not_alone as first_apart};
 ghost use Rattle.mysql_queries.specs.Queries.{is_mixed as has_both_kinds};
-ghost use Rattle.mysql_queries.specs.Sql.{read_by_default, read_in};
+ghost use Rattle.mysql_queries.specs.Sql.{read_by, read_by_default};
 ghost use Rattle.std.specs.Cow.{cow_slice_items};
 ghost use Rattle.std.specs.List.{AllByRecursion};
 ghost use Rattle.std.specs.Prelude.{◌≡◌, IfNone, IfOk, map, true};
@@ -15,13 +15,15 @@ ghost use Rattle.std.specs.Prelude.{◌≡◌, IfNone, IfOk, map, true};
 use crate::mode::Mode;
 use crate::named_params::{copied_names, names_among, with_marks};
 use crate::placeholders::{Place, first_not_alone, is_mixed, places_in};
+use crate::spelling::Spelling;
 use std::alloc::{AllocError, Global};
 use std::borrow::CowSlice;
 use std::marker::Model;
 
 /// A query's text with its placeholders and what they say of the whole.
 ///
-/// All of it is as a server in the query's mode reads it. What they say is the names among them,
+/// All of it is as a server in the query's mode reads it. Texts that are made of the query have byte
+/// strings in its spelling. What they say is the names among them,
 /// whether both kinds occur, and which is the first that doesn't stand alone. It is found once, and
 /// serves each call that sends, binds or reads parameter sets of the query. Contracts see the text
 /// and the placeholders.
@@ -29,6 +31,7 @@ use std::marker::Model;
 pub struct ParsedQuery<'q> {
     text: CowSlice<'q, u8>,
     mode: Mode,
+    spelling: Spelling,
     places: Vec<Place>,
     names: Vec<CowSlice<'q, u8>>,
     mixed: bool,
@@ -50,6 +53,8 @@ impl<'q> Model for ParsedQuery<'q> {
 impl<'q> ParsedQuery<'q> {
     /// Finds the placeholders of a query and what they say of it, for a server in the default mode.
     ///
+    /// Byte strings are in quotes.
+    ///
     /// Promise: the placeholders are exactly those of the text, which is kept as it is
     /// (`HasPlaces`).
     ///
@@ -61,10 +66,12 @@ impl<'q> ParsedQuery<'q> {
         ensures text { IfOk result (λ query. query.sql ≡ read_by_default text.entry.now) }
         ensures places { IfOk result (λ query. HasPlaces (read_by_default text.entry.now) query.places) }
     {
-        ParsedQuery::new_in(alloc, text, Mode::default())
+        ParsedQuery::new_in(alloc, text, Mode::default(), Spelling::Quoted)
     }
 
     /// Finds the placeholders of a query and what they say of it, for a server in this mode.
+    ///
+    /// Byte strings are in this spelling.
     ///
     /// Promise: the placeholders are exactly those of the text, which is kept as it is
     /// (`HasPlaces`).
@@ -73,9 +80,14 @@ impl<'q> ParsedQuery<'q> {
     /// - `AllocError` for want of memory.
     ///
     /// (MySQL Reference Manual, "PREPARE Statement" (parameter markers), "Server SQL Modes".)
-    pub fn new_in(alloc: Global, text: &'q [u8], mode: Mode) -> Result<ParsedQuery<'q>, AllocError>
-        ensures text { IfOk result (λ query. query.sql ≡ read_in mode text.entry.now) }
-        ensures places { IfOk result (λ query. HasPlaces (read_in mode text.entry.now) query.places) }
+    pub fn new_in(
+        alloc: Global,
+        text: &'q [u8],
+        mode: Mode,
+        spelling: Spelling,
+    ) -> Result<ParsedQuery<'q>, AllocError>
+        ensures text { IfOk result (λ query. query.sql ≡ read_by mode spelling text.entry.now) }
+        ensures places { IfOk result (λ query. HasPlaces (read_by mode spelling text.entry.now) query.places) }
     {
         let places = places_in(alloc, text, mode)?;
         let names = names_among(alloc, text, &places)?;
@@ -84,6 +96,7 @@ impl<'q> ParsedQuery<'q> {
         Ok(ParsedQuery {
             text: CowSlice::Borrowed(text),
             mode,
+            spelling,
             places,
             names,
             mixed,
@@ -103,6 +116,13 @@ impl<'q> ParsedQuery<'q> {
         ensures { result ≡ self.now.sql.mode }
     {
         self.mode
+    }
+
+    /// The spelling of byte strings in texts that are made of it.
+    pub fn spelling(&self) -> Spelling
+        ensures { result ≡ self.now.sql.spelling }
+    {
+        self.spelling
     }
 
     /// The placeholders, in order.
@@ -168,6 +188,7 @@ impl<'q> ParsedQuery<'q> {
         Ok(ParsedQuery {
             text: CowSlice::Owned(Vec::from_slice(alloc, self.text.as_slice())?),
             mode: self.mode,
+            spelling: self.spelling,
             places: Vec::from_slice(alloc, self.places.as_slice())?,
             names: copied_names(alloc, self.names.as_slice())?,
             mixed: self.mixed,

@@ -5,14 +5,17 @@
 //!     let is_refused = is_mixed(&places);
 
 ghost use Rattle.mysql_queries.specs.PlaceKinds.{is_place_kind, place_of_kind};
+ghost use Rattle.mysql_queries.specs.SkippedComments.{Counts};
+ghost use Rattle.mysql_queries.specs.Tokens.{kind_of};
 ghost use Rattle.mysql_queries.specs.Queries.{HasPlaces, first_not_alone as first_apart, is_joining};
 ghost use Rattle.mysql_queries.specs.Queries.{is_mixed as has_both_kinds, is_name_kind, stands_alone};
 ghost use Rattle.mysql_queries.specs.Sql.{read_by_default, read_in};
 ghost use Rattle.mysql_queries.specs.TokenKinds.{kind_view};
 ghost use Rattle.std.specs.List.{AllByRecursion, list_any};
-ghost use Rattle.std.specs.Prelude.{◌≡◌, ◌≤◌, IfNone, IfOk, IfSome, false, length, not, true};
+ghost use Rattle.std.specs.Prelude.{◌<◌, ◌≡◌, ◌≤◌, IfNone, IfOk, IfSome, List, drop, false, length, not, true, ℕ};
 
 use crate::mode::Mode;
+use crate::skipped::{Skipped, begins_skipped};
 use crate::tokens::{TokenKind, kind_at, plain_end, token_end};
 use std::alloc::{AllocError, Global};
 
@@ -25,6 +28,10 @@ pub struct Place {
     pub name: bool,
     /// Whether no neighbouring byte can run together with a literal in its place.
     pub alone: bool,
+    /// Whether it is in a comment that a server may skip, from `/*!` or `/*+` to its end.
+    ///
+    /// A literal there is spelled so that it neither ends that comment nor begins one.
+    pub in_comment: bool,
 }
 
 // A `1` at each byte that could run together with a literal.
@@ -70,27 +77,42 @@ fn is_name_of(kind: TokenKind) -> Option<bool>
     }
 }
 
-/// The placeholder that a token of this kind is in the query, if it is one.
-fn place_of(query: &[u8], kind: TokenKind, start: usize, end: usize) -> Option<Place>
-    requires order { start ≤ end }
+/// The placeholder that a token of this kind is in the query, and the count up to it; None of a token
+/// that is none.
+fn place_of(
+    query: &[u8],
+    skipped: Skipped,
+    kind: TokenKind,
+    start: usize,
+    end: usize,
+) -> Option<(Place, Skipped)>
+    requires counted { skipped.behind ≤ start }
+    requires order { start < end }
     requires in_range { end ≤ length query.now }
+    requires open { skipped.open ≤ skipped.behind }
+    requires kind { kind_view kind ≡ kind_of (drop start query.now) }
     ensures found { IfSome result (λ p. (is_place_kind (kind_view kind) ≡ true) ×
-        (p ≡ place_of_kind query.now (kind_view kind) start end)) }
+        ((begun : List ℕ) → Counts query.now begun skipped →
+        (p.0 ≡ place_of_kind query.now begun (kind_view kind) start end) × Counts query.now begun p.1) ×
+        (p.1.behind ≡ start)) }
     ensures none { IfNone result (is_place_kind (kind_view kind) ≡ false) }
 {
     let name = is_name_of(kind)?;
-    Some(Place {
+    let counted = skipped.up_to(query, start);
+    let place = Place {
         start,
         end,
         name,
         alone: alone_at(query, start, end),
-    })
+        in_comment: counted.open > 0,
+    };
+    Some((place, counted))
 }
 
 /// The placeholders of a query, in order.
 ///
-/// Strings, quoted identifiers and comments hold none. What stands between `/*!` or `/*+` and its
-/// end is read as the query's own.
+/// Strings, quoted identifiers and comments hold none. The text from `/*!` or `/*+` to its end is
+/// read as the query's own. A placeholder there says that it is in such a comment.
 ///
 /// **Read as** by a server in the default mode: [`places_in`] takes the mode.
 ///
@@ -103,23 +125,28 @@ pub fn places(alloc: Global, query: &[u8]) -> Result<Vec<Place>, AllocError>
 
 /// The placeholders of a query as a server in this mode reads it, in order.
 ///
-/// Strings, quoted identifiers and comments hold none. What stands between `/*!` or `/*+` and its
-/// end is read as the query's own.
+/// Strings, quoted identifiers and comments hold none. The text from `/*!` or `/*+` to its end is
+/// read as the query's own. A placeholder there says that it is in such a comment.
 ///
 /// Promise: exactly the placeholders of the query are listed (`HasPlaces`).
 ///
-/// (MySQL Reference Manual, "PREPARE Statement" (parameter markers), "Server SQL Modes".)
+/// (MySQL Reference Manual, "PREPARE Statement" (parameter markers), "Comments", "Optimizer Hints",
+/// "Server SQL Modes"; MariaDB Server Documentation, "Comment Syntax".)
 pub fn places_in(alloc: Global, query: &[u8], mode: Mode) -> Result<Vec<Place>, AllocError>
     ensures { IfOk result (λ v. HasPlaces (read_in mode query.now) v.items) }
 {
     let mut found = Vec::new(alloc);
+    let mut skipped = Skipped::new();
     let mut at = plain_end(query, 0);
     while at < query.len() {
         let rest = &query[at..];
         let kind = kind_at(rest);
         let end = at + token_end(rest, kind, mode);
-        if let Some(place) = place_of(query, kind, at, end) {
+        if let Some((place, counted)) = place_of(query, skipped, kind, at, end) {
             found.push(place)?;
+            skipped = counted;
+        } else if begins_skipped(rest) {
+            skipped = skipped.with_begun(query, at);
         }
         at = plain_end(query, end);
     }

@@ -32,6 +32,7 @@ ghost use Rattle.std.specs.Prelude.{
   IfNone,
   IfSome,
   IsTrue,
+  false,
   true,
   ℕ,
   drop,
@@ -249,6 +250,7 @@ pub fn plain_end(text: &[u8], start: usize) -> usize
     ensures from { start ≤ result }
     ensures in_range { result ≤ length text.now }
     ensures run { (k : ℕ) → start ≤ k → k < result → is_plain_byte (slice_index text.now k) ≡ true }
+    ensures stops { result < length text.now → is_plain_byte (slice_index text.now result) ≡ false }
 {
     let mut at = start;
     while at < text.len() && is_plain(text[at]) {

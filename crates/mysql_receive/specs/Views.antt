@@ -4,7 +4,7 @@ use Rattle.std.specs.Global.{Vec}
 use Rattle.std.specs.Prelude.{◌≡◌, ℕ, List, [], ◌∷◌, map, Option, Some, None, Result, Ok, Err, slice_get}
 use Rattle.std.specs.Option.{option_map, option_and_then}
 use Rattle.mysql_values.specs.Content.{Content}
-use Rattle.mysql_values.specs.Sql.{read_in}
+use Rattle.mysql_values.specs.Sql.{read_by}
 use Rattle.mysql_receive.specs.declared.fault.StreamFault.{StreamFault}
 use Rattle.mysql_receive.specs.declared.read_error.ReadError.{ReadError}
 use Rattle.mysql_receive.specs.declared.read_error.ReadError.TheVariants as read_error
@@ -59,7 +59,7 @@ abbrev pub statement_view : CodeStatement → Statement
 statement_view statement = record {
   query =
       record {
-        sql = read_in statement.mode statement.query.items;
+        sql = read_by statement.mode statement.spelling statement.query.items;
         parsed = statement.parsed.items;
         places = statement.places.items;
       };

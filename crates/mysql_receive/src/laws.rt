@@ -17,7 +17,7 @@ pub fn looking_back_goes_on()
 
 /// What is in force can be found by looking back.
 ///
-/// A payload that says something, with none behind it that says anything, decides: the types in
+/// A payload that says something, with none behind it that says anything, decides. The types in
 /// force are those of the last payload that speaks of types.
 pub fn last_word_counts()
     ensures { LastWordCounts }

@@ -5,7 +5,7 @@ ghost use Rattle.std.specs.List.{list_all};
 ghost use Rattle.mysql_wire.specs.Bytes.{AreBytes};
 ghost use Rattle.mysql_wire.specs.Incoming.{bytes_kept};
 ghost use Rattle.mysql_values.specs.Queries.{HasMixed, HasPlaces, IsParsed};
-ghost use Rattle.mysql_values.specs.Sql.{read_by_default, read_in};
+ghost use Rattle.mysql_values.specs.Sql.{read_by, read_by_default};
 ghost use Rattle.mysql_receive.specs.declared.fault.StreamFault.TheVariants.{Memory};
 ghost use Rattle.mysql_receive.specs.declared.receiver.ReceiverError.TheVariants as receiver_error;
 ghost use Rattle.mysql_receive.specs.Query.{IsQuery};
@@ -28,7 +28,7 @@ use crate::reading::has_waiting_data;
 use crate::statement::{Statement, StatementState};
 use mysql_queries::ParsedQuery;
 use mysql_values::laws::tokens_of_a_text;
-use mysql_values::{Content, Mode, Place};
+use mysql_values::{Content, Mode, Place, Spelling};
 use mysql_wire::PacketReader;
 use mysql_wire::laws::reader_laws;
 use std::alloc::{AllocError, Global};
@@ -67,20 +67,23 @@ fn copied_statement(
     alloc: Global,
     query: &[u8],
     mode: Mode,
+    spelling: Spelling,
     parsed: &[u8],
     places: &[Place],
     stmt_id: u32,
 ) -> Result<Statement, AllocError>
-    requires parsed { IsParsed (read_in mode query.now) parsed.now }
-    requires places { HasPlaces (read_in mode query.now) places.now }
+    requires parsed { IsParsed (read_by mode spelling query.now) parsed.now }
+    requires places { HasPlaces (read_by mode spelling query.now) places.now }
     ensures query { IfOk result (λ statement. IsQuery (statement_view statement).query) }
-    ensures about { IfOk result (λ statement. IsAbout (statement_view statement) (read_in mode query.now) stmt_id) }
+    ensures about { IfOk result
+        (λ statement. IsAbout (statement_view statement) (read_by mode spelling query.now) stmt_id) }
 {
     tokens_of_a_text();
     let places = Vec::from_slice(alloc, places)?;
     Ok(Statement {
         query: Vec::from_slice(alloc, query)?,
         mode,
+        spelling,
         parsed: Vec::from_slice(alloc, parsed)?,
         alone: all_alone(&places),
         places,
@@ -97,8 +100,9 @@ fn copied_statement(
 ///     }
 ///     let audit = receiver.finish();
 ///
-/// Contracts see what it holds in place of the bytes that it was fed: the payloads read, what is in
-/// force behind them, the bytes of the packet that isn't whole, the sets so far, and the fault.
+/// Contracts see what it holds in place of the bytes that it was fed: the payloads read, and what
+/// is in force behind them. With these stand the bytes of the packet that isn't whole, the sets so
+/// far, and the fault.
 #[derive(Drop)]
 pub struct Receiver {
     alloc: Global,
@@ -154,9 +158,9 @@ fn end_now(
 impl Receiver {
     /// A receiver of a stream of commands about this query, whose statement was given this id.
     ///
-    /// The server that they were sent to is in the default mode: [`Receiver::new_in`] takes the
-    /// mode. `limit` is the most bytes of a payload: the `max_allowed_packet` of this side, at least
-    /// 4.
+    /// The server that they were sent to is in the default mode. Texts have byte strings in quotes:
+    /// [`Receiver::new_in`] takes the mode and the spelling. `limit` is the most bytes of a
+    /// payload: the `max_allowed_packet` of this side, at least 4.
     ///
     /// # Errors
     /// - `Mixed` where both names and question marks occur in the query.
@@ -172,38 +176,49 @@ impl Receiver {
         ensures one_kind { OnOk result (HasMixed (read_by_default query.now) false) }
         ensures mixed { IfErr result (IsReceiverError (read_by_default query.now)) }
     {
-        Receiver::new_in(alloc, query, stmt_id, limit, Mode::default())
+        Receiver::new_in(
+            alloc,
+            query,
+            stmt_id,
+            limit,
+            Mode::default(),
+            Spelling::Quoted,
+        )
     }
 
     /// A receiver of a stream of commands about this query, which were sent to a server in this mode.
     ///
-    /// `Mode::of` reads the mode from the status that a server tells in each OK packet.
+    /// Their texts have byte strings in this spelling: by `Spelling::Hexadecimal` literals behind an
+    /// introducer are read too. `Mode::of_sql_mode` reads the mode from the variable `sql_mode`, as
+    /// session tracking tells it.
     ///
     /// # Errors
     /// - `Mixed` where both names and question marks occur in the query.
     /// - `Memory`.
     ///
-    /// (MySQL Reference Manual, "Server SQL Modes".)
+    /// (MySQL Reference Manual, "Server SQL Modes", "Character Set Introducers".)
     pub fn new_in(
         alloc: Global,
         query: &[u8],
         stmt_id: u32,
         limit: usize,
         mode: Mode,
+        spelling: Spelling,
     ) -> Result<Receiver, ReceiverError>
         requires { 4 ≤ limit }
-        ensures fresh { IfOk result (IsFresh (read_in mode query.now) stmt_id limit) }
-        ensures one_kind { OnOk result (HasMixed (read_in mode query.now) false) }
-        ensures mixed { IfErr result (IsReceiverError (read_in mode query.now)) }
+        ensures fresh { IfOk result (IsFresh (read_by mode spelling query.now) stmt_id limit) }
+        ensures one_kind { OnOk result (HasMixed (read_by mode spelling query.now) false) }
+        ensures mixed { IfErr result (IsReceiverError (read_by mode spelling query.now)) }
     {
-        let query = ParsedQuery::new_in(alloc, query, mode)?;
+        let query = ParsedQuery::new_in(alloc, query, mode, spelling)?;
         if query.is_mixed() {
             return Err(ReceiverError::Mixed);
         }
         Ok(Receiver::of_query(alloc, &query, stmt_id, limit)?)
     }
 
-    /// A receiver of a stream of commands about a query that was parsed before, in the query's mode.
+    /// A receiver of a stream of commands about a query that was parsed before, in the query's mode
+    /// and spelling.
     ///
     /// # Errors
     /// - `AllocError` for want of memory.
@@ -222,6 +237,7 @@ impl Receiver {
             alloc,
             query.text(),
             query.mode(),
+            query.spelling(),
             parsed.as_slice(),
             query.places(),
             stmt_id,
@@ -250,7 +266,15 @@ impl Receiver {
         requires one_kind { HasMixed (read_by_default query.now) false }
         ensures { IfOk result (IsFresh (read_by_default query.now) stmt_id limit) }
     {
-        let statement = copied_statement(alloc, query, Mode::default(), parsed, places, stmt_id)?;
+        let statement = copied_statement(
+            alloc,
+            query,
+            Mode::default(),
+            Spelling::Quoted,
+            parsed,
+            places,
+            stmt_id,
+        )?;
         Ok(Receiver::of_statement(alloc, statement, limit))
     }
 
@@ -286,7 +310,7 @@ impl Receiver {
     /// needs no more bytes is answered at once: after `Ok` what came ends without one.
     ///
     /// Promise: what is held decides, over all bytes to come, what was decided before over the
-    /// piece and them; after a fault it answers that fault and changes nothing (`HasFoundNoFault`,
+    /// piece and them. After a fault it answers that fault and changes nothing (`HasFoundNoFault`,
     /// `TakesAll`, `RunsShort`).
     ///
     /// # Errors
@@ -337,9 +361,9 @@ impl Receiver {
     /// How many bytes are held of the packet that isn't whole. It takes no memory.
     ///
     /// They are those that came of it, but for the headers of its chunks, of which only one that
-    /// doesn't stand whole is held. They are fewer than the limit; where the limit has room for
-    /// full chunks and at most three bytes more, up to three more than those chunks hold. After a
-    /// fault none are held.
+    /// doesn't stand whole is held. They are fewer than the limit. Where the limit has room for
+    /// full chunks and at most three bytes more, they are up to three more than those chunks hold.
+    /// After a fault none are held.
     ///
     /// Promise: the count is stated in closed form, and is at most `most_kept limit`; it is 0 after
     /// a fault (`bytes_kept`, `most_kept`).
@@ -372,11 +396,11 @@ impl Receiver {
     /// Takes the sets that were read and not taken yet, in their order. It takes no memory.
     ///
     /// They are handed out place by place, also after a fault, and after [`StreamFault::Memory`].
-    /// What is handed out isn't held any more, and nothing else changes: the next sets, and those
-    /// of `finish`, follow on it, and all of them in a row are those of the audit of what was fed.
-    /// So a receiver from which sets are taken as they come holds of a stream of any length at most
-    /// one packet within the limit ([`Receiver::kept`]), the long data that waits for an execution,
-    /// and the types in force.
+    /// What is handed out isn't held any more, and nothing else changes. The next sets, and those
+    /// of `finish`, follow on it. All of them in a row are those of the audit of what was fed. Let
+    /// sets be taken from a receiver as they come, of a stream of any length. Then it holds at most
+    /// one packet within the limit ([`Receiver::kept`]). Beside it stand the long data that waits
+    /// for an execution, and the types in force.
     ///
     /// Promise: the sets that stand and weren't taken are handed out in order, and nothing else
     /// changes (`HandsOut`).
@@ -394,8 +418,8 @@ impl Receiver {
 
     /// The audit of what was fed, but for the sets that were taken before. It takes no memory.
     ///
-    /// [`Receiver::take_sets`] takes them. After [`StreamFault::Memory`] its sets, behind those
-    /// that were taken, are those of the stream's first payloads, as many as its end counts: at
+    /// [`Receiver::take_sets`] takes them. After `StreamFault::Memory` its sets, behind those that
+    /// were taken, are those of the stream's first payloads, as many as its end counts. They are at
     /// least those that stood whole before the `feed` that answered it.
     ///
     /// Promise: the answer is the audit that is decided over no more bytes (`AuditOf`).

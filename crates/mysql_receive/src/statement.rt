@@ -4,13 +4,16 @@ ghost use Rattle.std.specs.Prelude.{◌≡◌};
 ghost use Rattle.std.specs.List.{list_all};
 
 use crate::param_type::ParamType;
-use mysql_values::{Mode, Place};
+use mysql_values::{Mode, Place, Spelling};
 
-/// A query with its placeholders for a server in a mode, and the id that its statement was given.
+/// A query with its placeholders, and the id that its statement was given.
+///
+/// Its texts are for a server in the mode, with byte strings in the spelling.
 #[derive(Drop)]
 pub struct Statement {
     pub query: Vec<u8>,
     pub mode: Mode,
+    pub spelling: Spelling,
     pub parsed: Vec<u8>,
     pub places: Vec<Place>,
     pub alone: bool,

@@ -86,6 +86,7 @@ fn read_text_query(alloc: Global, statement: &Statement, body: &[u8]) -> Result<
         &statement.places,
         body,
         statement.mode,
+        statement.spelling,
     )? {
         Some(set) => Ok(Carried::One(set)),
         None => Err(ReadError::Fault(StreamFault::TextMismatch)),

@@ -142,7 +142,7 @@ CountsPlaces c = (tokens : List (List ℕ)) → HasTokens c.query.sql.mode c.que
 contents_carried : (c : Statement) (body : List ℕ) (contents : Set) → CountsPlaces c → AreBytes body → TextReadsAs c.query.sql body contents → Fills (place_count c.query) contents
 contents_carried c body contents counts h reads =
     let slices = reads.0 in
-    let carried = text_carried c.query.sql.mode (pieces_of slices.tokens) contents body h slices.alternates in
+    let carried = text_carried c.query.sql.mode c.query.sql.spelling (pieces_of slices.tokens) contents body h slices.alternates in
     let pieces = pieces_length c.query.sql.text 0 slices.tokens in
     let places = counts slices.tokens slices.has in
     (omega (arith, carried.0, pieces, places), carried.1)

@@ -6,9 +6,11 @@ use Rattle.std.specs.List.{AllByRecursion}
 use Rattle.std.proofs.lemmas.Bool.Decides.{nat_tests}
 use Rattle.mysql_wire.specs.Bytes.{AreBytes}
 use Rattle.mysql_values.specs.Mode.{Mode}
+use Rattle.mysql_values.specs.Spelling.{Spelling}
+use Rattle.mysql_values.specs.Comments.{with_skipped}
 use Rattle.mysql_values.specs.Content.{Content}
 use Rattle.mysql_values.specs.Content.TheVariants as content
-use Rattle.mysql_values.specs.Queries.{Alternates, before_first, is_place, pieces_of, places_from}
+use Rattle.mysql_values.specs.Queries.{Alternates, before_first, is_place, pieces_of, places_behind, places_from}
 use Rattle.mysql_values.specs.Literals.{IsLiteral, IsNumber, IsString, SpellsInHex, digits_value, escaped, hex_value, inside_content, is_hex}
 use Rattle.mysql_values.specs.Tokens.{Byte, Doubled, Escape, Inside, backslash, has_escapes, inside_bytes, single_quote}
 use Rattle.mysql_recoding.specs.Laws.{IsCarried}
@@ -74,29 +76,32 @@ hex_bytes (x ∷ y ∷ digits) (b ∷ bytes) h =
 
 -- ---- literals
 
-pub literal_carried : (m : Mode) (spelling : List ℕ) (held : Content) → AreBytes spelling → IsLiteral m spelling held → IsCarried held
-literal_carried m spelling content.Null h is = tt
-literal_carried m spelling (content.Number z) h is = number_carried spelling z is
-literal_carried m spelling (content.Bytes bytes) h is = elim is [
+pub literal_carried : (m : Mode) (sp : Spelling) (spelling : List ℕ) (held : Content) → AreBytes spelling → IsLiteral m sp spelling held → IsCarried held
+literal_carried m sp spelling content.Null h is = tt
+literal_carried m sp spelling (content.Number z) h is = number_carried spelling z is
+literal_carried m sp spelling (content.Bytes bytes) h is = elim is [
   | inl string ↦ string_carried (has_escapes m single_quote) spelling bytes h string
-  | inr hexadecimal ↦ hex_bytes hexadecimal.digits bytes hexadecimal.spells
+  | inr other ↦ elim other [
+    | inl hexadecimal ↦ hex_bytes hexadecimal.digits bytes hexadecimal.spells
+    | inr introduced ↦ hex_bytes introduced.hexadecimal.digits bytes introduced.hexadecimal.spells
+  ]
 ]
 
 -- ---- texts
 
 -- one content fewer than pieces, each of a literal in the text
-pub text_carried : (m : Mode) (pieces : List (List ℕ)) (contents : List Content) (text : List ℕ) → AreBytes text → Alternates m pieces contents text → (length pieces ≡ length contents + 1) × AllByRecursion IsCarried contents
-text_carried m [] contents text h is = elim is [ ]
-text_carried m (piece ∷ []) [] text h is = (omega arith, tt)
-text_carried m (piece ∷ []) (held ∷ contents) text h is = elim is [ ]
-text_carried m (piece ∷ next ∷ pieces) [] text h is = elim is [ ]
-text_carried m (piece ∷ next ∷ pieces) (held ∷ contents) text h is =
+pub text_carried : (m : Mode) (sp : Spelling) (pieces : List (List ℕ)) (contents : List Content) (text : List ℕ) → AreBytes text → Alternates m sp pieces contents text → (length pieces ≡ length contents + 1) × AllByRecursion IsCarried contents
+text_carried m sp [] contents text h is = elim is [ ]
+text_carried m sp (piece ∷ []) [] text h is = (omega arith, tt)
+text_carried m sp (piece ∷ []) (held ∷ contents) text h is = elim is [ ]
+text_carried m sp (piece ∷ next ∷ pieces) [] text h is = elim is [ ]
+text_carried m sp (piece ∷ next ∷ pieces) (held ∷ contents) text h is =
     let spelling : List ℕ = is.0 in
     let rest : List ℕ = is.1 in
     let behind : AreBytes (spelling ++ rest) = bytes_behind piece (spelling ++ rest) (subst AreBytes is.3 h) in
-    let later = text_carried m (next ∷ pieces) contents rest (bytes_behind spelling rest behind) is.4 in
+    let later = text_carried m sp (next ∷ pieces) contents rest (bytes_behind spelling rest behind) is.4 in
     let count = later.0 in
-    (omega (arith, count), (literal_carried m spelling held (bytes_front spelling rest behind) is.2, later.1))
+    (omega (arith, count), (literal_carried m sp spelling held (bytes_front spelling rest behind) is.2, later.1))
 
 -- ---- placeholders
 
@@ -105,11 +110,14 @@ before_first_length token [] n e = absurd (omega arith)
 before_first_length token (piece ∷ pieces) n e = e
 
 -- one piece more than placeholders
-pub pieces_length : (query : List ℕ) (start : ℕ) (tokens : List (List ℕ)) → length (pieces_of tokens) ≡ length (places_from query start tokens) + 1
-pieces_length query start [] = refl
-pieces_length query start (token ∷ tokens) = by (is_place token) (pieces_length query (start + length token) tokens) refl
+pieces_behind_length : (query skipped : List ℕ) (start : ℕ) (tokens : List (List ℕ)) → length (pieces_of tokens) ≡ length (places_behind query skipped start tokens) + 1
+pieces_behind_length query skipped start [] = refl
+pieces_behind_length query skipped start (token ∷ tokens) = by (is_place token) (pieces_behind_length query skipped (start + length token) tokens) (pieces_behind_length query (with_skipped query start skipped) (start + length token) tokens) refl
   where
-    by : (place : Bool) → length (pieces_of tokens) ≡ length (places_from query (start + length token) tokens) + 1 → is_place token ≡ place
-        → length (pieces_of (token ∷ tokens)) ≡ length (places_from query start (token ∷ tokens)) + 1
-    by true later e = rw e (omega (arith, later))
-    by false later e = rw e (before_first_length token (pieces_of tokens) (length (places_from query (start + length token) tokens)) later)
+    by : (place : Bool) → length (pieces_of tokens) ≡ length (places_behind query skipped (start + length token) tokens) + 1 → length (pieces_of tokens) ≡ length (places_behind query (with_skipped query start skipped) (start + length token) tokens) + 1 → is_place token ≡ place
+        → length (pieces_of (token ∷ tokens)) ≡ length (places_behind query skipped start (token ∷ tokens)) + 1
+    by true later other e = rw e (omega (arith, later))
+    by false later other e = rw e (before_first_length token (pieces_of tokens) (length (places_behind query (with_skipped query start skipped) (start + length token) tokens)) other)
+
+pub pieces_length : (query : List ℕ) (start : ℕ) (tokens : List (List ℕ)) → length (pieces_of tokens) ≡ length (places_from query start tokens) + 1
+pieces_length query start tokens = pieces_behind_length query [] start tokens

@@ -14,7 +14,7 @@ use Rattle.mysql_receive.specs.declared.audit.End.TheVariants.{Fault, Unfinished
 use Rattle.mysql_receive.specs.Query.{Statement, place_count}
 use Rattle.mysql_command_rules.specs.declared.refusal.Refusal.{Refusal}
 use Rattle.mysql_command_rules.specs.declared.refusal.Refusal.TheVariants as refusals
-use Rattle.mysql_command_rules.specs.SpelledRoad.{Execute}
+use Rattle.mysql_command_rules.specs.declared.road.Road.TheVariants.{Execute}
 use Rattle.mysql_command_rules.specs.Cause.{cause_if, cause_of, first_of_sets, max_places, query_cause, set_cause}
 use Rattle.mysql_command_rules.specs.Commands.{prepare_command}
 use Rattle.mysql_recoding.specs.declared.errors.RecodeError.TheVariants as errors

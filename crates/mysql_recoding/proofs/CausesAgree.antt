@@ -10,7 +10,7 @@ use Rattle.mysql_receive.specs.Audit.{Audit}
 use Rattle.mysql_receive.specs.Laws.{StreamHasOneAudit}
 use Rattle.mysql_receive.specs.Query.{Statement, statement_of}
 use Rattle.mysql_command_rules.specs.declared.refusal.Refusal.{Refusal}
-use Rattle.mysql_command_rules.specs.SpelledRoad.{Execute}
+use Rattle.mysql_command_rules.specs.declared.road.Road.TheVariants.{Execute}
 use Rattle.mysql_command_rules.specs.Cause.{cause_of, query_cause}
 use Rattle.mysql_values.specs.Laws.{OneTokens}
 use Rattle.mysql_recoding.specs.declared.errors.RecodeError.{RecodeError}

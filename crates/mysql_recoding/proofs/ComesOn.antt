@@ -20,7 +20,7 @@ use Rattle.mysql_receive.specs.Taking.{with_sets}
 use Rattle.mysql_receive.specs.declared.audit.End.{End}
 use Rattle.mysql_receive.specs.Query.{IsQuery, Statement, statement_of}
 use Rattle.mysql_command_rules.specs.declared.refusal.Refusal.{Refusal}
-use Rattle.mysql_command_rules.specs.SpelledRoad.{Execute}
+use Rattle.mysql_command_rules.specs.declared.road.Road.TheVariants.{Execute}
 use Rattle.mysql_command_rules.specs.Cause.{cause_of}
 use Rattle.mysql_command_rules.specs.Commands.{prepare_command}
 use Rattle.mysql_command_rules.specs.Sent.{as_execution, payloads_of, prepare_of}

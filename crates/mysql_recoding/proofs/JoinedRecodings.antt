@@ -16,7 +16,7 @@ use Rattle.mysql_receive.specs.declared.audit.End.TheVariants.{Whole}
 use Rattle.mysql_values.specs.Laws.{OneTokens}
 use Rattle.mysql_command_rules.specs.Cause.{query_cause}
 use Rattle.mysql_command_rules.specs.Sent.{AreSent, SentPayload, as_execution, payloads_of, prepare_of}
-use Rattle.mysql_command_rules.specs.SpelledRoad.{Execute}
+use Rattle.mysql_command_rules.specs.declared.road.Road.TheVariants.{Execute}
 use Rattle.mysql_values.specs.Contents.{content_value}
 use Rattle.mysql_recoding.specs.Causes.{recoding_cause, values_of_sets}
 use Rattle.mysql_recoding.specs.Laws.{JoinedStreamsRecode, both}

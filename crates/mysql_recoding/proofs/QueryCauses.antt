@@ -10,7 +10,7 @@ use Rattle.mysql_values.specs.Tokens.{HasTokens}
 use Rattle.mysql_receive.specs.Query.{IsQuery, Statement, statement_of}
 use Rattle.mysql_command_rules.specs.declared.refusal.Refusal.{Refusal}
 use Rattle.mysql_command_rules.specs.declared.refusal.Refusal.TheVariants as refusals
-use Rattle.mysql_command_rules.specs.SpelledRoad.{Execute}
+use Rattle.mysql_command_rules.specs.declared.road.Road.TheVariants.{Execute}
 use Rattle.mysql_command_rules.specs.Cause.{cause_if, query_cause}
 use Rattle.mysql_command_rules.specs.Sent.{prepare_of, stream_of}
 use Rattle.mysql_send_execute.specs.Statement.{AppendsPrepare, IsStatement, RefusesPrepare}

@@ -24,7 +24,7 @@ use Rattle.mysql_receive.specs.declared.fault.StreamFault.TheVariants.{Memory}
 use Rattle.mysql_receive.specs.declared.receiver.ReceiverError.{ReceiverError}
 use Rattle.mysql_receive.specs.declared.receiver.ReceiverError.TheVariants as receiver_error
 use Rattle.mysql_command_rules.specs.declared.refusal.Refusal.{Refusal}
-use Rattle.mysql_command_rules.specs.SpelledRoad.{Execute}
+use Rattle.mysql_command_rules.specs.declared.road.Road.TheVariants.{Execute}
 use Rattle.mysql_bulk_builder.specs.Causes.{first_some}
 use Rattle.mysql_command_rules.specs.Cause.{cause_of}
 use Rattle.mysql_command_rules.specs.Sending.{RefusesGiven, SendsGiven}

@@ -15,7 +15,7 @@ use Rattle.mysql_command_rules.specs.Reading.{SentReadable}
 use Rattle.mysql_command_rules.specs.Cause.{cause_of}
 use Rattle.mysql_command_rules.specs.Sent.{payloads_of}
 use Rattle.mysql_command_rules.specs.Sets.{all_given_in_places}
-use Rattle.mysql_command_rules.specs.SpelledRoad.{Execute}
+use Rattle.mysql_command_rules.specs.declared.road.Road.TheVariants.{Execute}
 use Rattle.mysql_recoding.specs.Causes.{values_of_sets}
 use Rattle.mysql_recoding.specs.Laws.{CarriedSetsFillPlaces, FillsPlaces, RecodingsAreSent, RecodingsCarryTheSame, RecodingsRecodeToThemselves}
 use Rattle.mysql_recoding.specs.Recoding.{Recodes}

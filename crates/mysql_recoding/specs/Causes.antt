@@ -15,7 +15,7 @@ use Rattle.mysql_receive.specs.Query.{Statement}
 use Rattle.mysql_command_rules.specs.Cause.{cause_of}
 use Rattle.mysql_command_rules.specs.declared.refusal.Refusal.{Refusal}
 use Rattle.mysql_command_rules.specs.declared.refusal.Refusal.TheVariants as refusals
-use Rattle.mysql_command_rules.specs.SpelledRoad.{Execute}
+use Rattle.mysql_command_rules.specs.declared.road.Road.TheVariants.{Execute}
 use Rattle.mysql_recoding.specs.declared.errors.RecodeError.{RecodeError}
 use Rattle.mysql_recoding.specs.declared.errors.RecodeError.TheVariants.{Mixed, Stream, Unfinished, TooManyPlaces}
 use Rattle.mysql_recoding.specs.declared.errors.RecodeError.TheVariants.{PrepareTooLarge, PacketTooLarge, Memory}

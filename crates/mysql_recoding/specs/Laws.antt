@@ -22,7 +22,7 @@ use Rattle.mysql_receive.specs.Query.{Statement, statement_of}
 use Rattle.mysql_command_rules.specs.Reading.{SentReadable}
 use Rattle.mysql_command_rules.specs.Sent.{AreSent, SentPayload, payloads_of, prepare_of}
 use Rattle.mysql_command_rules.specs.Sets.{all_given_in_places}
-use Rattle.mysql_command_rules.specs.SpelledRoad.{Execute}
+use Rattle.mysql_command_rules.specs.declared.road.Road.TheVariants.{Execute}
 use Rattle.mysql_recoding.specs.declared.errors.RecodeError.{RecodeError}
 use Rattle.mysql_recoding.specs.Causes.{recoding_cause, values_of_sets}
 use Rattle.mysql_recoding.specs.Recoding.{IsRecodingCause, Recodes}

@@ -16,7 +16,7 @@ use Rattle.mysql_receive.specs.Taking.{with_sets}
 use Rattle.mysql_receive.specs.Query.{statement_of}
 use Rattle.mysql_command_rules.specs.Cause.{query_cause}
 use Rattle.mysql_command_rules.specs.Commands.{prepare_command}
-use Rattle.mysql_command_rules.specs.SpelledRoad.{Execute}
+use Rattle.mysql_command_rules.specs.declared.road.Road.TheVariants.{Execute}
 use Rattle.mysql_recoding.specs.declared.errors.RecodeError.{RecodeError}
 use Rattle.mysql_recoding.specs.declared.errors.RecodeError.TheVariants as recode_error
 use Rattle.mysql_recoding.specs.Causes.{error_for}

@@ -3,7 +3,7 @@
 ghost use Rattle.std.specs.Prelude.{◌≡◌, ◌≤◌, ◌++◌, ◌⊎◌, ℕ, List, Err, IfErr, IfOk, IfSome, None, OnErr, OnOk, Some};
 ghost use Rattle.std.specs.Prelude.{length, take};
 ghost use Rattle.std.specs.Option.{option_map};
-ghost use Rattle.mysql_values.specs.Sql.{read_by_default, read_in};
+ghost use Rattle.mysql_values.specs.Sql.{read_by, read_by_default};
 ghost use Rattle.mysql_receive.specs.Views.{sets_of};
 ghost use Rattle.mysql_recoding.specs.declared.errors.RecodeError.TheVariants as recode_error;
 ghost use Rattle.mysql_recoding.specs.Causes.{error_for};
@@ -16,15 +16,15 @@ use crate::whole::{refused, values_of_all};
 use mysql_receive::laws::there_is_one_audit;
 use mysql_receive::{Content, Receiver, StreamFault};
 use mysql_send_execute::{Statement, put_more_executions, put_prepare};
-use mysql_values::Mode;
 use mysql_values::laws::tokens_of_a_text;
+use mysql_values::{Mode, Spelling};
 use mysql_wire::laws::one_split;
 use std::alloc::Global;
 use std::marker::Model;
 
 /// Recodes a stream of commands whose bytes come in pieces, as [`recode`](crate::recode) does a
-/// whole one. It holds the packet that isn't whole, the long data that waits, the types in force,
-/// the number of the sets so far, and the prepare until it is appended.
+/// whole one. It holds the packet that isn't whole, the long data that waits, and the types in
+/// force. It holds the number of the sets so far, and the prepare until it is appended.
 #[derive(Drop)]
 pub struct Recoder {
     alloc: Global,
@@ -56,14 +56,16 @@ fn prepared(
     stmt_id: u32,
     limit: usize,
     mode: Mode,
+    spelling: Spelling,
 ) -> Result<(usize, Vec<u8>), RecodeError>
     requires { 4 ≤ limit }
-    ensures ok { IfOk result (λ found. CanBePrepared (read_in mode query.now) stmt_id limit found.0 found.1.items) }
+    ensures ok { IfOk result (λ found. CanBePrepared (read_by mode spelling query.now) stmt_id limit
+        found.0 found.1.items) }
     ensures few { IfOk result (λ found. found.0 ≤ 65535) }
-    ensures err { IfErr result (RefusesQuery (read_in mode query.now) stmt_id limit) }
+    ensures err { IfErr result (RefusesQuery (read_by mode spelling query.now) stmt_id limit) }
 {
     tokens_of_a_text();
-    let statement = match Statement::new_in(alloc, query, stmt_id, mode) {
+    let statement = match Statement::new_in(alloc, query, stmt_id, mode, spelling) {
         Ok(statement) => statement,
         Err(refusal) => return Err(refused(refusal)),
     };
@@ -134,7 +136,7 @@ impl Recoder {
     /// `stmt_id`.
     ///
     /// What it appends are executions of that statement. `limit` is a `max_allowed_packet` of at
-    /// least 4: a payload that is read has at most `limit` bytes, and one that is appended at most
+    /// least 4. A payload that is read has at most `limit` bytes, and one that is appended at most
     /// `limit - 4`.
     ///
     /// Promise: it is refused for the first cause against preparing the query (`RefusesQuery`).
@@ -158,11 +160,20 @@ impl Recoder {
             (λ recoder. IsNewRecoder (read_by_default query.now) stmt_id limit (recoder_state recoder)) }
         ensures refused { IfErr result (RefusesQuery (read_by_default query.now) stmt_id limit) }
     {
-        Recoder::new_in(alloc, query, stmt_id, limit, Mode::default())
+        Recoder::new_in(
+            alloc,
+            query,
+            stmt_id,
+            limit,
+            Mode::default(),
+            Spelling::Quoted,
+        )
     }
 
     /// A recoder of a stream that was sent to a server in this mode, else as [`Recoder::new`] makes
     /// it.
+    ///
+    /// The stream's texts have byte strings in this spelling, as [`Receiver::new_in`] says.
     ///
     /// Promise: it is refused for the first cause against preparing the query (`RefusesQuery`).
     ///
@@ -176,14 +187,15 @@ impl Recoder {
         stmt_id: u32,
         limit: usize,
         mode: Mode,
+        spelling: Spelling,
     ) -> Result<Recoder, RecodeError>
         requires { 4 ≤ limit }
         ensures new { IfOk result
-            (λ recoder. IsNewRecoder (read_in mode query.now) stmt_id limit (recoder_state recoder)) }
-        ensures refused { IfErr result (RefusesQuery (read_in mode query.now) stmt_id limit) }
+            (λ recoder. IsNewRecoder (read_by mode spelling query.now) stmt_id limit (recoder_state recoder)) }
+        ensures refused { IfErr result (RefusesQuery (read_by mode spelling query.now) stmt_id limit) }
     {
-        let (places, prepare) = prepared(alloc, query, stmt_id, limit, mode)?;
-        let receiver = match Receiver::new_in(alloc, query, stmt_id, limit, mode) {
+        let (places, prepare) = prepared(alloc, query, stmt_id, limit, mode, spelling)?;
+        let receiver = match Receiver::new_in(alloc, query, stmt_id, limit, mode, spelling) {
             Ok(receiver) => receiver,
             // A query that can be prepared has one kind of placeholder.
             Err(_) => return Err(RecodeError::Memory),
@@ -250,13 +262,13 @@ impl Recoder {
     /// Takes the next piece of the stream, of any length, and appends executions to `out`.
     ///
     /// They are those of the sets whose packets are whole with the piece, in the order of the
-    /// stream; before the first execution of all it appends the prepare. Each packet is numbered
+    /// stream. Before the first execution of all it appends the prepare. Each packet is numbered
     /// from 0. What all calls append, and [`finish`](Recoder::finish) behind them, is what
     /// [`recode`](crate::recode) appends of all bytes, however they are cut. Sets are sent as
     /// [`send_contents`](crate::send_contents) sends them.
     ///
     /// Promise: exactly the executions of the sets that are whole with the piece are appended,
-    /// before the first the prepare, or the first cause in the stream's order is answered
+    /// before the first the prepare. Or the first cause in the stream's order is answered
     /// (`RecodesPiece`, `RefusesPiece`).
     ///
     /// # Errors

@@ -10,9 +10,9 @@ ghost use Rattle.mysql_command_rules.specs.declared.refusal.Refusal.TheVariants 
 ghost use Rattle.mysql_command_rules.specs.Reading.{SentReadable};
 ghost use Rattle.mysql_command_rules.specs.Sending.{RefusesGiven};
 ghost use Rattle.mysql_command_rules.specs.Sets.{all_given_in_places};
-ghost use Rattle.mysql_command_rules.specs.SpelledRoad as roads;
+ghost use Rattle.mysql_command_rules.specs.declared.road.Road.TheVariants as roads;
 ghost use Rattle.mysql_receive.specs.Views.{sets_of};
-ghost use Rattle.mysql_values.specs.Sql.{read_by_default, read_in};
+ghost use Rattle.mysql_values.specs.Sql.{read_by, read_by_default, read_in};
 ghost use Rattle.mysql_recoding.specs.Causes.{error_for, values_of_sets};
 ghost use Rattle.mysql_recoding.specs.Recoding.{Recodes, RefusesRecoding};
 
@@ -24,7 +24,7 @@ use mysql_receive::laws::stream_has_one_audit;
 use mysql_receive::{Audit, Content, receive_in};
 use mysql_send_execute::{Statement, put_executions_of_values};
 use mysql_to_values::ToValue;
-use mysql_values::{Mode, Value};
+use mysql_values::{Mode, Spelling, Value};
 use std::alloc::Global;
 
 /// The value that a content is sent as. Its bytes are moved.
@@ -72,9 +72,9 @@ pub(crate) fn values_of_all(
 /// Appends to `out` the commands that carry sets of contents of a query to a server.
 ///
 /// [`send_contents_in`] for a server in the default mode. They are one prepare, also where there
-/// are no sets, and an execution of the statement `stmt_id` for each set, its contents in the order
-/// of the placeholders, as [`recode`] has them: nothing as NULL, a number as `Int` where it fits,
-/// else as `UInt`, bytes as `Bytes`. No bytes are copied but into `out`.
+/// are no sets, and an execution of the statement `stmt_id` for each set. Its contents stand in the
+/// order of the placeholders, as `recode` has them. Nothing is NULL, a number is `Int` where it
+/// fits and else `UInt`, and bytes are `Bytes`. No bytes are copied but into `out`.
 ///
 /// `limit` is the `max_allowed_packet` of the server, at least 4: a payload has at most `limit - 4`
 /// bytes.
@@ -145,10 +145,43 @@ pub fn send_contents_in(
         (all_given_in_places (values_of_sets (sets_of sets.items))) stmt_id limit) }
     ensures kept { OnErr result (out.new.items ≡ out.old.items) }
 {
+    put_contents(
+        alloc,
+        query,
+        sets,
+        stmt_id,
+        limit,
+        mode,
+        Spelling::Quoted,
+        out,
+    )
+}
+
+/// Appends what [`send_contents_in`] appends, by any spelling of byte strings in texts.
+fn put_contents(
+    alloc: Global,
+    query: &[u8],
+    sets: Vec<Vec<Content>>,
+    stmt_id: u32,
+    limit: usize,
+    mode: Mode,
+    spelling: Spelling,
+    out: &mut Vec<u8>,
+) -> Result<(), Refusal>
+    requires { 4 ≤ limit }
+    ensures sent { OnOk result
+        (SentReadable roads.Execute (read_by mode spelling query.now)
+        (all_given_in_places (values_of_sets (sets_of sets.items))) stmt_id limit out.old.items
+        out.new.items) }
+    ensures refused { IfErr result
+        (RefusesGiven roads.Execute (read_by mode spelling query.now)
+        (all_given_in_places (values_of_sets (sets_of sets.items))) stmt_id limit) }
+    ensures kept { OnErr result (out.new.items ≡ out.old.items) }
+{
     sent_in_turn();
     let start = out.len();
     let values = values_of_all(alloc, sets)?;
-    let statement = Statement::new_in(alloc, query, stmt_id, mode)?;
+    let statement = Statement::new_in(alloc, query, stmt_id, mode, spelling)?;
     match put_executions_of_values(alloc, &statement, &values, limit, out) {
         Ok(()) => Ok(()),
         Err(refusal) => {
@@ -174,19 +207,20 @@ fn whole_audit(
     stmt_id: u32,
     limit: usize,
     mode: Mode,
+    spelling: Spelling,
     pieces: &[&[u8]],
 ) -> Result<Audit, RecodeError>
     requires { 4 ≤ limit }
     ensures says { IfOk result
-        (λ audit. AuditOf (read_in mode query.now) stmt_id limit (flat_map (λ piece. piece.now) pieces.now)
+        (λ audit. AuditOf (read_by mode spelling query.now) stmt_id limit (flat_map (λ piece. piece.now) pieces.now)
         (audit_of audit)) }
     ensures whole { IfOk result (λ audit. audit.end ≡ ends.Whole) }
     ensures refused { IfErr result
-        (RefusesRecoding (read_in mode query.now) stmt_id limit (flat_map (λ piece. piece.now) pieces.now)) }
+        (RefusesRecoding (read_by mode spelling query.now) stmt_id limit (flat_map (λ piece. piece.now) pieces.now)) }
 {
     stream_has_one_audit();
     all_are_bytes(pieces);
-    let audit = receive_in(alloc, query, stmt_id, limit, mode, pieces)?;
+    let audit = receive_in(alloc, query, stmt_id, limit, mode, spelling, pieces)?;
     match RecodeError::of_end(audit.end) {
         Some(error) => Err(error),
         None => Ok(audit),
@@ -210,16 +244,16 @@ pub(crate) fn refused(refusal: Refusal) -> RecodeError
 /// Appends to `out` the canonical form of what a stream of commands carries, however it is cut.
 ///
 /// The stream's bytes are those of the pieces, and it was sent to the statement `stmt_id`. The form
-/// is one prepare, also where there are no sets, and an execution of the statement for each set,
-/// before it, where it would exceed 16777215 bytes, its byte strings as long data. Nothing is sent
-/// as NULL, a number as `Int` where it fits, else as `UInt`, bytes as `Bytes`. Streams of the same
-/// query, id and limit that carry the same sets are recoded to the same bytes, by whichever
-/// commands and types they carry them; the laws stand in `laws`.
+/// is one prepare, also where there are no sets, and an execution of the statement for each set.
+/// Where an execution would exceed 16777215 bytes, its byte strings stand before it as long data.
+/// Nothing is sent as NULL, a number as `Int` where it fits, else as `UInt`, bytes as `Bytes`.
+/// Streams of one query, id and limit that carry the same sets are recoded to the same bytes. By
+/// which commands and types they do so makes no difference. The laws stand in [`laws`].
 ///
-/// `limit` is a `max_allowed_packet` of at least 4: a payload that is read has at most `limit`
+/// `limit` is a `max_allowed_packet` of at least 4. A payload that is read has at most `limit`
 /// bytes, and one that is appended at most `limit - 4`.
 ///
-/// Promise: one prepare and an execution of each set that the stream carries are appended, or the
+/// Promise: one prepare and an execution of each set that the stream carries are appended. Or the
 /// first cause is answered and `out` is as it was (`Recodes`, `RefusesRecoding`).
 ///
 /// # Errors
@@ -252,16 +286,28 @@ pub fn recode(
         (RefusesRecoding (read_by_default query.now) stmt_id limit (flat_map (λ piece. piece.now) pieces.now)) }
     ensures kept { OnErr result (out.new.items ≡ out.old.items) }
 {
-    recode_in(alloc, query, stmt_id, limit, Mode::default(), pieces, out)
+    recode_in(
+        alloc,
+        query,
+        stmt_id,
+        limit,
+        Mode::default(),
+        Spelling::Quoted,
+        pieces,
+        out,
+    )
 }
 
 /// Appends what [`recode`] appends of a stream that was sent to a server in this mode.
 ///
-/// What is appended carries no texts with values, so that it is for a server in any mode in which
-/// the query's own text is the same.
+/// The stream's texts have byte strings in this spelling, as `mysql_receive::receive_in` says.
 ///
-/// Promise: one prepare and an execution of each set that the stream carries in this mode are
-/// appended, or the first cause is answered and `out` is as it was (`Recodes`, `RefusesRecoding`).
+/// What is appended carries no texts with values. So it is for a server in any mode in which the
+/// query's own text is the same.
+///
+/// Promise: one prepare and an execution of each set that the stream carries in this mode and
+/// spelling are appended. Or the first cause is answered and `out` is as it was (`Recodes`,
+/// `RefusesRecoding`).
 ///
 /// # Errors
 /// Those of [`recode`], in its order. `out` is as it was after an error.
@@ -273,19 +319,22 @@ pub fn recode_in(
     stmt_id: u32,
     limit: usize,
     mode: Mode,
+    spelling: Spelling,
     pieces: &[&[u8]],
     out: &mut Vec<u8>,
 ) -> Result<(), RecodeError>
     requires { 4 ≤ limit }
     ensures recoded { OnOk result
-        (Recodes (read_in mode query.now) stmt_id limit (flat_map (λ piece. piece.now) pieces.now)
+        (Recodes (read_by mode spelling query.now) stmt_id limit (flat_map (λ piece. piece.now) pieces.now)
         out.old.items out.new.items) }
     ensures refused { IfErr result
-        (RefusesRecoding (read_in mode query.now) stmt_id limit (flat_map (λ piece. piece.now) pieces.now)) }
+        (RefusesRecoding (read_by mode spelling query.now) stmt_id limit (flat_map (λ piece. piece.now) pieces.now)) }
     ensures kept { OnErr result (out.new.items ≡ out.old.items) }
 {
-    let audit = whole_audit(alloc, query, stmt_id, limit, mode, pieces)?;
-    match send_contents_in(alloc, query, audit.sets, stmt_id, limit, mode, out) {
+    let audit = whole_audit(alloc, query, stmt_id, limit, mode, spelling, pieces)?;
+    match put_contents(
+        alloc, query, audit.sets, stmt_id, limit, mode, spelling, out,
+    ) {
         Ok(()) => Ok(()),
         Err(refusal) => Err(refused(refusal)),
     }

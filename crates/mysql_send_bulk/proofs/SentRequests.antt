@@ -27,7 +27,7 @@ use Rattle.mysql_bulk_builder.specs.ValueTypes.{first_in_column, first_values}
 use Rattle.mysql_receive.specs.Query.{statement_of}
 use Rattle.mysql_command_rules.specs.declared.refusal.Refusal.{Refusal}
 use Rattle.mysql_command_rules.specs.declared.refusal.Refusal.TheVariants as refusals
-use Rattle.mysql_command_rules.specs.SpelledRoad.{Bulk}
+use Rattle.mysql_command_rules.specs.declared.road.Road.TheVariants.{Bulk}
 use Rattle.mysql_command_rules.specs.Commands.{bulk_request, prepare_command}
 use Rattle.mysql_command_rules.specs.Sets.{Given, given_up_to, values_of}
 use Rattle.mysql_command_rules.specs.Sent.{as_requests, payloads_of, prepare_of, stream_of}

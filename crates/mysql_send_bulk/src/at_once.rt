@@ -66,7 +66,7 @@ fn are_good(values: &[&Value], places: usize, set: usize) -> bool
     }
 }
 
-/// Lists the values of the row that a set gives the statement, in place of what the list holds, and
+/// Lists the values of the row that a set gives the statement, in place of what the list holds. It
 /// says whether nothing speaks against it.
 fn gives_row<'a>(
     statement: &Target<'_>,
@@ -90,7 +90,7 @@ fn gives_row<'a>(
     Ok(good)
 }
 
-/// Appends the row that a set gives the statement whose values are looked up, and says whether
+/// Appends the row that a set gives the statement whose values are looked up. It says whether
 /// nothing speaks against it, and each value is of the kind of its column's first value in the rows
 /// before. The first values are then those with this row.
 #[inline(never)]
@@ -138,7 +138,7 @@ fn values_in_order<'a>(names: &[CowSlice<'_, u8>], params: &'a Params) -> Option
     }
 }
 
-/// Appends the row that a set gives the statement, and says whether nothing speaks against it, and
+/// Appends the row that a set gives the statement. It says whether nothing speaks against it, and
 /// each value is of the kind of its column's first value in the rows before. The first values are
 /// then those with this row.
 #[inline(always)]
@@ -292,8 +292,8 @@ fn finish(
     Ok(true)
 }
 
-/// Appends one request that carries all sets, framed, and says whether it is so: whether nothing
-/// speaks against any or against all of them, and the request has at most so many bytes. What stood
+/// Appends one request that carries all sets, framed, and says whether it is so. Nothing speaks
+/// against any or against all of them then, and the request has at most so many bytes. What stood
 /// before stands in front in any case.
 fn put_whole(
     alloc: Global,
@@ -323,8 +323,8 @@ fn put_whole(
     finish(alloc, statement.id, &firsts, room, start, out)
 }
 
-/// Appends one request that carries all sets, framed, and says whether it is so: whether there are
-/// sets, nothing speaks against any or against all of them, and the request has at most so many
+/// Appends one request that carries all sets, framed, and says whether it is so. There are sets
+/// then, nothing speaks against any or against all of them, and the request has at most so many
 /// bytes. Else nothing is appended.
 pub(crate) fn put_at_once(
     alloc: Global,

@@ -51,9 +51,9 @@ fn joins_column<'a>(value: &'a Value, column: usize, firsts: &mut [&'a Value]) -
     true
 }
 
-/// Appends the values of a row, and says whether each column has one, none is a float, and each is
-/// of the kind of its column's first value in the rows before. The first values are then those with
-/// this row.
+/// Appends the values of a row. It says whether each column has one, none is a float, and each is
+/// of its column's kind. A column's kind is that of the first value in the rows before. The first
+/// values are then those with this row.
 #[inline(always)]
 pub(crate) fn put_given_list<'a>(
     row: &'a [Value],

@@ -16,7 +16,7 @@ ghost use Rattle.mysql_command_rules.specs.Reading.{SentReadable};
 ghost use Rattle.mysql_command_rules.specs.Sending.{RefusesGiven};
 ghost use Rattle.mysql_command_rules.specs.Sets.{given_up_to};
 ghost use Rattle.mysql_command_rules.specs.declared.refusal.Refusal.TheVariants as refusals;
-ghost use Rattle.mysql_command_rules.specs.SpelledRoad as roads;
+ghost use Rattle.mysql_command_rules.specs.declared.road.Road.TheVariants as roads;
 ghost use Rattle.mysql_command_rules.specs.MadeSets.{is_want_of_memory};
 ghost use Rattle.mysql_send_bulk.specs.BulkSets.{AppendsAll, AppendsRequests, RefusesAll, RefusesRows, requests_from};
 
@@ -197,11 +197,11 @@ fn put_sets(
 /// Appends the commands that carry parameter sets of a query to a server as bulk requests.
 ///
 /// Each is framed as packets that are numbered from 0: one prepare, and as few requests as there
-/// can be, each of as many sets as it has room for, with types where it has to bring them. Sets and
-/// places count from 0; a payload has at most `limit - 4` bytes, as the limit counts a packet with
-/// its header. `stop` says why one more set behind the given ones gives no values, where there is
-/// one: never want of memory, which is the caller's to answer. After a refusal what stood before
-/// stands in front of `out`.
+/// can be. Each request has as many sets as it has room for, with types where it has to bring them.
+/// Sets and places count from 0; a payload has at most `limit - 4` bytes, as the limit counts a
+/// packet with its header. `stop` says why one more set behind the given ones gives no values,
+/// where there is one. It is never want of memory, which is the caller's to answer. After a refusal
+/// what stood before stands in front of `out`.
 ///
 /// Promise: exactly what is stated for the road is appended, in a form that reads back, or the
 /// first cause is answered (`SentReadable`, `RefusesGiven`).

@@ -10,7 +10,7 @@ use Rattle.mysql_values.specs.Parsed.{names_of}
 use Rattle.mysql_values.specs.Value.{Value}
 use Rattle.mysql_receive.specs.Query.{Statement, place_count, statement_of}
 use Rattle.mysql_command_rules.specs.declared.refusal.Refusal.{Refusal}
-use Rattle.mysql_command_rules.specs.SpelledRoad.{Execute}
+use Rattle.mysql_command_rules.specs.declared.road.Road.TheVariants.{Execute}
 use Rattle.mysql_command_rules.specs.Cause.{first_of_sets, query_cause, set_cause}
 use Rattle.mysql_command_rules.specs.Reading.{IsReadable}
 use Rattle.mysql_command_rules.specs.Sending.{SendsGiven}

@@ -26,7 +26,8 @@ use Rattle.mysql_values.specs.declared.params.SetError.TheVariants as set_error
 use Rattle.mysql_receive.specs.Query.{Statement, statement_of}
 use Rattle.mysql_command_rules.specs.declared.refusal.Refusal.{Refusal}
 use Rattle.mysql_command_rules.specs.declared.refusal.Refusal.TheVariants as refusals
-use Rattle.mysql_command_rules.specs.SpelledRoad.{SpelledRoad, Text, Execute, Bulk}
+use Rattle.mysql_command_rules.specs.declared.road.Road.{Road}
+use Rattle.mysql_command_rules.specs.declared.road.Road.TheVariants.{Text, Execute, Bulk}
 use Rattle.mysql_command_rules.specs.Cause.{cause_if, first_of_sets, max_places, prepare_cause, query_cause, set_cause}
 use Rattle.mysql_command_rules.specs.Commands.{prepare_command}
 use Rattle.mysql_command_rules.specs.InTurn.{SentInTurn}
@@ -49,8 +50,8 @@ mixed_first : (mixed : Bool) (rest : Option Refusal) → mixed ≡ true → opti
 mixed_first mixed rest both = rw both refl
 
 -- both kinds of placeholder are the first cause by each road
-mixed_cause : (road : SpelledRoad) (query : Sql) (tokens : List (List ℕ)) (id room : ℕ) → is_mixed (places_from query.text 0 tokens) ≡ true → query_cause road (statement_of query tokens id) room ≡ Some refusals.Mixed
-mixed_cause (Text spelling) query tokens id room both = mixed_first (is_mixed (places_from query.text 0 tokens)) _ both
+mixed_cause : (road : Road) (query : Sql) (tokens : List (List ℕ)) (id room : ℕ) → is_mixed (places_from query.text 0 tokens) ≡ true → query_cause road (statement_of query tokens id) room ≡ Some refusals.Mixed
+mixed_cause Text query tokens id room both = mixed_first (is_mixed (places_from query.text 0 tokens)) _ both
 mixed_cause Execute query tokens id room both = mixed_first (is_mixed (places_from query.text 0 tokens)) _ both
 mixed_cause Bulk query tokens id room both =
     first_is (prepare_cause (statement_of query tokens id).query room) _ refusals.Mixed (mixed_first (is_mixed (places_from query.text 0 tokens)) _ both)

@@ -5,7 +5,7 @@ use Rattle.mysql_values.specs.Sql.{Sql}
 use Rattle.mysql_values.specs.Parsed.{names_of}
 use Rattle.mysql_values.specs.Queries.{places_from}
 use Rattle.mysql_values.specs.Value.{Value}
-use Rattle.mysql_command_rules.specs.SpelledRoad.{Execute}
+use Rattle.mysql_command_rules.specs.declared.road.Road.TheVariants.{Execute}
 use Rattle.mysql_command_rules.specs.Reading.{SentReadable}
 use Rattle.mysql_command_rules.specs.Sets.{Given, all_given_in_places}
 use Rattle.mysql_send_execute.specs.Executions.{AppendsMore, limits_of}

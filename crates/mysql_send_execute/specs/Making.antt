@@ -3,7 +3,7 @@
 use Rattle.std.specs.Prelude.{◌≡◌, ◌⊎◌, ℕ, List, false, true}
 use Rattle.mysql_values.specs.Queries.{HasMixed}
 use Rattle.mysql_values.specs.Sql.{Sql}
-use Rattle.mysql_command_rules.specs.SpelledRoad.{SpelledRoad}
+use Rattle.mysql_command_rules.specs.declared.road.Road.{Road}
 use Rattle.mysql_command_rules.specs.Sending.{RefusesGiven}
 use Rattle.mysql_command_rules.specs.Sets.{Given}
 use Rattle.mysql_command_rules.specs.declared.refusal.Refusal.{Refusal}
@@ -21,5 +21,5 @@ pub record IsMade (query : Sql) (id : ℕ) (statement : SentStatement) : Type 0 
 pub record IsNotMade (query : Sql) (id : ℕ) (refusal : Refusal) : Type 0 where
   pub mixed : (refusal ≡ refusals.Memory) ⊎ ((refusal ≡ refusals.Mixed) × HasMixed query true)
   pub prepare : (room : ℕ) → RefusesPrepare query id room refusal
-  pub refused : (road : SpelledRoad) (sets : List (List ℕ) → List Given) (limit : ℕ) →
+  pub refused : (road : Road) (sets : List (List ℕ) → List Given) (limit : ℕ) →
       RefusesGiven road query sets id limit refusal

@@ -13,7 +13,7 @@ ghost use Rattle.mysql_command_rules.specs.Reading.{SentReadable};
 ghost use Rattle.mysql_command_rules.specs.Sending.{RefusesGiven};
 ghost use Rattle.mysql_command_rules.specs.Sets.{all_given, all_given_in_places, given_by};
 ghost use Rattle.mysql_command_rules.specs.declared.refusal.Refusal.TheVariants as refusals;
-ghost use Rattle.mysql_command_rules.specs.SpelledRoad as roads;
+ghost use Rattle.mysql_command_rules.specs.declared.road.Road.TheVariants as roads;
 ghost use Rattle.mysql_send_execute.specs.Executions.{AppendsExecution, AppendsMore, RefusesExecution};
 ghost use Rattle.mysql_send_execute.specs.Executions.{RefusesMore, execution_payloads, whole_execution};
 
@@ -267,10 +267,10 @@ fn put_values<V: HasValue>(
     put_checked(id, places, set, values, room, command, out)
 }
 
-/// Appends the execution of the set of this number, framed and numbered from 0, to what stands: of
-/// a list as it lies; any other set's values are listed in place of what `values` holds. A payload
-/// has at most `limit - 4` bytes. The lists `values` and `command` keep their room from set to set.
-/// After a refusal what stood before stands in front of `out`.
+/// Appends the execution of the set of this number, framed and numbered from 0, to what stands. A
+/// list is taken as it lies. Any other set's values are listed in place of what `values` holds. A
+/// payload has at most `limit - 4` bytes. The lists `values` and `command` keep their room from set
+/// to set. After a refusal what stood before stands in front of `out`.
 ///
 /// # Errors
 /// `Params`, `WrongCount`, `Float`, `PacketTooLarge`; `Memory` where a growth was refused.
@@ -339,12 +339,12 @@ fn put_value_sets(
 
 /// Appends the commands that carry parameter sets of a query as executions of a prepared statement.
 ///
-/// Each is framed as packets that are numbered from 0: one prepare, also where there are no sets,
-/// and an execution of the statement for each set. An execution of more than 16777215 bytes is sent
-/// without its byte strings, each of which goes before it as long data in one piece. Sets and
-/// places count from 0; a payload has at most `limit - 4` bytes, as the limit counts a packet with
-/// its header, and so has an execution with all its values, also where they are sent apart. After a
-/// refusal what stood before stands in front of `out`.
+/// Each is framed as packets that are numbered from 0. There is one prepare, also where there are
+/// no sets, and an execution of the statement for each set. An execution of more than 16777215
+/// bytes is sent without its byte strings, each of which goes before it as long data in one piece.
+/// Sets and places count from 0. A payload has at most `limit - 4` bytes, as the limit counts a
+/// packet with its header. So has an execution with all its values, also where they are sent apart.
+/// After a refusal what stood before stands in front of `out`.
 ///
 /// Promise: exactly what is stated for the road is appended, in a form that reads back, or the
 /// first cause is answered (`SentReadable`, `RefusesGiven`).

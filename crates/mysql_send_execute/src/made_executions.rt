@@ -4,7 +4,7 @@ ghost use Rattle.std.specs.Prelude.{◌≡◌, ◌-◌, ◌≤◌, IfErr, OnOk, 
 ghost use Rattle.mysql_command_rules.specs.MadeSets.{AllMade};
 ghost use Rattle.mysql_command_rules.specs.Reading.{SentReadable};
 ghost use Rattle.mysql_command_rules.specs.Sending.{RefusesGiven};
-ghost use Rattle.mysql_command_rules.specs.SpelledRoad as roads;
+ghost use Rattle.mysql_command_rules.specs.declared.road.Road.TheVariants as roads;
 
 use crate::executions::put_set;
 use crate::statement::{Statement, put_prepare};

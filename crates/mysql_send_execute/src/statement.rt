@@ -2,14 +2,14 @@
 
 ghost use Rattle.std.specs.Cow.{cow_slice_items};
 ghost use Rattle.std.specs.Prelude.{◌≡◌, ◌≤◌, IfErr, IfOk, OnOk, length, map, take};
-ghost use Rattle.mysql_values.specs.Sql.{read_by_default, read_in};
+ghost use Rattle.mysql_values.specs.Sql.{read_by, read_by_default};
 ghost use Rattle.mysql_send_execute.specs.Making.{IsMade, IsNotMade};
 ghost use Rattle.mysql_send_execute.specs.Statement.{AppendsPrepare, IsStatement, RefusesPrepare};
 
 use mysql_command_rules::Refusal;
 use mysql_command_rules::in_turn::sent_in_turn;
 use mysql_const::Command;
-use mysql_queries::{Mode, ParsedQuery};
+use mysql_queries::{Mode, ParsedQuery, Spelling};
 use mysql_values::laws::tokens_of_a_text;
 use mysql_wire::frame_in_place;
 use std::alloc::Global;
@@ -52,12 +52,12 @@ impl<'q> Statement<'q> {
         ensures made { IfOk result (IsMade (read_by_default text.entry.now) id) }
         ensures refused { IfErr result (IsNotMade (read_by_default text.entry.now) id) }
     {
-        Statement::new_in(alloc, text, id, Mode::default())
+        Statement::new_in(alloc, text, id, Mode::default(), Spelling::Quoted)
     }
 
     /// The query of this text, for a server in this mode, as a statement with this id.
     ///
-    /// It may be one that can't be prepared.
+    /// Texts that are made of it have byte strings in this spelling. It may be one that can't be prepared.
     ///
     /// # Errors
     /// `Mixed`; `Memory` where a growth was refused.
@@ -68,13 +68,14 @@ impl<'q> Statement<'q> {
         text: &'q [u8],
         id: u32,
         mode: Mode,
+        spelling: Spelling,
     ) -> Result<Statement<'q>, Refusal>
-        ensures made { IfOk result (IsMade (read_in mode text.entry.now) id) }
-        ensures refused { IfErr result (IsNotMade (read_in mode text.entry.now) id) }
+        ensures made { IfOk result (IsMade (read_by mode spelling text.entry.now) id) }
+        ensures refused { IfErr result (IsNotMade (read_by mode spelling text.entry.now) id) }
     {
         tokens_of_a_text();
         sent_in_turn();
-        let query = ParsedQuery::new_in(alloc, text, mode)?;
+        let query = ParsedQuery::new_in(alloc, text, mode, spelling)?;
         if query.is_mixed() {
             return Err(Refusal::Mixed);
         }

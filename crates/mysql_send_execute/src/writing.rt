@@ -3,7 +3,7 @@
 ghost use Rattle.std.specs.Prelude.{◌≤◌, IfErr, OnOk};
 ghost use Rattle.mysql_command_rules.specs.Sets.{all_given};
 ghost use Rattle.mysql_command_rules.specs.Writing.{Stops, Writes};
-ghost use Rattle.mysql_command_rules.specs.SpelledRoad as roads;
+ghost use Rattle.mysql_command_rules.specs.declared.road.Road.TheVariants as roads;
 
 use crate::executions::put_set;
 use crate::statement::{Statement, put_prepare};
@@ -15,14 +15,14 @@ use std::io::Write;
 
 /// Writes the executions that [`put_executions`](crate::put_executions) appends, some at a time.
 ///
-/// Promise: the writer is given exactly the bytes that are appended else; where not all are, all
-/// sets before the refused one, each whole, or a front (`Writes`, `Stops`).
+/// Promise: the writer is given exactly the bytes that are appended else. Where not all are, it is
+/// given all sets before the refused one, each whole, or a prefix (`Writes`, `Stops`).
 ///
 /// # Errors
 /// - `Refused` with the first cause that holds, in the order of
-///   [`Refusal`](mysql_command_rules::Refusal): `TooManyPlaces`, `PrepareTooLarge`, before anything
-///   is written; set by set `Params`, `WrongCount`, `Float`, `PacketTooLarge`, and `Memory` where a
-///   growth was refused, when the prepare and all sets before that one are written.
+///   [`Refusal`](mysql_command_rules::Refusal). `TooManyPlaces` and `PrepareTooLarge` come before
+///   anything is written. Set by set come `Params`, `WrongCount`, `Float`, `PacketTooLarge`, and
+///   `Memory` where a growth was refused. The prepare and all sets before that one are written then.
 /// - `Io` where the writer fails: it has taken a front of what carries the first sets, and not all
 ///   of it.
 ///

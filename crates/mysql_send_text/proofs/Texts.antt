@@ -10,10 +10,8 @@ use Rattle.mysql_wire.specs.Framing.{framing}
 use Rattle.mysql_wire.specs.Stream.{framings}
 use Rattle.mysql_wire.specs.Stream.Numbering.{EachFromZero}
 use Rattle.mysql_values.specs.Sql.{Sql}
-use Rattle.mysql_values.specs.Mode.{Mode}
-use Rattle.mysql_values.specs.Spelling.{Spelling}
 use Rattle.mysql_values.specs.Value.{Value}
-use Rattle.mysql_values.specs.Values.{content_of, first_float, literal_of}
+use Rattle.mysql_values.specs.Values.{content_of, first_float}
 use Rattle.mysql_values.specs.declared.params.Params.{Params}
 use Rattle.mysql_values.specs.declared.params.ParamsError.{ParamsError}
 use Rattle.mysql_values.specs.declared.params.SetError.{SetError}
@@ -26,12 +24,12 @@ use Rattle.mysql_values.specs.Queries.{HasPlaces, first_not_alone, interleaved, 
 use Rattle.mysql_values.specs.Laws.{OneTokens, PiecesAreSlices}
 use Rattle.mysql_values.specs.Params.{IsMeaning, values_over}
 use Rattle.mysql_values.specs.Parsed.{names_of}
-use Rattle.mysql_values.specs.Binding.{Binds, IsBound, IsBindCause, alone_cause, given_cause as bound_cause, values_cause}
+use Rattle.mysql_values.specs.Binding.{Binds, IsBound, IsBindCause, alone_cause, given_cause as bound_cause, literals_in, values_cause}
 use Rattle.mysql_receive.specs.Reading.{TextReadsAs}
 use Rattle.mysql_receive.specs.Query.{statement_of}
 use Rattle.mysql_command_rules.specs.declared.refusal.Refusal.{Refusal}
 use Rattle.mysql_command_rules.specs.declared.refusal.Refusal.TheVariants as refusals
-use Rattle.mysql_command_rules.specs.SpelledRoad.{Text}
+use Rattle.mysql_command_rules.specs.declared.road.Road.TheVariants.{Text}
 use Rattle.mysql_command_rules.specs.Cause.{cause_if, places_cause, set_cause}
 use Rattle.mysql_command_rules.specs.Commands.{query_command}
 use Rattle.mysql_command_rules.specs.InTurn.{SentInTurn}
@@ -61,11 +59,11 @@ where_put {P = P} answer was holds = subst (λ (r : Result (Unit {0}) _). OnOk r
 -- ---- a set that is not made
 
 -- why no set is made is a refusal of all
-pub not_made : SentInTurn → (spelling : Spelling) (query : Sql) (sets : List (List ℕ) → List Given) (id limit number : ℕ) (old out : List ℕ) → SentReadable (Text spelling) query (first_sets number sets) id limit old out
-    → (refusal : Refusal) → (refusal ≡ refusals.Memory) ⊎ ((error : SetError) × IsSetAt sets number (Err error) × (refusal ≡ refusals.Params number error)) → RefusesGiven (Text spelling) query sets id limit refusal
-not_made law spelling query sets id limit number old out s refusal (inl memory) = inl memory
-not_made law spelling query sets id limit number old out s refusal (inr why) =
-    (law.refused_more (Text spelling) tt query sets id limit number old out (λ names. Err why.0) why.1 s refusal (inr (s.sends.tokens, s.sends.has, ap Some (sym why.2)))).0
+pub not_made : SentInTurn → (query : Sql) (sets : List (List ℕ) → List Given) (id limit number : ℕ) (old out : List ℕ) → SentReadable Text query (first_sets number sets) id limit old out
+    → (refusal : Refusal) → (refusal ≡ refusals.Memory) ⊎ ((error : SetError) × IsSetAt sets number (Err error) × (refusal ≡ refusals.Params number error)) → RefusesGiven Text query sets id limit refusal
+not_made law query sets id limit number old out s refusal (inl memory) = inl memory
+not_made law query sets id limit number old out s refusal (inr why) =
+    (law.refused_more Text tt query sets id limit number old out (λ names. Err why.0) why.1 s refusal (inr (s.sends.tokens, s.sends.has, ap Some (sym why.2)))).0
 
 -- ---- placeholders
 
@@ -102,17 +100,13 @@ one_value (Err error) x y first second = cc
 first_is : (first rest : Option Refusal) (refusal : Refusal) → first ≡ Some refusal → option_or first rest ≡ Some refusal
 first_is first rest refusal some = rw some refl
 
--- values that all have literals have these texts
-literal_texts : (mode : Mode) (spelling : Spelling) (values : List Value) (literals : List (List ℕ)) → map (literal_of mode spelling) values ≡ map Some literals → map (λ value. unwrap_or (literal_of mode spelling value) []) values ≡ literals
-literal_texts mode spelling [] [] same = refl
-literal_texts mode spelling [] (literal ∷ literals) same = cc
-literal_texts mode spelling (value ∷ values) [] same = cc
-literal_texts mode spelling (value ∷ values) (literal ∷ literals) same =
-    let first : literal_of mode spelling value ≡ Some literal = cc in
-    let others : map (literal_of mode spelling) values ≡ map Some literals = cc in
-    let here : unwrap_or (literal_of mode spelling value) [] ≡ literal = ap (λ l. unwrap_or l []) first in
-    let rest : map (λ value. unwrap_or (literal_of mode spelling value) []) values ≡ literals = literal_texts mode spelling values literals others in
-    cc
+-- literals that are all there have these texts
+literal_texts : (found : List (Option (List ℕ))) (literals : List (List ℕ)) → found ≡ map Some literals → map (λ literal. unwrap_or literal []) found ≡ literals
+literal_texts found literals same = ap (λ (l : List (Option (List ℕ))). map (λ literal. unwrap_or literal []) l) same ∙ themselves literals
+  where
+    themselves : (literals : List (List ℕ)) → map (λ literal. unwrap_or literal []) (map Some literals) ≡ literals
+    themselves [] = refl
+    themselves (literal ∷ literals) = ap (λ (l : List (List ℕ)). literal ∷ l) (themselves literals)
 
 -- what is wrong with values, by the refusals of sending
 as_refusal : (set count : ℕ) (values : List Value) → values_cause (refusals.WrongCount set) (λ place. refusals.Float set place) count values ≡ option_map (λ error. refusal_by set error) (values_cause bind_error.WrongCount (λ place. bind_error.Float place) count values)
@@ -156,7 +150,7 @@ kept_on old piece mid new put stays =
 abbrev pub room_and_command : List ℕ
 room_and_command = 0 ∷ 0 ∷ 0 ∷ 0 ∷ 3 ∷ []
 
-module _ (slices : PiecesAreSlices) (once : OneTokens) (query : Sql) (spelling : Spelling) (places : List Place) (has : HasPlaces query places) (one : is_mixed places ≡ false) (alone : first_not_alone places ≡ None)
+module _ (slices : PiecesAreSlices) (once : OneTokens) (query : Sql) (places : List Place) (has : HasPlaces query places) (one : is_mixed places ≡ false) (alone : first_not_alone places ≡ None)
     (params : Params) (set limit id : ℕ) where
   abbrev pub given : List (List ℕ) → Given
   given names = given_by names params
@@ -170,28 +164,29 @@ module _ (slices : PiecesAreSlices) (once : OneTokens) (query : Sql) (spelling :
       behind_places (is_mixed (places_from query.text 0 tokens)) (first_not_alone (places_from query.text 0 tokens)) rest (ap is_mixed (sym (places_are tokens are)) ∙ one) (ap first_not_alone (sym (places_are tokens are)) ∙ alone)
 
   -- why no text is bound for a set is a refusal of it
-  pub refused : (error : BindError) → (error ≡ bind_error.Memory) ⊎ IsBindCause query params error → RefusesOne (Text spelling) query id limit set given (refusal_by set error)
+  pub refused : (error : BindError) → (error ≡ bind_error.Memory) ⊎ IsBindCause query params error → RefusesOne Text query id limit set given (refusal_by set error)
   refused error (inl memory) = inl (ap (λ e. refusal_by set e) memory)
   refused error (inr b) =
       let count : ℕ = length (places_from query.text 0 b.0) in
       let this : bound_cause count (values_over (names_of b.0) params) ≡ Some error = sym (behind b.0 b.1 (bound_cause count (values_over (names_of b.0) params))) ∙ b.2 in
-      inr (b.0, b.1, set_refusal (whole_command (Text spelling) (statement_of query b.0 id)) count (limit - 4) set (values_over (names_of b.0) params) error this)
+      inr (b.0, b.1, set_refusal (whole_command Text (statement_of query b.0 id)) count (limit - 4) set (values_over (names_of b.0) params) error this)
 
-  module _ (text : List ℕ) (b : IsBound query spelling params text) where
+  module _ (text : List ℕ) (b : IsBound query params text) where
     abbrev command : List Value → List ℕ
-    command = whole_command (Text spelling) (statement_of query b.tokens id)
+    command = whole_command Text (statement_of query b.tokens id)
 
     -- the text that was bound is the text of the query with the set's values
-    same_text : text ≡ query_text_of spelling (statement_of query b.tokens id).query b.values
+    same_text : text ≡ query_text_of (statement_of query b.tokens id).query b.values
     same_text =
-        b.spelled ∙ ap (λ l. interleaved (pieces_of b.tokens) l) (sym (literal_texts query.mode spelling b.values b.literals b.each))
-        ∙ ap (λ pieces. interleaved pieces (map (λ value. unwrap_or (literal_of query.mode spelling value) []) b.values)) (slices query b.tokens b.has)
+        let found : List (Option (List ℕ)) = literals_in query (places_from query.text 0 b.tokens) b.values in
+        b.spelled ∙ ap (λ l. interleaved (pieces_of b.tokens) l) (sym (literal_texts found b.literals b.each))
+        ∙ ap (λ pieces. interleaved pieces (map (λ literal. unwrap_or literal []) found)) (slices query b.tokens b.has)
 
     gives : given_by (names_of b.tokens) params ≡ Ok b.values
     gives = gives_values (names_of b.tokens) params b.values b.over
 
     -- its size alone can be a cause
-    set_by_size : cause_of_set (Text spelling) (statement_of query b.tokens id) limit set (Ok b.values) ≡ cause_if (nat_lt (limit - 4) (length (command b.values))) (refusals.PacketTooLarge set)
+    set_by_size : cause_of_set Text (statement_of query b.tokens id) limit set (Ok b.values) ≡ cause_if (nat_lt (limit - 4) (length (command b.values))) (refusals.PacketTooLarge set)
     set_by_size =
         let count : ℕ = length (places_from query.text 0 b.tokens) in
         let good : bound_cause count (Ok b.values) ≡ None = sym (behind b.tokens b.has (bound_cause count (Ok b.values))) ∙ b.none in
@@ -199,18 +194,18 @@ module _ (slices : PiecesAreSlices) (once : OneTokens) (query : Sql) (spelling :
         (as_refusal set count b.values ∙ ap (λ c. option_map (λ error. refusal_by set error) c) good)
 
     -- a command within the limit has no cause
-    set_none : length (query_command text) ≤ limit - 4 → cause_of_set (Text spelling) (statement_of query b.tokens id) limit set (Ok b.values) ≡ None
+    set_none : length (query_command text) ≤ limit - 4 → cause_of_set Text (statement_of query b.tokens id) limit set (Ok b.values) ≡ None
     set_none short =
         let fits : nat_lt (limit - 4) (length (command b.values)) ≡ false = subst (λ (t : List ℕ). nat_lt (limit - 4) (length (query_command t)) ≡ false) same_text (le-ltb _ _ short) in
         set_by_size ∙ ap (λ long. cause_if long (refusals.PacketTooLarge set)) fits
 
     -- and one past it is too large
-    too_large : limit - 4 < length (query_command text) → RefusesOne (Text spelling) query id limit set given (refusals.PacketTooLarge set)
+    too_large : limit - 4 < length (query_command text) → RefusesOne Text query id limit set given (refusals.PacketTooLarge set)
     too_large long =
         let passes : nat_lt (limit - 4) (length (command b.values)) ≡ true = subst (λ (t : List ℕ). nat_lt (limit - 4) (length (query_command t)) ≡ true) same_text (lt-ltb _ _ long) in
-        inr (b.tokens, b.has, ap (λ g. cause_of_set (Text spelling) (statement_of query b.tokens id) limit set g) gives ∙ set_by_size ∙ ap (λ long. cause_if long (refusals.PacketTooLarge set)) passes)
+        inr (b.tokens, b.has, ap (λ g. cause_of_set Text (statement_of query b.tokens id) limit set g) gives ∙ set_by_size ∙ ap (λ long. cause_if long (refusals.PacketTooLarge set)) passes)
 
-  module _ (start : ℕ) (old mid new : List ℕ) (at : start ≡ length old) (room : mid ≡ old ++ room_and_command) (b : Binds query spelling params mid new) where
+  module _ (start : ℕ) (old mid new : List ℕ) (at : start ≡ length old) (room : mid ≡ old ++ room_and_command) (b : Binds query params mid new) where
     -- what is bound behind the room stands behind what stood before
     behind_room : new ≡ old ++ (0 ∷ 0 ∷ 0 ∷ 0 ∷ 3 ∷ b.text)
     behind_room = b.appended ∙ ap (λ l. l ++ b.text) room ∙ append_assoc old room_and_command b.text
@@ -226,7 +221,7 @@ module _ (slices : PiecesAreSlices) (once : OneTokens) (query : Sql) (spelling :
     kept_before = ap (λ n. take n new) (sym at) ∙ front_kept
 
     -- what its text reads as is what its values hold
-    readable : IsReadable (Text spelling) (statement_of query b.bound.tokens id).query b.bound.values
+    readable : IsReadable Text (statement_of query b.bound.tokens id).query b.bound.values
     readable =
         let m : IsMeaning query params b.contents = b.meaning in
         let over : values_over (names_of b.bound.tokens) params ≡ Ok m.values = ap (λ t. values_over (names_of t) params) (once query.mode query.text b.bound.tokens m.tokens b.bound.has m.has) ∙ m.over in
@@ -237,7 +232,7 @@ module _ (slices : PiecesAreSlices) (once : OneTokens) (query : Sql) (spelling :
         )
 
     -- the query of a set that is bound behind room for its header, and framed there
-    pub framed_query : length new - start ≤ limit → (out : List ℕ) → out ≡ take start new ++ framing (drop (start + 4) new) 0 → AppendsOne (Text spelling) query id limit set given old out
+    pub framed_query : length new - start ≤ limit → (out : List ℕ) → out ≡ take start new ++ framing (drop (start + 4) new) 0 → AppendsOne Text query id limit set given old out
     framed_query short out put =
         let fits : length (query_command b.text) ≤ limit - 4 = omega (arith, short, at, ap length (sym command_behind), length-drop (start + 4) new) in
         let whole : out ≡ old ++ framing (query_command b.text) 0 = put ∙ ap (λ l. l ++ framing (drop (start + 4) new) 0) front_kept ∙ ap (λ l. old ++ framing l 0) command_behind in (
@@ -248,10 +243,10 @@ module _ (slices : PiecesAreSlices) (once : OneTokens) (query : Sql) (spelling :
             gives = gives b.text b.bound;
             none = set_none b.text b.bound fits;
             readable = readable;
-            appended = one_framed old out (whole_command (Text spelling) (statement_of query b.bound.tokens id) b.bound.values) (whole ∙ ap (λ l. old ++ framing (query_command l) 0) (same_text b.text b.bound));
+            appended = one_framed old out (whole_command Text (statement_of query b.bound.tokens id) b.bound.values) (whole ∙ ap (λ l. old ++ framing (query_command l) 0) (same_text b.text b.bound));
           },
         )
 
     -- one that is too long with its header
-    pub refused_behind : 4 ≤ limit → limit < length new - start → RefusesOne (Text spelling) query id limit set given (refusals.PacketTooLarge set)
+    pub refused_behind : 4 ≤ limit → limit < length new - start → RefusesOne Text query id limit set given (refusals.PacketTooLarge set)
     refused_behind some long = too_large b.text b.bound (omega (arith, some, long, at, ap length (sym command_behind), length-drop (start + 4) new))

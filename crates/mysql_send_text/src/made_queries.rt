@@ -4,13 +4,12 @@ ghost use Rattle.std.specs.Prelude.{◌≡◌, ◌≤◌, ℕ, IfErr, OnOk, leng
 ghost use Rattle.mysql_command_rules.specs.MadeSets.{AllMade};
 ghost use Rattle.mysql_command_rules.specs.Reading.{SentReadable};
 ghost use Rattle.mysql_command_rules.specs.Sending.{RefusesGiven};
-ghost use Rattle.mysql_command_rules.specs.SpelledRoad as roads;
+ghost use Rattle.mysql_command_rules.specs.declared.road.Road.TheVariants as roads;
 
 use crate::text_queries::{check_places, put_query};
 use mysql_command_rules::in_turn::{made_in_turn, sent_in_turn};
 use mysql_command_rules::{Refusal, SetMaker, made_set};
 use mysql_queries::ParsedQuery;
-use mysql_values::Spelling;
 use std::alloc::Global;
 
 /// Appends what [`put_queries`](crate::put_queries) appends, each set made when its turn comes.
@@ -28,7 +27,6 @@ use std::alloc::Global;
 pub fn put_made_queries<S: SetMaker>(
     alloc: Global,
     query: &ParsedQuery<'_>,
-    spelling: Spelling,
     sets: &S,
     limit: usize,
     out: &mut Vec<u8>,
@@ -36,11 +34,11 @@ pub fn put_made_queries<S: SetMaker>(
     requires { 4 ≤ limit }
     // A text query carries no id: this holds of each.
     ensures ok { OnOk result ((id : ℕ) →
-        SentReadable (roads.Text spelling) query.now.sql (S.given sets.now) id limit out.old.items
+        SentReadable roads.Text query.now.sql (S.given sets.now) id limit out.old.items
         out.new.items) }
     ensures made { OnOk result (AllMade (S.given sets.now)) }
     ensures err { IfErr result (λ refusal. (id : ℕ) →
-        RefusesGiven (roads.Text spelling) query.now.sql (S.given sets.now) id limit refusal) }
+        RefusesGiven roads.Text query.now.sql (S.given sets.now) id limit refusal) }
     ensures kept { take (length out.old.items) out.new.items ≡ out.old.items }
 {
     sent_in_turn();
@@ -50,16 +48,7 @@ pub fn put_made_queries<S: SetMaker>(
     for number in 0..sets.len() {
         let params = made_set(alloc, sets, number)?;
         let mut values = Vec::new(alloc);
-        put_query(
-            query,
-            spelling,
-            number,
-            &params,
-            limit,
-            &mut values,
-            &mut spare,
-            out,
-        )?;
+        put_query(query, number, &params, limit, &mut values, &mut spare, out)?;
     }
     Ok(())
 }

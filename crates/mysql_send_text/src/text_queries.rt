@@ -6,9 +6,8 @@ ghost use Rattle.mysql_command_rules.specs.OneSet.{AppendsOne, RefusesOne, first
 ghost use Rattle.mysql_command_rules.specs.Reading.{SentReadable};
 ghost use Rattle.mysql_command_rules.specs.Sending.{RefusesGiven};
 ghost use Rattle.mysql_command_rules.specs.Sets.{Given, all_given, given_by};
-ghost use Rattle.mysql_command_rules.specs.SpelledRoad as roads;
+ghost use Rattle.mysql_command_rules.specs.declared.road.Road.TheVariants as roads;
 ghost use Rattle.mysql_send_text.specs.Refusing.{refusal_by};
-ghost use Rattle.mysql_values.specs.Spelling.{Spelling as SpellingOf};
 
 use mysql_command_rules::Refusal;
 use mysql_command_rules::in_turn::sent_in_turn;
@@ -16,7 +15,7 @@ use mysql_const::Command;
 use mysql_queries::ParsedQuery;
 use mysql_values::bind::bind_query_onto;
 use mysql_values::laws::{pieces_of_a_query, tokens_of_a_text};
-use mysql_values::{BindError, Params, SetError, Spelling, Value};
+use mysql_values::{BindError, Params, SetError, Value};
 use mysql_wire::frame_in_place;
 use std::alloc::Global;
 
@@ -30,10 +29,10 @@ pub(crate) fn check_places(query: &ParsedQuery<'_>) -> Result<(), Refusal>
     ensures one_kind { OnOk result (has_both_kinds query.now.places ≡ false) }
     ensures alone { OnOk result (first_apart query.now.places ≡ None) }
     // Its sets are sent from here on, whichever they are.
-    ensures begins { OnOk result ((spelling : SpellingOf) (sets : List (List ℕ) → List Given) (id limit : ℕ)
-        (out : List ℕ) → SentReadable (roads.Text spelling) query.now.sql (first_sets 0 sets) id limit out out) }
-    ensures err { IfErr result (λ refusal. (spelling : SpellingOf) (sets : List (List ℕ) → List Given) (id limit : ℕ) →
-        RefusesGiven (roads.Text spelling) query.now.sql sets id limit refusal) }
+    ensures begins { OnOk result ((sets : List (List ℕ) → List Given) (id limit : ℕ)
+        (out : List ℕ) → SentReadable roads.Text query.now.sql (first_sets 0 sets) id limit out out) }
+    ensures err { IfErr result (λ refusal. (sets : List (List ℕ) → List Given) (id limit : ℕ) →
+        RefusesGiven roads.Text query.now.sql sets id limit refusal) }
 {
     sent_in_turn();
     // That the placeholders are those of the text is what the proof takes of it.
@@ -71,7 +70,6 @@ fn refusal_of(set: usize, error: BindError) -> Refusal
 /// MySQL: Client/Server Protocol, "COM_QUERY".
 pub(crate) fn put_query<'a>(
     query: &ParsedQuery<'_>,
-    spelling: Spelling,
     set: usize,
     params: &'a Params,
     limit: usize,
@@ -84,10 +82,10 @@ pub(crate) fn put_query<'a>(
     requires alone { first_apart query.now.places ≡ None }
     // A text query carries no id: this holds of each.
     ensures ok { OnOk result ((id : ℕ) →
-        AppendsOne (roads.Text spelling) query.now.sql id limit set (λ names. given_by names params.entry.now)
+        AppendsOne roads.Text query.now.sql id limit set (λ names. given_by names params.entry.now)
         out.old.items out.new.items) }
     ensures err { IfErr result (λ refusal. (id : ℕ) →
-        RefusesOne (roads.Text spelling) query.now.sql id limit set (λ names. given_by names params.entry.now)
+        RefusesOne roads.Text query.now.sql id limit set (λ names. given_by names params.entry.now)
         refusal) }
     ensures kept { take (length out.old.items) out.new.items ≡ out.old.items }
 {
@@ -97,7 +95,7 @@ pub(crate) fn put_query<'a>(
     let _places = query.places();
     let start = out.len();
     out.extend_from_slice(&[0, 0, 0, 0, Command::COM_QUERY as u8])?;
-    if let Err(error) = bind_query_onto(query, spelling, params, values, out) {
+    if let Err(error) = bind_query_onto(query, params, values, out) {
         return Err(refusal_of(set, error));
     }
     if out.len() - start > limit {
@@ -109,10 +107,10 @@ pub(crate) fn put_query<'a>(
 
 /// Appends the commands that carry parameter sets of a query to a server as text queries.
 ///
-/// Each is framed as packets that are numbered from 0: a query for each set, its values as literals
-/// in the places of the placeholders, for a server in the query's mode and in this spelling. Sets
-/// and places count from 0; a payload has at most `limit - 4` bytes, as the limit counts a packet
-/// with its header. After a refusal what stood before stands in front of `out`.
+/// Each is framed as packets that are numbered from 0. There is a query for each set, its values as
+/// literals in the places of the placeholders. They are for a server in the query's mode, in its
+/// spelling. Sets and places count from 0; a payload has at most `limit - 4` bytes, as the limit
+/// counts a packet with its header. After a refusal what stood before stands in front of `out`.
 ///
 /// Promise: exactly what is stated for the road is appended, in a form that reads back, or the
 /// first cause is answered (`SentReadable`, `RefusesGiven`).
@@ -128,7 +126,6 @@ pub(crate) fn put_query<'a>(
 pub fn put_queries(
     alloc: Global,
     query: &ParsedQuery<'_>,
-    spelling: Spelling,
     sets: &[Params],
     limit: usize,
     out: &mut Vec<u8>,
@@ -136,26 +133,17 @@ pub fn put_queries(
     requires { 4 ≤ limit }
     // A text query carries no id: this holds of each.
     ensures ok { OnOk result ((id : ℕ) →
-        SentReadable (roads.Text spelling) query.now.sql (all_given sets.now) id limit out.old.items
+        SentReadable roads.Text query.now.sql (all_given sets.now) id limit out.old.items
         out.new.items) }
     ensures err { IfErr result (λ refusal. (id : ℕ) →
-        RefusesGiven (roads.Text spelling) query.now.sql (all_given sets.now) id limit refusal) }
+        RefusesGiven roads.Text query.now.sql (all_given sets.now) id limit refusal) }
     ensures kept { take (length out.old.items) out.new.items ≡ out.old.items }
 {
     sent_in_turn();
     check_places(query)?;
     let (mut values, mut spare) = (Vec::new(alloc), Vec::new(alloc));
     'sets: for (set, params) in sets.iter().enumerate() {
-        put_query(
-            query,
-            spelling,
-            set,
-            params,
-            limit,
-            &mut values,
-            &mut spare,
-            out,
-        )?;
+        put_query(query, set, params, limit, &mut values, &mut spare, out)?;
     }
     Ok(())
 }

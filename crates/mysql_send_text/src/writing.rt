@@ -3,13 +3,13 @@
 ghost use Rattle.std.specs.Prelude.{◌≤◌, ℕ, IfErr, OnOk};
 ghost use Rattle.mysql_command_rules.specs.Sets.{all_given};
 ghost use Rattle.mysql_command_rules.specs.Writing.{Stops, Writes};
-ghost use Rattle.mysql_command_rules.specs.SpelledRoad as roads;
+ghost use Rattle.mysql_command_rules.specs.declared.road.Road.TheVariants as roads;
 
 use crate::text_queries::{check_places, put_query};
 use mysql_command_rules::in_turn::{sent_in_turn, written_in_turn};
 use mysql_command_rules::{SendToError, flush, flush_set};
 use mysql_queries::ParsedQuery;
-use mysql_values::{Params, Spelling};
+use mysql_values::Params;
 use std::alloc::Global;
 use std::io::Write;
 
@@ -17,14 +17,14 @@ use std::io::Write;
 ///
 /// Safe for a server in the query's mode, as `mysql_values::bind_text_in` says.
 ///
-/// Promise: the writer is given exactly the bytes that are appended else; where not all are, all
-/// sets before the refused one, each whole, or a front (`Writes`, `Stops`).
+/// Promise: the writer is given exactly the bytes that are appended else. Where not all are, it is
+/// given all sets before the refused one, each whole, or a prefix (`Writes`, `Stops`).
 ///
 /// # Errors
 /// - `Refused` with the first cause that holds, in the order of
-///   [`Refusal`](mysql_command_rules::Refusal): `Mixed`, `NotAlone`, before anything is written;
-///   set by set `Params`, `WrongCount`, `Float`, `PacketTooLarge`, and `Memory` where a growth was
-///   refused, when all sets before that one are written.
+///   [`Refusal`](mysql_command_rules::Refusal). `Mixed` and `NotAlone` come before anything is
+///   written. Set by set come `Params`, `WrongCount`, `Float`, `PacketTooLarge`, and `Memory` where
+///   a growth was refused. All sets before that one are written then.
 /// - `Io` where the writer fails: it has taken a front of what carries the first sets, and not all
 ///   of it.
 ///
@@ -32,7 +32,6 @@ use std::io::Write;
 pub fn write_queries<W: Write>(
     alloc: Global,
     query: &ParsedQuery<'_>,
-    spelling: Spelling,
     sets: &[Params],
     limit: usize,
     to: &mut W,
@@ -40,10 +39,10 @@ pub fn write_queries<W: Write>(
     requires { 4 ≤ limit }
     // A text query carries no id: this holds of each.
     ensures ok { OnOk result ((id : ℕ) →
-        Writes (roads.Text spelling) query.now.sql (all_given sets.now) id limit (W.contents to.old)
+        Writes roads.Text query.now.sql (all_given sets.now) id limit (W.contents to.old)
         (W.contents to.new)) }
     ensures err { IfErr result (λ e. (id : ℕ) →
-        Stops (roads.Text spelling) query.now.sql sets.now id limit (W.contents to.old) (W.contents to.new) e) }
+        Stops roads.Text query.now.sql sets.now id limit (W.contents to.old) (W.contents to.new) e) }
 {
     written_in_turn();
     if let Err(refusal) = check_places(query) {
@@ -54,7 +53,6 @@ pub fn write_queries<W: Write>(
         let start = buffer.len();
         let put = put_query(
             query,
-            spelling,
             set,
             params,
             limit,

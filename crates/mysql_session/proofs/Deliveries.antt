@@ -19,7 +19,8 @@ use Rattle.mysql_command_rules.specs.Reading.{AreMeanings, HaveContents, IsReada
 use Rattle.mysql_command_rules.specs.Sending.{SendsGiven}
 use Rattle.mysql_command_rules.specs.Sent.{stream_of}
 use Rattle.mysql_command_rules.specs.Sets.{Given, all_given_in_places}
-use Rattle.mysql_command_rules.specs.SpelledRoad.{SpelledRoad, Execute}
+use Rattle.mysql_command_rules.specs.declared.road.Road.{Road}
+use Rattle.mysql_command_rules.specs.declared.road.Road.TheVariants.{Execute}
 use Rattle.mysql_send_execute.specs.Laws.{FurtherSetsAreSent}
 use Rattle.mysql_send_execute.specs.Executions.{AppendsMore, limits_of}
 use Rattle.mysql_recoding.specs.Causes.{values_of_sets}
@@ -71,10 +72,10 @@ counted : (tokens others : List (List ℕ)) (values same : List (List Value)) �
 counted tokens others values same one two counts = subst (λ (l : List (List Value)). Counts others l) two (subst (λ (t : List (List ℕ)). Counts t values) one counts)
 
 -- sets of values that can be read back
-abbrev AreReadable : SpelledRoad → Sql → ℕ → List (List ℕ) → List (List Value) → Type 0
+abbrev AreReadable : Road → Sql → ℕ → List (List ℕ) → List (List Value) → Type 0
 AreReadable road query id tokens values = AllByRecursion (IsReadable road (statement_of query tokens id).query) values
 
-readable_by : (road : SpelledRoad) (query : Sql) (id : ℕ) (tokens others : List (List ℕ)) (values same : List (List Value)) → tokens ≡ others → values ≡ same → AreReadable road query id tokens values → AreReadable road query id others same
+readable_by : (road : Road) (query : Sql) (id : ℕ) (tokens others : List (List ℕ)) (values same : List (List Value)) → tokens ≡ others → values ≡ same → AreReadable road query id tokens values → AreReadable road query id others same
 readable_by road query id tokens others values same one two readable =
     subst (λ (l : List (List Value)). AreReadable road query id others l) two (subst (λ (t : List (List ℕ)). AreReadable road query id t values) one readable)
 
@@ -117,7 +118,7 @@ recoded sent delivers query id limit stream old new small least room short bytes
     delivers Execute query (all_given_in_places (values_of_sets is.audit.sets)) id limit old new small least short appended (sent query id limit stream old new room bytes is)
 
 -- what was sent of them
-abbrev sent_of : (road : SpelledRoad) (query : Sql) (sets : List (List ℕ) → List Given) (id limit : ℕ) (old new : List ℕ) → Delivers road query sets id limit old new → SendsGiven road query sets id limit old new
+abbrev sent_of : (road : Road) (query : Sql) (sets : List (List ℕ) → List Given) (id limit : ℕ) (old new : List ℕ) → Delivers road query sets id limit old new → SendsGiven road query sets id limit old new
 sent_of road query sets id limit old new d = record {
   tokens = d.tokens;
   has = d.has;

@@ -19,7 +19,7 @@ use Rattle.mysql_convert.specs.Sets.Parts.{InOrder}
 use Rattle.mysql_receive.specs.Query.{Statement, place_count, statement_of}
 use Rattle.mysql_command_rules.specs.declared.refusal.Refusal.{Refusal}
 use Rattle.mysql_command_rules.specs.declared.refusal.Refusal.TheVariants as refusals
-use Rattle.mysql_command_rules.specs.SpelledRoad.{SpelledRoad}
+use Rattle.mysql_command_rules.specs.declared.road.Road.{Road}
 use Rattle.mysql_session.specs.Objects.{AreMade, all_given_by_objects, given_by_objects, given_in_order, unless_refused}
 use Rattle.mysql_session.specs.Laws.{MadeSetsGiveTheSame}
 use Rattle.mysql_command_rules.specs.Sets.{Given, all_given, given_by, given_up_to, values_of}
@@ -167,7 +167,7 @@ none_stopped (given ∷ others) error (first ∷ values) all =
 -- ---- sending them
 
 -- what is sent of sets is sent of others that give the same
-abbrev same_sends : (road : SpelledRoad) (query : Sql) (id limit : ℕ) (old new : List ℕ) (given others : List (List ℕ) → List Given) → ((names : List (List ℕ)) → given names ≡ others names)
+abbrev same_sends : (road : Road) (query : Sql) (id limit : ℕ) (old new : List ℕ) (given others : List (List ℕ) → List Given) → ((names : List (List ℕ)) → given names ≡ others names)
     → SendsGiven road query given id limit old new → SendsGiven road query others id limit old new
 same_sends road query id limit old new given others same s = record {
   tokens = s.tokens;
@@ -180,11 +180,11 @@ same_sends road query id limit old new given others same s = record {
   appended = s.appended;
 }
 
-same_sent : (road : SpelledRoad) (query : Sql) (id limit : ℕ) (old new : List ℕ) (given others : List (List ℕ) → List Given) → ((names : List (List ℕ)) → given names ≡ others names)
+same_sent : (road : Road) (query : Sql) (id limit : ℕ) (old new : List ℕ) (given others : List (List ℕ) → List Given) → ((names : List (List ℕ)) → given names ≡ others names)
     → SentReadable road query given id limit old new → SentReadable road query others id limit old new
 same_sent road query id limit old new given others same s = record { sends = same_sends road query id limit old new given others same s.sends; readable = s.readable }
 
-module _ (road : SpelledRoad) (query : Sql) (lists : List (List (Option Value))) (sets : List Params) (id limit : ℕ) where
+module _ (road : Road) (query : Sql) (lists : List (List (Option Value))) (sets : List Params) (id limit : ℕ) where
   -- what the lists give, by those of which sets were made
   given_in_parts : (stop : Option SetError) (m : AreMadeUpTo lists sets stop) (names : List (List ℕ)) → all_given_by_objects lists names ≡ all_given sets names ++ map (given_by_objects names) m.left
   given_in_parts stop m names =

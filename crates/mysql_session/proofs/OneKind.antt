@@ -18,7 +18,8 @@ use Rattle.mysql_values.specs.declared.params.ParamsError.{ParamsError}
 use Rattle.mysql_receive.specs.Query.{Query, Statement, place_count, statement_of}
 use Rattle.mysql_command_rules.specs.declared.refusal.Refusal.{Refusal}
 use Rattle.mysql_command_rules.specs.declared.refusal.Refusal.TheVariants as refusals
-use Rattle.mysql_command_rules.specs.SpelledRoad.{SpelledRoad, Text, Execute, Bulk}
+use Rattle.mysql_command_rules.specs.declared.road.Road.{Road}
+use Rattle.mysql_command_rules.specs.declared.road.Road.TheVariants.{Text, Execute, Bulk}
 use Rattle.mysql_command_rules.specs.Cause.{cause_if, first_of_sets, max_places, places_cause, prepare_cause, query_cause, set_cause, sets_cause}
 use Rattle.mysql_command_rules.specs.Commands.{prepare_command}
 use Rattle.mysql_command_rules.specs.Sending.{RefusesGiven}
@@ -62,8 +63,8 @@ prepare_not query room one =
     (or_not many (option_or long None) (if_not (nat_lt max_places (place_count query)) refusals.TooManyPlaces (λ same. cc same))
     (or_not long None (if_not (nat_lt room (length (prepare_command query.parsed))) refusals.PrepareTooLarge (λ same. cc same)) none_is_not))
 
-query_not : (road : SpelledRoad) (statement : Statement) (room : ℕ) → is_mixed statement.query.places ≡ false → NotMixed (query_cause road statement room)
-query_not (Text spelling) statement room one = places_not statement.query.places one
+query_not : (road : Road) (statement : Statement) (room : ℕ) → is_mixed statement.query.places ≡ false → NotMixed (query_cause road statement room)
+query_not Text statement room one = places_not statement.query.places one
 query_not Execute statement room one = prepare_not statement.query room one
 query_not Bulk statement room one =
     or_not (prepare_cause statement.query room) (cause_if (place_count statement.query == 0) refusals.NoPlaces) (prepare_not statement.query room one)
@@ -89,8 +90,8 @@ each_not command places room number [] = none_is_not
 each_not command places room number (given ∷ sets) =
     or_not (set_cause command places room number given) (first_of_sets (set_cause command places room) (number + 1) sets) (set_not command places room number given) (each_not command places room (number + 1) sets)
 
-together_not : (road : SpelledRoad) (statement : Statement) (room : ℕ) (rows : List (List Value)) → NotMixed (sets_cause road statement room rows)
-together_not (Text spelling) statement room rows = none_is_not
+together_not : (road : Road) (statement : Statement) (room : ℕ) (rows : List (List Value)) → NotMixed (sets_cause road statement room rows)
+together_not Text statement room rows = none_is_not
 together_not Execute statement room rows = none_is_not
 together_not Bulk statement room rows =
     or_not _ _ (mapped_not (λ at. refusals.MixedKinds at.0 at.1) _ (λ at same. cc same)) (or_not _ None (mapped_not (λ set. refusals.RowTooLarge set) _ (λ set same. cc same)) none_is_not)
@@ -115,7 +116,7 @@ not_alone query places params place has one apart =
     by : (mixed : Bool) (found : Option ℕ) (rest : Option BindError) → mixed ≡ false → found ≡ Some place → (if mixed then Some bind_error.Mixed else alone_cause found rest) ≡ Some (bind_error.NotAlone place)
     by mixed found rest kind here = rw (kind, here) refl
 
-pub never_mixed : OneTokens → (road : SpelledRoad) (query : Sql) (sets : List (List ℕ) → List Given) (id limit : ℕ) (refusal : Refusal) → HasMixed query false → RefusesGiven road query sets id limit refusal → refusal ≢ refusals.Mixed
+pub never_mixed : OneTokens → (road : Road) (query : Sql) (sets : List (List ℕ) → List Given) (id limit : ℕ) (refusal : Refusal) → HasMixed query false → RefusesGiven road query sets id limit refusal → refusal ≢ refusals.Mixed
 never_mixed once road query sets id limit refusal one (inl memory) = λ same. cc (sym memory ∙ same)
 never_mixed once road query sets id limit refusal one (inr why) = λ same.
     let statement : Statement = statement_of query why.tokens id in

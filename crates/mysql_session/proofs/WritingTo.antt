@@ -19,7 +19,8 @@ use Rattle.mysql_receive.specs.Audit.{Audit, Audited, AuditOf}
 use Rattle.mysql_receive.specs.Laws.{StreamHasOneAudit}
 use Rattle.mysql_receive.specs.Query.{Statement, statement_of}
 use Rattle.mysql_receive.specs.Reading.{Set}
-use Rattle.mysql_command_rules.specs.SpelledRoad.{SpelledRoad, Text, Execute, Bulk}
+use Rattle.mysql_command_rules.specs.declared.road.Road.{Road}
+use Rattle.mysql_command_rules.specs.declared.road.Road.TheVariants.{Text, Execute, Bulk}
 use Rattle.mysql_command_rules.specs.Reading.{HaveContents}
 use Rattle.mysql_command_rules.specs.Sent.{SentPayload, payloads_of, sets_of, stream_of}
 use Rattle.mysql_command_rules.specs.Sets.{Given, all_given}
@@ -31,7 +32,7 @@ use Rattle.mysql_session.specs.Delivery.{Delivers}
 use Rattle.mysql_session.specs.WritingTo.{DeliversTo, FailedWritersAreRead, FrontReads, StopsSending, TakesReadable}
 use Rattle.mysql_session.specs.Laws.{ReadableSetsAreDelivered}
 
-pub delivers_to : ReadableSetsAreDelivered → (road : SpelledRoad) (query : Sql) (sets : List (List ℕ) → List Given) (id limit : ℕ) (old new : Option (List ℕ)) → id < 2 ^ 32 → 4 ≤ limit → Writes road query sets id limit old new
+pub delivers_to : ReadableSetsAreDelivered → (road : Road) (query : Sql) (sets : List (List ℕ) → List Given) (id limit : ℕ) (old new : Option (List ℕ)) → id < 2 ^ 32 → 4 ≤ limit → Writes road query sets id limit old new
     → DeliversTo road query sets id limit old new
 delivers_to law road query sets id limit old new small room w = record {
   stream = w.stream;
@@ -69,7 +70,7 @@ first_contents sets others contents all here whole =
 
 module _ (law : ReadableSetsAreDelivered) (audits : StreamHasOneAudit) (once : OneTokens) (one_count : OneCountStandsWhole) (query : Sql) (id limit : ℕ) where
   -- what is read of a front of a stream that delivers sets
-  front_reads : (road : SpelledRoad) (sets : List (List ℕ) → List Given) (stream front back : List ℕ) → AreBytes stream → stream ≡ front ++ back → Delivers road query sets id limit [] stream
+  front_reads : (road : Road) (sets : List (List ℕ) → List Given) (stream front back : List ℕ) → AreBytes stream → stream ≡ front ++ back → Delivers road query sets id limit [] stream
       → FrontReads road query sets id limit stream front
   front_reads road sets stream front back bytes parts d =
       let statement : Statement = statement_of query d.tokens id in
@@ -103,7 +104,7 @@ module _ (law : ReadableSetsAreDelivered) (audits : StreamHasOneAudit) (once : O
 
   module _ (small : id < 2 ^ 32) (room : 4 ≤ limit) (sets : List Params) (old new : Option (List ℕ)) where
     -- what a writer took that failed within the first sets, so many
-    takes : (road : SpelledRoad) (count : ℕ) → count ≤ length sets → (road ≡ Bulk → count ≡ length sets) → FailsWithin road query (all_given (take count sets)) id limit old new
+    takes : (road : Road) (count : ℕ) → count ≤ length sets → (road ≡ Bulk → count ≡ length sets) → FailsWithin road query (all_given (take count sets)) id limit old new
         → TakesReadable road query sets id limit old new
     takes road count inside all f = record {
       count = count;
@@ -116,11 +117,11 @@ module _ (law : ReadableSetsAreDelivered) (audits : StreamHasOneAudit) (once : O
           (law road query (all_given (take count sets)) id limit [] f.stream small room short f.bytes f.carries);
     }
 
-    among : (road : SpelledRoad) → (road ≡ Bulk → ⊥) → FailsAmong road query sets id limit old new → TakesReadable road query sets id limit old new
+    among : (road : Road) → (road ≡ Bulk → ⊥) → FailsAmong road query sets id limit old new → TakesReadable road query sets id limit old new
     among road apart f = takes road f.count f.inside (λ bulk. absurd (apart bulk)) f.within
 
-    pub failed : (road : SpelledRoad) (error : Error) → StopsSending road query sets id limit old new (Io error) → TakesReadable road query sets id limit old new
-    failed (Text spelling) error f = among (Text spelling) (λ bulk. cc) f
+    pub failed : (road : Road) (error : Error) → StopsSending road query sets id limit old new (Io error) → TakesReadable road query sets id limit old new
+    failed Text error f = among Text (λ bulk. cc) f
     failed Execute error f = among Execute (λ bulk. cc) f
     failed Bulk error f =
         takes Bulk (length sets) (omega arith) (λ bulk. refl)

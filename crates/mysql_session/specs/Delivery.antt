@@ -12,7 +12,7 @@ use Rattle.mysql_receive.specs.declared.audit.End.TheVariants.{Whole}
 use Rattle.mysql_receive.specs.Audit.{Audit, AuditOf}
 use Rattle.mysql_receive.specs.Query.{statement_of}
 use Rattle.mysql_receive.specs.Reading.{Set}
-use Rattle.mysql_command_rules.specs.SpelledRoad.{SpelledRoad}
+use Rattle.mysql_command_rules.specs.declared.road.Road.{Road}
 use Rattle.mysql_command_rules.specs.Cause.{cause_of}
 use Rattle.mysql_command_rules.specs.Reading.{FrontsRead, HaveContents, IsReadable}
 use Rattle.mysql_command_rules.specs.Sending.{HasFewest}
@@ -28,7 +28,7 @@ ReadsWholeAs query id limit stream contents =
 
 -- Sets that give this for the query's names are delivered by what was appended, to a server in the
 -- query's mode.
-pub record Delivers (road : SpelledRoad) (query : Sql) (sets : List (List ℕ) →
+pub record Delivers (road : Road) (query : Sql) (sets : List (List ℕ) →
     List Given) (id limit : ℕ) (old new : List ℕ) : Type 0 where
   -- The query has these tokens, and each set gives values for its names, as many as it has placeholders.
   pub tokens : List (List ℕ)

@@ -5,4 +5,4 @@ use Rattle.mysql_session.specs.declared.query.Query.TheInside.{Inside}
 
 -- what contracts see of it
 abbrev pub kept_query : Inside → KeptQuery
-kept_query q = record { sql = q.statement.sql; spelling = q.spelling; id = q.statement.id }
+kept_query q = record { sql = q.statement.sql; id = q.statement.id }

@@ -4,34 +4,32 @@
 use Rattle.std.specs.Prelude.{◌≡◌, ◌⊎◌, ◌<◌, ◌≤◌, ℕ, List, length, false, true}
 use Rattle.mysql_values.specs.Place.{Place}
 use Rattle.mysql_values.specs.Queries.{HasMixed, places_from}
-use Rattle.mysql_values.specs.Spelling.{Spelling}
 use Rattle.mysql_values.specs.Sql.{Sql}
 use Rattle.mysql_values.specs.Tokens.{HasTokens}
 use Rattle.mysql_values.specs.Value.{Value}
 use Rattle.mysql_command_rules.specs.Cause.{max_places}
 use Rattle.mysql_command_rules.specs.Sending.{RefusesGiven}
 use Rattle.mysql_command_rules.specs.Sets.{Given}
-use Rattle.mysql_command_rules.specs.SpelledRoad.{SpelledRoad}
+use Rattle.mysql_command_rules.specs.declared.road.Road.{Road}
 use Rattle.mysql_command_rules.specs.declared.refusal.Refusal.{Refusal}
 use Rattle.mysql_command_rules.specs.declared.refusal.Refusal.TheVariants.{Memory, Mixed, TooManyPlaces}
 use Rattle.mysql_send_execute.specs.Executions.{AppendsMore, RefusesMore, limits_of}
 
--- its text for a server in a mode, the spelling of byte strings by text, and the id of its statement
+-- its text for a server in a mode, with the spelling of byte strings by text, and the id of its statement
 pub record KeptQuery : Type 0 where
   pub sql : Sql
-  pub spelling : Spelling
   pub id : ℕ
 
 -- a query is kept that stands for this text and mode, spelling and id; its placeholders are of one kind
-pub record KeepsQuery (sql : Sql) (spelling : Spelling) (id : ℕ) (query : KeptQuery) : Type 0 where
-  pub is : query ≡ record { sql = sql; spelling = spelling; id = id }
+pub record KeepsQuery (sql : Sql) (id : ℕ) (query : KeptQuery) : Type 0 where
+  pub is : query ≡ record { sql = sql; id = id }
   pub one_kind : HasMixed sql false
 
 -- None is kept: both kinds of placeholder occur, or memory ran out. So what `send` is asked of the
 -- same text and id is refused by each road, whichever the sets are.
 pub record IsNotKept (sql : Sql) (id : ℕ) (refusal : Refusal) : Type 0 where
   pub mixed : (refusal ≡ Memory) ⊎ ((refusal ≡ Mixed) × HasMixed sql true)
-  pub refused : (road : SpelledRoad) (sets : List (List ℕ) → List Given) (limit : ℕ) →
+  pub refused : (road : Road) (sets : List (List ℕ) → List Given) (limit : ℕ) →
       RefusesGiven road sql sets id limit refusal
 
 -- further executions are appended, of which the first has this number: the statement can be

@@ -10,7 +10,8 @@ use Rattle.mysql_values.specs.declared.params.Params.{Params}
 use Rattle.mysql_receive.specs.declared.audit.End.TheVariants.{Whole}
 use Rattle.mysql_receive.specs.Audit.{Audit}
 use Rattle.mysql_receive.specs.Receiving.{IsMemory, IsReceived}
-use Rattle.mysql_command_rules.specs.SpelledRoad.{SpelledRoad, Execute}
+use Rattle.mysql_command_rules.specs.declared.road.Road.{Road}
+use Rattle.mysql_command_rules.specs.declared.road.Road.TheVariants.{Execute}
 use Rattle.mysql_command_rules.specs.Laws.{IsDelivered}
 use Rattle.mysql_command_rules.specs.Reading.{SentReadable}
 use Rattle.mysql_command_rules.specs.Sets.{GiveTheSame, Given, all_given, all_given_in_places}
@@ -23,7 +24,7 @@ use Rattle.mysql_session.specs.Objects.{AreMade, all_given_by_objects}
 -- Sets that were sent in a form that can be read back, in fewer than 2 ^ 64 bytes, are delivered.
 abbrev pub ReadableSetsAreDelivered : Type 0
 ReadableSetsAreDelivered =
-    (road : SpelledRoad) (query : Sql) (sets : List (List ℕ) → List Given) (id limit : ℕ)
+    (road : Road) (query : Sql) (sets : List (List ℕ) → List Given) (id limit : ℕ)
     (old new : List ℕ) → id < 2 ^ 32 → 4 ≤ limit → length new < 2 ^ 64 → AreBytes new
     → SentReadable road query sets id limit old new → Delivers road query sets id limit old new
 
@@ -31,13 +32,13 @@ ReadableSetsAreDelivered =
 -- stream reads as the sets that stand whole in it.
 abbrev pub DeliveriesAreReadBack : Type 0
 DeliveriesAreReadBack =
-    (road : SpelledRoad) (query : Sql) (sets : List (List ℕ) → List Given) (id limit : ℕ) (old new : List ℕ)
+    (road : Road) (query : Sql) (sets : List (List ℕ) → List Given) (id limit : ℕ) (old new : List ℕ)
     → Delivers road query sets id limit old new → IsDelivered road query sets id limit old new
 
 -- Whatever `receive` answers of what was appended, in whichever pieces, but Memory, is what the sets mean, and Whole.
 abbrev pub DeliveriesAreReceived : Type 0
 DeliveriesAreReceived =
-    (road : SpelledRoad) (query : Sql) (sets : List (List ℕ) → List Given) (id limit : ℕ)
+    (road : Road) (query : Sql) (sets : List (List ℕ) → List Given) (id limit : ℕ)
     (old new : List ℕ) (pieces : List (List ℕ)) (answer : Audit)
     → (delivery : Delivers road query sets id limit old new) → new ≡ old ++ concat pieces →
     IsReceived query id limit pieces answer

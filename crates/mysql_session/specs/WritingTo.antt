@@ -11,7 +11,8 @@ use Rattle.mysql_values.specs.Sql.{Sql}
 use Rattle.mysql_values.specs.declared.params.Params.{Params}
 use Rattle.mysql_receive.specs.Audit.{Audit, AuditOf, IsNoFault}
 use Rattle.mysql_receive.specs.Receiving.{IsMemory, IsReceived}
-use Rattle.mysql_command_rules.specs.SpelledRoad.{SpelledRoad, Text, Execute, Bulk}
+use Rattle.mysql_command_rules.specs.declared.road.Road.{Road}
+use Rattle.mysql_command_rules.specs.declared.road.Road.TheVariants.{Text, Execute, Bulk}
 use Rattle.mysql_command_rules.specs.Reading.{SentReadable}
 use Rattle.mysql_command_rules.specs.Sending.{RefusesGiven}
 use Rattle.mysql_command_rules.specs.Sent.{payloads_of, sets_of}
@@ -24,7 +25,7 @@ use Rattle.mysql_session.specs.Delivery.{Delivers}
 
 -- Sets that give this for the query's names are delivered to a writer: it takes a stream that carries them, so that no
 -- cause speaks against them, and that delivers them where it has fewer than 2 ^ 64 bytes.
-pub record DeliversTo (road : SpelledRoad) (query : Sql) (sets : List (List ℕ) →
+pub record DeliversTo (road : Road) (query : Sql) (sets : List (List ℕ) →
     List Given) (id limit : ℕ) (old new : Option (List ℕ)) : Type 0 where
   pub stream : List ℕ
   pub bytes : AreBytes stream
@@ -39,9 +40,9 @@ StopsRequests query sets id limit old new (Refused refusal count) =
 StopsRequests query sets id limit old new (Io error) = FailsWithin Bulk query (all_given sets) id limit old new
 
 -- Why not all sets are delivered, and what then is written.
-abbrev pub StopsSending : SpelledRoad → Sql → List Params → ℕ → ℕ → Option (List ℕ) → Option (List ℕ) →
+abbrev pub StopsSending : Road → Sql → List Params → ℕ → ℕ → Option (List ℕ) → Option (List ℕ) →
     SendToError → Type 0
-StopsSending (Text spelling) query sets id limit old new error = Stops (Text spelling) query sets id limit old new error
+StopsSending Text query sets id limit old new error = Stops Text query sets id limit old new error
 StopsSending Execute query sets id limit old new error = Stops Execute query sets id limit old new error
 StopsSending Bulk query sets id limit old new error = StopsRequests query sets id limit old new error
 
@@ -49,7 +50,7 @@ StopsSending Bulk query sets id limit old new error = StopsRequests query sets i
 
 -- A front of a stream that delivers sets has one audit, and `receive` answers this of it in whichever pieces, but
 -- Memory: no fault, and from the first on as many of the sets' contents as stand whole in the front.
-pub record FrontReads (road : SpelledRoad) (query : Sql) (sets : List (List ℕ) →
+pub record FrontReads (road : Road) (query : Sql) (sets : List (List ℕ) →
     List Given) (id limit : ℕ) (stream front : List ℕ) : Type 0 where
   pub delivery : Delivers road query sets id limit [] stream
   pub count : ℕ
@@ -63,7 +64,7 @@ pub record FrontReads (road : SpelledRoad) (query : Sql) (sets : List (List ℕ)
 
 -- A failed writer took a front of a stream that carries the first sets, so many, by bulk all, and not all of that
 -- stream. Where the stream has fewer than 2 ^ 64 bytes, the front reads as the sets that stand whole in it.
-pub record TakesReadable (road : SpelledRoad) (query : Sql) (sets : List Params) (id limit : ℕ)
+pub record TakesReadable (road : Road) (query : Sql) (sets : List Params) (id limit : ℕ)
     (old new : Option (List ℕ)) : Type 0 where
   pub count : ℕ
   pub inside : count ≤ length sets
@@ -76,6 +77,6 @@ pub record TakesReadable (road : SpelledRoad) (query : Sql) (sets : List Params)
 -- A writer that failed while sets were sent to it took such a front.
 abbrev pub FailedWritersAreRead : Type 0
 FailedWritersAreRead =
-    (road : SpelledRoad) (query : Sql) (sets : List Params) (id limit : ℕ) (old new : Option (List ℕ))
+    (road : Road) (query : Sql) (sets : List Params) (id limit : ℕ) (old new : Option (List ℕ))
     (error : Error) → id < 2 ^ 32 → 4 ≤ limit
     → StopsSending road query sets id limit old new (Io error) → TakesReadable road query sets id limit old new

@@ -51,10 +51,10 @@ pub fn deliveries_are_received()
 
 /// What a writer took that failed reads as the sets that stand whole in it.
 ///
-/// Where a writer fails while sets are sent to it by `Query::send_to`, it has taken a front of a
-/// stream that carries the first of them, by bulk all, and not all of that stream. Where the stream
-/// has fewer than 2^64 bytes, the front reads, without a fault, as exactly the sets that stand
-/// whole in it: that is what `receive` answers of it, in whichever pieces, but Memory.
+/// Where a writer fails while sets are sent to it by [`Query::send_to`], it has taken a prefix of a
+/// stream, and not all of it. That stream carries the first of the sets, by bulk all. Where the
+/// stream has fewer than 2^64 bytes, the prefix reads, without a fault, as exactly the sets that
+/// stand whole in it. That is what `receive` answers of it, in whichever pieces, but Memory.
 pub fn failed_writers_are_read()
     ensures { FailedWritersAreRead }
 {

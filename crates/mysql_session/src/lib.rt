@@ -35,6 +35,7 @@ pub use mysql_row_refs::{
     ValueRef,
 };
 pub use mysql_rows::{ColumnIndex, Row};
+pub use mysql_session_modes::{SessionMode, Tracking, mode_begun, mode_behind_ok};
 pub use mysql_values::{
     BindError, ByteString, Content, MissingNamedParameterError, Mode, Params, ParamsConfusionError,
     ParamsError, SetError, Spelling, Value, is_safe_to_quote,

@@ -10,8 +10,7 @@ ghost use Rattle.mysql_session.specs.Objects.{all_given_by_objects};
 ghost use Rattle.mysql_command_rules.specs.MadeSets.{is_want_of_memory};
 ghost use Rattle.mysql_command_rules.specs.Reading.{SentReadable};
 ghost use Rattle.mysql_command_rules.specs.Sending.{RefusesGiven};
-ghost use Rattle.mysql_command_rules.specs.SpelledRoad as roads;
-ghost use Rattle.mysql_command_rules.specs.SpelledRoad.{spelled};
+ghost use Rattle.mysql_command_rules.specs.declared.road.Road.TheVariants as roads;
 ghost use Rattle.mysql_values.specs.Sql.{read_by_default};
 
 use crate::laws::readable_sets_are_delivered;
@@ -22,7 +21,7 @@ use mysql_send_bulk::put_requests;
 use mysql_send_execute::{Statement, put_made_executions};
 use mysql_send_text::put_made_queries;
 use mysql_values::bind::ParsedQuery;
-use mysql_values::{Params, SetError, Spelling};
+use mysql_values::{Params, SetError};
 use std::alloc::{AllocError, Global};
 
 /// The sets of the first lists, and why the list behind them makes none.
@@ -135,12 +134,12 @@ fn put_lists(
 ) -> Result<(), Refusal>
     requires { 4 ≤ limit }
     ensures refused { IfErr result
-        (RefusesGiven (spelled Spelling.Quoted road) (read_by_default query.now)
+        (RefusesGiven road (read_by_default query.now)
         (all_given_by_objects (map (λ list. map (λ object. as_value object) list.items) lists.now))
         stmt_id limit) }
     ensures kept { take (length out.old.items) out.new.items ≡ out.old.items }
     ensures sent { OnOk result
-        (SentReadable (spelled Spelling.Quoted road) (read_by_default query.now)
+        (SentReadable road (read_by_default query.now)
         (all_given_by_objects (map (λ list. map (λ object. as_value object) list.items) lists.now))
         stmt_id limit out.old.items out.new.items) }
 {
@@ -148,7 +147,7 @@ fn put_lists(
     match road {
         Road::Text => {
             let query = ParsedQuery::new(alloc, query)?;
-            put_made_queries(alloc, &query, Spelling::Quoted, &sets, limit, out)
+            put_made_queries(alloc, &query, &sets, limit, out)
         }
         Road::Execute => {
             let statement = Statement::new(alloc, query, stmt_id)?;
@@ -176,9 +175,9 @@ fn put_lists(
 /// - By text `NotAlone`.
 /// - By execute and bulk `TooManyPlaces`, `PrepareTooLarge`.
 /// - By bulk `NoPlaces`.
-/// - List by list `Params` with `TooLong` and the least place whose object is too long for a value,
-///   `Params` with `PositionalParamsForNamedQuery` where a query with names is given objects,
-///   `WrongCount`, `Float`, and but by bulk `PacketTooLarge`.
+/// - List by list `Params` with `TooLong` and the least place whose object is too long for a value.
+///   `Params` with `PositionalParamsForNamedQuery` is where a query with names is given objects.
+///   Then come `WrongCount`, `Float`, and but by bulk `PacketTooLarge`.
 /// - By bulk over all lists `MixedKinds`, `RowTooLarge`.
 /// - `Memory` where a growth was refused.
 ///
@@ -197,12 +196,12 @@ pub fn send_values(
 ) -> Result<(), Refusal>
     requires { 4 ≤ limit }
     ensures refused { IfErr result
-        (RefusesGiven (spelled Spelling.Quoted road) (read_by_default query.now)
+        (RefusesGiven road (read_by_default query.now)
         (all_given_by_objects (map (λ set. map (λ object. as_value object) set.items) sets.now))
         stmt_id limit) }
     ensures kept { OnErr result (out.new.items ≡ out.old.items) }
     ensures delivered { OnOk result
-        (Delivers (spelled Spelling.Quoted road) (read_by_default query.now) (all_given_by_objects
+        (Delivers road (read_by_default query.now) (all_given_by_objects
         (map (λ set. map (λ object. as_value object) set.items) sets.now)) stmt_id limit
         out.old.items out.new.items) }
 {

@@ -6,15 +6,14 @@ ghost use Rattle.mysql_values.specs.Binding.{Binds, RefusesBinding};
 ghost use Rattle.mysql_values.specs.Parsed.{names_of};
 ghost use Rattle.mysql_values.specs.Place.{Place as PlaceOf};
 ghost use Rattle.mysql_values.specs.Queries.{HasMixed, HasPlaces};
-ghost use Rattle.mysql_values.specs.Sql.{read_by_default, read_in};
+ghost use Rattle.mysql_values.specs.Sql.{read_by, read_by_default};
 ghost use Rattle.mysql_receive.specs.Making.{IsFresh};
 ghost use Rattle.mysql_values.specs.declared.bind.BindError.TheVariants as bind_error;
 ghost use Rattle.mysql_session.specs.Delivery.{Delivers};
 ghost use Rattle.mysql_session.specs.Kept.{AppendsFurther, IsNotKept, KeepsQuery, RefusesFurther};
 ghost use Rattle.mysql_session.specs.WritingTo.{DeliversTo, StopsSending};
 ghost use Rattle.mysql_command_rules.specs.Writing.{Writes};
-ghost use Rattle.mysql_command_rules.specs.SpelledRoad as roads;
-ghost use Rattle.mysql_command_rules.specs.SpelledRoad.{spelled};
+ghost use Rattle.mysql_command_rules.specs.declared.road.Road.TheVariants as roads;
 ghost use Rattle.mysql_command_rules.specs.Sending.{RefusesGiven};
 ghost use Rattle.mysql_command_rules.specs.Sets.{Given, all_given, all_given_in_places};
 ghost use Rattle.mysql_command_rules.specs.declared.refusal.Refusal.TheVariants as refusals;
@@ -43,7 +42,6 @@ use std::marker::Model;
 #[derive(Drop)]
 pub struct Query<'q> {
     statement: Statement<'q>,
-    spelling: Spelling,
 }
 
 impl<'q> Model for Query<'q> {
@@ -72,7 +70,7 @@ impl<'q> Query<'q> {
     ///
     /// (MySQL Reference Manual, "PREPARE Statement" (parameter markers).)
     pub fn new(alloc: Global, text: &'q [u8], stmt_id: u32) -> Result<Query<'q>, Refusal>
-        ensures kept { IfOk result (KeepsQuery (read_by_default text.entry.now) Spelling.Quoted stmt_id) }
+        ensures kept { IfOk result (KeepsQuery (read_by_default text.entry.now) stmt_id) }
         ensures refused { IfErr result (IsNotKept (read_by_default text.entry.now) stmt_id) }
     {
         Query::new_in(alloc, text, stmt_id, Mode::default(), Spelling::Quoted)
@@ -81,13 +79,17 @@ impl<'q> Query<'q> {
     /// The query of this text for a server in this mode, whose statement has this id.
     ///
     /// What is sent, bound and read by it goes by the mode, and texts have byte strings in this
-    /// spelling. `Mode::of` reads the mode from the status that a server tells in each OK packet.
+    /// spelling. `Mode::of_sql_mode` reads the mode from the variable `sql_mode`, as session tracking
+    /// tells it. `Mode::of` reads it from a status, which is wrong behind a procedure that changed the
+    /// mode. Where the mode isn't known, take `Spelling::Hexadecimal`, or send by execute.
     ///
-    ///     let query = Query::new_in(alloc, text, 1, Mode::of(ok.status_flags()), Spelling::Quoted)?;
+    ///     let mode = Mode::of_sql_mode(value);
+    ///     let spelling = if mode.is_some() { Spelling::Quoted } else { Spelling::Hexadecimal };
+    ///     let query = Query::new_in(alloc, text, 1, mode.unwrap_or_default(), spelling)?;
     ///
-    /// Promise: it stands for its text, the mode, the spelling and its statement's id, and is
-    /// refused by `Mixed` exactly where both kinds of placeholder occur. Where it is refused, so are
-    /// all sets of this text and id in this mode, by each road (`KeepsQuery`, `IsNotKept`).
+    /// Promise: it stands for its text, the mode, the spelling and its statement's id. It is
+    /// refused by `Mixed` exactly where both kinds of placeholder occur. Where it is refused, so
+    /// are all sets of this text and id in this mode, by each road (`KeepsQuery`, `IsNotKept`).
     ///
     /// # Errors
     /// - `Mixed` where both names and question marks occur in the text.
@@ -101,14 +103,11 @@ impl<'q> Query<'q> {
         mode: Mode,
         spelling: Spelling,
     ) -> Result<Query<'q>, Refusal>
-        ensures kept { IfOk result (KeepsQuery (read_in mode text.entry.now) spelling stmt_id) }
-        ensures refused { IfErr result (IsNotKept (read_in mode text.entry.now) stmt_id) }
+        ensures kept { IfOk result (KeepsQuery (read_by mode spelling text.entry.now) stmt_id) }
+        ensures refused { IfErr result (IsNotKept (read_by mode spelling text.entry.now) stmt_id) }
     {
-        let statement = Statement::new_in(alloc, text, stmt_id, mode)?;
-        Ok(Query {
-            statement,
-            spelling,
-        })
+        let statement = Statement::new_in(alloc, text, stmt_id, mode, spelling)?;
+        Ok(Query { statement })
     }
 
     /// The mode of the server that it is for.
@@ -120,9 +119,9 @@ impl<'q> Query<'q> {
 
     /// The spelling of byte strings in its texts.
     pub fn spelling(&self) -> Spelling
-        ensures { result ≡ self.now.spelling }
+        ensures { result ≡ self.now.sql.spelling }
     {
-        self.spelling
+        self.statement.query().spelling()
     }
 
     /// The text, in which not both names and question marks occur.
@@ -172,12 +171,12 @@ impl<'q> Query<'q> {
     ) -> Result<(), Refusal>
         requires { 4 ≤ limit }
         ensures refused { IfErr result
-            (RefusesGiven (spelled self.now.spelling road) self.now.sql (all_given sets.now)
+            (RefusesGiven road self.now.sql (all_given sets.now)
             self.now.id limit) }
         ensures never_mixed { IfErr result (λ refusal. refusal ≢ refusals.Mixed) }
         ensures kept { OnErr result (out.new.items ≡ out.old.items) }
         ensures delivered { OnOk result
-            (Delivers (spelled self.now.spelling road) self.now.sql (all_given sets.now) self.now.id limit out.old.items
+            (Delivers road self.now.sql (all_given sets.now) self.now.id limit out.old.items
             out.new.items) }
     {
         readable_sets_are_delivered();
@@ -187,7 +186,7 @@ impl<'q> Query<'q> {
         let start = out.len();
         let statement = &self.statement;
         let sent = match road {
-            Road::Text => put_queries(alloc, statement.query(), self.spelling, sets, limit, out),
+            Road::Text => put_queries(alloc, statement.query(), sets, limit, out),
             Road::Execute => put_executions(alloc, statement, sets, limit, out),
             Road::Bulk => put_requests(alloc, statement, sets, None, limit, out),
         };
@@ -288,22 +287,15 @@ impl<'q> Query<'q> {
     ) -> Result<(), SendToError>
         requires { 4 ≤ limit }
         ensures written { OnOk result
-            (Writes (spelled self.now.spelling road) self.now.sql (all_given sets.now) self.now.id
+            (Writes road self.now.sql (all_given sets.now) self.now.id
             limit (W.contents to.old)
             (W.contents to.new)) }
         ensures stopped { IfErr result
-            (StopsSending (spelled self.now.spelling road) self.now.sql sets.now self.now.id limit (W.contents to.old)
+            (StopsSending road self.now.sql sets.now self.now.id limit (W.contents to.old)
             (W.contents to.new)) }
     {
         match road {
-            Road::Text => write_queries(
-                alloc,
-                self.statement.query(),
-                self.spelling,
-                sets,
-                limit,
-                to,
-            ),
+            Road::Text => write_queries(alloc, self.statement.query(), sets, limit, to),
             Road::Execute => write_executions(alloc, &self.statement, sets, limit, to),
             Road::Bulk => self.send_requests_to(alloc, sets, limit, to),
         }
@@ -311,7 +303,7 @@ impl<'q> Query<'q> {
 
     /// Writes to `to`, as to a connection, what [`Query::send`] appends of the same sets.
     ///
-    /// By text and execute it goes in parts, as the sets are made packets; by bulk when all
+    /// By text and execute it goes in parts, as the sets are made packets. By bulk it goes when all
     /// requests stand, since what speaks against any set comes before the first of them. What `to`
     /// holds back itself, as a `BufWriter` does, is flushed by who gave it.
     ///
@@ -319,16 +311,16 @@ impl<'q> Query<'q> {
     /// execute and bulk for any.
     ///
     /// Promise: the writer is given what [`Query::send`] appends, or, where not all are written,
-    /// all sets before the refused one; a writer that failed took a front, and not all
+    /// all sets before the refused one. A writer that failed took a prefix, and not all
     /// (`DeliversTo`, `StopsSending`).
     ///
     /// # Errors
-    /// - [`SendToError::Refused`] with what [`Query::send`] is refused for, and how many sets were
-    ///   written before: by text `NotAlone` and by execute `TooManyPlaces` and `PrepareTooLarge`,
-    ///   before anything is written; at a set by `Params`, `WrongCount`, `Float`, `PacketTooLarge`,
-    ///   or `Memory` where a growth was refused, when all sets before it are written, each whole;
-    ///   by bulk each refusal before anything is written.
-    /// - [`SendToError::Io`] where the writer fails: it has taken a front of a stream that carries
+    /// - `SendToError::Refused` with what [`Query::send`] is refused for, and how many sets were
+    ///   written before. By text `NotAlone`, and by execute `TooManyPlaces` and `PrepareTooLarge`,
+    ///   come before anything is written. At a set come `Params`, `WrongCount`, `Float`,
+    ///   `PacketTooLarge`, or `Memory` where a growth was refused. All sets before it are written
+    ///   then, each whole. By bulk each refusal comes before anything is written.
+    /// - `SendToError::Io` where the writer fails. It has taken a prefix of a stream that carries
     ///   the first sets, by bulk all, and not all of that stream. A receiver reads of the front,
     ///   without a fault, exactly the sets that stand whole in it: the law
     ///   `laws::failed_writers_are_read`.
@@ -345,10 +337,10 @@ impl<'q> Query<'q> {
     ) -> Result<(), SendToError>
         requires { 4 ≤ limit }
         ensures delivered { OnOk result
-            (DeliversTo (spelled self.now.spelling road) self.now.sql (all_given sets.now) self.now.id limit
+            (DeliversTo road self.now.sql (all_given sets.now) self.now.id limit
             (W.contents to.old) (W.contents to.new)) }
         ensures stopped { IfErr result
-            (StopsSending (spelled self.now.spelling road) self.now.sql sets.now self.now.id limit (W.contents to.old)
+            (StopsSending road self.now.sql sets.now self.now.id limit (W.contents to.old)
             (W.contents to.new)) }
     {
         readable_sets_are_delivered();
@@ -400,7 +392,7 @@ impl<'q> Query<'q> {
         params: &Params,
         out: &mut Vec<u8>,
     ) -> Result<(), BindError>
-        ensures ok { OnOk result (Binds self.now.sql self.now.spelling params.now out.old.items out.new.items) }
+        ensures ok { OnOk result (Binds self.now.sql params.now out.old.items out.new.items) }
         ensures err { IfErr result (RefusesBinding self.now.sql params.now) }
         ensures never_mixed { IfErr result (λ e. e ≢ bind_error.Mixed) }
         ensures kept { OnErr result (out.new.items ≡ out.old.items) }
@@ -415,6 +407,6 @@ impl<'q> Query<'q> {
             return Err(BindError::NotAlone(place));
         }
         let mut values = Vec::new(alloc);
-        bind_query(query, self.spelling, params, &mut values, out)
+        bind_query(query, params, &mut values, out)
     }
 }

@@ -4,7 +4,6 @@ ghost use Rattle.std.specs.Prelude.{◌≡◌, ◌≤◌, IfErr, OnErr, OnOk};
 ghost use Rattle.mysql_session.specs.Delivery.{Delivers};
 ghost use Rattle.mysql_command_rules.specs.Sending.{RefusesGiven};
 ghost use Rattle.mysql_command_rules.specs.Sets.{all_given};
-ghost use Rattle.mysql_command_rules.specs.SpelledRoad.{spelled};
 ghost use Rattle.mysql_values.specs.Sql.{read_by_default};
 
 use crate::laws::readable_sets_are_delivered;
@@ -13,40 +12,40 @@ use mysql_command_rules::{Refusal, Road};
 use mysql_send_bulk::put_requests;
 use mysql_send_execute::{Statement, put_executions};
 use mysql_send_text::put_queries;
+use mysql_values::Params;
 use mysql_values::bind::ParsedQuery;
-use mysql_values::{Mode, Params, Spelling};
 use std::alloc::Global;
 
 /// Appends to `out` the commands that carry parameter sets of a query to a server.
 ///
-/// They are framed packets, each numbered from 0: by [`Road::Text`] a query for each set, its
-/// values as literals in the places of the placeholders; by [`Road::Execute`] one prepare, also
-/// where there are no sets, and an execution of the statement `stmt_id` for each set, before it,
-/// where it would exceed 16777215 bytes, its byte strings as long data; by [`Road::Bulk`] one
-/// prepare, and the fewest bulk executions that there can be. Sets and places count from 0.
-/// `receive` with the same query, id and limit reads the sets back, and of each front of what was
-/// appended the sets whose last command stands whole in it.
+/// They are framed packets, each numbered from 0. By `Road::Text` there is a query for each set,
+/// its values as literals in the places of the placeholders. By `Road::Execute` there is one
+/// prepare, also where there are no sets, and an execution of the statement `stmt_id` for each set.
+/// Where an execution would exceed 16777215 bytes, its byte strings stand before it as long data.
+/// By `Road::Bulk` there is one prepare, and the fewest bulk executions that there can be. Sets and
+/// places count from 0. `receive` with the same query, id and limit reads the sets back. Of each
+/// prefix of what was appended it reads the sets whose last command stands whole in it.
 ///
-/// A placeholder is a question mark, or a colon and a name of `a` to `z`, `0` to `9` and `_` that
-/// begins with no digit, by which, without the colon, a set gives its value. `:aB` is the
+/// A placeholder is a question mark, or a colon and a name. A name is of `a` to `z`, `0` to `9` and
+/// `_`, and begins with no digit. A set gives its value by the name without the colon. `:aB` is the
 /// placeholder `a` before a `B`; `:Name` is none, so that a set that names values is refused by
 /// `Params` over `SELECT :Name`.
 ///
 /// What is appended behind another stream of the same query, id and limit, by whichever road, also
-/// by [`send_values`](crate::send_values), reads behind its sets: the law
+/// by [`send_values`](crate::send_values), reads behind its sets. The law is
 /// `laws::sent_streams_join`.
 ///
 /// `limit` is the `max_allowed_packet` of the server, at least 4. Calls that write count 4 bytes
 /// for a packet's header in it: a payload has at most `limit - 4` bytes. Calls that read take the
-/// `max_allowed_packet` of their own side and count the payload alone, so that with the same limit
-/// each payload that is appended here is within it.
+/// `max_allowed_packet` of their own side and count the payload alone. So with the same limit each
+/// payload that is appended here is within it.
 ///
 /// Commands are laid out for a connection on which CLIENT_QUERY_ATTRIBUTES isn't in force, and bulk
 /// executions for one on which MARIADB_CLIENT_STMT_BULK_OPERATIONS is.
 ///
 /// By execute and bulk **safe for** any server. By text for one whose SQL mode has neither
-/// NO_BACKSLASH_ESCAPES nor ANSI_QUOTES over a connection in UTF-8, as `mysql_values::bind_text` is:
-/// for any other a value may end its literal, and what stands behind the quote is read as SQL.
+/// NO_BACKSLASH_ESCAPES nor ANSI_QUOTES over a connection in UTF-8, as `mysql_values::bind_text`
+/// is. For any other a value may end its literal, and what stands behind the quote is read as SQL.
 /// [`Query::new_in`](crate::Query::new_in) takes the mode, and [`Query::send`](crate::Query::send)
 /// sends for it.
 ///
@@ -78,27 +77,26 @@ pub fn send(
 ) -> Result<(), Refusal>
     requires { 4 ≤ limit }
     ensures refused { IfErr result
-        (RefusesGiven (spelled Spelling.Quoted road) (read_by_default query.now)
+        (RefusesGiven road (read_by_default query.now)
         (all_given sets.now) stmt_id limit) }
     ensures kept { OnErr result (out.new.items ≡ out.old.items) }
     ensures delivered { OnOk result
-        (Delivers (spelled Spelling.Quoted road) (read_by_default query.now) (all_given sets.now) stmt_id limit
+        (Delivers road (read_by_default query.now) (all_given sets.now) stmt_id limit
         out.old.items out.new.items) }
 {
     readable_sets_are_delivered();
     let start = out.len();
-    let mode = Mode::default();
     let sent = match road {
         Road::Text => {
-            let query = ParsedQuery::new_in(alloc, query, mode)?;
-            put_queries(alloc, &query, Spelling::Quoted, sets, limit, out)
+            let query = ParsedQuery::new(alloc, query)?;
+            put_queries(alloc, &query, sets, limit, out)
         }
         Road::Execute => {
-            let statement = Statement::new_in(alloc, query, stmt_id, mode)?;
+            let statement = Statement::new(alloc, query, stmt_id)?;
             put_executions(alloc, &statement, sets, limit, out)
         }
         Road::Bulk => {
-            let statement = Statement::new_in(alloc, query, stmt_id, mode)?;
+            let statement = Statement::new(alloc, query, stmt_id)?;
             put_requests(alloc, &statement, sets, None, limit, out)
         }
     };

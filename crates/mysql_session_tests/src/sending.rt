@@ -158,9 +158,9 @@ const FULL: Option<ErrorKind> = Some(ErrorKind::WriteZero);
 /// Bytes that are taken one by one, by sevens, and in as few writes as there are lots.
 ///
 /// Then writers that fail behind so many bytes: in a lot, between two, and behind a packet within
-/// one. Then writers that fail behind one write: a lot has 8192 bytes at least. By text a packet has
-/// 14 bytes more than its `x`, by execute the prepare has 13, and an execution 18 more, or 20 where
-/// their number takes three.
+/// one. Then writers that fail behind one write: a lot has 8192 bytes at least. By text a packet
+/// has 14 bytes more than its `x`. By execute the prepare has 13, and an execution 18 more, or 20
+/// where their number takes three.
 const ROWS: [Row; 27] = [
     (Road::Text, SETS, 6, (1, ANY, ANY), None, 30088),
     (Road::Text, SETS, 6, (7, ANY, ANY), None, 30088),

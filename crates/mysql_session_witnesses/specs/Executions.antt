@@ -6,7 +6,7 @@ use Rattle.std.specs.Prelude.{◌≡◌, ℕ, true, false, List, [], ◌∷◌, 
 use Rattle.mysql_cells.specs.declared.value.Value.TheVariants.{Bytes, NULL}
 use Rattle.mysql_command_writer.specs.Refusals.{Puts}
 use Rattle.mysql_command_writer.specs.Written.{command_bytes}
-use Rattle.mysql_commands.specs.Commands.{BulkExecute, Fetch, FieldList, Other, command_at}
+use Rattle.mysql_commands.specs.Commands.{BulkExecute, ChangeUser, Fetch, FieldList, Other, command_at}
 use Rattle.mysql_commands.specs.Replies.{statement_of}
 use Rattle.mysql_const.specs.declared.capabilities.Capabilities.{Capabilities}
 use Rattle.mysql_const.specs.declared.column_type.ColumnType.TheVariants.{MYSQL_TYPE_NULL, MYSQL_TYPE_VAR_STRING}
@@ -16,6 +16,7 @@ use Rattle.mysql_executions.specs.After.{after_refusal, in_place_of}
 use Rattle.mysql_executions.specs.Bulks.{BulkExecution}
 use Rattle.mysql_executions.specs.Executions.{Execution}
 use Rattle.mysql_executions.specs.InForce.{InForce}
+use Rattle.mysql_executions.specs.Unclear.{first_unclear, is_unclear_cell}
 use Rattle.mysql_executions.specs.declared.refused.Refused.TheVariants.{Bulk, Execution as AnExecution}
 use Rattle.mysql_executions.specs.declared.types.Attribute.{Attribute}
 use Rattle.mysql_executions.specs.declared.types.ParameterType.{ParameterType}
@@ -80,9 +81,12 @@ attributed = record {
   statement = 1;
   cursor = record { 0 = 0 };
   count_available = true;
+  nameless_flags = 0;
+  iterations = 1;
   types = None;
   parameters = [];
   attributes = null_attribute ∷ [];
+  rest = [];
 }
 
 -- Attributes stand in an execution with types alone. Excluded: one that says that no types follow,
@@ -92,7 +96,33 @@ AttributesStandWithTypes =
     can_be_put (both_words 0x8000000 0) (record { count = 0; types = []; long_data = []; broken = false })
     attributed ≡ false
 
+-- VALUES THAT SERVERS READ EACH THEIR WAY
+
+-- A length that begins with fb or ff makes a text unclear, fa doesn't. Excluded: a text without bytes that is
+-- told as a value. MySQL: Client/Server Protocol, "Protocol::LengthEncodedInteger".
+abbrev pub OddLengthsAreUnclear : Type 0
+OddLengthsAreUnclear = (bytes : List ℕ) →
+    (is_unclear_cell text_type (0xfb ∷ bytes) ≡ true) ×
+    ((is_unclear_cell text_type (0xff ∷ bytes) ≡ true) × (is_unclear_cell text_type (0xfa ∷ bytes) ≡ false))
+
+-- Of two texts the second is unclear, from its cell on. Excluded: a mark of the first, and of none.
+-- MySQL: Client/Server Protocol, "Binary Protocol Value".
+abbrev pub TheFirstUnclearCellIsFound : Type 0
+TheFirstUnclearCellIsFound =
+    first_unclear 0 0 (Some text_type ∷ Some text_type ∷ []) (1 ∷ 0x61 ∷ 0xff ∷ 7 ∷ []) ≡ Some (1, 0xff ∷ 7 ∷ [])
+
 -- COMMANDS
+
+-- A byte behind the last field of a change of user leaves it one. Excluded: another payload, which names no
+-- plugin. MySQL: Client/Server Protocol, "COM_CHANGE_USER".
+abbrev pub BytesBehindAChangeOfUserDontCount : Type 0
+BytesBehindAChangeOfUserDontCount =
+    command_at (both_words 0 0) None (0x11 ∷ 0 ∷ 0 ∷ 0 ∷ 33 ∷ 0 ∷ 7 ∷ []) ≡ ChangeUser (record {
+      user = [];
+      scramble = [];
+      database = [];
+      more = Some (record { character_set = 33; plugin = None; attributes = None });
+    })
 
 -- A bulk execution is about the statement of the id behind its number. Excluded: a reader that knows
 -- of no statement there, and so of no parameters. MariaDB: Client/Server Protocol, "COM_STMT_BULK_EXECUTE".

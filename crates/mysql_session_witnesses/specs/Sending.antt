@@ -10,13 +10,12 @@ use Rattle.mysql_command_rules.specs.Buffering.{StopsAt, TakesFront}
 use Rattle.mysql_command_rules.specs.Cause.{cause_of}
 use Rattle.mysql_command_rules.specs.Commands.{bulk_request, pieces_from}
 use Rattle.mysql_command_rules.specs.Sent.{last_of, stream_of}
-use Rattle.mysql_command_rules.specs.SpelledRoad.{Execute, Text}
+use Rattle.mysql_command_rules.specs.declared.road.Road.TheVariants.{Execute, Text}
 use Rattle.mysql_command_rules.specs.declared.refusal.Refusal.{Refusal}
 use Rattle.mysql_command_rules.specs.declared.refusal.Refusal.TheVariants.{NotAlone, PacketTooLarge, WrongCount}
 use Rattle.mysql_command_rules.specs.declared.send_to_error.SendToError.TheVariants.{Refused}
 use Rattle.mysql_queries.specs.Sql.{Sql, read_by_default}
 use Rattle.mysql_queries.specs.declared.content.Content.TheVariants.{Number}
-use Rattle.mysql_cells.specs.declared.spelling.Spelling.{Spelling}
 use Rattle.mysql_receive.specs.Query.{Statement}
 use Rattle.mysql_receive.specs.Reading.{Set}
 use Rattle.mysql_recoding.specs.AsItComes.{RecoderState, RecodesPiece, Terms}
@@ -99,9 +98,8 @@ no_query = record { query = record { sql = read_by_default []; parsed = []; plac
 -- A limit counts the four bytes of a packet's header: the packet of a query of no bytes has five.
 -- Excluded: a payload of four bytes more. MySQL Reference Manual, "Server System Variables" (max_allowed_packet).
 abbrev pub LimitsCountTheHeader : Type 0
-LimitsCountTheHeader = (spelling : Spelling) →
-    (cause_of (Text spelling) no_query 4 (Ok [] ∷ []) ≡ Some (PacketTooLarge 0)) ×
-    (cause_of (Text spelling) no_query 5 (Ok [] ∷ []) ≡ None)
+LimitsCountTheHeader = (cause_of Text no_query 4 (Ok [] ∷ []) ≡ Some (PacketTooLarge 0)) ×
+    (cause_of Text no_query 5 (Ok [] ∷ []) ≡ None)
 
 -- A byte string of no bytes is a piece of long data too. Excluded: none for it, so that the server
 -- looks for its cell. MySQL: Client/Server Protocol, "COM_STMT_SEND_LONG_DATA".

@@ -1,7 +1,9 @@
 //! Executions of a prepared statement, what they leave in force, and commands.
 
 ghost use Rattle.mysql_session_witnesses.specs.Executions.{AttributesStandWithTypes, BulksAreAboutAStatement};
-ghost use Rattle.mysql_session_witnesses.specs.Executions.{BulksBeginWithFa, CommandsAreNotPutAsOthers};
+ghost use Rattle.mysql_session_witnesses.specs.Executions.{BulksBeginWithFa, BytesBehindAChangeOfUserDontCount};
+ghost use Rattle.mysql_session_witnesses.specs.Executions.{CommandsAreNotPutAsOthers, OddLengthsAreUnclear};
+ghost use Rattle.mysql_session_witnesses.specs.Executions.{TheFirstUnclearCellIsFound};
 ghost use Rattle.mysql_session_witnesses.specs.Executions.{FetchesNameTheirStatementFirst, LaterTypesStay};
 ghost use Rattle.mysql_session_witnesses.specs.Executions.{NamesWithZerosAreNotPut, NoByteIsLeftBehindACommand};
 ghost use Rattle.mysql_session_witnesses.specs.Executions.{NothingElseIsPutForWaitingData, UnknownBulksLeaveTheTypes};
@@ -16,8 +18,8 @@ pub fn later_types_stay()
 
 /// A command that a server didn't read leaves what was in force before it.
 ///
-/// Excluded: a statement that forgets the long data of an execution that error 1835 refuses, and one
-/// that keeps the types of a bulk execution that error 1295 refuses.
+/// Excluded: a statement that forgets the long data of an execution that error 1835 refuses.
+/// Excluded too: one that keeps the types of a bulk execution that error 1295 refuses.
 pub fn unread_commands_leave_what_was_in_force()
     ensures executions { UnreadExecutionsLeaveAll }
     ensures bulks { UnknownBulksLeaveTheTypes }
@@ -44,6 +46,23 @@ pub fn nothing_else_is_put_for_waiting_data()
 #[tactic(auto, unfolding(crate::proofs::OnLiterals::executions_on_literals))]
 pub fn attributes_stand_with_types()
     ensures { AttributesStandWithTypes }
+{}
+
+/// Cells that servers read each their way are told from others, and the first of them is found.
+///
+/// Excluded: a text whose length begins with fb that is told as a value, and a mark of another value.
+#[tactic(auto, unfolding(crate::proofs::OnLiterals::cells_on_literals))]
+pub fn odd_lengths_are_unclear()
+    ensures lengths { OddLengthsAreUnclear }
+    ensures first { TheFirstUnclearCellIsFound }
+{}
+
+/// Bytes behind the last field of a change of user don't count.
+///
+/// Excluded: another payload, by which its plugin wouldn't be in force.
+#[tactic(auto, unfolding(crate::proofs::OnLiterals::changes_of_user_on_literals))]
+pub fn bytes_behind_a_change_of_user_dont_count()
+    ensures { BytesBehindAChangeOfUserDontCount }
 {}
 
 /// A bulk execution is about the statement of the id behind its number, fa.

@@ -1,7 +1,8 @@
 //! Values: their texts, their cells, conversions, and parameter sets that are made of lists.
 
 ghost use Rattle.std.specs.Prelude.{◌≡◌, IfSome};
-ghost use Rattle.mysql_session_witnesses.specs.Values.{EachPlaceHasItsValue, EqualNamesAreRefused};
+ghost use Rattle.mysql_session_witnesses.specs.Values.{CommentsArePartedInComments, EachPlaceHasItsValue};
+ghost use Rattle.mysql_session_witnesses.specs.Values.{EqualNamesAreRefused, OtherBytesAreBinary, TextsAreNoNumbers};
 ghost use Rattle.mysql_session_witnesses.specs.Values.{LargeNumbersStayPositive, LongValuesAreRefused};
 ghost use Rattle.mysql_session_witnesses.specs.Values.{NoBytesStandInQuotes, QuotesAreDoubledWithoutEscapes};
 ghost use Rattle.mysql_session_witnesses.specs.Values.{QuotesAreEscapedElse, ZeroTimesAreBoundWithoutSign};
@@ -21,9 +22,27 @@ pub fn quotes_are_written_by_the_mode()
 
 /// No bytes stand in quotes, in hexadecimal spelling too.
 ///
-/// Excluded: `0x`, which is no literal.
+/// Excluded: `0x`, also behind an introducer, which is no literal.
 pub fn no_bytes_stand_in_quotes()
     ensures { NoBytesStandInQuotes }
+{}
+
+/// In hexadecimal spelling an introducer tells what bytes are.
+///
+/// Excluded: digits alone, which are a number where one is wanted, and `_utf8mb4` before bytes that
+/// aren't UTF-8.
+#[tactic(auto, unfolding(bitflags::proofs::OnLiterals::bitflags_on_literals))]
+pub fn introducers_tell_what_bytes_are()
+    ensures texts { TextsAreNoNumbers }
+    ensures others { OtherBytesAreBinary }
+{}
+
+/// `*/` is parted in a comment that a server may skip, and left as it is elsewhere.
+///
+/// Excluded: the same spelling for each placeholder.
+#[tactic(auto, unfolding(bitflags::proofs::OnLiterals::bitflags_on_literals))]
+pub fn comments_are_parted_in_comments()
+    ensures { CommentsArePartedInComments }
 {}
 
 /// A negative time of all zeros is bound without its sign.

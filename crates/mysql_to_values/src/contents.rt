@@ -9,8 +9,8 @@ use mysql_cells::Value;
 use mysql_queries::Content;
 use std::alloc::Global;
 
-/// What a command carried, as a value that can be sent again: a number from -2^63 to 2^64-1, as
-/// each that was read is, as `Int` where it fits, else as `UInt`.
+/// What a command carried, as a value that can be sent again. A number from -2^63 to 2^64-1, as
+/// each that was read is, is `Int` where it fits, else `UInt`.
 impl ToValue for Content {
     ghost as_value = { λ content. Some (content_value content) };
 

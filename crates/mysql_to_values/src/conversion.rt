@@ -14,10 +14,10 @@ use std::alloc::Global;
 
 /// A type that converts to a [`Value`].
 ///
-/// Whole numbers convert to `Int`, but `u64` and `usize` to `UInt`; `i128` and `u128` to `Int`
-/// where they fit, else to `UInt`, else to `Bytes` of their digits; `bool` to `Int` of 0 or 1;
-/// texts and bytes to `Bytes`; `Duration` to `Time`, rounded half up to microseconds; None to
-/// `NULL`, a `Content` to the value that carries it, and a [`Value`] to itself.
+/// Whole numbers convert to `Int`, but `u64` and `usize` to `UInt`. `i128` and `u128` convert to
+/// `Int` where they fit, else to `UInt`, else to `Bytes` of their digits. `bool` converts to `Int`
+/// of 0 or 1, texts and bytes to `Bytes`, `Duration` to `Time`, rounded half up to microseconds.
+/// None converts to `NULL`, a `Content` to the value that carries it, and a `Value` to itself.
 ///
 /// An impl says by `as_value` which value it gives. `Box<dyn ToValue + Drop>` is such a type too,
 /// so that a list can hold values of several types.

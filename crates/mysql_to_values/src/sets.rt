@@ -22,15 +22,15 @@ use std::convert::AsSlice;
 
 /// What a parameter set is made of.
 ///
-/// A list (`Vec<T>`, `&[T]`) and a tuple of 1 to 12 elements make a set of their values in order;
+/// A list (`Vec<T>`, `&[T]`) and a tuple of 1 to 12 elements make a set of their values in order.
 /// `()` and a list without elements make the empty set. A list of pairs of a name (text or bytes,
-/// without the colon) and a value makes a set of a value for each name, also where it has no pairs.
-/// A list of `Box<dyn ToValue + Drop>` holds values of several types. A reference to any of these
-/// makes the set of what it refers to.
+/// without the colon) and a value makes a set of a value for each name. So it does where it has no
+/// pairs. A list of `Box<dyn ToValue + Drop>` holds values of several types. A reference to any of
+/// these makes the set of what it refers to.
 ///
 /// The values are copied: `into_params` drops what it takes, `to_params` leaves it.
 ///
-/// Promise: the set has each value in order or by its name; no pair is left out, and of two equal
+/// Promise: the set has each value in order or by its name. No pair is left out, and of two equal
 /// names none is kept (`set_cause`).
 pub trait IntoParams: Sized + Drop {
     // its values in order, or beside their names

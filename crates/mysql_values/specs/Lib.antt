@@ -1,6 +1,7 @@
 pub use Rattle.mysql_buf.specs.Bytes
 pub use Rattle.mysql_fields.specs.declared.error.WireError
 pub use Rattle.mysql_queries.specs.Tokens
+pub use Rattle.mysql_queries.specs.Comments
 pub use Rattle.mysql_queries.specs.Literals
 pub use Rattle.mysql_queries.specs.Queries
 pub use Rattle.mysql_queries.specs.Written
@@ -17,12 +18,12 @@ pub use Rattle.mysql_queries.specs.declared.literals.Literal
 pub use Rattle.mysql_queries.specs.declared.mode.Mode
 pub use Rattle.mysql_queries.specs.declared.named_params.NamedParamsError
 pub use Rattle.mysql_queries.specs.declared.placeholders.Place
+pub use Rattle.mysql_queries.specs.declared.spelling.Spelling
 pub use Rattle.mysql_cells.specs.Values
 pub use Rattle.mysql_cells.specs.AsSql
 pub use Rattle.mysql_cells.specs.Cells
 pub use Rattle.mysql_cells.specs.CellLaws
 pub use Rattle.mysql_cells.specs.declared.value.Value
-pub use Rattle.mysql_cells.specs.declared.spelling.Spelling
 pub mod Params
 pub mod Binding
 pub mod Contents

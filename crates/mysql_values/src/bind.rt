@@ -7,7 +7,7 @@ ghost use Rattle.mysql_values.specs.Binding.{Binds, RefusesBinding, bind_cause, 
 ghost use Rattle.mysql_queries.specs.Parsed.{names_at};
 ghost use Rattle.mysql_queries.specs.Queries.{HasPlaces, first_not_alone as first_apart};
 ghost use Rattle.mysql_queries.specs.Queries.{is_mixed as has_both_kinds};
-ghost use Rattle.mysql_queries.specs.Sql.{read_by_default, read_in};
+ghost use Rattle.mysql_queries.specs.Sql.{read_by, read_by_default, read_in};
 ghost use Rattle.mysql_values.specs.declared.params.ParamsError.{ParamsError as ParamsErrorOf};
 ghost use Rattle.mysql_cells.specs.declared.value.Value.{Value as ValueOf};
 ghost use Rattle.std.specs.Cow.{cow_slice_items};
@@ -134,8 +134,8 @@ fn put_text<'a>(
     requires one_kind { has_both_kinds places.now ≡ false }
     requires alone { first_apart places.now ≡ None }
     requires names { map cow_slice_items names.now ≡ names_at query.now places.now }
-    ensures ok { OnOk result (Binds (read_in mode query.now) spelling params.entry.now out.old.items out.new.items) }
-    ensures err { IfErr result (RefusesBinding (read_in mode query.now) params.entry.now) }
+    ensures ok { OnOk result (Binds (read_by mode spelling query.now) params.entry.now out.old.items out.new.items) }
+    ensures err { IfErr result (RefusesBinding (read_by mode spelling query.now) params.entry.now) }
     ensures kept { take (length out.old.items) out.new.items ≡ out.old.items }
 {
     pieces_of_a_query();
@@ -149,7 +149,14 @@ fn put_text<'a>(
     for i in 0..places.len() {
         let place = places[i];
         out.extend_from_slice(&query[at..place.start])?;
-        match put_sql(out, listed[i], mode.no_backslash_escapes, spelling, false) {
+        match put_sql(
+            out,
+            listed[i],
+            mode.no_backslash_escapes,
+            spelling,
+            place.in_comment,
+            false,
+        ) {
             Ok(()) => at = place.end,
             Err(AsSqlError::Float) => return Err(BindError::Float(i)),
             Err(AsSqlError::Memory) => return Err(BindError::Memory),
@@ -170,21 +177,20 @@ fn put_text<'a>(
 /// What stood before stands in front of `out`.
 pub fn bind_query_onto<'a>(
     query: &ParsedQuery<'_>,
-    spelling: Spelling,
     params: &'a Params,
     values: &mut Vec<&'a Value>,
     out: &mut Vec<u8>,
 ) -> Result<(), BindError>
     requires one_kind { has_both_kinds query.now.places ≡ false }
     requires alone { first_apart query.now.places ≡ None }
-    ensures ok { OnOk result (Binds query.now.sql spelling params.entry.now out.old.items out.new.items) }
+    ensures ok { OnOk result (Binds query.now.sql params.entry.now out.old.items out.new.items) }
     ensures err { IfErr result (RefusesBinding query.now.sql params.entry.now) }
     ensures kept { take (length out.old.items) out.new.items ≡ out.old.items }
 {
     put_text(
         query.text(),
         query.mode(),
-        spelling,
+        query.spelling(),
         query.places(),
         query.names(),
         params,
@@ -195,9 +201,9 @@ pub fn bind_query_onto<'a>(
 
 /// Appends the text of one of many sets of a query, for a server in the query's mode.
 ///
-/// What doesn't depend on the set was found once. The placeholders are of one kind and stand alone.
-/// `values` keeps its room from set to set; what it held leaves it, and what it then holds isn't
-/// said.
+/// Byte strings are in the query's spelling. What doesn't depend on the set was found once. The
+/// placeholders are of one kind and stand alone. `values` keeps its room from set to set; what it
+/// held leaves it, and what it then holds isn't said.
 ///
 /// Promise: what [`bind_text_in`] promises, over a query that was parsed before (`Binds`,
 /// `IsBindCause`).
@@ -211,19 +217,18 @@ pub fn bind_query_onto<'a>(
 /// Nothing is appended then.
 pub fn bind_query<'a>(
     query: &ParsedQuery<'_>,
-    spelling: Spelling,
     params: &'a Params,
     values: &mut Vec<&'a Value>,
     out: &mut Vec<u8>,
 ) -> Result<(), BindError>
     requires one_kind { has_both_kinds query.now.places ≡ false }
     requires alone { first_apart query.now.places ≡ None }
-    ensures ok { OnOk result (Binds query.now.sql spelling params.entry.now out.old.items out.new.items) }
+    ensures ok { OnOk result (Binds query.now.sql params.entry.now out.old.items out.new.items) }
     ensures err { IfErr result (RefusesBinding query.now.sql params.entry.now) }
     ensures kept { OnErr result (out.new.items ≡ out.old.items) }
 {
     let start = out.len();
-    let bound = bind_query_onto(query, spelling, params, values, out);
+    let bound = bind_query_onto(query, params, values, out);
     if bound.is_err() {
         out.truncate(start);
     }
@@ -252,7 +257,7 @@ pub fn bind_text_onto<'a>(
     requires alone { first_apart places.now ≡ None }
     requires names { map cow_slice_items names.now ≡ names_at query.now places.now }
     ensures ok { OnOk result
-        (Binds (read_by_default query.now) Spelling.Quoted params.entry.now out.old.items out.new.items) }
+        (Binds (read_by_default query.now) params.entry.now out.old.items out.new.items) }
     ensures err { IfErr result (RefusesBinding (read_by_default query.now) params.entry.now) }
     ensures kept { take (length out.old.items) out.new.items ≡ out.old.items }
 {
@@ -294,7 +299,7 @@ pub fn bind_text_over<'a>(
     requires alone { first_apart places.now ≡ None }
     requires names { map cow_slice_items names.now ≡ names_at query.now places.now }
     ensures ok { OnOk result
-        (Binds (read_by_default query.now) Spelling.Quoted params.entry.now out.old.items out.new.items) }
+        (Binds (read_by_default query.now) params.entry.now out.old.items out.new.items) }
     ensures err { IfErr result (RefusesBinding (read_by_default query.now) params.entry.now) }
     ensures kept { OnErr result (out.new.items ≡ out.old.items) }
 {
@@ -325,7 +330,7 @@ pub fn bind_text_at(
 ) -> Result<(), BindError>
     requires { HasPlaces (read_by_default query.now) places.now }
     ensures ok { OnOk result
-        (Binds (read_by_default query.now) Spelling.Quoted params.now out.old.items out.new.items) }
+        (Binds (read_by_default query.now) params.now out.old.items out.new.items) }
     ensures err { IfErr result (RefusesBinding (read_by_default query.now) params.now) }
     ensures kept { OnErr result (out.new.items ≡ out.old.items) }
 {
@@ -339,21 +344,24 @@ pub fn bind_text_at(
 /// Appends the text of a query with the literals of a set's values in the places of its
 /// placeholders.
 ///
-/// A placeholder is a question mark, or a colon and a name of `a` to `z`, `0` to `9` and `_` that
-/// begins with no digit; the set gives values by these names, without the colon. Names end at the
-/// first other byte: `:aB` is the placeholder `a` before a `B`. `:Name` is none: over
+/// A placeholder is a question mark, or a colon and a name. A name is of `a` to `z`, `0` to `9` and
+/// `_`, and begins with no digit. The set gives values by these names, without the colon. Names end
+/// at the first other byte: `:aB` is the placeholder `a` before a `B`. `:Name` is none: over
 /// `SELECT :Name` a set that names values is refused by `Params`.
 ///
-/// **Safe for** a server whose SQL mode has neither NO_BACKSLASH_ESCAPES nor ANSI_QUOTES, over a
-/// connection in UTF-8 or another character set in which no character hides a quote or a backslash
-/// (`is_safe_to_quote`). For a server in another mode a value may end its literal, and what stands
-/// behind the quote is read as SQL: [`bind_text_in`] takes the mode.
+/// **Safe for** a server whose SQL mode has neither NO_BACKSLASH_ESCAPES nor ANSI_QUOTES. The
+/// connection is in UTF-8 or another character set in which no character hides a quote or a
+/// backslash (`is_safe_to_quote`). For a server in another mode a value may end its literal, and
+/// what stands behind the quote is read as SQL. [`bind_text_in`] takes the mode.
+///
+/// Between `/*!` or `/*+` and its end no literal holds `/*` or `*/`; they are written `/\*` and `*\/`
+/// there. So a server that skips such a comment skips to the query's own end of it.
 ///
 /// An all-zero time is written without its sign.
 ///
 /// Promise: the text has the query's tokens with one literal in each place, and is read as the
-/// set's meaning; else it is refused exactly for its causes, the first one (`Binds`, `Lexes`,
-/// `Slices`, `IsBindCause`).
+/// set's meaning. Literals bring no `/*` and no `*/` into a comment. Else it is refused exactly for
+/// its causes, the first one (`Binds`, `Lexes`, `Slices`, `StayInComments`, `IsBindCause`).
 ///
 /// # Errors
 /// - `Mixed`.
@@ -371,7 +379,7 @@ pub fn bind_text(
     out: &mut Vec<u8>,
 ) -> Result<(), BindError>
     ensures ok { OnOk result
-        (Binds (read_by_default query.now) Spelling.Quoted params.now out.old.items out.new.items) }
+        (Binds (read_by_default query.now) params.now out.old.items out.new.items) }
     ensures err { IfErr result (RefusesBinding (read_by_default query.now) params.now) }
     ensures kept { OnErr result (out.new.items ≡ out.old.items) }
 {
@@ -381,14 +389,20 @@ pub fn bind_text(
 /// Appends the text that [`bind_text`] appends, for a server in this mode and with byte strings
 /// spelled so.
 ///
-/// **Safe for** a server in this mode: by `Spelling::Quoted` over a connection in UTF-8 or another
-/// character set in which no character hides a quote or a backslash (`is_safe_to_quote`), by
-/// `Spelling::Hexadecimal` in each in which bytes below 80 that follow one another are themselves.
-/// Where the query's own text is the same in all modes, what is spelled in hexadecimal is so too.
+/// **Safe for** a server in this mode. By [`Spelling::Quoted`] the connection is in UTF-8 or
+/// another character set in which no character hides a quote or a backslash (`is_safe_to_quote`).
+/// By [`Spelling::Hexadecimal`] it is in any in which bytes below 80 that follow one another are
+/// themselves. Where the query's own text is the same in all modes, what is spelled in hexadecimal
+/// is so too. Its literals are texts and strings of bytes also where a number is wanted, as in an
+/// execution.
+///
+/// Between `/*!` or `/*+` and its end no literal holds `/*` or `*/`. By `Spelling::Quoted` a
+/// backslash parts them; in NO_BACKSLASH_ESCAPES bytes that hold one are `0x` and digits there.
 ///
 /// Promise: the text has the query's tokens with one literal in each place, and is read in this
-/// mode as the set's meaning; else it is refused exactly for its causes, the first one (`Binds`,
-/// `Lexes`, `Slices`, `IsBindCause`).
+/// mode and spelling as the set's meaning. Literals bring no `/*` and no `*/` into a comment. Else
+/// it is refused exactly for its causes, the first one (`Binds`, `Lexes`, `Slices`,
+/// `StayInComments`, `IsBindCause`).
 ///
 /// # Errors
 /// - `Mixed`.
@@ -400,7 +414,8 @@ pub fn bind_text(
 ///
 /// Nothing is appended after an error.
 ///
-/// (MySQL Reference Manual, "Server SQL Modes", "String Literals", "Hexadecimal Literals".)
+/// (MySQL Reference Manual, "Server SQL Modes", "String Literals", "Hexadecimal Literals",
+/// "Character Set Introducers", "Comments", "Optimizer Hints".)
 pub fn bind_text_in(
     alloc: Global,
     query: &[u8],
@@ -409,13 +424,13 @@ pub fn bind_text_in(
     spelling: Spelling,
     out: &mut Vec<u8>,
 ) -> Result<(), BindError>
-    ensures ok { OnOk result (Binds (read_in mode query.now) spelling params.now out.old.items out.new.items) }
-    ensures err { IfErr result (RefusesBinding (read_in mode query.now) params.now) }
+    ensures ok { OnOk result (Binds (read_by mode spelling query.now) params.now out.old.items out.new.items) }
+    ensures err { IfErr result (RefusesBinding (read_by mode spelling query.now) params.now) }
     ensures kept { OnErr result (out.new.items ≡ out.old.items) }
 {
     pieces_of_a_query();
-    let parsed = ParsedQuery::new_in(alloc, query, mode)?;
+    let parsed = ParsedQuery::new_in(alloc, query, mode, spelling)?;
     check_places(parsed.places())?;
     let mut values = Vec::new(alloc);
-    bind_query(&parsed, spelling, params, &mut values, out)
+    bind_query(&parsed, params, &mut values, out)
 }

@@ -108,8 +108,8 @@ fn assert_makes_none<P: IntoParams>(
     assert_answer(assert, first, second, Some(SetError::Memory), Some(wanted));
 }
 
-/// The first name that an earlier pair has, also where a name behind it comes twice; durations without
-/// a value by the least place, but a name given twice comes first.
+/// The first name that an earlier pair has, also where a name behind it comes twice. Durations
+/// without a value come by the least place, but a name given twice comes first.
 #[test]
 fn no_sets(rt: HostRuntime) {
     let a = Asserting(&rt);

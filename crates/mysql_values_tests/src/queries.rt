@@ -13,8 +13,8 @@ use tests_support::{Assert, assert_answer, assert_bytes, once_more};
 /// Start, end, whether a name, whether it stands alone.
 type Expected = (usize, usize, bool, bool);
 
-/// A query, the same with question marks in the places of its names, its places, whether they are of
-/// both kinds, and the first that doesn't stand alone.
+/// A query, the same with question marks in the places of its names, and its places. Then come
+/// whether they are of both kinds, and the first that doesn't stand alone.
 type Row = (
     &'static [u8],
     &'static [u8],
@@ -146,6 +146,26 @@ const QUERIES: [Row; 26] = [
     (b"SELECT 1", b"SELECT 1", &[], false, None),
 ];
 
+/// A query, and of each placeholder whether it is in a comment that a server may skip.
+const COMMENTS: [(&[u8], &[bool]); 13] = [
+    (b"/*! ? */ ?", &[true, false]),
+    (b"/*+ ? */ ?", &[true, false]),
+    (b"/* ! */ ?", &[false]),
+    (b"/*M! */ ?", &[false]),
+    (b"'/*!' ?", &[false]),
+    (b"# /*!\n?", &[false]),
+    // A comment inside counts, also one that could be skipped by itself.
+    (b"/*! /* x */ ? */ ?", &[true, false]),
+    (b"/*! /*! */ ? */ ?", &[true, false]),
+    (b"/*! /*! */ */ ?", &[false]),
+    // Quotes don't.
+    (b"/*! '*/' ?", &[false]),
+    (b"/*! '/*' */ ?", &[true]),
+    // A slash that ends one may begin the next.
+    (b"/*! */*! ? */ ?", &[true, false]),
+    (b"? /*!? */ /*+ :a */ ?", &[false, true, true, false]),
+];
+
 fn assert_places(assert: &impl Assert, found: &[Place], wanted: &[Expected]) {
     assert.holds(found.len() == wanted.len());
     for (place, expected) in found.iter().zip(wanted.iter()) {
@@ -191,6 +211,20 @@ fn parsed_queries(rt: HostRuntime) {
     assert_bytes(&assert, copy.query(), b"?, ?");
     assert_names(&assert, copy.params());
     drop(copy);
+}
+
+#[test]
+fn comments(rt: HostRuntime) {
+    let assert = Asserting(&rt);
+    let alloc = rt.alloc();
+    for (query, wanted) in COMMENTS {
+        let list = once_more(&assert, places(alloc, query), places(alloc, query));
+        assert.holds(list.len() == wanted.len());
+        for (place, in_comment) in list.iter().zip(wanted.iter()) {
+            assert.holds(place.in_comment == *in_comment);
+        }
+        drop(list);
+    }
 }
 
 #[test]

@@ -1,5 +1,5 @@
-//! The fields of rows of data: a line's tokens, the names that a file gives to them, and the bytes and
-//! numbers that they stand for.
+//! The fields of rows of data: a line's tokens, and the names that a file gives to them. With them
+//! stand the bytes and numbers that they stand for.
 #![tactic(auto)]
 
 mod fields;

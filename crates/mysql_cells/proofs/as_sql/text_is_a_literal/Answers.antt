@@ -5,3 +5,6 @@ returns-clause-plain c = (c.sql_text_is_a_literal.ensures c.args.value.now c.fie
 
 pub returns-clause-literal : goal.returns-clause-literal
 returns-clause-literal c = (c.sql_text_is_a_literal.ensures c.args.value.now c.fields_fit.ensures).1
+
+pub returns-clause-comment : goal.returns-clause-comment
+returns-clause-comment c = c.literals_stay_in_comments.ensures c.args.value.now c.fields_fit.ensures

@@ -1,9 +1,10 @@
-use Rattle.std.proofs.Common.{◌≡◌, ◌≢◌, ◌<◌, true, false, length, get_or, arith, sym, refl, inl, inr}
+use Rattle.std.proofs.Common.{◌≡◌, ◌∙◌, ◌≢◌, ◌<◌, true, false, length, get_or, arith, sym, refl, inl, inr}
 use Rattle.std.proofs.lemmas.Bool.Decides.{nat_tests}
 use Rattle.mysql_queries.specs.Tokens.{single_quote}
-use Rattle.mysql_queries.proofs.Fronts.{no_hexadecimal, no_number, IsNoNull}
+use Rattle.mysql_queries.proofs.Fronts.{no_hexadecimal, no_number, IsNoIntroduced, IsNoNull}
+use Rattle.mysql_queries.proofs.Introduced.{none_by, read_by, run_by}
 use Rattle.mysql_queries.proofs.literals.literal_len.Goals as goal
-use Rattle.mysql_queries.proofs.literals.literal_len.Goals.{else-not-is_empty-via-then-not-is_empty+else-text-eq39, else-not-is_empty-via-else-not-is_empty}
+use Rattle.mysql_queries.proofs.literals.literal_len.Goals.{else-not-is_empty-via-then-not-is_empty+else-text-eq39, else-not-is_empty-via-else-not-is_empty, then-matches+in_ok-len-3+in_default-2, else-matches, in-Hexadecimal, in_default}
 
 pub returns-in-None-read_number-clause-none : goal.returns-in-None-read_number-clause-none
 returns-in-None-read_number-clause-none c =
@@ -12,7 +13,14 @@ returns-in-None-read_number-clause-none c =
       | else-not-is_empty-via-then-not-is_empty+else-text-eq39 w ↦ w.if-text-eq39.false e
       | else-not-is_empty-via-else-not-is_empty w ↦ absurd (grind (arith, nat_tests, w.if-not-is_empty.false, c.is_empty.ensures))
     ] in
-    no_number c.args.mode c.args.text.now no_null no_quote (sym c.if-hex_first.ensures) c.in-None-read_number.ensures.none
+    let none : IsNoIntroduced c.args.spelling c.args.text.now = none_by c.args.spelling c.args.text.now (λ e. elim c.if-matches.branch [
+      | then-matches+in_ok-len-3+in_default-2 w ↦ rw w.in_default-2.is at w.in_ok-len-3.ensures.none
+      | else-matches w ↦ elim c.match-matches.branch [
+        | in-Hexadecimal v ↦ absurd (let f : true ≡ false = sym v.matches-is ∙ w.if-matches.false in cc)
+        | in_default v ↦ absurd (v.in_default.not-Hexadecimal e)
+      ]
+    ]) in
+    no_number c.args.mode c.args.spelling c.args.text.now no_null no_quote (sym c.if-hex_first.ensures) c.in-None-read_number.ensures.none none
 
 pub returns-then-null_first-clause-run : goal.returns-then-null_first-clause-run
 returns-then-null_first-clause-run c = inl (c.if-null_first.ensures.0 refl).1
@@ -24,7 +32,7 @@ pub returns-in-Some-2-clause-run : goal.returns-in-Some-2-clause-run
 returns-in-Some-2-clause-run c = inr (inr (inl (rw c.in-Some-2.is at c.in_ok-len-2.ensures.run)))
 
 pub returns-in-Some-2-clause-content : goal.returns-in-Some-2-clause-content
-returns-in-Some-2-clause-content c = inr (rw c.in-Some-2.is at c.in_ok-len-2.ensures.content)
+returns-in-Some-2-clause-content c = inr (inl (rw c.in-Some-2.is at c.in_ok-len-2.ensures.content))
 
 pub returns-in-None-2-clause-none : goal.returns-in-None-2-clause-none
 returns-in-None-2-clause-none c =
@@ -33,4 +41,10 @@ returns-in-None-2-clause-none c =
       | else-not-is_empty-via-then-not-is_empty+else-text-eq39 w ↦ w.if-text-eq39.false e
       | else-not-is_empty-via-else-not-is_empty w ↦ absurd (grind (arith, nat_tests, w.if-not-is_empty.false, c.is_empty.ensures))
     ] in
-    no_hexadecimal c.args.mode c.args.text.now no_null no_quote (sym c.if-hex_first.ensures) (rw c.in-None-2.is at c.in_ok-len-2.ensures.none)
+    no_hexadecimal c.args.mode c.args.spelling c.args.text.now no_null no_quote (sym c.if-hex_first.ensures) (rw c.in-None-2.is at c.in_ok-len-2.ensures.none)
+
+pub returns-in-Some-3-clause-run : goal.returns-in-Some-3-clause-run
+returns-in-Some-3-clause-run c = inr (inr (inr (inr (run_by c.args.spelling _ _ (elim c.match-matches.branch [ in-Hexadecimal w ↦ w.in-Hexadecimal.is | in_default w ↦ absurd (let f : true ≡ false = sym c.if-matches.true ∙ w.matches-is in cc) ]) (rw c.in-Some-3.is at c.in_ok-len-3.ensures.run)))))
+
+pub returns-in-Some-3-clause-content : goal.returns-in-Some-3-clause-content
+returns-in-Some-3-clause-content c = inr (inr (read_by c.args.spelling _ _ (elim c.match-matches.branch [ in-Hexadecimal w ↦ w.in-Hexadecimal.is | in_default w ↦ absurd (let f : true ≡ false = sym c.if-matches.true ∙ w.matches-is in cc) ]) (rw c.in-Some-3.is at c.in_ok-len-3.ensures.content)))

@@ -6,7 +6,7 @@ use Rattle.mysql_receive.specs.Views.{sets_of}
 use Rattle.mysql_command_rules.specs.Reading.{SentReadable}
 use Rattle.mysql_command_rules.specs.Sending.{RefusesGiven}
 use Rattle.mysql_command_rules.specs.Sets.{all_given_in_places}
-use Rattle.mysql_command_rules.specs.SpelledRoad.{Execute}
+use Rattle.mysql_command_rules.specs.declared.road.Road.TheVariants.{Execute}
 use Rattle.mysql_recoding.specs.Causes.{values_of_sets}
 use Rattle.mysql_recoding.proofs.Modes.{is_default}
 use Rattle.mysql_recoding.proofs.whole.send_contents.Goals as goal

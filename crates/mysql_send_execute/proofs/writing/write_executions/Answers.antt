@@ -1,7 +1,7 @@
 use Rattle.std.proofs.Common.{List, [], arith, subst, ℕ, ◌-◌}
 use Rattle.std.proofs.KnownBytes.{Keeps-refl}
 use Rattle.std.proofs.lemmas.Result.{err_from_is_err_and}
-use Rattle.mysql_command_rules.specs.SpelledRoad.{Execute}
+use Rattle.mysql_command_rules.specs.declared.road.Road.TheVariants.{Execute}
 use Rattle.mysql_command_rules.specs.Sets.{all_given}
 use Rattle.mysql_send_execute.specs.Statement.{AppendsPrepare}
 use Rattle.mysql_send_execute.proofs.Lists.{where_put}

@@ -1,4 +1,4 @@
-use Rattle.mysql_command_rules.specs.SpelledRoad.{Execute}
+use Rattle.mysql_command_rules.specs.declared.road.Road.TheVariants.{Execute}
 use Rattle.mysql_command_rules.specs.Writing.{WrittenSoFar}
 use Rattle.mysql_send_execute.proofs.writing.write_executions.Given as goal
 

@@ -5,7 +5,7 @@ use Rattle.mysql_values.specs.declared.params.Params.{Params}
 use Rattle.mysql_command_rules.specs.Reading.{SentReadable}
 use Rattle.mysql_command_rules.specs.Sending.{RefusesGiven}
 use Rattle.mysql_command_rules.specs.Sets.{given_up_to}
-use Rattle.mysql_command_rules.specs.SpelledRoad as roads
+use Rattle.mysql_command_rules.specs.declared.road.Road.TheVariants as roads
 use Rattle.mysql_session.proofs.OnAnswers.{on_err, on_ok, over_same}
 use Rattle.mysql_session.proofs.ObjectSets.{refused, sent}
 use Rattle.mysql_session.proofs.objects.put_held_sets.Goals as goal

@@ -26,8 +26,8 @@ bind_query-requires-clause-one_kind c =
 pub returns-clause-ok : goal.returns-clause-ok
 returns-clause-ok c =
     let new = c.bind_query.new.out.items in
-    subst (λ (k : KeptQuery). OnOk c.bind_query.result (Binds k.sql k.spelling c.args.params.now c.args.out.now.items new)) c.self.view_is
-    (subst (λ (s : Sql). OnOk c.bind_query.result (Binds s c.self.inside.spelling c.args.params.now c.args.out.now.items new)) c.query-query.ensures.text c.bind_query.ensures.ok)
+    subst (λ (k : KeptQuery). OnOk c.bind_query.result (Binds k.sql c.args.params.now c.args.out.now.items new)) c.self.view_is
+    (subst (λ (s : Sql). OnOk c.bind_query.result (Binds s c.args.params.now c.args.out.now.items new)) c.query-query.ensures.text c.bind_query.ensures.ok)
 
 pub returns-clause-err : goal.returns-clause-err
 returns-clause-err c =
