@@ -342,7 +342,7 @@ attributes_part true bytes x all few h =
     let part = bind_ok (attributes_at bytes) _ x h in
     let held = attributes_held bytes part.0 all part.1 in
     let made : Option (List Attribute) × List ℕ = (Some part.0.0, part.0.1) in
-    subst (λ (y : Option (List Attribute) × List ℕ). HoldsAttributes y.0) (ok_same made x part.2) (held.0, omega (arith, held.1))
+    subst (λ (y : Option (List Attribute) × List ℕ). HoldsAttributes y.0) (ok_same made x part.2) held.1
 attributes_part false bytes x all few h =
     let made : Option (List Attribute) × List ℕ = (None, bytes) in
     subst (λ (y : Option (List Attribute) × List ℕ). HoldsAttributes y.0) (ok_same made x h) tt

@@ -128,7 +128,7 @@ all-back : (all : Option (List Attribute)) → HoldsAttributes all → (rest : L
     attributes_at (attributes x ++ rest) ≡ Ok (x, rest)
 all-back all h rest x is =
     let held : HoldsAttributes (Some x) = subst HoldsAttributes is h in
-    attributes-back x rest held.0 held.1
+    attributes-back x rest held
 
 fields-back : (capabilities : ℕ) (p : ResponseFields) → HoldsLogin p → fields_cause capabilities p ≡ None →
     fields_by_at capabilities p.request (behind capabilities p) ≡ Ok (p, [])

@@ -9,7 +9,7 @@ use Rattle.mysql_authentication.specs.Written.{authentication_bytes, authenticat
 use Rattle.mysql_authentication.specs.Written.{greeting_cause, response_bytes, response_cause}
 use Rattle.mysql_authentication.specs.declared.refusal.LoginRefusal.{LoginRefusal}
 use Rattle.mysql_buf.specs.Bytes.{AreBytes}
-use Rattle.mysql_connect_attributes.specs.Attributes.{Attribute, attribute, with_last_values}
+use Rattle.mysql_connect_attributes.specs.Attributes.{Attribute, attribute}
 use Rattle.mysql_handshake.specs.Handshakes.{HandshakeFields}
 use Rattle.mysql_handshake_response.specs.Responses.{ResponseFields}
 use Rattle.mysql_handshake_response.specs.SslRequests.{SslRequestFields}
@@ -63,10 +63,10 @@ pub record HoldsRequest (p : SslRequestFields) : Type 0 where
   pub character_set : p.character_set < 2 ^ 8
   pub mariadb_capabilities : p.mariadb_capabilities < 2 ^ 32
 
--- each key stands once, and all texts together are no longer than a length can say
+-- all texts together are no longer than a length can say
 abbrev pub HoldsAttributes : Option (List Attribute) → Type 0
 HoldsAttributes None = ⊤
-HoldsAttributes (Some all) = (with_last_values all ≡ all) × (length (flat_map attribute all) < 2 ^ 64)
+HoldsAttributes (Some all) = length (flat_map attribute all) < 2 ^ 64
 
 pub record HoldsLogin (p : ResponseFields) : Type 0 where
   pub request : HoldsRequest p.request

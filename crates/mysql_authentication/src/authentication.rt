@@ -102,10 +102,11 @@ fn next_factor(alloc: Global, payload: &[u8]) -> Result<AuthenticationEvent<'_>,
 /// Reads a server's payload of an authentication, by the capabilities in force. The authentication
 /// is that of a login or of a change of user.
 ///
-/// The first byte tells: 00 an OK packet, ff an error, fe a request for another plugin (alone for the
-/// one of old passwords), 01 data of the plugin, 02 a request for one more plugin, where
-/// `MULTI_FACTOR_AUTHENTICATION` is in force. Any other is the first one of a plugin's data. Bytes
-/// behind the fields of an OK packet are passed over.
+/// The first byte tells what the payload is. Byte 00 is an OK packet, and ff an error. Byte fe is a
+/// request for another plugin: alone it is one for the plugin of old passwords. Byte 01 is data of
+/// the plugin. Byte 02 is a request for one more plugin, where `MULTI_FACTOR_AUTHENTICATION` is in
+/// force. Any other is the first one of a plugin's data. Bytes behind the fields of an OK packet
+/// are passed over.
 ///
 /// Promise: what is answered is a function of the payload and of the capabilities
 /// (`authentication_at`).

@@ -1,5 +1,5 @@
-//! Logging in, payload by payload: what each of a server and of a client says in its phase, read and
-//! written by the capabilities in force.
+//! Logging in, payload by payload: what a server says and what a client says, each in its phase. It
+//! is read and written by the capabilities in force.
 #![tactic(auto)]
 
 mod authentication;

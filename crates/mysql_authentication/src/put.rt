@@ -104,13 +104,13 @@ fn write_response(
 /// first cause (`response_bytes`, `response_cause`).
 ///
 /// # Errors
-/// - `NotAgreed` where not both have `CLIENT_PROTOCOL_41`, and where not both have `CLIENT_SSL` for a
-///   request to go on by TLS, or both have it for a login.
+/// - `NotAgreed` where not both have `CLIENT_PROTOCOL_41`. Also for a request to go on by TLS where
+///   not both have `CLIENT_SSL`, and for a login where both have it.
 /// - `NamelessFlags` among MariaDB's capabilities.
-/// - Of a login's fields, in their order: `ZeroByte` inside the user's name, the answer or the
-///   database, where they end at a zero; `TooLong` for an answer of more than 255 bytes after a length
-///   of one; `NotAgreed` where those that are held are not those that both sides' capabilities name;
-///   `ReadsOtherwise` for a plugin by another's name.
+/// - Of a login's fields, in their order, one of these. `ZeroByte` inside the user's name, the
+///   answer or the database, where they end at a zero. `TooLong` for an answer of more than 255
+///   bytes after a length of one. `NotAgreed` where those that are held are not those that both
+///   sides' capabilities name. `ReadsOtherwise` for a plugin by another's name.
 /// - `Memory`.
 ///
 /// `out` is as it was after an error.
@@ -158,8 +158,8 @@ fn write_authentication(
 /// first cause (`authentication_bytes`, `authentication_cause`).
 ///
 /// # Errors
-/// - Of an OK packet `NamelessFlags` in its status, `NotAgreed` for a session state that it can't
-///   tell, `ReadsOtherwise` for an id of 0 or an empty text that should be none.
+/// - Of an OK packet `NamelessFlags` in its status, and `NotAgreed` for a session state that it
+///   can't tell. Also `ReadsOtherwise` for an id of 0 or an empty text that should be none.
 /// - Of an error `NotAgreed` where it has an SQL state and `CLIENT_PROTOCOL_41` is not in force, or has
 ///   none and it is.
 /// - Of a request for one more plugin `NotAgreed` without `MULTI_FACTOR_AUTHENTICATION`.

@@ -104,9 +104,9 @@ fn by_request<'a>(
 }
 
 /// Reads a client's first payload, by the capabilities of the server that it answers. It is a
-/// request to go on by TLS where both have `CLIENT_SSL`, whatever stands behind its 32 bytes, else
-/// a login, laid out by the capabilities that both have. Of a login whose fields can't be read
-/// there are the first 32 bytes. Bytes behind its fields are passed over.
+/// request to go on by TLS where both have `CLIENT_SSL`, whatever stands behind its 32 bytes. Else
+/// it is a login, laid out by the capabilities that both have. Of a login whose fields can't be
+/// read there are the first 32 bytes. Bytes behind its fields are passed over.
 ///
 /// Promise: what is answered is a function of the payload and of the server's capabilities
 /// (`response_at`).

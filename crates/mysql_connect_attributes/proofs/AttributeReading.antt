@@ -1,5 +1,5 @@
 -- Reading attributes one after the other, as a loop does.
-use Rattle.std.proofs.Common.{◌≡◌, ◌≢◌, ◌==◌, ◌<◌, ◌≤◌, Bool, true, false, if◌then◌else◌, nat_lt, ℕ, zero, suc, List, [], ◌∷◌, length, drop, Option, Some, None, Ok, Err, refl, sym, ap, ◌∙◌, arith}
+use Rattle.std.proofs.Common.{◌≡◌, ◌≢◌, ◌==◌, ◌<◌, ◌≤◌, Bool, true, false, if◌then◌else◌, nat_lt, ℕ, zero, suc, List, [], ◌∷◌, ◌++◌, append-nil, append_assoc, length, drop, Option, Some, None, Ok, Err, refl, sym, ap, ◌∙◌, arith}
 use Rattle.std.proofs.lemmas.Bool.{eqb-false, eqb-true}
 use Rattle.std.proofs.lemmas.List.{length-drop}
 use Rattle.mysql_buf.specs.FirstBytes.{first-some}
@@ -9,7 +9,7 @@ use Rattle.mysql_fields.specs.Wire.{Reading, Refuses, or_end, ◌>>=◌}
 use Rattle.mysql_fields.specs.declared.error.WireError.{WireError}
 use Rattle.mysql_fields.specs.declared.error.WireError.TheVariants.{Memory}
 use Rattle.mysql_fields.specs.Texts.{lenenc_text_at}
-use Rattle.mysql_connect_attributes.specs.Attributes.{Attribute, all_attributes_at, at_most_at, attribute_at, put_after, with_attribute}
+use Rattle.mysql_connect_attributes.specs.Attributes.{Attribute, all_attributes_at, at_most_at, attribute_at}
 
 -- what the first bytes leave is no longer than all
 first-shorter : {X : Type 0} (n : ℕ) (value : List ℕ → X) (bytes : List ℕ) (p : X × List ℕ) → first n value bytes ≡ Some p → length p.1 ≤ length bytes
@@ -79,13 +79,17 @@ same-room (suc n) (suc m) (b ∷ bs) small large = go (attribute_at (b ∷ bs)) 
       let less = attribute-shorter (b ∷ bs) p is in
       ap (λ (all : Reading (List Attribute)). all >>= before_others p.0) (same p.1 (omega arith) (omega arith))
 
+-- attributes that were there, and then those that are read
+abbrev pub put_after : List Attribute → Reading (List Attribute) → Reading (List Attribute)
+put_after before reading = reading >>= λ others. Ok (before ++ others.0, others.1)
+
 one_more : (before : List Attribute) (a : Attribute) (others : Reading (List Attribute))
-    → put_after before (others >>= before_others a) ≡ put_after (with_attribute before a) others
-one_more before a (Ok more) = refl
+    → put_after before (others >>= before_others a) ≡ put_after (before ++ a ∷ []) others
+one_more before a (Ok more) = ap (λ (all : List Attribute). put_after [] (Ok (all, more.1))) (sym (append_assoc before (a ∷ []) more.0))
 one_more before a (Err e) = refl
 
 pub goes_on : (before : List Attribute) (pairs : List ℕ) (a : Attribute) (after : List ℕ) (total : Reading (List Attribute)) → length pairs ≢ 0 → attribute_at pairs ≡ Ok (a, after)
-    → put_after before (all_attributes_at pairs) ≡ total → put_after (with_attribute before a) (all_attributes_at after) ≡ total
+    → put_after before (all_attributes_at pairs) ≡ total → put_after (before ++ a ∷ []) (all_attributes_at after) ≡ total
 unfolding at_most_at
 goes_on before [] a after total some is so_far = absurd (some refl)
 goes_on before (b ∷ bs) a after total some is so_far =
@@ -105,7 +109,7 @@ ends e before (b ∷ bs) total some h so_far ne =
 pub is_done : (before : List Attribute) (pairs : List ℕ) (total : Reading (List Attribute)) → length pairs ≡ 0
     → put_after before (all_attributes_at pairs) ≡ total → total ≡ Ok (before, [])
 unfolding at_most_at
-is_done before [] total none so_far = sym so_far
+is_done before [] total none so_far = sym so_far ∙ ap (λ (all : List Attribute). put_after [] (Ok (all, []))) (append-nil before)
 is_done before (b ∷ bs) total none so_far = absurd cc
 
 -- what the test of a length says

@@ -4,7 +4,8 @@ use Rattle.std.proofs.Common.{refl, append_assoc, length-append, arith}
 use Rattle.std.specs.List.{flat_map}
 use Rattle.byteorder.specs.Endian.{little_bytes}
 use Rattle.mysql_buf.specs.Writing.{lenenc_int, lenenc_str}
-use Rattle.mysql_connect_attributes.specs.Attributes.{Attribute, at_most_at, attribute, attribute_at, attributes, attributes_at, with_last_values}
+use Rattle.mysql_connect_attributes.specs.Attributes.{Attribute, at_most_at, attribute, attribute_at, attributes, attributes_at}
+use Rattle.mysql_connect_attributes.specs.Laws.{AttributesReadBack}
 use Rattle.mysql_fields.specs.Laws.{bytes_at-back, lenenc_number_at-back}
 use Rattle.mysql_fields.specs.TextLaws.{lenenc_text_at-back}
 
@@ -59,15 +60,17 @@ all-back (suc most) (a ∷ all) room few =
     step most (attribute a ++ flat_map attribute all) a all (flat_map attribute all) (omega arith)
     (one-back a (flat_map attribute all) (omega arith)) (all-back most all (omega arith) (omega arith))
 
-pub attributes-back : (all : List Attribute) (rest : List ℕ) → with_last_values all ≡ all → length (flat_map attribute all) < 2 ^ 64
+pub attributes-back : (all : List Attribute) (rest : List ℕ) → length (flat_map attribute all) < 2 ^ 64
     → attributes_at (attributes all ++ rest) ≡ Ok (all, rest)
 unfolding attributes_at
-attributes-back all rest apart few =
+attributes-back all rest few =
     let pairs : List ℕ = flat_map attribute all in
     rw (
       append_assoc (lenenc_int (length (flat_map attribute all))) (flat_map attribute all) rest,
       lenenc_number_at-back (length (flat_map attribute all)) (flat_map attribute all ++ rest) few,
       bytes_at-back (length (flat_map attribute all)) (flat_map attribute all) rest refl,
       all-back (length (flat_map attribute all)) all (omega arith) few,
-      apart,
     ) refl
+
+pub attributes_read_back : AttributesReadBack
+attributes_read_back all rest few = attributes-back all rest few

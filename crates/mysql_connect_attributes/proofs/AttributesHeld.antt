@@ -1,88 +1,24 @@
--- Attributes that were read have each key once, and take no more bytes than they were read of.
-use Rattle.std.proofs.Common.{◌≡◌, ◌<◌, ◌≤◌, ◌+◌, ◌^◌, ◌==◌, if◌then◌else◌, nat_eq, nat_lt, ℕ, zero, suc, Bool, true, false, List, [], ◌∷◌, ◌++◌, length, take, drop, Option, None, Some, Ok}
-use Rattle.std.proofs.Common.{refl, sym, ap, ◌∙◌, subst, length-append, length-drop, arith, inl, inr, lit<}
+-- Attributes that were read take no more bytes than they were read of.
+use Rattle.std.proofs.Common.{◌≡◌, ◌<◌, ◌≤◌, ◌+◌, ◌^◌, ◌==◌, if◌then◌else◌, nat_lt, ℕ, zero, suc, Bool, true, false, List, [], ◌∷◌, ◌++◌, length, take, drop, Option, None, Some, Ok}
+use Rattle.std.proofs.Common.{refl, sym, ap, subst, length-append, length-drop, arith, inl, inr, lit<}
 use Rattle.std.proofs.lemmas.Bool.{cases_lt}
 use Rattle.std.proofs.lemmas.List.{get_or-drop, get_or-take, get_or_past, length-take}
-use Rattle.std.specs.Cmp.Lexicographic.{nat_list_eq_equiv, pointwise}
-use Rattle.std.specs.List.{AllByRecursion, IsDistinct, flat_map}
-use Rattle.std.specs.Map.{keys_of}
+use Rattle.std.specs.List.{flat_map}
 use Rattle.mysql_buf.specs.Bytes.{AreBytes}
 use Rattle.mysql_buf.specs.FirstBytes.{first-some}
 use Rattle.mysql_buf.specs.Reading.{bytes_at as buffer_bytes_at, lenenc_int_at, little_at, then_at}
 use Rattle.mysql_buf.specs.TextLaws.{left-of, lenenc_int-shortest}
 use Rattle.mysql_buf.specs.Writing.{lenenc_int, lenenc_str}
-use Rattle.mysql_connect_attributes.proofs.AttributeMaps.{distinct_stay}
-use Rattle.mysql_connect_attributes.specs.Attributes.{Attribute, all_attributes_at, at_most_at, attribute, attribute_at, attributes_at, kept_attributes_at, with_attribute, with_attributes, with_last_values}
+use Rattle.mysql_connect_attributes.specs.Attributes.{Attribute, all_attributes_at, at_most_at, attribute, attribute_at, attributes_at}
 use Rattle.mysql_fields.specs.Forms.{bytes_at, lenenc_number_at}
 use Rattle.mysql_fields.specs.Laws.{bind_ok, ok_same}
 use Rattle.mysql_fields.specs.Texts.{lenenc_text_at}
 use Rattle.mysql_fields.specs.Wire.{or_end}
 
--- KEYS
-
-abbrev pub same_key : List ℕ → List ℕ → Bool
-same_key = pointwise nat_eq
-
--- bytes that differ from others are differed from
-differ_back : (x y : List ℕ) → same_key x y ≡ false → same_key y x ≡ false
-differ_back x y h = nat_list_eq_equiv.symm y x ∙ h
-
-module _ (P : List ℕ → Type 0) where
-  all_put : (es : List Attribute) (k v : List ℕ) → AllByRecursion P (keys_of es) → P k → AllByRecursion P (keys_of (with_attribute es (k, v)))
-  all_put [] k v all new = (new, tt)
-  all_put (e ∷ es) k v all new = go (same_key k e.0) (all_put es k v all.1 new) where
-    go : (found : Bool) → AllByRecursion P (keys_of (with_attribute es (k, v))) → AllByRecursion P (keys_of (if found then (e.0, v) ∷ es else e ∷ with_attribute es (k, v)))
-    go true rest = all
-    go false rest = (all.0, rest)
-
-put_apart : (es : List Attribute) (k v : List ℕ) → IsDistinct same_key (keys_of es) → IsDistinct same_key (keys_of (with_attribute es (k, v)))
-unfolding IsDistinct
-put_apart [] k v apart = (tt, tt)
-put_apart (e ∷ es) k v apart = go (same_key k e.0) refl (put_apart es k v apart.1) where
-  go : (found : Bool) → same_key k e.0 ≡ found → IsDistinct same_key (keys_of (with_attribute es (k, v)))
-      → IsDistinct same_key (keys_of (if found then (e.0, v) ∷ es else e ∷ with_attribute es (k, v)))
-  go true is rest = apart
-  go false is rest = (all_put (λ y. same_key e.0 y ≡ false) es k v apart.0 (differ_back k e.0 is), rest)
-
-all_apart : (es others : List Attribute) → IsDistinct same_key (keys_of es) → IsDistinct same_key (keys_of (with_attributes es others))
-all_apart es [] apart = apart
-all_apart es (e ∷ others) apart = all_apart (with_attribute es (e.0, e.1)) others (put_apart es e.0 e.1 apart)
-
--- attributes that were put one after the other stay where they are put again
-kept_again : (others : List Attribute) → with_last_values (with_last_values others) ≡ with_last_values others
-unfolding IsDistinct
-kept_again others =
-    distinct_stay same_key differ_back (with_attributes [] others) (all_apart [] others tt)
-
 -- LENGTHS
 
 abbrev pub total : List Attribute → ℕ
 total all = length (flat_map attribute all)
-
-put_total : (es : List Attribute) (k v : List ℕ) → total (with_attribute es (k, v)) ≤ total es + length (attribute (k, v))
-put_total [] k v = omega (arith, length-append (attribute (k, v)) [])
-put_total (e ∷ es) k v = go (same_key k e.0) (put_total es k v) where
-  go : (found : Bool) → total (with_attribute es (k, v)) ≤ total es + length (attribute (k, v))
-      → total (if found then (e.0, v) ∷ es else e ∷ with_attribute es (k, v)) ≤ total (e ∷ es) + length (attribute (k, v))
-  go true more =
-      let new = length-append (attribute (e.0, v)) (flat_map attribute es) in
-      let old = length-append (attribute e) (flat_map attribute es) in
-      let one = length-append (lenenc_str e.0) (lenenc_str v) in
-      let two = length-append (lenenc_str e.0) (lenenc_str e.1) in
-      let three = length-append (lenenc_str k) (lenenc_str v) in
-      omega arith
-  go false more =
-      let new = length-append (attribute e) (flat_map attribute (with_attribute es (k, v))) in
-      let old = length-append (attribute e) (flat_map attribute es) in
-      omega arith
-
-all_total : (es others : List Attribute) → total (with_attributes es others) ≤ total es + total others
-all_total es [] = omega arith
-all_total es (e ∷ others) =
-    let one = put_total es e.0 e.1 in
-    let rest = all_total (with_attribute es (e.0, e.1)) others in
-    let whole = length-append (attribute e) (flat_map attribute others) in
-    omega arith
 
 -- READING
 
@@ -173,9 +109,9 @@ taken_bytes n bytes all i = elim (cases_lt i n) [
   | inr le ↦ rw (get_or_past (take n bytes) i 0 (omega (arith, length-take n bytes))) (lit< tt)
 ]
 
--- each key stands once, and all take no more bytes than they were read of, and fewer than a length can say
+-- all take no more bytes than they were read of, and fewer than a length can say
 abbrev pub AreHeld : List ℕ → List Attribute → Type 0
-AreHeld bytes all = (with_last_values all ≡ all) × (total all ≤ length bytes) × (total all < 2 ^ 64)
+AreHeld bytes all = (total all ≤ length bytes) × (total all < 2 ^ 64)
 
 pub attributes_held : (bytes : List ℕ) (x : List Attribute × List ℕ) → AreBytes bytes → attributes_at bytes ≡ Ok x →
     AreHeld bytes x.0
@@ -187,16 +123,12 @@ attributes_held bytes x all h =
     let pairs = bind_ok (bytes_at number.0.0 number.0.1) _ x number.2 in
     let part = first-some number.0.0 (take number.0.0) number.0.1 pairs.0 (some_same (buffer_bytes_at number.0.0 number.0.1) pairs.0 pairs.1) in
     let taken : pairs.0.0 ≡ take number.0.0 number.0.1 = ap (λ (q : List ℕ × List ℕ). q.0) part.1 in
-    let kept = bind_ok (kept_attributes_at pairs.0.0) _ x pairs.2 in
-    let read = bind_ok (all_attributes_at pairs.0.0) _ kept.0 kept.1 in
+    let read = bind_ok (all_attributes_at pairs.0.0) _ x pairs.2 in
     let bound = many_take (length pairs.0.0) pairs.0.0 read.0 (subst AreBytes (sym taken) (taken_bytes number.0.0 number.0.1 left.1)) read.1 in
-    let last : (with_last_values read.0.0, read.0.1) ≡ kept.0 = ok_same (with_last_values read.0.0, read.0.1) kept.0 read.2 in
-    let made : List Attribute × List ℕ = (kept.0.0, pairs.0.1) in
+    let made : List Attribute × List ℕ = (read.0.0, pairs.0.1) in
     let cut = length-take number.0.0 number.0.1 in
-    let some = all_total [] read.0.0 in
-    let held : AreHeld bytes kept.0.0 = subst (λ (q : List Attribute × List ℕ). AreHeld bytes q.0) last (
-      kept_again read.0.0,
-      omega (arith, short, bound, some, cut, ap length taken),
-      omega (arith, left.0, bound, some, cut, ap length taken),
+    let held : AreHeld bytes read.0.0 = (
+      omega (arith, short, bound, cut, ap length taken),
+      omega (arith, left.0, bound, cut, ap length taken),
     ) in
-    subst (λ (q : List Attribute × List ℕ). AreHeld bytes q.0) (ok_same made x kept.2) held
+    subst (λ (q : List Attribute × List ℕ). AreHeld bytes q.0) (ok_same made x read.2) held

@@ -1,5 +1,3 @@
-pub mod AttributeMaps
 pub mod AttributeReading
-pub mod AttributeWriting
 pub mod AttributesBack
 pub mod AttributesHeld

@@ -14,7 +14,7 @@ shown_attribute e = (cow_slice_items e.0.0, cow_slice_items e.1.0)
 
 -- all attributes, in their order
 abbrev pub attributes_view : ConnectAttributes → List Attribute
-attributes_view all = map shown_attribute all.entries.entries
+attributes_view all = map shown_attribute all.entries.items
 
 -- the bytes of two texts
 abbrev pub text_attribute : {Z : Type 0} → String Z × String Z → Attribute

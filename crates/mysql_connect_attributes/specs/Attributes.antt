@@ -1,10 +1,9 @@
 -- The attributes of a connection. (MySQL: Client/Server Protocol, "Protocol::HandshakeResponse41",
 -- the connection's attributes as pairs of a key and a value.) A reading takes bytes from the front:
 -- x.0 is what was read and x.1 the bytes left; the first refusal counts.
-use Rattle.std.specs.Prelude.{ℕ, zero, suc, nat_eq, List, [], ◌∷◌, ◌++◌, length, Ok, Err}
+use Rattle.std.specs.Prelude.{ℕ, zero, suc, nat_eq, List, [], ◌∷◌, ◌++◌, length, map, Option, None, Ok, Err}
 use Rattle.std.specs.Cmp.Lexicographic.{pointwise}
-use Rattle.std.specs.List.{flat_map}
-use Rattle.indexmap.specs.IndexMap.{insert_all, insert_entry}
+use Rattle.std.specs.List.{filter, flat_map, last_or}
 use Rattle.mysql_buf.specs.Writing.{lenenc_str}
 use Rattle.mysql_fields.specs.Forms.{bytes_at, lenenc_number_at}
 use Rattle.mysql_fields.specs.Wire.{Reading, ◌>>=◌}
@@ -15,17 +14,9 @@ use Rattle.mysql_fields.specs.Texts.{lenenc_text_at}
 abbrev pub Attribute : Type 0
 Attribute = List ℕ × List ℕ
 
--- attributes with one more: a key that is there keeps its place and takes the value, and a new key goes last
-abbrev pub with_attribute : List Attribute → Attribute → List Attribute
-with_attribute all one = insert_entry (pointwise nat_eq) all one.0 one.1
-
--- these attributes, and then others, each put in turn
-abbrev pub with_attributes : List Attribute → List Attribute → List Attribute
-with_attributes all others = insert_all (pointwise nat_eq) all others
-
--- each key once, in its first place and with its last value
-abbrev pub with_last_values : List Attribute → List Attribute
-with_last_values all = with_attributes [] all
+-- the value of the last attribute with this key, where there is one
+abbrev pub last_value : List ℕ → List Attribute → Option (List ℕ)
+last_value key all = last_or None (map (λ (one : Attribute). one.1) (filter (λ one. pointwise nat_eq one.0 key) all))
 
 -- a key and a value, each after its length
 abbrev pub attribute : Attribute → List ℕ
@@ -55,18 +46,10 @@ at_most_at (suc most) (b ∷ bytes) = do
 abbrev pub all_attributes_at : List ℕ → Reading (List Attribute)
 all_attributes_at bytes = at_most_at (length bytes) bytes
 
--- attributes that were there, and then those that are read
-abbrev pub put_after : List Attribute → Reading (List Attribute) → Reading (List Attribute)
-put_after before reading = reading >>= λ others. Ok (with_attributes before others.0, others.1)
-
--- the attributes to the end, each key once, in its first place and with its last value
-abbrev pub kept_attributes_at : List ℕ → Reading (List Attribute)
-kept_attributes_at bytes = put_after [] (all_attributes_at bytes)
-
 -- the number of bytes, and the attributes in as many
 unfoldable pub attributes_at : List ℕ → Reading (List Attribute)
 attributes_at bytes = do
   total ← lenenc_number_at bytes
   pairs ← bytes_at total.0 total.1
-  all ← kept_attributes_at pairs.0
+  all ← all_attributes_at pairs.0
   Ok (all.0, pairs.1)

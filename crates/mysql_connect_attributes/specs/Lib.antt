@@ -1,4 +1,5 @@
 pub mod AttributeViews
 pub mod Attributes
+pub mod Laws
 pub mod Parts
 pub mod TextViews

@@ -1,15 +1,15 @@
-//! The attributes of a connection: texts by keys, such as the client's name and version.
+//! The attributes of a connection: pairs of texts, such as the client's name and version.
 //!
 //!     let attributes = ConnectAttributes::from_texts(alloc, texts)?;
 //!     attributes.serialize(&mut payload)?;
 
-ghost use Rattle.std.specs.Prelude.{◌≡◌, IfOk, IfSome, List, None, [], length, map, slice_get, IsOkUnless, option_map};
+ghost use Rattle.std.specs.Prelude.{◌≡◌, IfOk, IfSome, List, None, [], ◌∷◌, ◌++◌, length, map, slice_get, IsOkUnless};
+ghost use Rattle.std.specs.Prelude.{option_map};
 ghost use Rattle.std.specs.Cow.{cow_slice_items};
 ghost use Rattle.std.specs.List.{flat_map};
 ghost use Rattle.std.specs.String.{string_bytes};
 ghost use Rattle.mysql_connect_attributes.specs.Attributes.{Attribute, attribute, attribute_at, attributes};
-ghost use Rattle.mysql_connect_attributes.specs.Attributes.{attributes_at, kept_attributes_at, with_attribute};
-ghost use Rattle.mysql_connect_attributes.specs.Attributes.{with_last_values};
+ghost use Rattle.mysql_connect_attributes.specs.Attributes.{all_attributes_at, attributes_at, last_value};
 ghost use Rattle.mysql_connect_attributes.specs.AttributeViews.{attributes_view, lossy_attribute};
 ghost use Rattle.mysql_fields.specs.Texts.{lossy_text};
 ghost use Rattle.mysql_connect_attributes.specs.AttributeViews.{shown_attribute, text_attribute};
@@ -26,20 +26,19 @@ use mysql_fields::{
 use std::alloc::{AllocError, Global};
 use std::borrow::CowSlice;
 
-/// The attributes of a connection: each key once, with its last value.
+/// The attributes of a connection: a list of keys and values, in the order in which they came.
 ///
-/// They stand in the order in which the keys first came. Keys are compared and hashed by their
-/// bytes. (MySQL: Client/Server Protocol, "Protocol::HandshakeResponse41".)
+/// Of attributes with the same key each stands in the list. No key is hashed, since a peer chooses
+/// it. (MySQL: Client/Server Protocol, "Protocol::HandshakeResponse41".)
 ///
-/// Reading is refused by `UnexpectedEof` where the total or the bytes that it counts are cut off,
-/// or where an attribute doesn't end within them, and by `Memory`.
+/// Reading is refused by `UnexpectedEof` where the total or the bytes that it counts are cut off.
+/// The same holds where an attribute doesn't end within them. Reading is refused by `Memory` too.
 ///
-/// Promise: each key that is read stands once, in its first place and with its last value; its
-/// bytes are a function of its pairs, and each direction stands by itself (`attributes`,
-/// `attributes_at`).
+/// Promise: each attribute that is read stands in the list, in its order. What was written is read
+/// back as the same list, whatever follows (`attributes`, `attributes_at`).
 #[derive(Debug, PartialEq, Eq, Drop)]
 pub struct ConnectAttributes<'a> {
-    entries: IndexMap<RawBytes<'a, LenEnc>, RawBytes<'a, LenEnc>>,
+    entries: Vec<(RawBytes<'a, LenEnc>, RawBytes<'a, LenEnc>)>,
 }
 
 impl<'a> ConnectAttributes<'a> {
@@ -48,20 +47,20 @@ impl<'a> ConnectAttributes<'a> {
         ensures { attributes_view result ≡ [] }
     {
         ConnectAttributes {
-            entries: IndexMap::new(alloc),
+            entries: Vec::new(alloc),
         }
     }
 
-    // Puts one more attribute.
+    // Puts one more attribute behind the others.
     fn put(
         &mut self,
         key: RawBytes<'a, LenEnc>,
         value: RawBytes<'a, LenEnc>,
     ) -> Result<(), AllocError>
         ensures { IfOk result (λ _. attributes_view self.new ≡
-            with_attribute (attributes_view self.old) (shown_attribute (key.entry, value.entry))) }
+            attributes_view self.old ++ shown_attribute (key.entry, value.entry) ∷ []) }
     {
-        self.entries.insert(key, value)?;
+        self.entries.push((key, value))?;
         Ok(())
     }
 
@@ -123,23 +122,36 @@ impl<'a> ConnectAttributes<'a> {
     pub fn pair(&self, place: usize) -> Option<(&[u8], &[u8])>
         ensures { option_map (λ pair. (pair.0.now, pair.1.now)) result ≡ slice_get (attributes_view self.now) place }
     {
-        let (key, value) = self.entries.get_index(place)?;
+        let (key, value) = self.entries.get(place)?;
         Some((key.0.as_slice(), value.0.as_slice()))
     }
 
-    /// The attributes as texts, where bytes that aren't UTF-8 are replaced. Of keys with the same
-    /// text the first one's place and the last one's value stay.
+    /// The value of the attribute with this key. Of several the last one counts.
+    pub fn get(&self, key: &[u8]) -> Option<&[u8]>
+        ensures { option_map (λ value. value.now) result ≡ last_value key.now (attributes_view self.now) }
+    {
+        let mut last = None;
+        for (name, value) in &self.entries {
+            if name.0.as_slice() == key {
+                last = Some(value.0.as_slice());
+            }
+        }
+        last
+    }
+
+    /// The attributes as texts, all of them and in their order. Bytes that aren't UTF-8 are
+    /// replaced.
     ///
     /// # Errors
     /// - `Memory`.
-    pub fn texts(&self, alloc: Global) -> Result<IndexMap<String, String>, WireError>
+    pub fn texts(&self, alloc: Global) -> Result<Vec<(String, String)>, WireError>
         ensures memory { IsOkUnless result wire.Memory }
-        ensures value { IfOk result (λ texts. map text_attribute texts.entries ≡
-            with_last_values (map lossy_attribute (attributes_view self.now))) }
+        ensures value { IfOk result (λ texts. map text_attribute texts.items ≡
+            map lossy_attribute (attributes_view self.now)) }
     {
-        let mut texts = IndexMap::new(alloc);
+        let mut texts = Vec::new(alloc);
         for (key, value) in &self.entries {
-            put_lossy(alloc, &mut texts, key.0.as_slice(), value.0.as_slice())?;
+            texts.push(lossy_pair(alloc, key.0.as_slice(), value.0.as_slice())?)?;
         }
         Ok(texts)
     }
@@ -154,7 +166,7 @@ impl ConnectAttributes<'static> {
         value: RawBytes<LenEnc>,
     ) -> Result<(), AllocError>
         ensures { IfOk result (λ _. attributes_view self.new ≡
-            with_attribute (attributes_view self.old) (shown_attribute (key.entry, value.entry))) }
+            attributes_view self.old ++ shown_attribute (key.entry, value.entry) ∷ []) }
     {
         let (key, value) = owned_pair(alloc, key, value)?;
         self.put(key, value)
@@ -168,7 +180,7 @@ impl ConnectAttributes<'static> {
         value: &RawBytes<LenEnc>,
     ) -> Result<(), AllocError>
         ensures { IfOk result (λ _. attributes_view self.new ≡
-            with_attribute (attributes_view self.old) (shown_attribute (key.now, value.now))) }
+            attributes_view self.old ++ shown_attribute (key.now, value.now) ∷ []) }
     {
         let (key, value) = copied_pair(alloc, key, value)?;
         self.put(key, value)
@@ -216,33 +228,13 @@ fn lossy_string(alloc: Global, bytes: &[u8]) -> Result<String, AllocError>
     bytes.to_str_lossy(alloc)?.into_owned(alloc)
 }
 
-// Puts one more attribute.
-fn put_text(
-    texts: &mut IndexMap<String, String>,
-    key: String,
-    value: String,
-) -> Result<(), AllocError>
-    ensures { IfOk result (λ _. map text_attribute texts.new.entries ≡
-        with_attribute (map text_attribute texts.old.entries) (text_attribute (key, value))) }
-{
-    texts.insert(key, value)?;
-    Ok(())
-}
-
-// Puts one more attribute as texts.
-fn put_lossy(
-    alloc: Global,
-    texts: &mut IndexMap<String, String>,
-    key: &[u8],
-    value: &[u8],
-) -> Result<(), AllocError>
-    ensures { IfOk result (λ _. map text_attribute texts.new.entries ≡
-        with_attribute (map text_attribute texts.old.entries)
-        (lossy_attribute (key.now, value.now))) }
+// An attribute as texts.
+fn lossy_pair(alloc: Global, key: &[u8], value: &[u8]) -> Result<(String, String), AllocError>
+    ensures { IfOk result (λ texts. text_attribute texts ≡ lossy_attribute (key.now, value.now)) }
 {
     let key = lossy_string(alloc, key)?;
     let value = lossy_string(alloc, value)?;
-    put_text(texts, key, value)
+    Ok((key, value))
 }
 
 // The attribute that stands first.
@@ -263,7 +255,7 @@ fn parse_all<'de>(
     alloc: Global,
     mut pairs: ParseBuf<'de>,
 ) -> Result<ConnectAttributes<'de>, WireError>
-    ensures { GivesPart attributes_view [] result (kept_attributes_at pairs.entry.0.now) }
+    ensures { GivesPart attributes_view [] result (all_attributes_at pairs.entry.0.now) }
 {
     let mut all = ConnectAttributes::new(alloc);
     while !pairs.is_empty() {

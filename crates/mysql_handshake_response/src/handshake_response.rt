@@ -6,7 +6,6 @@
 ghost use Rattle.std.specs.Prelude.{◌≡◌, IfOk, None, map, option_map, IsOkUnless};
 ghost use Rattle.std.specs.Cow.{cow_slice_items};
 ghost use Rattle.std.specs.Int.RustNames.{bit_and};
-ghost use Rattle.mysql_connect_attributes.specs.Attributes.{with_last_values};
 ghost use Rattle.mysql_connect_attributes.specs.AttributeViews.{attributes_view, lossy_attribute, text_attribute};
 ghost use Rattle.mysql_connect_attributes.specs.Parts.{marked, or_empty};
 ghost use Rattle.mysql_auth.specs.Views.{plugin_view};
@@ -51,8 +50,8 @@ use std::borrow::CowSlice;
 /// It is read and written by its own capabilities, or, by [`HandshakeResponse::read_to`] and
 /// [`HandshakeResponse::put_to`], by those that the server has too.
 ///
-/// Promise: its bytes are a function of its fields, and any bytes are read exactly as its layout
-/// says, with the first refusal from the left; each direction stands by itself (`response`,
+/// Promise: its bytes are a function of its fields. Any bytes are read exactly as its layout says,
+/// with the first refusal from the left. Each direction stands by itself (`response`,
 /// `response_at`).
 #[derive(Debug, PartialEq, Eq, Drop)]
 pub struct HandshakeResponse<'a> {
@@ -334,20 +333,19 @@ impl<'a> HandshakeResponse<'a> {
         self.connect_attributes.as_ref()
     }
 
-    /// The attributes as texts, where there are any and where bytes that aren't UTF-8 are replaced.
-    /// Of keys with the same text the first one's place and the last one's value stay.
+    /// The attributes as texts, where there are any: all of them and in their order. Bytes that
+    /// aren't UTF-8 are replaced.
     ///
     /// # Errors
     /// - `Memory`.
     pub fn connect_attributes(
         &self,
         alloc: Global,
-    ) -> Result<Option<IndexMap<String, String>>, WireError>
+    ) -> Result<Option<Vec<(String, String)>>, WireError>
         ensures memory { IsOkUnless result wire.Memory }
         ensures value { IfOk result
-            (λ texts. option_map (λ all. map text_attribute all.entries) texts ≡
-            option_map (λ all. with_last_values (map lossy_attribute all))
-            (response_view self.now).attributes) }
+            (λ texts. option_map (λ all. map text_attribute all.items) texts ≡
+            option_map (map lossy_attribute) (response_view self.now).attributes) }
     {
         match &self.connect_attributes {
             Some(all) => Ok(Some(all.texts(alloc)?)),
@@ -530,7 +528,7 @@ impl<'a> HandshakeResponse<'a> {
     }
 
     /// Appends the answer as one to a server of these capabilities. The answer to the scramble has
-    /// the form of those that both sides have; the database, the plugin and the attributes follow
+    /// the form of those that both sides have. The database, the plugin and the attributes follow
     /// where they are held. The capabilities in force should name exactly those.
     /// (MySQL: Client/Server Protocol, "Protocol::HandshakeResponse41" and "Capabilities Flags".)
     ///

@@ -26,8 +26,8 @@ use std::alloc::{AllocError, Global};
 ///
 /// Reading is refused by `UnexpectedEof` below 32 bytes. Bits that name no capability are dropped.
 ///
-/// Promise: its bytes are a function of its fields, and any bytes are read exactly as its layout
-/// says, with the first refusal from the left (`ssl_request`, `ssl_request_at`).
+/// Promise: its bytes are a function of its fields. Any bytes are read exactly as its layout says,
+/// with the first refusal from the left (`ssl_request`, `ssl_request_at`).
 #[derive(Clone, Debug, PartialEq, Eq, Drop)]
 pub struct SslRequest {
     capabilities: CapabilityFlags,

@@ -91,7 +91,7 @@ attributes_again bytes small y h =
     let pairs = flat_map attribute y.0 in
     let some = some-byte (length (flat_map attribute y.0)) in
     let text = length-append (lenenc_int (length (flat_map attribute y.0))) (flat_map attribute y.0) in
-    (omega (arith, text, some, length-append (attributes y.0) []), attributes-back y.0 [] held.0 held.2)
+    (omega (arith, text, some, length-append (attributes y.0) []), attributes-back y.0 [] held.1)
 
 plugin_again : (bytes behind : List ℕ) (y : Plugin × List ℕ) → plugin_to_zero_at bytes ≡ Ok y →
     IsReadAgain plugin_to_zero_at plugin_text y.0 behind

@@ -148,9 +148,9 @@ impl<'x, 'a> MySerialize for LastIfHeld<'x, 'a> {
 
 impl<'a> ComChangeUser<'a> {
     /// Reads a command by the capabilities that both sides have, as servers do. The answer to the
-    /// scramble ends with a zero without `CLIENT_SECURE_CONNECTION`; the fields may end behind the
-    /// database, the collation or the plugin, though the capabilities name more, and a plugin's
-    /// name may end with the bytes.
+    /// scramble ends with a zero without `CLIENT_SECURE_CONNECTION`. The fields may end behind the
+    /// database, the collation or the plugin, though the capabilities name more. A plugin's name
+    /// may end with the bytes.
     /// (MySQL: Client/Server Protocol, "COM_CHANGE_USER"; MariaDB: Client/Server Protocol,
     /// "COM_CHANGE_USER".)
     ///

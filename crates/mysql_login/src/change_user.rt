@@ -231,13 +231,14 @@ impl<'de> MyDeserialize<'de> for ComChangeUserMoreData<'de> {
 /// (MySQL: Client/Server Protocol, "COM_CHANGE_USER"; MariaDB: Client/Server Protocol,
 /// "COM_CHANGE_USER".)
 ///
-/// Reading is refused by `BadConstant` where another command's number stands first, by `UnexpectedEof`
-/// where a part is cut off, and by `Memory`, in the order of the parts. Where no byte follows the
-/// database there is no more. [`ComChangeUser::read_in_force`] and [`ComChangeUser::put_in_force`] go
-/// by the capabilities that both sides have, and let fields at the end be missing.
+/// Reading is refused in the order of the parts. It is refused by `BadConstant` where another
+/// command's number stands first. It is refused by `UnexpectedEof` where a part is cut off, and by
+/// `Memory`. Where no byte follows the database there is no more. [`ComChangeUser::read_in_force`]
+/// and [`ComChangeUser::put_in_force`] go by the capabilities that both sides have, and let fields
+/// at the end be missing.
 ///
-/// Promise: its bytes are a function of its fields, and any bytes are read exactly as its layout
-/// says, with the first refusal from the left; each direction stands by itself (`change_user`,
+/// Promise: its bytes are a function of its fields. Any bytes are read exactly as its layout says,
+/// with the first refusal from the left. Each direction stands by itself (`change_user`,
 /// `change_user_at`).
 #[derive(Debug, PartialEq, Eq, Drop)]
 pub struct ComChangeUser<'a> {

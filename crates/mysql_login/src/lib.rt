@@ -1,6 +1,6 @@
 //! Packets of logging in and of replication: the command that logs another user in, and the face of
-//! the crates below with the client's answers, the server's handshake, authentication and the
-//! packets that a replica sends.
+//! the crates below. Those have the client's answers, the server's handshake, authentication and
+//! the packets that a replica sends.
 #![tactic(auto)]
 
 mod change_in_force;

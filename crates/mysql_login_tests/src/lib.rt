@@ -1,6 +1,6 @@
-//! Tests of `mysql_login` and the crates below it from outside: what only Rattle has of packets of
-//! logging in and of replication, and of sets of global transaction identifiers. What such packets
-//! say, and which fronts of them are refused, stands in rows: bindings/testing/rows.
+//! Tests of `mysql_login` and the crates below it from outside. They try what only Rattle has of
+//! packets of logging in and of replication, and of sets of global transaction identifiers. What
+//! such packets say, and which fronts of them are refused, stands in rows: bindings/testing/rows.
 #![tactic(auto)]
 
 #[cfg(test)]

@@ -64,11 +64,7 @@ fn answers_made(rt: HostRuntime) {
     );
     drop(response);
     let texts = once_more(&assert, first, second);
-    assert_texts(
-        &assert,
-        texts.unwrap_or(IndexMap::new(alloc)),
-        &[("a", "1")],
-    );
+    assert_texts(&assert, texts.unwrap_or(Vec::new(alloc)), &[("a", "1")]);
 }
 
 // Answers as they are read, and as they are written again.

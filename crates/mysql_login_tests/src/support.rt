@@ -145,14 +145,10 @@ pub fn texts(assert: &impl Assert, alloc: Global) -> IndexMap<String, String> {
 }
 
 /// Asserts which pairs of texts these are.
-pub fn assert_texts(
-    assert: &impl Assert,
-    texts: IndexMap<String, String>,
-    wanted: &[(&str, &str)],
-) {
+pub fn assert_texts(assert: &impl Assert, texts: Vec<(String, String)>, wanted: &[(&str, &str)]) {
     assert.holds(texts.len() == wanted.len());
     for (place, pair) in wanted.iter().enumerate() {
-        match texts.get_index(place) {
+        match texts.get(place) {
             Some((key, value)) => {
                 assert.holds((key.as_str() == pair.0) & (value.as_str() == pair.1))
             }

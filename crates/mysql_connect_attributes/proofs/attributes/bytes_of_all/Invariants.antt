@@ -1,8 +1,8 @@
-use Rattle.std.proofs.Common.{◌≡◌, ◌+◌, length, map}
+use Rattle.std.proofs.Common.{◌≡◌, length, map, take}
 use Rattle.std.specs.List.{flat_map}
 use Rattle.mysql_connect_attributes.specs.Attributes.{attribute}
-use Rattle.mysql_connect_attributes.specs.AttributeViews.{attributes_view, shown_attribute}
+use Rattle.mysql_connect_attributes.specs.AttributeViews.{shown_attribute}
 use Rattle.mysql_connect_attributes.proofs.attributes.bytes_of_all.Given as goal
 
 abbrev pub invariant-loop-key : goal.invariant-loop-key
-invariant-loop-key l = l.total + length (flat_map attribute (map shown_attribute l.key-iterator)) ≡ length (flat_map attribute (attributes_view l.all))
+invariant-loop-key l = l.total ≡ length (flat_map attribute (map shown_attribute (take l.key-index l.key-items)))
