@@ -19,7 +19,7 @@ use Rattle.mysql_executions.specs.declared.types.Attribute.{Attribute}
 use Rattle.mysql_fields.specs.Forms.{fixed_number_at}
 use Rattle.mysql_fields.specs.Laws.{bind_ok, fixed_number_at-back, ok_same}
 use Rattle.mysql_fields.specs.Wire.{Reading, ◌>>=◌}
-use Rattle.mysql_commands.specs.Commands.{Command, Layout, all_of, alone, command_at, fields, layouts, or_other, said}
+use Rattle.mysql_commands.specs.Commands.{Command, Layout, all_of, alone, command_at, fields, first_of, layouts, or_other, said}
 use Rattle.mysql_commands.specs.Commands.{Quit, Query, FieldList, Shutdown}
 use Rattle.mysql_commands.specs.Commands.{LongData}
 use Rattle.mysql_commands.specs.Commands.{Fetch, Other}
@@ -62,6 +62,12 @@ all_read {X} (Err e) f c h = absurd cc
 all_read {X} (Ok x) f c h =
     let part = all_by x (length x.1 == 0) f c refl h in
     (part.0, ap (λ (y : X × List ℕ). ok_of y) part.1, part.2)
+
+-- what is read of the front
+pub first_read : {X : Type 0} (r : Reading X) (f : X → Command) (c : Command) → option_map f (first_of r) ≡ Some c →
+    (x : X × List ℕ) × (r ≡ Ok x) × (f x.0 ≡ c)
+first_read {X} (Err e) f c h = absurd cc
+first_read {X} (Ok x) f c h = (x, refl, cc)
 
 -- a command without fields
 pub alone_own : (P : Command → Type 0) (command c : Command) (bytes : List ℕ) → P command → alone command bytes ≡ Some c →

@@ -1,5 +1,6 @@
 -- Each row of the table of commands: what is read by it may be put, and is read again as it is.
-use Rattle.std.proofs.Common.{◌≡◌, ◌<◌, ◌^◌, ℕ, List, [], ◌∷◌, Option, Some, refl, subst}
+use Rattle.std.proofs.Common.{◌≡◌, ◌<◌, ◌^◌, ℕ, List, [], ◌∷◌, Option, Some, refl, subst, ap}
+use Rattle.std.specs.Option.{option_map}
 use Rattle.std.specs.List.{AllByRecursion}
 use Rattle.mysql_buf.specs.Bytes.{AreBytes}
 use Rattle.mysql_const.specs.declared.capabilities.Capabilities.{Capabilities}
@@ -8,7 +9,7 @@ use Rattle.mysql_executions.specs.InForce.{InForce}
 use Rattle.mysql_login.specs.ChangedUserStatements.{ChangedUsersReadAgain}
 use Rattle.mysql_login.specs.ChangedUsers.{change_in_force_at}
 use Rattle.mysql_replication.specs.Packets.{binlog_dump_at, binlog_dump_gtid_at, register_slave_at, table_dump_at}
-use Rattle.mysql_commands.specs.Commands.{Command, fields, layouts}
+use Rattle.mysql_commands.specs.Commands.{Command, fields, first_of, layouts}
 use Rattle.mysql_commands.specs.Commands.{Quit, InitDb, CreateDb, DropDb, Refresh}
 use Rattle.mysql_commands.specs.Commands.{Statistics, ProcessInfo, ProcessKill, Debug, Ping, Prepare, Close}
 use Rattle.mysql_commands.specs.Commands.{ResetStatement, SetOption, ResetConnection, Clone}
@@ -17,6 +18,7 @@ use Rattle.mysql_command_writer.proofs.GtidDumps.{gtids_read}
 use Rattle.mysql_command_writer.proofs.Logins.{logins_read}
 use Rattle.mysql_command_writer.proofs.ReadAgain.{last_number-back}
 use Rattle.mysql_command_writer.proofs.ReadCommands.{RowIsOwn, all_read, alone_own, bulk_own, execute_own, fetch_own}
+use Rattle.mysql_command_writer.proofs.ReadCommands.{first_read}
 use Rattle.mysql_command_writer.proofs.ReadCommands.{field_list_own, long_data_own, number_own, query_own, read_own}
 use Rattle.mysql_command_writer.proofs.ReadCommands.{shutdown_own, some_own, tail_bytes}
 use Rattle.mysql_command_writer.proofs.ReadGtids.{gtid_read}
@@ -26,12 +28,12 @@ use Rattle.mysql_command_writer.specs.Laws.{IsOwn, ReadCommandsArePut}
 
 -- a change of user, by the law of its reading
 login_own : ChangedUsersReadAgain → (capabilities : Capabilities) (parameters : Option InForce) (payload : List ℕ) (c : Command) →
-    AreBytes payload → fields ChangeUser (change_in_force_at capabilities.protocol.0) payload ≡ Some c →
+    AreBytes payload → option_map ChangeUser (first_of (change_in_force_at capabilities.protocol.0 payload)) ≡ Some c →
     IsOwn capabilities parameters c
 login_own law capabilities parameters payload c small h =
-    let read = all_read (change_in_force_at capabilities.protocol.0 payload) ChangeUser c h in
-    let again = law capabilities.protocol.0 payload [] read.0 small read.1 in
-    subst (IsOwn capabilities parameters) read.2 (logins_read capabilities parameters read.0 again, refl)
+    let read = first_read (change_in_force_at capabilities.protocol.0 payload) ChangeUser c h in
+    let again = law capabilities.protocol.0 payload read.0.1 read.0.0 small read.1 in
+    subst (IsOwn capabilities parameters) read.2 (logins_read capabilities parameters read.0.0 (ap first_of again), refl)
 
 dump_own : (capabilities : Capabilities) (parameters : Option InForce) (payload : List ℕ) (c : Command) →
     AreBytes payload → fields BinlogDump binlog_dump_at payload ≡ Some c → IsOwn capabilities parameters c

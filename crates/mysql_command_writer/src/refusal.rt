@@ -32,9 +32,9 @@ pub enum CommandRefusal {
     #[error("bytes of another command that are laid out as one that is known")]
     ReadsAsCommand,
     /// A payload that would read otherwise. Of a change of user it has fields that the capabilities
-    /// in force don't have, a zero in a name, or a plugin that isn't the one that its name says. Of
-    /// an execution or of attributes it has values without a cell by their types, or types, names or
-    /// flags that it can't have.
+    /// in force don't have, or a zero in a name. Or its plugin isn't the one that its name says. Of
+    /// an execution or of attributes it has values without a cell by their types, or types, names
+    /// or flags that it can't have.
     #[error("the payload would read otherwise")]
     ReadsOtherwise,
     /// A growth of a buffer was refused.

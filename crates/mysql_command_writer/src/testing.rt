@@ -12,6 +12,7 @@ ghost use Rattle.mysql_login.specs.ChangedUsers.{change_in_force_at};
 ghost use Rattle.mysql_replication.specs.Views.{binlog_dump_gtid_view, binlog_dump_view, register_slave_view};
 ghost use Rattle.mysql_replication.specs.Views.{table_dump_view};
 ghost use Rattle.std.specs.Cow.{cow_slice_items};
+ghost use Rattle.mysql_commands.specs.Commands.{first_of};
 ghost use Rattle.mysql_commands.specs.Commands as said;
 ghost use Rattle.mysql_command_writer.specs.Plain.{IsPlain};
 ghost use Rattle.mysql_command_writer.specs.Refusals.{ReadsBack, Tests};
@@ -106,11 +107,11 @@ fn reads_as_login(
     payload: &[u8],
 ) -> Result<bool, AllocError>
     ensures { IfOk result (λ same. IsTrue same ↔
-        (change_in_force_at capabilities.protocol.0 payload.now ≡ Ok (change_user_view login.now, []))) }
+        (first_of (change_in_force_at capabilities.protocol.0 payload.now) ≡ Some (change_user_view login.now))) }
 {
     let mut rest = ParseBuf(payload);
     match ComChangeUser::read_in_force(alloc, capabilities.protocol, &mut rest) {
-        Ok(read) => Ok(rest.is_empty() && same_login(&read, login)),
+        Ok(read) => Ok(same_login(&read, login)),
         Err(WireError::Memory) => Err(AllocError),
         Err(_) => Ok(false),
     }

@@ -3,29 +3,17 @@
 ghost use Rattle.std.specs.Prelude.{◌≡◌};
 ghost use Rattle.std.specs.Option.{option_copied};
 ghost use Rattle.mysql_commands.specs.Commands as said;
-ghost use Rattle.mysql_executions.specs.Types.{has_query_attributes};
 ghost use Rattle.mysql_executions.specs.Views.{bulk_of, execution_of};
 ghost use Rattle.mysql_command_writer.specs.Plain.{PutsAttributed};
 ghost use Rattle.mysql_command_writer.specs.Refusals.{Puts};
 
 use crate::refusal::CommandRefusal;
 use crate::writing::append_text;
-use bitflags::Flags;
-use mysql_commands::{
-    Attribute, BulkExecution, Capabilities, CapabilityFlags, Execution, StatementParameters,
-};
+use mysql_commands::{Attribute, BulkExecution, Capabilities, Execution, StatementParameters};
 use mysql_execution_writer::laws::{attributes_read_back, bulks_read_back, executions_read_back};
 use mysql_execution_writer::{put_bulk_execution, put_execution, put_query_attributes};
+use mysql_executions::execution_reading::has_query_attributes;
 use std::alloc::Global;
-
-/// Whether queries have attributes.
-fn has_query_attributes(capabilities: Capabilities) -> bool
-    ensures { result ≡ has_query_attributes capabilities }
-{
-    capabilities
-        .protocol
-        .contains(CapabilityFlags::CLIENT_QUERY_ATTRIBUTES)
-}
 
 /// Puts an execution, by what is in force of its statement's parameters.
 pub(crate) fn put_execute(

@@ -122,9 +122,9 @@ fn put_plain(
 /// An execution is written by what is in force of its statement's parameters too.
 ///
 /// Promise: exactly the command's bytes are appended, and they are read as the command, an unsigned
-/// number below 2^63 as `Int`; or nothing is, and the cause is told: of values exactly where their
-/// types, cells or flags can't be written, else exactly where the bytes would be read otherwise
-/// (`Puts`, `command_bytes`, `cause_against`).
+/// number below 2^63 as `Int`. Or nothing is appended, and the cause is told. For values that is
+/// exactly where their types, cells or flags can't be written. Else it is exactly where the bytes
+/// would be read otherwise (`Puts`, `command_bytes`, `cause_against`).
 ///
 /// # Errors
 /// - `NotAgreed` for attributes of a query where they aren't in force.
@@ -134,7 +134,7 @@ fn put_plain(
 /// - `UnknownStatement` for an execution of which no parameters are handed in.
 /// - `ReadsAsCommand` for other bytes that are laid out as a command.
 /// - `ReadsOtherwise` for values, types or flags of an execution, a bulk one or of attributes that
-///   can't be written, and for a change of user that would be read as another one.
+///   can't be written. It is also for a change of user that would be read as another one.
 /// - `Memory`.
 ///
 /// Nothing is appended then.

@@ -77,6 +77,15 @@ fields command read_at bytes = option_map command (all_of (read_at bytes))
 abbrev pub packet : {X : Type 0} → ℕ → (X → Command) → (List ℕ → Reading X) → ℕ × Layout
 packet number command read_at = (number, λ bytes. fields command read_at (number ∷ bytes))
 
+-- fields that stand first: servers read no further, and bytes behind them don't count
+abbrev pub first_of : {X : Type 0} → Reading X → Option X
+first_of (Ok x) = Some x.0
+first_of (Err e) = None
+
+-- the same of a packet that is read from its number on
+abbrev pub front : {X : Type 0} → ℕ → (X → Command) → (List ℕ → Reading X) → ℕ × Layout
+front number command read_at = (number, λ bytes. option_map command (first_of (read_at (number ∷ bytes))))
+
 -- a number of one byte, which may be missing
 abbrev pub level_at : List ℕ → Reading (Option ℕ)
 level_at [] = Ok (None, [])
@@ -127,7 +136,7 @@ layouts capabilities parameters =
     ∷ (0x0c, fields ProcessKill (fixed_number_at 4))
     ∷ (0x0d, alone Debug)
     ∷ (0x0e, alone Ping)
-    ∷ packet 0x11 ChangeUser (change_in_force_at capabilities.protocol.0)
+    ∷ front 0x11 ChangeUser (change_in_force_at capabilities.protocol.0)
     ∷ packet 0x12 BinlogDump binlog_dump_at
     ∷ packet 0x13 TableDump table_dump_at
     ∷ packet 0x15 RegisterSlave register_slave_at

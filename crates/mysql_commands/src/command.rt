@@ -53,7 +53,8 @@ pub enum Command<'a> {
     Debug,
     /// Whether the server is there (COM_PING).
     Ping,
-    /// Another user logs in, by the capabilities in force (COM_CHANGE_USER).
+    /// Another user logs in, by the capabilities in force (COM_CHANGE_USER). Bytes behind its last
+    /// field don't count.
     ChangeUser(ComChangeUser<'a>),
     /// The binary log, from a position of a file (COM_BINLOG_DUMP).
     BinlogDump(ComBinlogDump<'a>),

@@ -10,5 +10,6 @@ pub use command::Command;
 pub use mysql_const::{Capabilities, CapabilityFlags, MariadbCapabilities};
 pub use mysql_executions::{
     Attribute, BoundType, BulkExecution, BulkValue, Execution, ParameterType, StatementParameters,
+    UnclearCells, UnclearValues,
 };
 pub use reply::Reply;

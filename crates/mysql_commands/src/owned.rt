@@ -2,8 +2,10 @@
 //!
 //!     let command = Command::read(alloc, capabilities, parameters, payload)?.into_owned(alloc)?;
 
-ghost use Rattle.std.specs.Prelude.{◌≡◌, IfOk};
-ghost use Rattle.mysql_commands.specs.Views.{command_view};
+ghost use Rattle.std.specs.Prelude.{◌≡◌, IfOk, List, Option, ℕ};
+ghost use Rattle.mysql_commands.specs.Views.{HasUnclear, command_view};
+ghost use Rattle.mysql_const.specs.declared.capabilities.Capabilities.{Capabilities};
+ghost use Rattle.mysql_executions.specs.InForce.{InForce};
 
 use crate::command::Command;
 use mysql_fields::own_bytes;
@@ -15,7 +17,10 @@ impl<'a> Command<'a> {
     /// # Errors
     /// - `AllocError` for want of memory.
     pub fn into_owned(self, alloc: Global) -> Result<Command<'static>, AllocError>
-        ensures { IfOk result (λ owned. command_view owned ≡ command_view self.entry) }
+        ensures same { IfOk result (λ owned. command_view owned ≡ command_view self.entry) }
+        ensures unclear { (capabilities : Capabilities) (parameters : Option InForce) (payload : List ℕ) →
+            HasUnclear capabilities parameters payload self.entry →
+            IfOk result (λ owned. HasUnclear capabilities parameters payload owned) }
     {
         match self {
             Command::Quit => Ok(Command::Quit),

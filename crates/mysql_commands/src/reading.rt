@@ -1,23 +1,24 @@
 //! What a payload says.
 
-ghost use Rattle.std.specs.Prelude.{◌≡◌, ◌∷◌, IfOk, Ok, is_some, option_map};
+ghost use Rattle.std.specs.Prelude.{◌≡◌, ◌≢◌, ◌∷◌, IfOk, IfSome, Ok, Option, is_some, option_map};
 ghost use Rattle.std.specs.Option.{option_copied};
 ghost use Rattle.mysql_executions.specs.Bulks.{bulk_execution_at};
 ghost use Rattle.mysql_executions.specs.Executions.{execution_at};
-ghost use Rattle.mysql_executions.specs.Types.{has_query_attributes};
+ghost use Rattle.mysql_executions.specs.InForce.{InForce};
 ghost use Rattle.mysql_login.specs.ChangedUsers.{change_in_force_at};
 ghost use Rattle.mysql_replication.specs.Packets.{binlog_dump_at, binlog_dump_gtid_at, register_slave_at};
 ghost use Rattle.mysql_replication.specs.Packets.{table_dump_at};
 ghost use Rattle.mysql_fields.specs.Forms.{fixed_number_at};
 ghost use Rattle.mysql_commands.specs.Commands.{alone, all_of, command_at, fetch_at, field_list_at, fields};
-ghost use Rattle.mysql_commands.specs.Commands.{by_statement, laid_out, level_at, long_data_at, query_at, said};
+ghost use Rattle.mysql_commands.specs.Commands.{by_statement, first_of, laid_out, level_at, long_data_at, query_at};
+ghost use Rattle.mysql_commands.specs.Commands.{said};
 ghost use Rattle.mysql_commands.specs.Commands as said;
-ghost use Rattle.mysql_commands.specs.Views.{command_view};
+ghost use Rattle.mysql_commands.specs.Views.{HasUnclear, command_view};
 
 use crate::command::Command;
-use bitflags::Flags;
 use mysql_buf::ParseBuf;
-use mysql_const::{Capabilities, CapabilityFlags};
+use mysql_const::Capabilities;
+use mysql_executions::execution_reading::has_query_attributes;
 use mysql_executions::{
     StatementParameters, read_bulk_execution, read_execution, read_query_attributes,
 };
@@ -172,15 +173,6 @@ fn packet_of<'de, T: MyDeserialize<'de> + Drop>(
     }
 }
 
-/// Whether queries have attributes.
-fn has_query_attributes(capabilities: Capabilities) -> bool
-    ensures { result ≡ has_query_attributes capabilities }
-{
-    capabilities
-        .protocol
-        .contains(CapabilityFlags::CLIENT_QUERY_ATTRIBUTES)
-}
-
 /// A query, behind its attributes where they are in force.
 fn query<'a>(
     alloc: Global,
@@ -211,8 +203,10 @@ fn execute<'a>(
     parameters: Option<&StatementParameters>,
     bytes: &[u8],
 ) -> Result<Option<Command<'a>>, AllocError>
-    ensures { IfOk result (λ command. option_map command_view command ≡
+    ensures reads { IfOk result (λ command. option_map command_view command ≡
         by_statement said.Execute (execution_at capabilities) (option_copied parameters.entry) bytes.now) }
+    ensures unclear { IfOk result (λ found. IfSome found (λ command.
+        HasUnclear capabilities (option_copied parameters.entry) (0x17 ∷ bytes.now) command)) }
 {
     let Some(parameters) = parameters else {
         return Ok(None);
@@ -230,8 +224,10 @@ fn bulk_execute<'a>(
     parameters: Option<&StatementParameters>,
     bytes: &[u8],
 ) -> Result<Option<Command<'a>>, AllocError>
-    ensures { IfOk result (λ command. option_map command_view command ≡
+    ensures reads { IfOk result (λ command. option_map command_view command ≡
         by_statement said.BulkExecute (bulk_execution_at capabilities) (option_copied parameters.entry) bytes.now) }
+    ensures unclear { IfOk result (λ found. IfSome found (λ command.
+        HasUnclear capabilities (option_copied parameters.entry) (0xfa ∷ bytes.now) command)) }
 {
     let Some(parameters) = parameters else {
         return Ok(None);
@@ -242,18 +238,18 @@ fn bulk_execute<'a>(
     }
 }
 
-/// Another user logs in.
+/// Another user logs in; bytes behind the last field don't count, as behind that of a login.
 fn change_user<'a>(
     alloc: Global,
     capabilities: Capabilities,
     payload: &'a [u8],
 ) -> Result<Option<Command<'a>>, AllocError>
     ensures { IfOk result (λ command. option_map command_view command ≡
-        fields said.ChangeUser (change_in_force_at capabilities.protocol.0) payload.now) }
+        option_map said.ChangeUser (first_of (change_in_force_at capabilities.protocol.0 payload.now))) }
 {
     let mut rest = ParseBuf(payload);
     match ComChangeUser::read_in_force(alloc, capabilities.protocol, &mut rest) {
-        Ok(login) => Ok(if_all(Command::ChangeUser(login), &rest)),
+        Ok(login) => Ok(Some(Command::ChangeUser(login))),
         Err(WireError::Memory) => Err(AllocError),
         Err(_) => Ok(None),
     }
@@ -303,18 +299,20 @@ fn binlog_dump_gtid<'a>(alloc: Global, payload: &'a [u8]) -> Result<Option<Comma
     }
 }
 
-/// The command with this number, where the bytes behind it are laid out as its row says.
+/// The command with this number, where the bytes behind it are laid out as its row says. It is no
+/// execution.
 fn laid_out<'a>(
     alloc: Global,
     capabilities: Capabilities,
-    parameters: Option<&StatementParameters>,
     number: u8,
     bytes: &'a [u8],
     payload: &'a [u8],
 ) -> Result<Option<Command<'a>>, AllocError>
-    requires { payload.now ≡ number ∷ bytes.now }
-    ensures { IfOk result (λ command. option_map command_view command ≡
-        laid_out capabilities (option_copied parameters.entry) number bytes.now) }
+    requires payload { payload.now ≡ number ∷ bytes.now }
+    requires no_execution { number ≢ 0x17 }
+    requires no_bulk { number ≢ 0xfa }
+    ensures { (parameters : Option InForce) → IfOk result (λ command. option_map command_view command ≡
+        laid_out capabilities parameters number bytes.now) }
 {
     let rest = CowSlice::Borrowed(bytes);
     match number {
@@ -336,7 +334,6 @@ fn laid_out<'a>(
         0x13 => table_dump(alloc, payload),
         0x15 => register_slave(alloc, payload),
         0x16 => Ok(Some(Command::Prepare(rest))),
-        0x17 => execute(alloc, capabilities, parameters, bytes),
         0x18 => Ok(long_data(bytes)),
         0x19 => Ok(close(bytes)),
         0x1a => Ok(reset_statement(bytes)),
@@ -345,8 +342,48 @@ fn laid_out<'a>(
         0x1e => binlog_dump_gtid(alloc, payload),
         0x1f => Ok(alone(Command::ResetConnection, bytes)),
         0x20 => Ok(Some(Command::Clone(rest))),
-        0xfa => bulk_execute(alloc, capabilities, parameters, bytes),
         _ => Ok(None),
+    }
+}
+
+/// A command that is no execution, of which no value is unclear.
+fn no_execution<'a>(
+    alloc: Global,
+    capabilities: Capabilities,
+    number: u8,
+    bytes: &'a [u8],
+    payload: &'a [u8],
+) -> Result<Option<Command<'a>>, AllocError>
+    requires payload { payload.now ≡ number ∷ bytes.now }
+    requires no_execution { number ≢ 0x17 }
+    requires no_bulk { number ≢ 0xfa }
+    ensures reads { (parameters : Option InForce) → IfOk result (λ command. option_map command_view command ≡
+        laid_out capabilities parameters number bytes.now) }
+    ensures unclear { (parameters : Option InForce) → IfOk result (λ found. IfSome found (λ command.
+        HasUnclear capabilities parameters (number ∷ bytes.now) command)) }
+{
+    laid_out(alloc, capabilities, number, bytes, payload)
+}
+
+/// The command with this number, where the bytes behind it are laid out as its row says.
+fn numbered<'a>(
+    alloc: Global,
+    capabilities: Capabilities,
+    parameters: Option<&StatementParameters>,
+    number: u8,
+    bytes: &'a [u8],
+    payload: &'a [u8],
+) -> Result<Option<Command<'a>>, AllocError>
+    requires { payload.now ≡ number ∷ bytes.now }
+    ensures reads { IfOk result (λ command. option_map command_view command ≡
+        laid_out capabilities (option_copied parameters.entry) number bytes.now) }
+    ensures unclear { IfOk result (λ found. IfSome found (λ command.
+        HasUnclear capabilities (option_copied parameters.entry) (number ∷ bytes.now) command)) }
+{
+    match number {
+        0x17 => execute(alloc, capabilities, parameters, bytes),
+        0xfa => bulk_execute(alloc, capabilities, parameters, bytes),
+        _ => no_execution(alloc, capabilities, number, bytes, payload),
     }
 }
 
@@ -357,23 +394,27 @@ fn said<'a>(
     parameters: Option<&StatementParameters>,
     payload: &'a [u8],
 ) -> Result<Option<Command<'a>>, AllocError>
-    ensures { IfOk result (λ command. option_map command_view command ≡
+    ensures reads { IfOk result (λ command. option_map command_view command ≡
         said capabilities (option_copied parameters.entry) payload.now) }
+    ensures unclear { IfOk result (λ found. IfSome found (λ command.
+        HasUnclear capabilities (option_copied parameters.entry) payload.now command)) }
 {
     match payload {
         [] => Ok(None),
-        [number, bytes @ ..] => laid_out(alloc, capabilities, parameters, *number, bytes, payload),
+        [number, bytes @ ..] => numbered(alloc, capabilities, parameters, *number, bytes, payload),
     }
 }
 
 impl<'a> Command<'a> {
     /// Reads a payload by the capabilities in force, an execution also by its statement's
     /// parameters. Those are handed in where the statement is known ([`Command::statement_id`]
-    /// tells which it is). No payload is refused: one that isn't laid out as its number says, or
-    /// whose number has no row, is [`Command::Other`]; so is an execution of a statement that isn't
+    /// tells which it is). No payload is refused. One that isn't laid out as its number says, or
+    /// whose number has no row, is [`Command::Other`]. So is an execution of a statement that isn't
     /// known.
     ///
-    /// Promise: any bytes are read exactly as the table of commands says (`command_at`).
+    /// Promise: any bytes are read exactly as the table of commands says (`command_at`). Exactly those
+    /// values of an execution are unclear that are so by its bytes and by what is in force
+    /// (`HasUnclear`).
     ///
     /// # Errors
     /// - `AllocError` for want of memory.
@@ -385,8 +426,10 @@ impl<'a> Command<'a> {
         parameters: Option<&StatementParameters>,
         payload: &'a [u8],
     ) -> Result<Command<'a>, AllocError>
-        ensures { IfOk result (λ command. command_view command ≡
+        ensures reads { IfOk result (λ command. command_view command ≡
             command_at capabilities (option_copied parameters.entry) payload.now) }
+        ensures unclear { IfOk result (λ command.
+            HasUnclear capabilities (option_copied parameters.entry) payload.now command) }
     {
         match said(alloc, capabilities, parameters, payload)? {
             Some(command) => Ok(command),

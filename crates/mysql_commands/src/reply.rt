@@ -72,7 +72,8 @@ impl<'a> Command<'a> {
     }
 
     /// The id of the statement that a payload is about. An execution, also a bulk one, long data, a
-    /// fetch, a reset and a close have one, also where they aren't laid out so behind it.
+    /// fetch, a reset and a close have one. They have it also where they aren't laid out so behind
+    /// it.
     ///
     /// Promise: exactly the four bytes behind such a command's number (`statement_of`).
     ///

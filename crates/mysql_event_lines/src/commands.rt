@@ -2,8 +2,9 @@
 
 use crate::fields::{
     name_of, write_bytes, write_bytes_if, write_hexadecimal, write_number, write_pairs,
-    write_space, write_value, write_values,
+    write_space, write_value,
 };
+use mysql_cells::Value;
 use mysql_commands::Command;
 use mysql_executions::{Attribute, BulkExecution, BulkValue, Execution};
 use mysql_login::ComChangeUser;
@@ -82,18 +83,75 @@ fn write_execution<W: Write>(output: &mut W, execution: &Execution) -> io::Resul
     output.write_all(b"Execute")?;
     write_number(output, "id", u64::from(execution.statement))?;
     let counts = if execution.count_available { 8 } else { 0 };
-    write_number(output, "flags", u64::from(execution.cursor.0 | counts))?;
+    let flags = execution.cursor.0 | counts | execution.nameless_flags;
+    write_number(output, "flags", u64::from(flags))?;
+    if execution.iterations != 1 {
+        write_number(output, "iterations", u64::from(execution.iterations))?;
+    }
     output.write_all(b" parameters=")?;
-    write_values(output, execution.parameters.as_slice())?;
-    write_attributes(output, execution.attributes.as_slice())
+    write_parameters(output, execution)?;
+    write_execution_attributes(output, execution)?;
+    write_rest(output, execution.rest.as_slice())?;
+    match &execution.unclear.cells {
+        Some(cells) => write_bytes(output, "unclear", cells.bytes.as_slice()),
+        None => Ok(()),
+    }
 }
 
-/// Writes a row of a bulk execution as a list.
-fn write_bulk_row<W: Write>(output: &mut W, row: &[BulkValue]) -> io::Result<()> {
+/// Writes what an execution's parameters hold as a list. A value that servers read each their way is
+/// `?`: a cell's bytes are behind, and long data was told before.
+fn write_parameters<W: Write>(output: &mut W, execution: &Execution) -> io::Result<()> {
+    output.write_all(b"(")?;
+    for (place, value) in execution.parameters.iter().enumerate() {
+        write_space(output, place)?;
+        write_unless_unclear(output, execution.unclear.is_at(place), value)?;
+    }
+    output.write_all(b")")
+}
+
+fn write_unless_unclear<W: Write>(
+    output: &mut W,
+    is_unclear: bool,
+    value: &Value,
+) -> io::Result<()> {
+    if is_unclear {
+        output.write_all(b"?")
+    } else {
+        write_value(output, value)
+    }
+}
+
+/// Writes an execution's attributes as a list of names and values, unclear ones too.
+fn write_execution_attributes<W: Write>(output: &mut W, execution: &Execution) -> io::Result<()> {
+    let first = execution.parameters.len();
+    output.write_all(b" attributes=(")?;
+    for (place, attribute) in execution.attributes.iter().enumerate() {
+        write_space(output, place)?;
+        output.write_all(b"(")?;
+        write_hexadecimal(output, attribute.bound_type.name.as_slice())?;
+        output.write_all(b" ")?;
+        let is_unclear = execution.unclear.is_at(first.saturating_add(place));
+        write_unless_unclear(output, is_unclear, &attribute.value)?;
+        output.write_all(b")")?;
+    }
+    output.write_all(b")")
+}
+
+/// Writes the bytes that are left over, where there are some.
+fn write_rest<W: Write>(output: &mut W, rest: &[u8]) -> io::Result<()> {
+    if rest.is_empty() {
+        return Ok(());
+    }
+    write_bytes(output, "rest", rest)
+}
+
+/// Writes a row of a bulk execution as a list, of which so many first values are clear.
+fn write_bulk_row<W: Write>(output: &mut W, row: &[BulkValue], clear: usize) -> io::Result<()> {
     output.write_all(b"(")?;
     for (place, value) in row.iter().enumerate() {
         write_space(output, place)?;
         match value {
+            _ if place >= clear => output.write_all(b"?")?,
             BulkValue::Value(value) => write_value(output, value)?,
             BulkValue::Default => output.write_all(b"default")?,
             BulkValue::Ignore => output.write_all(b"ignore")?,
@@ -109,11 +167,21 @@ fn write_bulk_execution<W: Write>(output: &mut W, bulk: &BulkExecution) -> io::R
     let types = if bulk.types.is_some() { 0x80 } else { 0 };
     write_number(output, "flags", units | types)?;
     output.write_all(b" sets=(")?;
+    let mut clear = match &bulk.unclear {
+        Some(cells) => cells.first,
+        None => usize::MAX,
+    };
     for (place, row) in bulk.rows.iter().enumerate() {
         write_space(output, place)?;
-        write_bulk_row(output, row.as_slice())?;
+        write_bulk_row(output, row.as_slice(), clear)?;
+        clear = clear.saturating_sub(row.len());
     }
-    output.write_all(b")")
+    output.write_all(b")")?;
+    write_rest(output, bulk.rest.as_slice())?;
+    match &bulk.unclear {
+        Some(cells) => write_bytes(output, "unclear", cells.bytes.as_slice()),
+        None => Ok(()),
+    }
 }
 
 /// Writes a payload that is laid out as no command that is known: its first byte, and those behind it.

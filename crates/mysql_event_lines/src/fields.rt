@@ -124,16 +124,6 @@ pub(crate) fn write_space<W: Write>(output: &mut W, place: usize) -> io::Result<
     Ok(())
 }
 
-/// Writes values as a list.
-pub(crate) fn write_values<W: Write>(output: &mut W, values: &[Value]) -> io::Result<()> {
-    output.write_all(b"(")?;
-    for (place, value) in values.iter().enumerate() {
-        write_space(output, place)?;
-        write_value(output, value)?;
-    }
-    output.write_all(b")")
-}
-
 /// Writes the attributes of a connection as a list of pairs, or `-` where there are none.
 pub(crate) fn write_pairs<W: Write>(
     output: &mut W,

@@ -69,7 +69,8 @@ module _ (named : IsTable column_type_number column_type_named) (c : Capabilitie
       let x = bulk_is named c bulks statement state s agree body sets reads in
       record {
         says = ap (λ found. sets_of (or_other (0xfa ∷ body) (option_map BulkExecute found))) x.found ∙ x.says;
-        agree = executed statement state s agree _ state.long_data (unnamed (bulk_types s.count body)) x.types (nothing_kept statement state s agree x.waits);
+        agree = subst (λ (b : Bool). Agree statement (after statement state (0xfa ∷ body)) (if b then after_execution (unnamed (bulk_types s.count body)) s else s)) (sym bulks)
+            (executed statement state s agree _ state.long_data (unnamed (bulk_types s.count body)) x.types (nothing_kept statement state s agree x.waits));
       }
 
   -- ---- long data

@@ -11,7 +11,7 @@ use Rattle.mysql_const.specs.Tables.{IsTable}
 use Rattle.mysql_const.specs.declared.capabilities.Capabilities.{Capabilities}
 use Rattle.mysql_executions.specs.After.{bulk_types, execution_types, in_place_of, types_of_bulk, types_of_head}
 use Rattle.mysql_executions.specs.Bulks.{BulkExecution, BulkHead, bulk_execution_at, bulk_head, rows_at, send_types_to_server, send_unit_results}
-use Rattle.mysql_executions.specs.Executions.{Binding, Execution, ExecutionHead, are_execution_flags, count_available, execution_at, execution_head, parameters_at, readable_head}
+use Rattle.mysql_executions.specs.Executions.{Binding, Execution, ExecutionHead, count_available, execution_at, execution_head, named_flags, parameters_at, readable_head}
 use Rattle.mysql_executions.specs.Fields.{each_at}
 use Rattle.mysql_executions.specs.InForce.{InForce, is_waiting, types_that_count}
 use Rattle.mysql_executions.specs.Types.{has_bulk_operations, has_query_attributes, own_types_at, types_at, types_read, unnamed}
@@ -29,11 +29,11 @@ use Rattle.mysql_receive.specs.declared.fault.StreamFault.TheVariants.{BadBulk, 
 use Rattle.mysql_wire.specs.Wire.{◌>>=◌}
 use Rattle.mysql_execution_contents.specs.Agreement.{Agree, SameTypes, bulk_meant, meant}
 use Rattle.mysql_execution_contents.proofs.Binds.{bind_ok, must_then, ok_is}
-use Rattle.mysql_execution_contents.proofs.Options.{must_so, some_then}
+use Rattle.mysql_execution_contents.proofs.Options.{must_so, rows_so, some_then}
 use Rattle.mysql_execution_contents.proofs.Values.{set_is}
 use Rattle.mysql_execution_contents.proofs.Heads.{BulkHeaded, Headed, bulk_head_is, head_is}
 use Rattle.mysql_execution_contents.proofs.InForce.{not_waiting, types_behind, types_count}
-use Rattle.mysql_execution_contents.proofs.Rows.{rows_are}
+use Rattle.mysql_execution_contents.proofs.Rows.{rows_are, some_rows, some_types}
 
 -- ---- executions
 
@@ -45,24 +45,31 @@ less_itself : (named : Bool) (n : ℕ) (bytes : List ℕ) → types_at named (n 
 unfolding types_read
 less_itself named n bytes = let none : n - n ≡ 0 = omega arith in ap (λ m. types_at named m bytes) none
 
-no_cursor : (c : Capabilities) → has_query_attributes c ≡ false → are_execution_flags c 0 ≡ true
-no_cursor c none = ap (λ b. nat_lt 0 (if b then 16 else 8)) none
-
 abbrev headed : InForce → (id : ℕ) → Binding → ExecutionHead
 headed s id binding = record { statement = id; flags = 0; iterations = 1; count = s.count; binding = binding }
 
-abbrev made : (id : ℕ) → Option (List BoundType) → List Value → Execution
-made id own vs = record { statement = id; cursor = record { 0 = 0 % 8 }; count_available = nat_le count_available 0; types = own; parameters = vs; attributes = [] }
+abbrev made : Capabilities → (id : ℕ) → Option (List BoundType) → List Value → Execution
+made c id own vs = record {
+  statement = id;
+  cursor = record { 0 = 0 % 8 };
+  count_available = nat_le count_available (named_flags c 0);
+  nameless_flags = 0 - named_flags c 0;
+  iterations = 1;
+  types = own;
+  parameters = vs;
+  attributes = [];
+  rest = [];
+}
 
 module _ (c : Capabilities) (s : InForce) (none : has_query_attributes c ≡ false) (whole : s.broken ≡ false) (body : List ℕ) (id : ℕ) (binding : Binding) (found : execution_head c s.count body ≡ Some (headed s id binding)) where
   head_readable : readable_head c s body ≡ Some (headed s id binding)
   unfolding readable_head
   head_readable =
       must_so (not s.broken) _ _ (ap not whole) (some_then _ _ (headed s id binding) _ found
-      (must_so (are_execution_flags c 0) _ _ (no_cursor c none) (must_so true _ _ refl (must_so (binding.bound || (s.count == s.count)) _ _ (or_true binding.bound s.count) refl))))
+      (must_so (binding.bound || (s.count == s.count)) _ _ (or_true binding.bound s.count) refl))
 
   execution_found : (own : Option (List BoundType)) (cells : List ℕ) (types : List ParameterType) (vs : List Value) → own_types_at binding.bound false s.count binding.rest ≡ Some (own, cells) → types_that_count s own ≡ Some types
-      → parameters_at s.long_data binding.nulls types cells ≡ Some (vs, []) → execution_at c s body ≡ Some (made id own vs)
+      → parameters_at s.long_data binding.nulls types cells ≡ Some (vs, []) → execution_at c s body ≡ Some (made c id own vs)
   unfolding execution_at each_at
   execution_found own cells types vs own_so types_so read =
       some_then _ _ (headed s id binding) _ head_readable
@@ -90,7 +97,7 @@ module _ (named : IsTable column_type_number column_type_named) (c : Capabilitie
       let counting = types_count statement state s agree own head.own types h.own.same counted in
       let values = set_is s.long_data state.long_data agree.long_data head.nulls 0 counting.0 head.cells set (ap (λ ts. set_at state.long_data head.nulls 0 ts head.cells) counting.2 ∙ read) in
       record {
-        execution = made statement.id own values.0;
+        execution = made c statement.id own values.0;
         found = execution_found c s none agree.whole body statement.id h.binding h.found own head.cells counting.0 values.0 h.own.found counting.1 (ap (λ ns. parameters_at s.long_data ns counting.0 head.cells) h.nulls ∙ values.1);
         says = values.2;
         types = subst (λ (o : Option Types). SameTypes (option_or o state.types) (in_place_of (unnamed (execution_types c s.count body)) s.types) s.count) (sym (ap (λ found. option_and_then (λ (x : ExecuteHead). x.own) (result_ok found)) is))
@@ -113,15 +120,16 @@ abbrev bulk_headed : (id flags : ℕ) → List ℕ → BulkHead
 bulk_headed id flags rest = record { statement = id; flags = flags; rest = rest }
 
 abbrev bulk_made : (id flags : ℕ) → Option (List BoundType) → List (List BulkValue) → BulkExecution
-bulk_made id flags own rows = record { statement = id; unit_results = contains flags send_unit_results; types = own; rows = rows }
+bulk_made id flags own rows = record { statement = id; unit_results = contains flags send_unit_results; types = own; rows = rows; rest = [] }
 
 module _ (c : Capabilities) (s : InForce) (bulks : has_bulk_operations c ≡ true) (whole : s.broken ≡ false) (waits : is_waiting s ≡ false) (some : nat_lt 0 s.count ≡ true) (body : List ℕ) (id flags : ℕ) (rest : List ℕ) (found : bulk_head body ≡ Some (bulk_headed id flags rest)) where
   bulk_found : (own : Option (List BoundType)) (left : List ℕ) (types : List ParameterType) (rows : List (List BulkValue)) → are_bulk_flags flags ≡ true → own_types_at (contains flags send_types_to_server) false s.count rest ≡ Some (own, left)
-      → types_that_count s own ≡ Some types → nat_lt 0 (length left) ≡ true → rows_at (length left) types left ≡ Some rows → bulk_execution_at c s body ≡ Some (bulk_made id flags own rows)
+      → types_that_count s own ≡ Some types → rows_at (length left) types left ≡ (rows, []) → nat_lt 0 (length rows) ≡ true → bulk_execution_at c s body ≡ Some (bulk_made id flags own rows)
   unfolding bulk_execution_at
-  bulk_found own left types rows known own_so types_so some_left read =
+  bulk_found own left types rows known own_so types_so read some_rows =
       must_so (has_bulk_operations c) _ _ bulks (must_so (not s.broken) _ _ (ap not whole) (must_so (not (is_waiting s)) _ _ (ap not waits) (must_so (nat_lt 0 s.count) _ _ some
-      (some_then _ _ (bulk_headed id flags rest) _ found (must_so (are_bulk_flags flags) _ _ known (some_then _ _ (own, left) _ own_so (some_then _ _ types _ types_so (must_so (nat_lt 0 (length left)) _ _ some_left (some_then _ _ rows _ read refl)))))))))
+      (some_then _ _ (bulk_headed id flags rest) _ found (must_so (are_bulk_flags flags) _ _ known (some_then _ _ (own, left) _ own_so (some_then _ _ types _ types_so
+      (rows_so (λ (r : List (List BulkValue) × List ℕ). record (bulk_made id flags own r.0) { rest = r.1 }) (rows_at (length left) types left) rows [] read some_rows))))))))
 
   bulk_types_carried : (own : Option (List BoundType)) → (if contains flags send_types_to_server then (types_read false s.count rest).found else []) ≡ unwrap_or own [] → bulk_types s.count body ≡ unwrap_or own []
   unfolding bulk_types
@@ -145,10 +153,11 @@ module _ (named : IsTable column_type_number column_type_named) (c : Capabilitie
   bulk_by sets head types waits some is h counted some_left read =
       let own = h.own.own in
       let counting = types_count statement state s agree own head.own types h.own.same counted in
-      let rows = rows_are (length head.rows) counting.0 head.rows sets (omega arith) (subst (λ (ts : Types). RowsAt ts head.rows sets []) (sym counting.2) read) in
+      let read_so = subst (λ (ts : Types). RowsAt ts head.rows sets []) (sym counting.2) read in
+      let rows = rows_are (length head.rows) counting.0 head.rows sets (some_types counting.0 head.rows sets some_left read_so) (omega arith) read_so in
       record {
         execution = bulk_made statement.id h.flags own rows.0;
-        found = bulk_found c s bulks agree.whole (not_waiting statement state s agree waits) (ap (nat_lt 0) agree.count ∙ some) body statement.id h.flags h.rest h.found own head.rows counting.0 rows.0 h.known h.own.found counting.1 some_left rows.1;
+        found = bulk_found c s bulks agree.whole (not_waiting statement state s agree waits) (ap (nat_lt 0) agree.count ∙ some) body statement.id h.flags h.rest h.found own head.rows counting.0 rows.0 h.known h.own.found counting.1 rows.1 (some_rows counting.0 head.rows sets rows.0 some_left read_so rows.2);
         says = rows.2;
         waits = waits;
         types = subst (λ (o : Option Types). SameTypes (option_or o state.types) (in_place_of (unnamed (bulk_types s.count body)) s.types) s.count) (sym (ap (λ found. option_and_then (λ (x : ReceivedBulkHead). x.own) (result_ok found)) is))

@@ -1,9 +1,11 @@
 -- Rows of a bulk that `receive` reads are those that the execution has.
-use Rattle.std.proofs.Common.{◌≡◌, ℕ, zero, suc, ◌+◌, ◌≤◌, Bool, true, false, List, [], ◌∷◌, length, Some, Ok, refl, ap, subst, ◌∙◌, arith}
-use Rattle.std.specs.Prelude.{map, nat_le, ◌==◌, if◌then◌else◌}
+use Rattle.std.proofs.Common.{◌≡◌, ℕ, zero, suc, ◌+◌, ◌<◌, ◌≤◌, Bool, true, false, List, [], ◌∷◌, length, Option, Some, Ok, refl, ap, subst, ◌∙◌, arith}
+use Rattle.std.specs.Prelude.{map, nat_le, nat_lt, ◌==◌, if◌then◌else◌, unwrap_or}
+use Rattle.std.specs.Option.{option_map}
+use Rattle.std.proofs.lemmas.Bool.{lt-ltb}
 use Rattle.std.proofs.lemmas.Bool.Decides.{nat_tests}
-use Rattle.mysql_buf.specs.Reading.{little_at}
-use Rattle.mysql_executions.specs.Bulks.{bulk_value_at, rows_at}
+use Rattle.mysql_buf.specs.Reading.{first, little_at}
+use Rattle.mysql_executions.specs.Bulks.{bulk_value_at, rows_at, with_row}
 use Rattle.mysql_executions.specs.Fields.{each_at}
 use Rattle.mysql_executions.specs.declared.bulk.BulkValue.{BulkValue}
 use Rattle.mysql_executions.specs.declared.bulk.BulkValue.TheVariants as bulk
@@ -73,22 +75,44 @@ row_is (t ∷ types) bytes p e = columns_are 0 (t ∷ types) bytes p e
 
 -- rows that were read to the end of the bytes are those of parameters
 abbrev pub RowsAre : (most : ℕ) → List ParameterType → List ℕ → List Set → Type 0
-RowsAre most types bytes sets = (rows : List (List BulkValue)) × (rows_at most types bytes ≡ Some rows) × (map (λ row. map bulk_meant row) rows ≡ map (λ set. map Some set) sets)
+RowsAre most types bytes sets = (rows : List (List BulkValue)) × (rows_at most types bytes ≡ (rows, [])) × (map (λ row. map bulk_meant row) rows ≡ map (λ set. map Some set) sets)
 
-rows_found : (most : ℕ) (types : List ParameterType) (byte : ℕ) (bytes : List ℕ) (first : Set × List ℕ) (sets : List Set) → ColumnsAre 0 types (byte ∷ bytes) first → RowsAre most types first.1 sets → RowsAre (suc most) types (byte ∷ bytes) (first.0 ∷ sets)
+rows_found : (most : ℕ) (types : List ParameterType) (bytes : List ℕ) (first : Set × List ℕ) (sets : List Set) → ColumnsAre 0 types bytes first → RowsAre most types first.1 sets → RowsAre (suc most) types bytes (first.0 ∷ sets)
 unfolding rows_at
-rows_found most types byte bytes first sets v vs =
-    (v.0 ∷ vs.0, some_then _ _ (v.0, first.1) _ v.1 (some_then _ _ vs.0 _ vs.1 refl), ap (λ c. c ∷ map (λ row. map bulk_meant row) vs.0) v.2 ∙ ap (λ cs. map Some first.0 ∷ cs) vs.2)
+rows_found most types bytes first sets v vs = (
+  v.0 ∷ vs.0,
+  ap (λ (r : Option (List BulkValue × List ℕ)). unwrap_or (option_map (λ row. with_row row.0 (rows_at most types row.1)) r) ([], bytes)) v.1 ∙ ap (with_row v.0) vs.1,
+  ap (λ c. c ∷ map (λ row. map bulk_meant row) vs.0) v.2 ∙ ap (λ (cs : List (List (Option Content))). map Some first.0 ∷ cs) vs.2,
+)
 
-no_rows : (most : ℕ) (types : List ParameterType) (bytes : List ℕ) → bytes ≡ [] → RowsAre most types bytes []
-unfolding rows_at
-no_rows most types [] none = ([], refl, refl)
-no_rows most types (byte ∷ bytes) none = absurd cc
+no_rows : (most : ℕ) (types : List ParameterType) (bytes : List ℕ) → 0 < length types → bytes ≡ [] → RowsAre most types bytes []
+unfolding rows_at each_at bulk_value_at first
+no_rows most [] bytes some none = absurd (omega (arith, some))
+no_rows zero (t ∷ types) [] some none = ([], refl, refl)
+no_rows (suc most) (t ∷ types) [] some none = ([], refl, refl)
+no_rows zero (t ∷ types) (byte ∷ bytes) some none = absurd cc
+no_rows (suc most) (t ∷ types) (byte ∷ bytes) some none = absurd cc
 
-pub rows_are : (most : ℕ) (types : List ParameterType) (bytes : List ℕ) (sets : List Set) → length bytes ≤ most → RowsAt (map numbered types) bytes sets [] → RowsAre most types bytes sets
-rows_are most types bytes [] few rows = no_rows most types bytes rows
-rows_are most types [] (set ∷ sets) few rows = absurd (omega (arith, row_left (map numbered types) [] (set, rows.0) rows.1))
-rows_are zero types (byte ∷ bytes) (set ∷ sets) few rows = absurd (omega arith)
-rows_are (suc most) types (byte ∷ bytes) (set ∷ sets) few rows =
-    rows_found most types byte bytes (set, rows.0) sets (row_is types (byte ∷ bytes) (set, rows.0) rows.1)
-    (rows_are most types rows.0 sets (omega (arith, row_left (map numbered types) (byte ∷ bytes) (set, rows.0) rows.1)) rows.2)
+pub rows_are : (most : ℕ) (types : List ParameterType) (bytes : List ℕ) (sets : List Set) → 0 < length types → length bytes ≤ most → RowsAt (map numbered types) bytes sets [] → RowsAre most types bytes sets
+rows_are most types bytes [] some few rows = no_rows most types bytes some rows
+rows_are most types [] (set ∷ sets) some few rows = absurd (omega (arith, row_left (map numbered types) [] (set, rows.0) rows.1))
+rows_are zero types (byte ∷ bytes) (set ∷ sets) some few rows = absurd (omega arith)
+rows_are (suc most) types (byte ∷ bytes) (set ∷ sets) some few rows =
+    rows_found most types (byte ∷ bytes) (set, rows.0) sets (row_is types (byte ∷ bytes) (set, rows.0) rows.1)
+    (rows_are most types rows.0 sets some (omega (arith, row_left (map numbered types) (byte ∷ bytes) (set, rows.0) rows.1)) rows.2)
+
+some_bytes : (bytes : List ℕ) → nat_lt 0 (length bytes) ≡ true → bytes ≡ [] → ⊥
+some_bytes [] some none = cc
+some_bytes (byte ∷ bytes) some none = cc
+
+-- a row that was read has values, and where bytes stand there is a row
+pub some_types : (types : List ParameterType) (bytes : List ℕ) (sets : List Set) → nat_lt 0 (length bytes) ≡ true → RowsAt (map numbered types) bytes sets [] → 0 < length types
+some_types types bytes [] some rows = absurd (some_bytes bytes some rows)
+some_types [] bytes (set ∷ sets) some rows = absurd (cc (rows.1))
+some_types (t ∷ types) bytes (set ∷ sets) some rows = omega arith
+
+pub some_rows : (types : List ParameterType) (bytes : List ℕ) (sets : List Set) (rows : List (List BulkValue)) → nat_lt 0 (length bytes) ≡ true → RowsAt (map numbered types) bytes sets []
+    → map (λ row. map bulk_meant row) rows ≡ map (λ set. map Some set) sets → nat_lt 0 (length rows) ≡ true
+some_rows types bytes [] rows some read same = absurd (some_bytes bytes some read)
+some_rows types bytes (set ∷ sets) [] some read same = absurd cc
+some_rows types bytes (set ∷ sets) (row ∷ rows) some read same = lt-ltb 0 (length (row ∷ rows)) (omega arith)

@@ -68,11 +68,16 @@ abbrev pub with_data : Command → InForce → InForce
 with_data (LongData id place bytes) s = after_long_data place bytes s
 with_data command s = s
 
+-- A bulk execution changes nothing where MariaDB's aren't in force.
+abbrev pub after_bulk : Capabilities → List ℕ → InForce → InForce
+after_bulk capabilities body s =
+    if has_bulk_operations capabilities then after_execution (unnamed (bulk_types s.count body)) s else s
+
 -- What is in force behind a command about the statement, where no error answers it.
 abbrev pub after_numbered : Capabilities → (number : ℕ) → List ℕ → Command → InForce → InForce
 after_numbered capabilities number body command s =
     if number == 0x17 then after_execution (unnamed (execution_types capabilities s.count body)) s
-    else if number == 0xfa then after_execution (unnamed (bulk_types s.count body)) s
+    else if number == 0xfa then after_bulk capabilities body s
     else if number == 0x18 then with_data command s
     else if number == 0x1a then after_reset s
     else s

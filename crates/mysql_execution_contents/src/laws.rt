@@ -14,9 +14,9 @@ pub fn prepared_statements_agree()
 /// What `receive` reads of a command about a prepared statement's parameters, the command says.
 ///
 /// The command is read by what is in force of them, and an execution has the same contents. It is
-/// an execution, a bulk execution where MariaDB's bulk executions are in force, long data or a reset,
-/// on a connection without query attributes, which `receive` doesn't read. Behind it the same is in
-/// force on both sides.
+/// an execution, a bulk execution where MariaDB's bulk executions are in force, long data or a
+/// reset. The connection has no query attributes, which `receive` doesn't read. Behind it the same
+/// is in force on both sides.
 ///
 /// MySQL: Client/Server Protocol, "COM_STMT_EXECUTE", "COM_STMT_SEND_LONG_DATA", "COM_STMT_RESET";
 /// MariaDB: "COM_STMT_BULK_EXECUTE".

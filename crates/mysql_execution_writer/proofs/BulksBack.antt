@@ -1,6 +1,7 @@
 -- Bulk executions that were written are read again.
 use Rattle.std.proofs.Common.{◌≡◌, ℕ, zero, suc, ◌+◌, ◌^◌, ◌<◌, ◌≤◌, Bool, true, false, List, [], ◌∷◌, ◌++◌, length, map, Option, Some, None, refl, sym, ◌∙◌, ap, append_assoc, length-append, arith, lit<}
 use Rattle.std.specs.Prelude.{if◌then◌else◌, is_some, nat_lt, not, unwrap_or}
+use Rattle.std.specs.Option.{option_map}
 use Rattle.std.specs.List.{AllByRecursion, flat_map, list_all}
 use Rattle.std.proofs.lemmas.Bool.{eqb-true, lt-ltb, ltb-true}
 use Rattle.std.proofs.lemmas.List.{length-map}
@@ -20,7 +21,7 @@ use Rattle.mysql_executions.specs.declared.bulk.BulkValue.{BulkValue}
 use Rattle.mysql_executions.specs.declared.bulk.BulkValue.TheVariants as bulk
 use Rattle.mysql_executions.specs.declared.types.BoundType.{BoundType}
 use Rattle.mysql_executions.specs.declared.types.ParameterType.{ParameterType}
-use Rattle.mysql_executions.specs.Bulks.{BulkExecution, are_bulk_flags, bulk_execution_at, bulk_head, bulk_value_at, indicated_at, row_at, rows_at, send_types_to_server, send_unit_results}
+use Rattle.mysql_executions.specs.Bulks.{BulkExecution, are_bulk_flags, bulk_execution_at, bulk_head, bulk_value_at, indicated_at, row_at, rows_at, send_types_to_server, send_unit_results, with_row}
 use Rattle.mysql_executions.specs.Executions.{typed_value_at}
 use Rattle.mysql_executions.specs.Fields.{◌>>=◌, ◌>>◌, each_at, must, number_at}
 use Rattle.mysql_executions.specs.InForce.{InForce, is_waiting, types_that_count}
@@ -125,28 +126,31 @@ rows_take types (row ∷ rows) some can =
       length-append (row_bytes types row) (flat_map (row_bytes types) rows),
     )
 
-rows_step : (most : ℕ) (types : List ParameterType) (bytes : List ℕ) (row : List BulkValue) (after : List ℕ) → 0 < length bytes → row_at types bytes ≡ Some (row, after)
-    → rows_at (suc most) types bytes ≡ (rows_at most types after >>= λ others. Some (row ∷ others))
+rows_step : (most : ℕ) (types : List ParameterType) (bytes : List ℕ) (row : List BulkValue) (after : List ℕ) → row_at types bytes ≡ Some (row, after)
+    → rows_at (suc most) types bytes ≡ with_row row (rows_at most types after)
 unfolding rows_at
-rows_step most types [] row after some e = absurd (omega (arith, some))
-rows_step most types (b ∷ bytes) row after some e = ap (λ (r : Option (List BulkValue × List ℕ)). r >>= λ first. rows_at most types first.1 >>= λ others. Some (first.0 ∷ others)) e
+rows_step most types bytes row after e = ap (λ (r : Option (List BulkValue × List ℕ)). unwrap_or (option_map (λ first. with_row first.0 (rows_at most types first.1)) r) ([], bytes)) e
 
-no_rows : (most : ℕ) (types : List ParameterType) → rows_at most types [] ≡ Some []
+none_is : {A : Type 0} (o : Option A) → is_some o ≡ false → o ≡ None
+none_is None e = refl
+none_is (Some x) e = absurd cc
+
+no_rows : (most : ℕ) (types : List ParameterType) (bytes : List ℕ) → is_some (row_at types bytes) ≡ false → rows_at most types bytes ≡ ([], bytes)
 unfolding rows_at
-no_rows zero types = refl
-no_rows (suc most) types = refl
+no_rows zero types bytes none = refl
+no_rows (suc most) types bytes none = ap (λ (r : Option (List BulkValue × List ℕ)). unwrap_or (option_map (λ first. with_row first.0 (rows_at most types first.1)) r) ([], bytes)) (none_is (row_at types bytes) none)
 
-pub rows_back : TypedCellsReadBack → (most : ℕ) (types : List ParameterType) (rows : List (List BulkValue)) → 0 < length types → length rows ≤ most
-    → AllByRecursion (λ row. AllByRecursion (λ value. FitsBulkValue value) row) rows → list_all (is_row types) rows ≡ true
-    → rows_at most types (flat_map (row_bytes types) rows) ≡ Some (map (λ row. map bulk_value_as_read row) rows)
-rows_back back most types [] some few fits can = no_rows most types
-rows_back back zero types (row ∷ rows) some few fits can = absurd (omega (arith, few))
-rows_back back (suc most) types (row ∷ rows) some few fits can =
+pub rows_back : TypedCellsReadBack → (most : ℕ) (types : List ParameterType) (rows : List (List BulkValue)) (rest : List ℕ) → length rows ≤ most
+    → AllByRecursion (λ row. AllByRecursion (λ value. FitsBulkValue value) row) rows → list_all (is_row types) rows ≡ true → is_some (row_at types rest) ≡ false
+    → rows_at most types (flat_map (row_bytes types) rows ++ rest) ≡ (map (λ row. map bulk_value_as_read row) rows, rest)
+rows_back back most types [] rest few fits can none = no_rows most types rest none
+rows_back back zero types (row ∷ rows) rest few fits can none = absurd (omega (arith, few))
+rows_back back (suc most) types (row ∷ rows) rest few fits can none =
     let later = flat_map (row_bytes types) rows in
     let this = and_left (is_row types row) (list_all (is_row types) rows) can in
-    rows_step most types (row_bytes types row ++ later) (map bulk_value_as_read row) later (omega (arith, row_takes types row some this, length-append (row_bytes types row) later)) (row_back back 0 types row later fits.0 this)
-    ∙ ap (λ (r : Option (List (List BulkValue))). r >>= λ others. Some (map bulk_value_as_read row ∷ others))
-    (rows_back back most types rows some (omega (arith, few)) fits.1 (and_right (is_row types row) (list_all (is_row types) rows) can))
+    ap (rows_at (suc most) types) (append_assoc (row_bytes types row) later rest)
+    ∙ rows_step most types (row_bytes types row ++ (later ++ rest)) (map bulk_value_as_read row) (later ++ rest) (row_back back 0 types row (later ++ rest) fits.0 this)
+    ∙ ap (with_row (map bulk_value_as_read row)) (rows_back back most types rows rest (omega (arith, few)) fits.1 (and_right (is_row types row) (list_all (is_row types) rows) can) none)
 
 -- ---- the whole
 
@@ -159,11 +163,17 @@ pub record Parts (c : Capabilities) (s : InForce) (e : BulkExecution) : Type 0 w
   pub names : list_all (fits_name false) (unwrap_or e.types []) ≡ true
   pub some_rows : nat_lt 0 (length e.rows) ≡ true
   pub rows : list_all (is_row (types_by e.types s.types)) e.rows ≡ true
+  pub rest : is_some (row_at (types_by e.types s.types) e.rest) ≡ false
+
+not_is : (b : Bool) → not b ≡ true → b ≡ false
+not_is true e = absurd cc
+not_is false e = refl
 
 parts : (c : Capabilities) (s : InForce) (e : BulkExecution) → can_put_bulk c s e ≡ true → Parts c s e
 unfolding can_put_bulk
 parts c s e can =
-    let g = and_left _ (list_all (is_row (types_by e.types s.types)) e.rows) can in
+    let r = and_left _ (not (is_some (row_at (types_by e.types s.types) e.rest))) can in
+    let g = and_left _ (list_all (is_row (types_by e.types s.types)) e.rows) r in
     let f = and_left _ (nat_lt 0 (length e.rows)) g in
     let n = and_left _ (list_all (fits_name false) (unwrap_or e.types [])) f in
     let t = and_left _ (can_have_bulk_types s e.types) n in
@@ -177,7 +187,8 @@ parts c s e can =
       types = and_right _ (can_have_bulk_types s e.types) n;
       names = and_right _ (list_all (fits_name false) (unwrap_or e.types [])) f;
       some_rows = and_right _ (nat_lt 0 (length e.rows)) g;
-      rows = and_right _ (list_all (is_row (types_by e.types s.types)) e.rows) can;
+      rows = and_right _ (list_all (is_row (types_by e.types s.types)) e.rows) r;
+      rest = not_is (is_some (row_at (types_by e.types s.types) e.rest)) (and_right _ (not (is_some (row_at (types_by e.types s.types) e.rest))) can);
     }
 
 abbrev flags_by : Bool → Bool → ℕ
@@ -220,7 +231,9 @@ module _ (c : Capabilities) (s : InForce) (e : BulkExecution) (p : Parts c s e) 
   pub whole_back : bulk_execution_at c s (bulk_bytes s e) ≡ Some (bulk_as_read e)
   unfolding bulk_execution_at bulk_bytes bulk_head
   whole_back =
-      let rows = flat_map (row_bytes (types_by e.types s.types)) e.rows in
+      let rows = flat_map (row_bytes (types_by e.types s.types)) e.rows ++ e.rest in
+      let took = rows_take (types_by e.types s.types) e.rows some_types p.rows in
+      let fit : length e.rows ≤ length rows = omega (arith, took, length-append (flat_map (row_bytes (types_by e.types s.types)) e.rows) e.rest) in
       let types = types_bytes false (unwrap_or e.types []) in
       rw (
         p.bulks,
@@ -233,8 +246,8 @@ module _ (c : Capabilities) (s : InForce) (e : BulkExecution) (p : Parts c s e) 
         flags.types,
         own_back e.types rows p.types fits.names p.names,
         count_back e.types p.types,
-        lt-ltb 0 (length rows) (omega (arith, rows_take (types_by e.types s.types) e.rows some_types p.rows, ltb-true 0 (length e.rows) p.some_rows)),
-        rows_back back (length rows) (types_by e.types s.types) e.rows some_types (rows_take (types_by e.types s.types) e.rows some_types p.rows) fits.rows p.rows,
+        rows_back back (length rows) (types_by e.types s.types) e.rows e.rest fit fits.rows p.rows p.rest,
+        lt-ltb 0 (length (map (λ row. map bulk_value_as_read row) e.rows)) (omega (arith, length-map e.rows (λ row. map bulk_value_as_read row), ltb-true 0 (length e.rows) p.some_rows)),
       )
       (λ i. Some (record (bulk_as_read e) { unit_results = flags.results i }))
 

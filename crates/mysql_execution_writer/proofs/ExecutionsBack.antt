@@ -1,8 +1,8 @@
 -- Executions that were written are read again.
-use Rattle.std.proofs.Common.{◌≡◌, ℕ, suc, ◌+◌, ◌-◌, ◌/◌, ◌%◌, ◌^◌, ◌<◌, ◌==◌, Bool, true, false, List, [], ◌∷◌, ◌++◌, length, map, get_or, Option, Some, None, refl, sym, ◌∙◌, ap, append_assoc, append-nil, length-append, arith, lit<}
-use Rattle.std.specs.Prelude.{◌||◌, if◌then◌else◌, is_some, nat_le, nat_lt, not, unwrap_or}
+use Rattle.std.proofs.Common.{◌≡◌, ℕ, suc, ◌+◌, ◌-◌, ◌/◌, ◌%◌, ◌^◌, ◌<◌, ◌==◌, Bool, true, false, List, [], ◌∷◌, ◌++◌, length, map, get_or, Option, Some, None, refl, sym, ◌∙◌, ap, append_assoc, length-append, arith, lit<}
+use Rattle.std.specs.Prelude.{◌&&◌, ◌||◌, if◌then◌else◌, is_some, nat_le, nat_lt, not, unwrap_or}
 use Rattle.std.specs.List.{list_all}
-use Rattle.std.proofs.lemmas.Bool.{eqb-true, eq-eqb, le-leb, lt-leb, lt-ltb, ltb-true, ne_eqb}
+use Rattle.std.proofs.lemmas.Bool.{eqb-true, eq-eqb, le-leb, lt-leb, ltb-true, ne_eqb}
 use Rattle.std.proofs.lemmas.List.{get_or-append-add, get_or_append_left, length-map}
 use Rattle.byteorder.specs.Endian.{little_bytes}
 use Rattle.mysql_buf.specs.NumberLaws.{little-reads_back}
@@ -19,7 +19,7 @@ use Rattle.mysql_cells.specs.declared.value.Value.TheVariants.{NULL}
 use Rattle.mysql_stmt.specs.Executions.{null_bitmap}
 use Rattle.mysql_stmt.specs.Statements.{BitmapsSayWhichAreNull}
 use Rattle.mysql_executions.specs.declared.types.BoundType.{BoundType}
-use Rattle.mysql_executions.specs.Executions.{Binding, Execution, ExecutionHead, attributes_at, binding_at, execution_at, execution_head, gives_count, parameters_at, readable_head}
+use Rattle.mysql_executions.specs.Executions.{Binding, Execution, ExecutionHead, attributes_at, binding_at, execution_at, execution_head, gives_count, named_flags, parameters_at, readable_head}
 use Rattle.mysql_executions.specs.Fields.{◌>>=◌, ◌>>◌, must, number_at}
 use Rattle.mysql_executions.specs.InForce.{InForce, types_that_count}
 use Rattle.mysql_executions.specs.Types.{has_query_attributes, own_types_at, types_at}
@@ -106,27 +106,55 @@ or_false : (x y : Bool) → (x || y) ≡ true → x ≡ false → y ≡ true
 or_false true y e h = absurd cc
 or_false false y e h = e
 
-flags_small : (available : Bool) (cursor : ℕ) → cursor < 8 → cursor + (if available then 8 else 0) < 256 ^ 1
-flags_small true cursor few = omega (arith, few)
-flags_small false cursor few = omega (arith, few)
+-- the flags that have a name, of a cursor and of a number that is given
+abbrev named_by : Bool → ℕ → ℕ
+named_by available cursor = cursor + (if available then 8 else 0)
 
-flags_can : (attributed available : Bool) (cursor : ℕ) → cursor < 8 → (attributed || not available) ≡ true → nat_lt (cursor + (if available then 8 else 0)) (if attributed then 16 else 8) ≡ true
-flags_can true true cursor few can = lt-ltb (cursor + 8) 16 (omega (arith, few))
-flags_can true false cursor few can = lt-ltb (cursor + 0) 16 (omega (arith, few))
-flags_can false true cursor few can = absurd cc
-flags_can false false cursor few can = lt-ltb (cursor + 0) 8 (omega (arith, few))
+flags_small : (attributed available : Bool) (cursor nameless : ℕ) → cursor < 8 → (attributed || not available) ≡ true → nameless % (if attributed then 16 else 8) ≡ 0 → nameless < 256
+    → named_by available cursor + nameless < 256
+flags_small true true cursor nameless few can none small = omega (arith, few, none, small)
+flags_small true false cursor nameless few can none small = omega (arith, few, none, small)
+flags_small false true cursor nameless few can none small = absurd cc
+flags_small false false cursor nameless few can none small = omega (arith, few, none, small)
 
-flags_are : (available : Bool) (cursor : ℕ) → cursor < 8 → (cursor + (if available then 8 else 0)) % 8 ≡ cursor
-flags_are true cursor few = omega (arith, few)
-flags_are false cursor few = omega (arith, few)
+named_back : (attributed available : Bool) (cursor nameless : ℕ) → cursor < 8 → (attributed || not available) ≡ true → nameless % (if attributed then 16 else 8) ≡ 0
+    → (named_by available cursor + nameless) % (if attributed then 16 else 8) ≡ named_by available cursor
+named_back true true cursor nameless few can none = omega (arith, few, none)
+named_back true false cursor nameless few can none = omega (arith, few, none)
+named_back false true cursor nameless few can none = absurd cc
+named_back false false cursor nameless few can none = omega (arith, few, none)
 
-available_is : (available : Bool) (cursor : ℕ) → cursor < 8 → nat_le 8 (cursor + (if available then 8 else 0)) ≡ available
+cursor_back : (attributed available : Bool) (cursor nameless : ℕ) → cursor < 8 → nameless % (if attributed then 16 else 8) ≡ 0 → (named_by available cursor + nameless) % 8 ≡ cursor
+cursor_back true true cursor nameless few none = omega (arith, few, none)
+cursor_back true false cursor nameless few none = omega (arith, few, none)
+cursor_back false true cursor nameless few none = omega (arith, few, none)
+cursor_back false false cursor nameless few none = omega (arith, few, none)
+
+available_is : (available : Bool) (cursor : ℕ) → cursor < 8 → nat_le 8 (named_by available cursor) ≡ available
 available_is true cursor few = le-leb 8 (cursor + 8) (omega arith)
 available_is false cursor few = lt-leb 8 (cursor + 0) (omega (arith, few))
 
 module _ (law : BitmapsSayWhichAreNull) (c : Capabilities) (s : InForce) (e : Execution) (p : Parts c s e) (fits : FitsExecution e) where
+  own_flags : (nat_lt e.cursor.0 8 && (has_query_attributes c || not e.count_available)) ≡ true
+  own_flags = and_left _ (named_flags c e.nameless_flags == 0) p.flags
+
   few : e.cursor.0 < 8
-  few = ltb-true e.cursor.0 8 (and_left (nat_lt e.cursor.0 8) (has_query_attributes c || not e.count_available) p.flags)
+  few = ltb-true e.cursor.0 8 (and_left (nat_lt e.cursor.0 8) (has_query_attributes c || not e.count_available) own_flags)
+
+  available : (has_query_attributes c || not e.count_available) ≡ true
+  available = and_right (nat_lt e.cursor.0 8) (has_query_attributes c || not e.count_available) own_flags
+
+  none_named : named_flags c e.nameless_flags ≡ 0
+  none_named = eqb-true (named_flags c e.nameless_flags) 0 (and_right _ (named_flags c e.nameless_flags == 0) p.flags)
+
+  flags_named : named_flags c (flags_of e) ≡ named_by e.count_available e.cursor.0
+  flags_named = named_back (has_query_attributes c) e.count_available e.cursor.0 e.nameless_flags few available none_named
+
+  nameless_back : flags_of e - named_flags c (flags_of e) ≡ e.nameless_flags
+  nameless_back = omega (arith, flags_named)
+
+  count_available_back : nat_le 8 (named_flags c (flags_of e)) ≡ e.count_available
+  count_available_back = ap (nat_le 8) flags_named ∙ available_is e.count_available e.cursor.0 few
 
   counted : length (all_values e) ≡ length e.parameters + length e.attributes
   counted = omega (arith, length-append e.parameters (values_of e.attributes), length-map e.attributes (λ a. a.value))
@@ -150,14 +178,14 @@ module _ (law : BitmapsSayWhichAreNull) (c : Capabilities) (s : InForce) (e : Ex
   head rest = record {
     statement = e.statement;
     flags = flags_of e;
-    iterations = 1;
+    iterations = e.iterations;
     count = length (all_values e);
     binding =
         record { nulls = null_bitmap (all_values e); bound = is_some e.types; rest = rest };
   }
 
   start : List ℕ → List ℕ
-  start rest = little_bytes 4 e.statement ++ (little_bytes 1 (flags_of e) ++ (little_bytes 4 1
+  start rest = little_bytes 4 e.statement ++ (little_bytes 1 (flags_of e) ++ (little_bytes 4 e.iterations
       ++ ((if gives_count c (flags_of e) s.count then lenenc_int (length (all_values e)) else []) ++ (binding_bytes (all_values e) (is_some e.types) ++ rest))))
 
   head_back : (rest : List ℕ) → execution_head c s.count (start rest) ≡ Some (head rest)
@@ -166,9 +194,9 @@ module _ (law : BitmapsSayWhichAreNull) (c : Capabilities) (s : InForce) (e : Ex
       let binding = binding_bytes (all_values e) (is_some e.types) ++ rest in
       let given = if gives_count c (flags_of e) s.count then lenenc_int (length (all_values e)) else [] in
       rw (
-        little-reads_back 4 e.statement (little_bytes 1 (flags_of e) ++ (little_bytes 4 1 ++ (given ++ binding))) fits.statement,
-        little-reads_back 1 (flags_of e) (little_bytes 4 1 ++ (given ++ binding)) (flags_small e.count_available e.cursor.0 few),
-        little-reads_back 4 1 (given ++ binding) (lit< tt),
+        little-reads_back 4 e.statement (little_bytes 1 (flags_of e) ++ (little_bytes 4 e.iterations ++ (given ++ binding))) fits.statement,
+        little-reads_back 1 (flags_of e) (little_bytes 4 e.iterations ++ (given ++ binding)) (flags_small (has_query_attributes c) e.count_available e.cursor.0 e.nameless_flags few available none_named fits.flags),
+        little-reads_back 4 e.iterations (given ++ binding) fits.iterations,
         count_step (gives_count c (flags_of e) s.count) s.count (length (all_values e)) binding fits.count not_given,
         le-leb s.count (length (all_values e)) (omega (arith, counted, own_count)),
         binding_back law (all_values e) (is_some e.types) rest (unbound e.types p.types),
@@ -177,7 +205,7 @@ module _ (law : BitmapsSayWhichAreNull) (c : Capabilities) (s : InForce) (e : Ex
   readable_back : (rest : List ℕ) → readable_head c s (start rest) ≡ Some (head rest)
   unfolding readable_head head
   readable_back rest =
-      rw (p.whole, head_back rest, flags_can (has_query_attributes c) e.count_available e.cursor.0 few (and_right (nat_lt e.cursor.0 8) (has_query_attributes c || not e.count_available) p.flags), bound_or_own e.types p.types) refl
+      rw (p.whole, head_back rest, bound_or_own e.types p.types) refl
 
   -- ---- the types
 
@@ -214,20 +242,23 @@ module _ (law : BitmapsSayWhichAreNull) (c : Capabilities) (s : InForce) (e : Ex
         ≡ Some (map as_read e.parameters, rest)
     given_back rest = parameters_back back s.long_data (null_bitmap (all_values e)) 0 (types_by e.types s.types) e.parameters rest fits.parameters say_parameters p.values
 
-    last_back : attributes_at (null_bitmap (all_values e)) s.count (types_of_attributes e.attributes) (attributes_bytes e.attributes) ≡ Some (attributes_as_read e.attributes, [])
-    last_back =
-        ap (λ (l : List ℕ). attributes_at (null_bitmap (all_values e)) s.count (types_of_attributes e.attributes) l) (sym (append-nil (attributes_bytes e.attributes)))
-        ∙ attributes_back back (has_query_attributes c) (null_bitmap (all_values e)) s.count e.attributes [] fits.attributes say_attributes p.attributes
+    last_back : attributes_at (null_bitmap (all_values e)) s.count (types_of_attributes e.attributes) (attributes_bytes e.attributes ++ e.rest) ≡ Some (attributes_as_read e.attributes, e.rest)
+    last_back = attributes_back back (has_query_attributes c) (null_bitmap (all_values e)) s.count e.attributes e.rest fits.attributes say_attributes p.attributes
 
     whole_back : execution_at c s (execution_bytes c s e) ≡ Some (execution_as_read e)
     unfolding execution_at execution_bytes start head
     whole_back =
         let named = has_query_attributes c in
-        let values = parameters_bytes s.long_data 0 (types_by e.types s.types) e.parameters ++ attributes_bytes e.attributes in
+        let last = attributes_bytes e.attributes ++ e.rest in
+        let values = parameters_bytes s.long_data 0 (types_by e.types s.types) e.parameters ++ last in
         let further = types_bytes named (types_of_attributes e.attributes) ++ values in
         let rest = types_bytes named (unwrap_or e.types []) ++ further in
-        rw (readable_back rest, own_back e.types further p.types fits.names p.names, count_back e.types p.types, further_back values, given_back (attributes_bytes e.attributes), last_back)
-        (λ i. Some (record (execution_as_read e) { cursor = record { 0 = flags_are e.count_available e.cursor.0 few i }; count_available = available_is e.count_available e.cursor.0 few i }))
+        rw (readable_back rest, own_back e.types further p.types fits.names p.names, count_back e.types p.types, further_back values, given_back last, last_back)
+        (λ i. Some (record (execution_as_read e) {
+          cursor = record { 0 = cursor_back (has_query_attributes c) e.count_available e.cursor.0 e.nameless_flags few none_named i };
+          count_available = count_available_back i;
+          nameless_flags = nameless_back i;
+        }))
 
 pub executions_read_back : BitmapsSayWhichAreNull → TypedCellsReadBack → ExecutionsReadBack
 executions_read_back law back c s e fits can = whole_back law c s e (parts c s e can) fits back

@@ -14,4 +14,6 @@ pub mod ReadTypes
 pub mod ReadValues
 pub mod ReadExecutions
 pub mod ReadAttributes
+pub mod CellsFewer
+pub mod RowsFewer
 pub mod ReadBulks

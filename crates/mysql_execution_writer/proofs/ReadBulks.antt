@@ -1,8 +1,10 @@
 -- Bulk executions that were read can be written, and are read again as they are.
 use Rattle.std.proofs.Common.{◌≡◌, ℕ, zero, suc, ◌+◌, ◌<◌, ◌==◌, true, false, List, [], ◌∷◌, length, map, Option, Some, None, refl, sym, subst, ◌∙◌, ap, arith}
-use Rattle.std.specs.Prelude.{IfSome, is_some, nat_lt, not}
+use Rattle.std.specs.Prelude.{IfSome, is_some, nat_lt, not, unwrap_or}
 use Rattle.std.specs.List.{list_all}
-use Rattle.std.proofs.lemmas.Bool.{eq-eqb, lt-ltb, ltb-true}
+use Rattle.std.specs.Option.{option_map}
+use Rattle.std.proofs.lemmas.Bool.{eq-eqb, eqb-true, ltb-true}
+use Rattle.std.proofs.lemmas.List.{length-map}
 use Rattle.mysql_buf.specs.Bytes.{AreBytes}
 use Rattle.mysql_const.specs.BulkIndicators.{bulk_indicator_named}
 use Rattle.mysql_const.specs.FlagSets.{contains}
@@ -15,17 +17,18 @@ use Rattle.mysql_executions.specs.declared.bulk.BulkValue.{BulkValue}
 use Rattle.mysql_executions.specs.declared.bulk.BulkValue.TheVariants as bulk
 use Rattle.mysql_executions.specs.declared.types.BoundType.{BoundType}
 use Rattle.mysql_executions.specs.declared.types.ParameterType.{ParameterType}
-use Rattle.mysql_executions.specs.Bulks.{BulkExecution, BulkHead, are_bulk_flags, bulk_execution_at, bulk_head, bulk_value_at, indicated_at, row_at, rows_at, send_types_to_server, send_unit_results}
+use Rattle.mysql_executions.specs.Bulks.{BulkExecution, BulkHead, are_bulk_flags, bulk_execution_at, bulk_head, bulk_value_at, indicated_at, row_at, rows_at, send_types_to_server, send_unit_results, with_row}
 use Rattle.mysql_executions.specs.Executions.{typed_value_at}
 use Rattle.mysql_executions.specs.Fields.{◌>>=◌, ◌>>◌, each_at, must, number_at}
 use Rattle.mysql_executions.specs.InForce.{InForce, is_waiting, types_that_count}
-use Rattle.mysql_executions.specs.Types.{has_bulk_operations, own_types_at}
+use Rattle.mysql_executions.specs.Types.{has_bulk_operations, own_types_at, unnamed}
 use Rattle.mysql_execution_writer.specs.Bulks.{bulk_as_read, bulk_value_as_read, bulk_value_bytes, can_have_bulk_types, can_put_bulk, is_row, told_cell}
 use Rattle.mysql_execution_writer.specs.Cells.{parameter_cell}
 use Rattle.mysql_execution_writer.specs.Laws.{ReadBulksAreWritten}
 use Rattle.mysql_execution_writer.proofs.ReadExecutions.{types_are}
 use Rattle.mysql_execution_writer.proofs.ReadTypes.{and_both, bind_some, first_left, must_then, own_left, same_first, same_left, some_is}
 use Rattle.mysql_execution_writer.proofs.ReadValues.{typed_left}
+use Rattle.mysql_execution_writer.proofs.RowsFewer.{no_row_behind}
 
 -- ---- a parameter in a row
 
@@ -99,39 +102,34 @@ module _ (written : ReadCellsAreWritten) where
     can : list_all (is_row types) rows ≡ true
     same : map (λ row. map bulk_value_as_read row) rows ≡ rows
 
-  no_rows : (types : List ParameterType) (rows : List (List BulkValue)) → Some [] ≡ Some rows → AreRows types rows
-  no_rows types rows e = subst (AreRows types) (some_is [] rows e) (record { can = refl; same = refl })
+  rows_by : (most : ℕ) (types : List ParameterType) (bytes : List ℕ) (read : Option (List BulkValue × List ℕ)) → row_at types bytes ≡ read → AreBytes bytes
+      → ((after : List ℕ) → AreBytes after → AreRows types (rows_at most types after).0) → AreRows types (unwrap_or (option_map (λ first. with_row first.0 (rows_at most types first.1)) read) ([], bytes)).0
+  rows_by most types bytes None e are later = record { can = refl; same = refl }
+  rows_by most types bytes (Some first) e are later =
+      let own = row_left 0 types bytes first.1 first.0 are e in
+      let others = later first.1 own.left in
+      record {
+        can = and_both (is_row types first.0) (list_all (is_row types) (rows_at most types first.1).0) own.can others.can;
+        same = λ i. own.same i ∷ others.same i;
+      }
 
-  rows_left : (most : ℕ) (types : List ParameterType) (bytes : List ℕ) (rows : List (List BulkValue)) → AreBytes bytes → rows_at most types bytes ≡ Some rows → AreRows types rows
+  rows_left : (most : ℕ) (types : List ParameterType) (bytes : List ℕ) → AreBytes bytes → AreRows types (rows_at most types bytes).0
   unfolding rows_at
-  rows_left zero types [] rows are e = no_rows types rows e
-  rows_left zero types (b ∷ bytes) rows are e = absurd cc
-  rows_left (suc most) types [] rows are e = no_rows types rows e
-  rows_left (suc most) types (b ∷ bytes) rows are e =
-      let a = bind_some (row_at types (b ∷ bytes)) (λ first. rows_at most types first.1 >>= λ others. Some (first.0 ∷ others)) rows e in
-      let d = bind_some (rows_at most types a.0.1) (λ others. Some (a.0.0 ∷ others)) rows a.2 in
-      let own = row_left 0 types (b ∷ bytes) a.0.1 a.0.0 are a.1 in
-      let later = rows_left most types a.0.1 d.0 own.left d.1 in
-      subst (AreRows types) (some_is (a.0.0 ∷ d.0) rows d.2) (record {
-        can = and_both (is_row types a.0.0) (list_all (is_row types) d.0) own.can later.can;
-        same = λ i. own.same i ∷ later.same i;
-      })
-
-  some_row : (most : ℕ) (types : List ParameterType) (bytes : List ℕ) (rows : List (List BulkValue)) → 0 < length bytes → rows_at most types bytes ≡ Some rows → 0 < length rows
-  unfolding rows_at
-  some_row most types [] rows some e = absurd (omega (arith, some))
-  some_row zero types (b ∷ bytes) rows some e = absurd cc
-  some_row (suc most) types (b ∷ bytes) rows some e =
-      let a = bind_some (row_at types (b ∷ bytes)) (λ first. rows_at most types first.1 >>= λ others. Some (first.0 ∷ others)) rows e in
-      let d = bind_some (rows_at most types a.0.1) (λ others. Some (a.0.0 ∷ others)) rows a.2 in
-      omega (arith, sym (ap length (some_is (a.0.0 ∷ d.0) rows d.2)))
+  rows_left zero types bytes are = record { can = refl; same = refl }
+  rows_left (suc most) types bytes are = rows_by most types bytes (row_at types bytes) refl are (rows_left most types)
 
 types_can : (s : InForce) (own : Option (List BoundType)) (types : List ParameterType) → types_that_count s own ≡ Some types → IfSome own (λ ts. length ts ≡ s.count) → can_have_bulk_types s own ≡ true
 types_can s (Some own) types e many = eq-eqb (length own) s.count many
 types_can s None types e many = (must_then (length s.types == s.count) (Some s.types) types e).0
 
-abbrev bulk_by : BulkHead → Option (List BoundType) → List (List BulkValue) → BulkExecution
-bulk_by head own rows = record { statement = head.statement; unit_results = contains head.flags send_unit_results; types = own; rows = rows }
+types_many : (s : InForce) (own : Option (List BoundType)) (types : List ParameterType) → types_that_count s own ≡ Some types → IfSome own (λ ts. length ts ≡ s.count) → length types ≡ s.count
+types_many s (Some own) types e many = sym (ap length (some_is (unnamed own) types e)) ∙ length-map own (λ t. t.parameter_type) ∙ many
+types_many s None types e many =
+    let m = must_then (length s.types == s.count) (Some s.types) types e in
+    sym (ap length (some_is s.types types m.1)) ∙ eqb-true (length s.types) s.count m.0
+
+abbrev bulk_by : BulkHead → Option (List BoundType) → List (List BulkValue) × List ℕ → BulkExecution
+bulk_by head own rows = record { statement = head.statement; unit_results = contains head.flags send_unit_results; types = own; rows = rows.0; rest = rows.1 }
 
 abbrev head_by : ℕ → ℕ × List ℕ → Option BulkHead
 head_by statement flags = Some (record { statement = statement; flags = flags.0; rest = flags.1 })
@@ -149,26 +147,28 @@ head_left body head are e =
 pub read_bulks_are_written : ReadCellsAreWritten → ReadBulksAreWritten
 unfolding bulk_execution_at can_put_bulk
 read_bulks_are_written written c s body e are read =
-    let made = λ (head : BulkHead) (own : Option (List BoundType)) (rows : List (List BulkValue)). some_bulk (bulk_by head own rows) in
+    let made = λ (head : BulkHead) (own : Option (List BoundType)) (rows : List (List BulkValue) × List ℕ). must (nat_lt 0 (length rows.0)) >> some_bulk (bulk_by head own rows) in
     let b1 = must_then (has_bulk_operations c) _ e read in
     let b2 = must_then (not s.broken) _ e b1.1 in
     let b3 = must_then (not (is_waiting s)) _ e b2.1 in
     let b4 = must_then (nat_lt 0 s.count) _ e b3.1 in
     let h = bind_some (bulk_head body) (λ head. must (are_bulk_flags head.flags) >> (own_types_at (contains head.flags send_types_to_server) false s.count head.rest >>= λ own. types_that_count s own.0 >>= λ types.
-    must (nat_lt 0 (length own.1)) >> (rows_at (length own.1) types own.1 >>= λ rows. made head own.0 rows))) e b4.1 in
+    made head own.0 (rows_at (length own.1) types own.1))) e b4.1 in
     let f = must_then (are_bulk_flags h.0.flags) (own_types_at (contains h.0.flags send_types_to_server) false s.count h.0.rest >>= λ own. types_that_count s own.0 >>= λ types.
-    must (nat_lt 0 (length own.1)) >> (rows_at (length own.1) types own.1 >>= λ rows. made h.0 own.0 rows)) e h.2 in
+    made h.0 own.0 (rows_at (length own.1) types own.1)) e h.2 in
     let o = bind_some (own_types_at (contains h.0.flags send_types_to_server) false s.count h.0.rest) (λ own. types_that_count s own.0 >>= λ types.
-    must (nat_lt 0 (length own.1)) >> (rows_at (length own.1) types own.1 >>= λ rows. made h.0 own.0 rows)) e f.1 in
-    let t = bind_some (types_that_count s o.0.0) (λ types. must (nat_lt 0 (length o.0.1)) >> (rows_at (length o.0.1) types o.0.1 >>= λ rows. made h.0 o.0.0 rows)) e o.2 in
-    let n = must_then (nat_lt 0 (length o.0.1)) (rows_at (length o.0.1) t.0 o.0.1 >>= λ rows. made h.0 o.0.0 rows) e t.2 in
-    let r = bind_some (rows_at (length o.0.1) t.0 o.0.1) (λ rows. made h.0 o.0.0 rows) e n.1 in
+    made h.0 own.0 (rows_at (length own.1) types own.1)) e f.1 in
+    let t = bind_some (types_that_count s o.0.0) (λ types. made h.0 o.0.0 (rows_at (length o.0.1) types o.0.1)) e o.2 in
+    let r = rows_at (length o.0.1) t.0 o.0.1 in
+    let n = must_then (nat_lt 0 (length r.0)) (some_bulk (bulk_by h.0 o.0.0 r)) e t.2 in
     let own = own_left (contains h.0.flags send_types_to_server) false s.count h.0.rest o.0 (head_left body h.0 are h.1) o.1 in
-    let rows = rows_left written (length o.0.1) t.0 o.0.1 r.0 own.left r.1 in
+    let rows = rows_left written (length o.0.1) t.0 o.0.1 own.left in
     let types = types_are s o.0.0 t.0 t.1 in
-    let some = some_row written (length o.0.1) t.0 o.0.1 r.0 (ltb-true 0 (length o.0.1) n.0) r.1 in
-    subst (λ (e : BulkExecution). (can_put_bulk c s e ≡ true) × (bulk_as_read e ≡ e)) (some_is (bulk_by h.0 o.0.0 r.0) e r.2) (
-      and_both _ _ (and_both _ _ (and_both _ _ (and_both _ _ (and_both _ _ (and_both _ _ (and_both _ _ b1.0 b2.0) b3.0) b4.0) (types_can s o.0.0 t.0 t.1 own.count)) own.names) (lt-ltb 0 (length r.0) some))
-          (ap (λ (ts : List ParameterType). list_all (is_row ts) r.0) (sym types) ∙ rows.can),
-      λ i. record (bulk_by h.0 o.0.0 r.0) { rows = rows.same i },
+    let some : 0 < length t.0 = omega (arith, types_many s o.0.0 t.0 t.1 own.count, ltb-true 0 s.count b4.0) in
+    let none : not (is_some (row_at t.0 r.1)) ≡ true = ap not (no_row_behind t.0 some (length o.0.1) o.0.1 (omega arith)) in
+    subst (λ (e : BulkExecution). (can_put_bulk c s e ≡ true) × (bulk_as_read e ≡ e)) (some_is (bulk_by h.0 o.0.0 r) e n.1) (
+      and_both _ _ (and_both _ _ (and_both _ _ (and_both _ _ (and_both _ _ (and_both _ _ (and_both _ _ (and_both _ _ b1.0 b2.0) b3.0) b4.0) (types_can s o.0.0 t.0 t.1 own.count)) own.names) n.0)
+          (ap (λ (ts : List ParameterType). list_all (is_row ts) r.0) (sym types) ∙ rows.can))
+          (ap (λ (ts : List ParameterType). not (is_some (row_at ts r.1))) (sym types) ∙ none),
+      λ i. record (bulk_by h.0 o.0.0 r) { rows = rows.same i },
     )

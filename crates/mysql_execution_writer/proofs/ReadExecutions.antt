@@ -2,7 +2,7 @@
 use Rattle.std.proofs.Common.{◌≡◌, ℕ, zero, suc, ◌+◌, ◌-◌, ◌%◌, ◌<◌, ◌≤◌, ◌==◌, Bool, true, false, List, [], ◌++◌, length, Option, Some, None, refl, sym, subst, ◌∙◌, ap, length-append, arith}
 use Rattle.std.specs.Prelude.{◌&&◌, ◌||◌, IfSome, if◌then◌else◌, is_some, nat_le, nat_lt, not, unwrap_or}
 use Rattle.std.specs.List.{list_all}
-use Rattle.std.proofs.lemmas.Bool.{eq-eqb, eqb-true, leb-false, leb-true, lt-leb, lt-ltb, ltb-true}
+use Rattle.std.proofs.lemmas.Bool.{eq-eqb, eqb-true, leb-false, leb-true, lt-leb, lt-ltb}
 use Rattle.std.proofs.lemmas.List.{length-map}
 use Rattle.mysql_buf.specs.Bytes.{AreBytes}
 use Rattle.mysql_buf.specs.Reading.{bytes_at, lenenc_int_at}
@@ -13,8 +13,8 @@ use Rattle.mysql_cells.specs.declared.value.Value.{Value}
 use Rattle.mysql_executions.specs.declared.types.Attribute.{Attribute}
 use Rattle.mysql_executions.specs.declared.types.BoundType.{BoundType}
 use Rattle.mysql_executions.specs.declared.types.ParameterType.{ParameterType}
-use Rattle.mysql_executions.specs.Executions.{Binding, Execution, ExecutionHead, are_execution_flags, attributes_at, binding_at, count_at, execution_at, execution_head, gives_count, parameters_at, readable_head}
-use Rattle.mysql_executions.specs.Fields.{◌>>=◌, ◌>>◌, at_end, must, number_at}
+use Rattle.mysql_executions.specs.Executions.{Binding, Execution, ExecutionHead, attributes_at, binding_at, count_at, execution_at, execution_head, gives_count, named_flags, parameters_at, readable_head}
+use Rattle.mysql_executions.specs.Fields.{◌>>=◌, ◌>>◌, must, number_at}
 use Rattle.mysql_executions.specs.InForce.{InForce, types_that_count}
 use Rattle.mysql_executions.specs.Types.{has_query_attributes, own_types_at, types_at, unnamed}
 use Rattle.mysql_executions.specs.Views.{types_by}
@@ -80,18 +80,15 @@ head_left c n body head are e =
 pub record IsReadable (c : Capabilities) (s : InForce) (head : ExecutionHead) : Type 0 where
   pub whole : not s.broken ≡ true
   pub start : IsHead c s.count head
-  pub flags : are_execution_flags c head.flags ≡ true
   pub types : (head.binding.bound || (head.count == s.count)) ≡ true
 
 readable_left : (c : Capabilities) (s : InForce) (body : List ℕ) (head : ExecutionHead) → AreBytes body → readable_head c s body ≡ Some head → IsReadable c s head
 unfolding readable_head
 readable_left c s body head are e =
-    let w = must_then (not s.broken) (execution_head c s.count body >>= λ h. must (are_execution_flags c h.flags) >> (must (h.iterations == 1) >> (must (h.binding.bound || (h.count == s.count)) >> Some h))) head e in
-    let h = bind_some (execution_head c s.count body) (λ h. must (are_execution_flags c h.flags) >> (must (h.iterations == 1) >> (must (h.binding.bound || (h.count == s.count)) >> Some h))) head w.1 in
-    let f = must_then (are_execution_flags c h.0.flags) (must (h.0.iterations == 1) >> (must (h.0.binding.bound || (h.0.count == s.count)) >> Some h.0)) head h.2 in
-    let i = must_then (h.0.iterations == 1) (must (h.0.binding.bound || (h.0.count == s.count)) >> Some h.0) head f.1 in
-    let t = must_then (h.0.binding.bound || (h.0.count == s.count)) (Some h.0) head i.1 in
-    subst (IsReadable c s) (some_is h.0 head t.1) (record { whole = w.0; start = head_left c s.count body h.0 are h.1; flags = f.0; types = t.0 })
+    let w = must_then (not s.broken) (execution_head c s.count body >>= λ h. must (h.binding.bound || (h.count == s.count)) >> Some h) head e in
+    let h = bind_some (execution_head c s.count body) (λ h. must (h.binding.bound || (h.count == s.count)) >> Some h) head w.1 in
+    let t = must_then (h.0.binding.bound || (h.0.count == s.count)) (Some h.0) head h.2 in
+    subst (IsReadable c s) (some_is h.0 head t.1) (record { whole = w.0; start = head_left c s.count body h.0 are h.1; types = t.0 })
 
 -- ---- what was read can be written
 
@@ -103,18 +100,21 @@ types_are_many : (s : InForce) (own : Option (List BoundType)) (types : List Par
 types_are_many s (Some own) types e many = length-map own (λ t. t.parameter_type) ∙ many
 types_are_many s None types e many = eqb-true (length s.types) s.count (must_then (length s.types == s.count) (Some s.types) types e).0
 
-flags_can : (attributed : Bool) (flags : ℕ) → nat_lt flags (if attributed then 16 else 8) ≡ true → (nat_lt (flags % 8) 8 && (attributed || not (nat_le 8 flags))) ≡ true
-flags_can true flags few = and_both (nat_lt (flags % 8) 8) true (lt-ltb (flags % 8) 8 (omega arith)) refl
-flags_can false flags few =
-    and_both (nat_lt (flags % 8) 8) (not (nat_le 8 flags)) (lt-ltb (flags % 8) 8 (omega arith)) (ap not (lt-leb 8 flags (omega (arith, ltb-true flags 8 few))))
+flags_can : (attributed : Bool) (flags : ℕ)
+    → (nat_lt (flags % 8) 8 && (attributed || not (nat_le 8 (flags % (if attributed then 16 else 8)))) && ((flags - flags % (if attributed then 16 else 8)) % (if attributed then 16 else 8) == 0)) ≡ true
+flags_can true flags =
+    let none : (flags - flags % 16) % 16 ≡ 0 = omega arith in
+    and_both _ _ (and_both (nat_lt (flags % 8) 8) true (lt-ltb (flags % 8) 8 (omega arith)) refl) (eq-eqb ((flags - flags % 16) % 16) 0 none)
+flags_can false flags =
+    let none : (flags - flags % 8) % 8 ≡ 0 = omega arith in
+    and_both _ _ (and_both (nat_lt (flags % 8) 8) (not (nat_le 8 (flags % 8))) (lt-ltb (flags % 8) 8 (omega arith)) (ap not (lt-leb 8 (flags % 8) (omega arith)))) (eq-eqb ((flags - flags % 8) % 8) 0 none)
 
-below_16 : (attributed : Bool) (flags : ℕ) → nat_lt flags (if attributed then 16 else 8) ≡ true → flags < 16
-below_16 true flags few = ltb-true flags 16 few
-below_16 false flags few = omega (arith, ltb-true flags 8 few)
-
-flags_same : (available : Bool) (flags : ℕ) → flags < 16 → nat_le 8 flags ≡ available → flags % 8 + (if available then 8 else 0) ≡ flags
-flags_same true flags few is = omega (arith, few, leb-true 8 flags is)
-flags_same false flags few is = omega (arith, few, leb-false 8 flags is)
+flags_same : (attributed available : Bool) (flags : ℕ) → nat_le 8 (flags % (if attributed then 16 else 8)) ≡ available
+    → flags % 8 + (if available then 8 else 0) + (flags - flags % (if attributed then 16 else 8)) ≡ flags
+flags_same true true flags is = omega (arith, leb-true 8 (flags % 16) is)
+flags_same true false flags is = omega (arith, leb-false 8 (flags % 16) is)
+flags_same false true flags is = omega (arith, leb-true 8 (flags % 8) is)
+flags_same false false flags is = omega (arith, leb-false 8 (flags % 8) is)
 
 positive : (k : ℕ) → (k ≡ 0 → ⊥) → 0 < k
 positive zero none = absurd (none refl)
@@ -127,7 +127,6 @@ or_eq false x y e h = eqb-true x y e
 -- what is known of an execution that was read
 pub record Facts (c : Capabilities) (s : InForce) (flags count : ℕ) (bound : Bool) (own : Option (List BoundType)) (parameters : List Value) (attributes : List Attribute) : Type 0 where
   whole : not s.broken ≡ true
-  flags_are : are_execution_flags c flags ≡ true
   none : count ≡ 0 → bound ≡ false
   given : gives_count c flags s.count ≡ false → count ≡ s.count
   enough : s.count ≤ count
@@ -141,22 +140,25 @@ pub record Facts (c : Capabilities) (s : InForce) (flags count : ℕ) (bound : B
   values : are_parameters s.long_data 0 (types_by own s.types) parameters ≡ true
   attributes_can : are_attributes (has_query_attributes c) attributes ≡ true
 
-abbrev pub execution_by : ℕ → ℕ → Option (List BoundType) → List Value → List Attribute → Execution
-execution_by statement flags own parameters attributes = record {
+abbrev pub execution_by : Capabilities → (statement flags iterations : ℕ) → Option (List BoundType) → List Value → List Attribute → List ℕ → Execution
+execution_by c statement flags iterations own parameters attributes rest = record {
   statement = statement;
   cursor = record { 0 = flags % 8 };
-  count_available = nat_le 8 flags;
+  count_available = nat_le 8 (named_flags c flags);
+  nameless_flags = flags - named_flags c flags;
+  iterations = iterations;
   types = own;
   parameters = parameters;
   attributes = attributes;
+  rest = rest;
 }
 
-module _ (c : Capabilities) (s : InForce) (statement flags count : ℕ) (bound : Bool) (own : Option (List BoundType)) (parameters : List Value) (attributes : List Attribute)
+module _ (c : Capabilities) (s : InForce) (statement flags iterations count : ℕ) (bound : Bool) (own : Option (List BoundType)) (parameters : List Value) (attributes : List Attribute) (rest : List ℕ)
     (f : Facts c s flags count bound own parameters attributes) where
   all_count : length (parameters ++ values_of attributes) ≡ count
   all_count = omega (arith, length-append parameters (values_of attributes), length-map attributes (λ a. a.value), f.parameter_count, f.attribute_count, f.enough)
 
-  types_can : (types : Option (List BoundType)) → is_some types ≡ bound → IfSome types (λ ts. length ts ≡ s.count) → ((types ≡ None) → (length s.types == s.count) ≡ true) → can_have_types s (execution_by statement flags own parameters attributes) types ≡ true
+  types_can : (types : Option (List BoundType)) → is_some types ≡ bound → IfSome types (λ ts. length ts ≡ s.count) → ((types ≡ None) → (length s.types == s.count) ≡ true) → can_have_types s (execution_by c statement flags iterations own parameters attributes rest) types ≡ true
   types_can None some many kept =
       let same : count ≡ s.count = or_eq bound count s.count f.bound_or_own (sym some) in
       and_both (length s.types == s.count) (length attributes == 0) (kept refl) (eq-eqb (length attributes) 0 (omega (arith, f.attribute_count, same)))
@@ -168,12 +170,12 @@ module _ (c : Capabilities) (s : InForce) (statement flags count : ℕ) (bound :
   room_by true is = refl
   room_by false is = eq-eqb (length attributes) 0 (omega (arith, f.attribute_count, f.given is))
 
-  pub can : can_be_put c s (execution_by statement flags own parameters attributes) ≡ true
+  pub can : can_be_put c s (execution_by c statement flags iterations own parameters attributes rest) ≡ true
   unfolding can_be_put
   can =
-      let same : flags_of (execution_by statement flags own parameters attributes) ≡ flags = flags_same (nat_le 8 flags) flags (below_16 (has_query_attributes c) flags f.flags_are) refl in
-      let room : can_have_attributes c s (execution_by statement flags own parameters attributes) ≡ true = ap (λ n. gives_count c n s.count || (length attributes == 0)) same ∙ room_by (gives_count c flags s.count) refl in
-      and_both _ _ (and_both _ _ (and_both _ _ (and_both _ _ (and_both _ _ (and_both _ _ (and_both _ _ f.whole (flags_can (has_query_attributes c) flags f.flags_are))
+      let same : flags_of (execution_by c statement flags iterations own parameters attributes rest) ≡ flags = flags_same (has_query_attributes c) (nat_le 8 (named_flags c flags)) flags refl in
+      let room : can_have_attributes c s (execution_by c statement flags iterations own parameters attributes rest) ≡ true = ap (λ n. gives_count c n s.count || (length attributes == 0)) same ∙ room_by (gives_count c flags s.count) refl in
+      and_both _ _ (and_both _ _ (and_both _ _ (and_both _ _ (and_both _ _ (and_both _ _ (and_both _ _ f.whole (flags_can (has_query_attributes c) flags))
       (eq-eqb (length parameters) s.count f.parameter_count)) (types_can own f.some f.own_count f.kept)) room) f.names) f.values) f.attributes_can
 
 types_kept : (s : InForce) (own : Option (List BoundType)) (types : List ParameterType) → types_that_count s own ≡ Some types → own ≡ None → (length s.types == s.count) ≡ true
@@ -185,7 +187,7 @@ module _ (written : ReadCellsAreWritten) (c : Capabilities) (s : InForce) (body 
   named = has_query_attributes c
 
   end_by : ExecutionHead → Option (List BoundType) → List Value → List Attribute × List ℕ → Option Execution
-  end_by head own parameters attributes = at_end attributes.1 >> Some (execution_by head.statement head.flags own parameters attributes.0)
+  end_by head own parameters attributes = Some (execution_by c head.statement head.flags head.iterations own parameters attributes.0 attributes.1)
 
   pub read_can_be_put : execution_at c s body ≡ Some e → (can_be_put c s e ≡ true) × (execution_as_read e ≡ e)
   unfolding execution_at end_by
@@ -201,7 +203,6 @@ module _ (written : ReadCellsAreWritten) (c : Capabilities) (s : InForce) (body 
       parameters_at s.long_data head.binding.nulls t.0 further.1 >>= λ parameters. attributes_at head.binding.nulls s.count further.0 parameters.1 >>= λ attributes. end_by head o.0.0 parameters.0 attributes) e t.2 in
       let p = bind_some (parameters_at s.long_data head.binding.nulls t.0 x.0.1) (λ parameters. attributes_at head.binding.nulls s.count x.0.0 parameters.1 >>= λ attributes. end_by head o.0.0 parameters.0 attributes) e x.2 in
       let a = bind_some (attributes_at head.binding.nulls s.count x.0.0 p.0.1) (λ attributes. end_by head o.0.0 p.0.0 attributes) e p.2 in
-      let d = must_then (length a.0.1 == 0) (Some (execution_by head.statement head.flags o.0.0 p.0.0 a.0.0)) e a.2 in
       let r = readable_left c s body head are h.1 in
       let own = own_left head.binding.bound (has_query_attributes c) s.count head.binding.rest o.0 r.start.left o.1 in
       let further = all_types_left (has_query_attributes c) (head.count - s.count) o.0.1 x.0 own.left x.1 in
@@ -210,7 +211,6 @@ module _ (written : ReadCellsAreWritten) (c : Capabilities) (s : InForce) (body 
       let types = types_are s o.0.0 t.0 t.1 in
       let facts : Facts c s head.flags head.count head.binding.bound o.0.0 p.0.0 a.0.0 = record {
         whole = r.whole;
-        flags_are = r.flags;
         none = r.start.none;
         given = r.start.own;
         enough = r.start.enough;
@@ -224,5 +224,5 @@ module _ (written : ReadCellsAreWritten) (c : Capabilities) (s : InForce) (body 
         values = ap (λ (ts : List ParameterType). are_parameters s.long_data 0 ts p.0.0) (sym types) ∙ parameters.can;
         attributes_can = attributes.can;
       } in
-      subst (λ (e : Execution). (can_be_put c s e ≡ true) × (execution_as_read e ≡ e)) (some_is (execution_by head.statement head.flags o.0.0 p.0.0 a.0.0) e d.1)
-      (can c s head.statement head.flags head.count head.binding.bound o.0.0 p.0.0 a.0.0 facts, λ i. record (execution_by head.statement head.flags o.0.0 p.0.0 a.0.0) { parameters = parameters.same i; attributes = attributes.same i })
+      subst (λ (e : Execution). (can_be_put c s e ≡ true) × (execution_as_read e ≡ e)) (some_is (execution_by c head.statement head.flags head.iterations o.0.0 p.0.0 a.0.0 a.0.1) e a.2)
+      (can c s head.statement head.flags head.iterations head.count head.binding.bound o.0.0 p.0.0 a.0.0 a.0.1 facts, λ i. record (execution_by c head.statement head.flags head.iterations o.0.0 p.0.0 a.0.0 a.0.1) { parameters = parameters.same i; attributes = attributes.same i })

@@ -47,7 +47,7 @@ same_value (Double bits) e = refl
 same_value (Date year month day hour minute second micros) e = refl
 same_value (Time negative days hours minutes seconds micros) e = refl
 
-ok_is : (r : Reading Value) (p : Value × List ℕ) → result_ok r ≡ Some p → r ≡ Ok p
+pub ok_is : (r : Reading Value) (p : Value × List ℕ) → result_ok r ≡ Some p → r ≡ Ok p
 ok_is (Ok q) p e = let same : q ≡ p = cc in ap (λ (r : Value × List ℕ). Ok r) same
 ok_is (Err f) p e = absurd cc
 

@@ -17,7 +17,7 @@ use Rattle.mysql_executions.specs.declared.bulk.BulkValue.{BulkValue}
 use Rattle.mysql_executions.specs.declared.bulk.BulkValue.TheVariants as bulk
 use Rattle.mysql_executions.specs.declared.types.BoundType.{BoundType}
 use Rattle.mysql_executions.specs.declared.types.ParameterType.{ParameterType}
-use Rattle.mysql_executions.specs.Bulks.{BulkExecution, send_types_to_server, send_unit_results}
+use Rattle.mysql_executions.specs.Bulks.{BulkExecution, row_at, send_types_to_server, send_unit_results}
 use Rattle.mysql_executions.specs.InForce.{InForce, is_waiting}
 use Rattle.mysql_executions.specs.Types.{has_bulk_operations}
 use Rattle.mysql_executions.specs.Views.{types_by}
@@ -55,11 +55,13 @@ is_row (t ∷ types) (value ∷ row) = is_some (bulk_value_bytes t value) && is_
 abbrev pub bulk_flags : BulkExecution → ℕ
 bulk_flags e = (if e.unit_results then send_unit_results else 0) + (if is_some e.types then send_types_to_server else 0)
 
--- a bulk execution: the statement's id, the flags, the types where it carries them, the rows
+-- a bulk execution: the statement's id, the flags, the types where it carries them, the rows, and what
+-- stands behind them
 unfoldable pub bulk_bytes : InForce → BulkExecution → List ℕ
 bulk_bytes s e =
     little_bytes 4 e.statement ++ (little_bytes 2 (bulk_flags e)
-    ++ (types_bytes false (unwrap_or e.types []) ++ flat_map (row_bytes (types_by e.types s.types)) e.rows))
+    ++ (types_bytes false (unwrap_or e.types [])
+    ++ (flat_map (row_bytes (types_by e.types s.types)) e.rows ++ e.rest)))
 
 -- types are as many as parameters; without types those in force are
 abbrev pub can_have_bulk_types : InForce → Option (List BoundType) → Bool
@@ -67,7 +69,8 @@ can_have_bulk_types s (Some own) = length own == s.count
 can_have_bulk_types s None = length s.types == s.count
 
 -- A bulk execution that can be written: bulk executions are in force, the statement has parameters
--- and isn't broken, no long data waits, and types, names and rows fit, at least one row.
+-- and isn't broken, no long data waits, and types, names and rows fit, at least one row; what stands
+-- behind them begins with none.
 unfoldable pub can_put_bulk : Capabilities → InForce → BulkExecution → Bool
 can_put_bulk capabilities s e =
     has_bulk_operations capabilities
@@ -78,6 +81,7 @@ can_put_bulk capabilities s e =
     && list_all (fits_name false) (unwrap_or e.types [])
     && nat_lt 0 (length e.rows)
     && list_all (is_row (types_by e.types s.types)) e.rows
+    && not (is_some (row_at (types_by e.types s.types) e.rest))
 
 -- what a bulk execution is read as: each value as it is read
 abbrev pub bulk_value_as_read : BulkValue → BulkValue

@@ -9,15 +9,18 @@ use Rattle.mysql_executions.specs.Executions.{Execution}
 use Rattle.mysql_executions.specs.InForce.{InForce}
 use Rattle.mysql_execution_writer.specs.Written.{can_be_put, execution_as_read, execution_bytes}
 
--- An execution without a cursor and without attributes.
+-- An execution without a cursor and without attributes, of one iteration.
 abbrev pub without_types : (id : ℕ) → List Value → Execution
 without_types id values = record {
   statement = id;
   cursor = record { 0 = 0 };
   count_available = false;
+  nameless_flags = 0;
+  iterations = 1;
   types = None;
   parameters = values;
   attributes = [];
+  rest = [];
 }
 
 -- Values are as many as the types in force, of a statement that isn't broken, for which no long data

@@ -26,6 +26,8 @@ HaveLengths types = AllByRecursion (λ t. length t.name < 2 ^ 64) types
 -- each number of an execution fits its field
 pub record FitsExecution (e : Execution) : Type 0 where
   pub statement : e.statement < 2 ^ 32
+  pub flags : e.nameless_flags < 256
+  pub iterations : e.iterations < 2 ^ 32
   pub count : length (all_values e) < 2 ^ 64
   pub parameters : AllByRecursion (λ value. FitsFields value) e.parameters
   pub attributes : AllByRecursion (λ value. FitsFields value) (values_of e.attributes)

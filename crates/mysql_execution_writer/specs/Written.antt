@@ -12,7 +12,7 @@ use Rattle.mysql_cells.specs.Values.{is_null}
 use Rattle.mysql_cells.specs.declared.value.Value.{Value}
 use Rattle.mysql_cells.specs.declared.value.Value.TheVariants.{UInt}
 use Rattle.mysql_stmt.specs.Executions.{null_bitmap}
-use Rattle.mysql_executions.specs.Executions.{Execution, count_available, gives_count}
+use Rattle.mysql_executions.specs.Executions.{Execution, count_available, gives_count, named_flags}
 use Rattle.mysql_executions.specs.InForce.{InForce}
 use Rattle.mysql_executions.specs.Types.{has_query_attributes}
 use Rattle.mysql_executions.specs.Views.{types_by}
@@ -41,26 +41,31 @@ binding_bytes values bound =
 
 -- the byte of an execution's flags
 abbrev pub flags_of : Execution → ℕ
-flags_of e = e.cursor.0 + (if e.count_available then count_available else 0)
+flags_of e = e.cursor.0 + (if e.count_available then count_available else 0) + e.nameless_flags
 
 -- all values: those of the statement's parameters, and of the attributes
 abbrev pub all_values : Execution → List Value
 all_values e = e.parameters ++ values_of e.attributes
 
--- an execution: the statement's id, the flags, one iteration, the number of parameters where it is
--- given, the bitmap, the types where it carries them, the values
+-- an execution: the statement's id, the flags, the iteration count, the number of parameters where it
+-- is given, the bitmap, the types where it carries them, the values, and what stands behind them
 unfoldable pub execution_bytes : Capabilities → InForce → Execution → List ℕ
 execution_bytes capabilities s e =
     let named = has_query_attributes capabilities in
-    little_bytes 4 e.statement ++ (little_bytes 1 (flags_of e) ++ (little_bytes 4 1
+    little_bytes 4 e.statement ++ (little_bytes 1 (flags_of e) ++ (little_bytes 4 e.iterations
     ++ ((if gives_count capabilities (flags_of e) s.count then lenenc_int (length (all_values e)) else [])
     ++ (binding_bytes (all_values e) (is_some e.types)
     ++ (types_bytes named (unwrap_or e.types []) ++ (types_bytes named (types_of_attributes e.attributes)
-    ++ (parameters_bytes s.long_data 0 (types_by e.types s.types) e.parameters ++ attributes_bytes e.attributes)))))))
+    ++ (parameters_bytes s.long_data 0 (types_by e.types s.types) e.parameters
+    ++ (attributes_bytes e.attributes ++ e.rest))))))))
 
--- three bits of a cursor; the number of parameters is given by query attributes alone
+-- three bits of a cursor; the number of parameters is given by query attributes alone; no bit without a
+-- name is one that has a name
 abbrev pub can_have_flags : Capabilities → Execution → Bool
-can_have_flags capabilities e = nat_lt e.cursor.0 8 && (has_query_attributes capabilities || not e.count_available)
+can_have_flags capabilities e =
+    nat_lt e.cursor.0 8
+    && (has_query_attributes capabilities || not e.count_available)
+    && (named_flags capabilities e.nameless_flags == 0)
 
 -- types are as many as parameters, where there are values; without types those in force are, and
 -- there are no attributes

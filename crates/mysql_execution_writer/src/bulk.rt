@@ -13,7 +13,7 @@ use crate::cells::{fit_names, has_cell, put_types, put_value, type_at};
 use crate::refusal::PutRefusal;
 use mysql_cells::Value;
 use mysql_const::{Capabilities, MariadbBulkIndicator};
-use mysql_executions::bulk_reading::has_bulk_operations;
+use mysql_executions::bulk_reading::{begins_row, has_bulk_operations};
 use mysql_executions::{BoundType, BulkExecution, BulkValue, ParameterType, StatementParameters};
 use mysql_fields::{IntRepr, LeU16, LeU32};
 use std::alloc::{AllocError, Global};
@@ -180,6 +180,7 @@ fn can_put(capabilities: Capabilities, s: &StatementParameters, e: &BulkExecutio
         && fit_names(false, own_types(e))
         && !e.rows.is_empty()
         && fit_rows(&e.types, s, &e.rows)
+        && !begins_row(&e.types, s.types(), e.rest.as_slice())
 }
 
 /// Appends a bulk execution.
@@ -191,11 +192,12 @@ fn put_body(s: &StatementParameters, e: &BulkExecution, out: &mut Vec<u8>) -> Re
     //   int<4>  statement_id
     //   int<2>  bulk_flags: SEND_UNIT_RESULTS, SEND_TYPES_TO_SERVER
     //   (int<1> type, int<1> flag) for each parameter, where types are sent
-    //   ..      rows: an indicator and a value for each parameter
+    //   ..      rows: an indicator and a value for each parameter; and what stands behind them
     LeU32::serialize(e.statement, out)?;
     LeU16::serialize(flags(e), out)?;
     put_types(false, own_types(e), out)?;
-    put_rows(&e.types, s, &e.rows, out)
+    put_rows(&e.types, s, &e.rows, out)?;
+    out.extend_from_slice(e.rest.as_slice())
 }
 
 /// Appends the body of a bulk execution, behind the command's first byte, by what is in force.
@@ -204,10 +206,11 @@ fn put_body(s: &StatementParameters, e: &BulkExecution, out: &mut Vec<u8>) -> Re
 /// (`BulksReadBack`).
 ///
 /// # Errors
-/// - `Unreadable` where no body is read as this bulk execution: MariaDB's bulk executions aren't in
-///   force; the statement has no parameters or is broken; long data waits; types of another number
-///   than the parameters, or none where none are in force; a type with a name; no row; a row of
-///   another number of values; a value without a cell by its type.
+/// - `Unreadable` where no body is read as this bulk execution. So it is where MariaDB's bulk
+///   executions aren't in force, the statement has no parameters or is broken, or long data waits.
+///   So it is of types of another number than the parameters, or none where none are in force, and
+///   of a type with a name. So it is of no row, of a row of another number of values, and of a
+///   value without a cell by its type. So it is where the bytes behind the rows begin with a row.
 /// - `Memory`.
 ///
 /// Nothing is changed then.

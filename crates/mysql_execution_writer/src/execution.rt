@@ -7,6 +7,7 @@ ghost use Rattle.mysql_buf.specs.Writing.{lenenc_int};
 ghost use Rattle.mysql_executions.specs.Executions.{gives_count as has_count};
 ghost use Rattle.mysql_executions.specs.Views.{execution_of, types_by, types_of};
 ghost use Rattle.mysql_fields.specs.Wire.{Appends};
+ghost use Rattle.mysql_execution_writer.specs.Cells.{attributes_bytes};
 ghost use Rattle.byteorder.specs.Endian.{little_bytes};
 ghost use Rattle.mysql_execution_writer.specs.Answers.{FitsIf, PutsIf};
 ghost use Rattle.mysql_execution_writer.specs.Cells.{are_parameters};
@@ -22,29 +23,32 @@ use crate::cells::{
 use crate::refusal::PutRefusal;
 use mysql_buf::BufMutExt;
 use mysql_const::Capabilities;
-use mysql_executions::execution_reading::{gives_count, has_query_attributes};
+use mysql_executions::execution_reading::{gives_count, has_query_attributes, named_flags};
 use mysql_executions::{BoundType, Execution, StatementParameters};
 use std::alloc::AllocError;
 
 /// The flag of an execution that says that the number of parameters is given.
 const PARAMETER_COUNT_AVAILABLE: u8 = 8;
 
-/// Whether an execution can have its flags.
+/// Whether an execution can have its flags, which are a byte then.
 fn fits_flags(capabilities: Capabilities, e: &Execution) -> bool
-    ensures { result ≡ can_have_flags capabilities (execution_of e.now) }
+    ensures fits { result ≡ can_have_flags capabilities (execution_of e.now) }
+    ensures byte { IsTrue result → flags_of (execution_of e.now) < 256 }
 {
-    e.cursor.0 < 8 && (has_query_attributes(capabilities) || !e.count_available)
+    e.cursor.0 < 8
+        && (has_query_attributes(capabilities) || !e.count_available)
+        && named_flags(capabilities, e.nameless_flags) == 0
 }
 
 /// The byte of an execution's flags.
 fn flags(e: &Execution) -> u8
-    requires { e.now.cursor.0 < 8 }
+    requires { flags_of (execution_of e.now) < 256 }
     ensures { result ≡ flags_of (execution_of e.now) }
 {
     if e.count_available {
-        e.cursor.0 + PARAMETER_COUNT_AVAILABLE
+        e.cursor.0 + PARAMETER_COUNT_AVAILABLE + e.nameless_flags
     } else {
-        e.cursor.0
+        e.cursor.0 + e.nameless_flags
     }
 }
 
@@ -67,7 +71,7 @@ fn fits_types(s: &StatementParameters, e: &Execution) -> bool
 
 /// Whether an execution whose flags can be had can have its attributes.
 fn has_room(capabilities: Capabilities, s: &StatementParameters, e: &Execution) -> bool
-    requires { e.now.cursor.0 < 8 }
+    requires { flags_of (execution_of e.now) < 256 }
     ensures { result ≡ can_have_attributes capabilities s.now (execution_of e.now) }
 {
     gives_count(capabilities, flags(e), s.count()) || e.attributes.is_empty()
@@ -88,7 +92,7 @@ fn own_types(e: &Execution) -> &[BoundType]
 fn fits_around(capabilities: Capabilities, s: &StatementParameters, e: &Execution) -> bool
     ensures fits { (result && are_parameters s.now.long_data 0 (types_by (types_of e.now.types) s.now.types)
         e.now.parameters.items) ≡ can_be_put capabilities s.now (execution_of e.now) }
-    ensures flags { IsTrue result → e.now.cursor.0 < 8 }
+    ensures flags { IsTrue result → flags_of (execution_of e.now) < 256 }
 {
     !s.is_broken()
         && fits_flags(capabilities, e)
@@ -117,13 +121,14 @@ pub fn can_put(
 
 /// Appends what stands before the number of parameters.
 fn put_head(e: &Execution, out: &mut Vec<u8>) -> Result<(), AllocError>
-    requires { e.now.cursor.0 < 8 }
+    requires { flags_of (execution_of e.now) < 256 }
     ensures { Appends result out.old.items out.new.items (little_bytes 4 e.now.statement ++
-        (little_bytes 1 (flags_of (execution_of e.now)) ++ little_bytes 4 1)) }
+        (little_bytes 1 (flags_of (execution_of e.now)) ++ little_bytes 4 e.now.iterations)) }
 {
     let [a, b, c, d] = e.statement.to_le_bytes();
     let [flags] = flags(e).to_le_bytes();
-    out.extend_from_slice(&[a, b, c, d, flags, 1, 0, 0, 0])
+    let [i, j, k, l] = e.iterations.to_le_bytes();
+    out.extend_from_slice(&[a, b, c, d, flags, i, j, k, l])
 }
 
 /// Appends the number of parameters, where it is given.
@@ -133,7 +138,7 @@ fn put_count(
     e: &Execution,
     out: &mut Vec<u8>,
 ) -> Result<(), AllocError>
-    requires { e.now.cursor.0 < 8 }
+    requires { flags_of (execution_of e.now) < 256 }
     ensures { Appends result out.old.items out.new.items
         (if has_count capabilities (flags_of (execution_of e.now)) s.now.count
         then lenenc_int (length (all_values (execution_of e.now))) else []) }
@@ -145,6 +150,20 @@ fn put_count(
     }
 }
 
+/// Appends the attributes' values, and what stands behind the last value.
+fn put_end(e: &Execution, out: &mut Vec<u8>) -> Result<(), AllocError>
+    ensures { Appends result out.old.items out.new.items
+        (attributes_bytes (execution_of e.now).attributes ++ (execution_of e.now).rest) }
+{
+    let len = out.len();
+    put_attributes(&e.attributes, out)?;
+    if let Err(e) = out.extend_from_slice(e.rest.as_slice()) {
+        out.truncate(len);
+        return Err(e);
+    }
+    Ok(())
+}
+
 /// Appends an execution whose flags can be had, where its parameters can be written.
 #[tactic(auto, unfolding(crate::specs::Written::execution_bytes))]
 fn put_body(
@@ -153,7 +172,7 @@ fn put_body(
     e: &Execution,
     out: &mut Vec<u8>,
 ) -> Result<(), PutRefusal>
-    requires { e.now.cursor.0 < 8 }
+    requires { flags_of (execution_of e.now) < 256 }
     ensures fits { FitsIf (are_parameters s.now.long_data 0 (types_by (types_of e.now.types) s.now.types)
         e.now.parameters.items) result }
     ensures ok { OnOk result (out.new.items ≡
@@ -163,11 +182,11 @@ fn put_body(
     // COM_STMT_EXECUTE, behind its first byte:
     //   int<4>       statement_id
     //   int<1>       flags
-    //   int<4>       iteration_count: 1
+    //   int<4>       iteration_count
     //   int<lenenc>  parameter_count, with query attributes (`gives_count`)
     //   ..           null_bitmap and new_params_bind_flag (`put_binding`)
     //   (int<2> type and flag, string<lenenc> name with query attributes) for each, where bound
-    //   ..           parameter values
+    //   ..           parameter values, and what stands behind them
     let named = has_query_attributes(capabilities);
     out.reserve(likely_size(e))?;
     put_head(e, out)?;
@@ -176,7 +195,7 @@ fn put_body(
     put_types(named, own_types(e), out)?;
     put_attribute_types(named, &e.attributes, out)?;
     append_parameters(s, &e.types, &e.parameters, out)?;
-    put_attributes(&e.attributes, out)?;
+    put_end(e, out)?;
     Ok(())
 }
 
@@ -203,11 +222,12 @@ fn refusal_of(refusal: PutRefusal, s: &StatementParameters, e: &Execution) -> Pu
 /// (`ExecutionsReadBack`).
 ///
 /// # Errors
-/// - `Unreadable` where no body is read as this execution: the statement is broken; a cursor of
-///   unnamed bits; another number of parameters than the statement's; types of another number, or
-///   none where none are in force or attributes stand; types where there are no values; names,
-///   attributes or the flag of the parameters' number without query attributes; a parameter other
-///   than the long data that waits for it; a value without a cell by its type.
+/// - `Unreadable` where the cursor has unnamed bits, or the unnamed flags have named ones. So it is
+///   where no body is read as this execution. The statement is broken, or has another number of
+///   parameters. Types are of another number, or there are none where none are in force or
+///   attributes are, or there are some without values. Names, attributes or the flag of the
+///   parameters' number stand there without query attributes. A parameter is other than the long
+///   data that waits for it, or a value has no cell by its type.
 /// - `Memory`.
 ///
 /// Nothing is changed then.

@@ -111,10 +111,10 @@ fn put_parts(
 /// Appends an execution of values by the types in force, which it doesn't carry, with the command's
 /// number.
 ///
-/// `false` says nothing of the values: [`put_execution`](crate::put_execution) puts them then, where
-/// it can. So it is of values that aren't read as themselves, with query attributes, and of a
-/// statement that is broken or for which long data waits. After it, and after an error, what stood
-/// before stands in front.
+/// `false` says nothing of the values: [`put_execution`](crate::put_execution) puts them then,
+/// where it can. So it is of values that aren't read as themselves, and with query attributes. So
+/// it is of a statement that is broken or for which long data waits. After it, and after an error,
+/// what stood before stands in front.
 ///
 /// Promise: what was appended is read as these values (`PutsInForce`).
 ///

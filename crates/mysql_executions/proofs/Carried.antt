@@ -9,8 +9,8 @@ use Rattle.mysql_executions.specs.declared.types.BoundType.{BoundType}
 use Rattle.mysql_executions.specs.After.{bulk_types, execution_types, types_of_bulk, types_of_head}
 use Rattle.mysql_executions.specs.Bulks.{BulkExecution, BulkHead, are_bulk_flags, bulk_execution_at, bulk_head, rows_at, send_types_to_server, send_unit_results}
 use Rattle.mysql_executions.specs.declared.bulk.BulkValue.{BulkValue}
-use Rattle.mysql_executions.specs.Executions.{Execution, ExecutionHead, are_execution_flags, attributes_at, count_available, execution_at, execution_head, parameters_at, readable_head}
-use Rattle.mysql_executions.specs.Fields.{◌>>=◌, ◌>>◌, at_end, must}
+use Rattle.mysql_executions.specs.Executions.{Execution, ExecutionHead, attributes_at, count_available, execution_at, execution_head, named_flags, parameters_at, readable_head}
+use Rattle.mysql_executions.specs.Fields.{◌>>=◌, ◌>>◌, must}
 use Rattle.mysql_executions.specs.InForce.{InForce, is_waiting, types_that_count}
 use Rattle.mysql_executions.specs.Laws.{ReadBulkTypesAreCarried, ReadTypesAreCarried}
 use Rattle.mysql_executions.specs.Types.{has_bulk_operations, has_query_attributes, own_types_at, types_at, types_read}
@@ -44,26 +44,29 @@ own_carried true named n bytes own e =
 head_is : (c : Capabilities) (s : InForce) (body : List ℕ) (head : ExecutionHead) → readable_head c s body ≡ Some head → execution_head c s.count body ≡ Some head
 unfolding readable_head
 head_is c s body head e =
-    let h = bind_some (execution_head c s.count body) (λ h. must (are_execution_flags c h.flags) >> (must (h.iterations == 1) >> (must (h.binding.bound || (h.count == s.count)) >> Some h))) head
+    let h = bind_some (execution_head c s.count body) (λ h. must (h.binding.bound || (h.count == s.count)) >> Some h) head
     (must_then (not s.broken) _ head e) in
-    h.1 ∙ must_then (h.0.binding.bound || (h.0.count == s.count)) _ head (must_then (h.0.iterations == 1) _ head (must_then (are_execution_flags c h.0.flags) _ head h.2))
+    h.1 ∙ must_then (h.0.binding.bound || (h.0.count == s.count)) _ head h.2
 
 abbrev types_in : Execution → List BoundType
 types_in e = unwrap_or e.types []
 
-abbrev made : ExecutionHead → Option (List BoundType) → List Value → List Attribute → Execution
-made head own parameters attributes = record {
+abbrev made : Capabilities → ExecutionHead → Option (List BoundType) → List Value → List Attribute × List ℕ → Execution
+made c head own parameters attributes = record {
   statement = head.statement;
   cursor = record { 0 = head.flags % 8 };
-  count_available = nat_le count_available head.flags;
+  count_available = nat_le count_available (named_flags c head.flags);
+  nameless_flags = head.flags - named_flags c head.flags;
+  iterations = head.iterations;
   types = own;
   parameters = parameters;
-  attributes = attributes;
+  attributes = attributes.0;
+  rest = attributes.1;
 }
 
 module _ (c : Capabilities) (s : InForce) (e : Execution) (head : ExecutionHead) where
   ended : Option (List BoundType) → List Value × List ℕ → List Attribute × List ℕ → Option Execution
-  ended own parameters attributes = at_end attributes.1 >> Some (made head own parameters.0 attributes.0)
+  ended own parameters attributes = Some (made c head own parameters.0 attributes)
 
   behind : Option (List BoundType) × List ℕ → Option Execution
   behind own = types_that_count s own.0 >>= λ types. types_at (has_query_attributes c) (head.count - s.count) own.1 >>= λ further.
@@ -78,7 +81,7 @@ module _ (c : Capabilities) (s : InForce) (e : Execution) (head : ExecutionHead)
       parameters_at s.long_data head.binding.nulls t.0 further.1 >>= λ parameters. attributes_at head.binding.nulls s.count further.0 parameters.1 >>= λ attributes. ended own.0 parameters attributes) e t.2 in
       let p = bind_some (parameters_at s.long_data head.binding.nulls t.0 x.0.1) (λ parameters. attributes_at head.binding.nulls s.count x.0.0 parameters.1 >>= λ attributes. ended own.0 parameters attributes) e x.2 in
       let a = bind_some (attributes_at head.binding.nulls s.count x.0.0 p.0.1) (λ attributes. ended own.0 p.0 attributes) e p.2 in
-      ap types_in (some_is (made head own.0 p.0.0 a.0.0) e (must_then (length a.0.1 == 0) (Some (made head own.0 p.0.0 a.0.0)) e a.2))
+      ap types_in (some_is (made c head own.0 p.0.0 a.0) e a.2)
 
 pub read_types_are_carried : ReadTypesAreCarried
 unfolding execution_at execution_types behind ended
@@ -93,21 +96,24 @@ abbrev types_in_bulk : BulkExecution → List BoundType
 types_in_bulk e = unwrap_or e.types []
 
 module _ (s : InForce) (e : BulkExecution) (head : BulkHead) where
-  bulk_made : Option (List BoundType) → List (List BulkValue) → BulkExecution
-  bulk_made own rows = record { statement = head.statement; unit_results = contains head.flags send_unit_results; types = own; rows = rows }
+  bulk_made : Option (List BoundType) → List (List BulkValue) × List ℕ → BulkExecution
+  bulk_made own rows = record { statement = head.statement; unit_results = contains head.flags send_unit_results; types = own; rows = rows.0; rest = rows.1 }
+
+  bulk_ended : Option (List BoundType) → List (List BulkValue) × List ℕ → Option BulkExecution
+  bulk_ended own rows = must (nat_lt 0 (length rows.0)) >> Some (bulk_made own rows)
 
   bulk_behind : Option (List BoundType) × List ℕ → Option BulkExecution
-  bulk_behind own = types_that_count s own.0 >>= λ types. must (nat_lt 0 (length own.1)) >> (rows_at (length own.1) types own.1 >>= λ rows. Some (bulk_made own.0 rows))
+  bulk_behind own = types_that_count s own.0 >>= λ types. bulk_ended own.0 (rows_at (length own.1) types own.1)
 
   bulk_types_behind : (own : Option (List BoundType) × List ℕ) → bulk_behind own ≡ Some e → unwrap_or own.0 [] ≡ types_in_bulk e
-  unfolding bulk_behind bulk_made
+  unfolding bulk_behind bulk_ended bulk_made
   bulk_types_behind own read =
-      let t = bind_some (types_that_count s own.0) (λ types. must (nat_lt 0 (length own.1)) >> (rows_at (length own.1) types own.1 >>= λ rows. Some (bulk_made own.0 rows))) e read in
-      let r = bind_some (rows_at (length own.1) t.0 own.1) (λ rows. Some (bulk_made own.0 rows)) e (must_then (nat_lt 0 (length own.1)) (rows_at (length own.1) t.0 own.1 >>= λ rows. Some (bulk_made own.0 rows)) e t.2) in
-      ap types_in_bulk (some_is (bulk_made own.0 r.0) e r.2)
+      let t = bind_some (types_that_count s own.0) (λ types. bulk_ended own.0 (rows_at (length own.1) types own.1)) e read in
+      let rows = rows_at (length own.1) t.0 own.1 in
+      ap types_in_bulk (some_is (bulk_made own.0 rows) e (must_then (nat_lt 0 (length rows.0)) (Some (bulk_made own.0 rows)) e t.2))
 
 pub read_bulk_types_are_carried : ReadBulkTypesAreCarried
-unfolding bulk_execution_at bulk_types bulk_behind bulk_made
+unfolding bulk_execution_at bulk_types bulk_behind bulk_ended bulk_made
 read_bulk_types_are_carried c s body e read =
     let whole = λ (head : BulkHead). must (are_bulk_flags head.flags) >> (own_types_at (contains head.flags send_types_to_server) false s.count head.rest >>= bulk_behind s e head) in
     let b4 = must_then (nat_lt 0 s.count) (bulk_head body >>= whole) e (must_then (not (is_waiting s)) _ e (must_then (not s.broken) _ e (must_then (has_bulk_operations c) _ e read))) in

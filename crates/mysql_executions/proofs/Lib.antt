@@ -1,3 +1,5 @@
 pub mod Loops
 pub mod Kept
 pub mod Carried
+pub mod CellsPassed
+pub mod CellsInTurn

@@ -1,7 +1,8 @@
 -- Loops that read one thing after another.
 use Rattle.std.proofs.Common.{◌≡◌, ◌==◌, ℕ, zero, suc, true, false, ◌-◌, ◌+◌, ◌≤◌, ◌<◌, Bool, List, [], ◌∷◌, ◌++◌, length, map, get_or, drop, Option, Some, None, refl, sym, ap, ◌∙◌, append_assoc, append-nil, add-one, drop-cons, arith}
+use Rattle.std.specs.Prelude.{is_some}
 use Rattle.std.specs.Global.{Vec}
-use Rattle.std.proofs.lemmas.Bool.{eqb-true}
+use Rattle.std.specs.Option.{option_map}
 use Rattle.std.proofs.lemmas.List.{drop-map, length-map}
 use Rattle.mysql_executions.specs.declared.not_read.NotRead.{NotRead}
 use Rattle.mysql_executions.specs.declared.not_read.NotRead.TheVariants.{Other, Memory}
@@ -108,57 +109,69 @@ module _ {X Y : Type 0} (read_at : ℕ → X → List ℕ → Option (Y × List 
       let one : with_front before (each_at read_at place left bytes) ≡ Some (before, bytes) = rw none (ap (λ (ns : List Y). Some (ns, bytes)) (append-nil before)) in
       sym so_far ∙ one
 
--- ---- rows to the end of the bytes
+-- ---- whether each can be read
 
--- rows that were read before, and those that are still read
-abbrev pub rows_behind : {A : Type 0} → List A → Option (List A) → Option (List A)
-rows_behind before read = read >>= λ rows. Some (before ++ rows)
+abbrev before_others : {A : Type 0} → A → List A × List ℕ → Option (List A × List ℕ)
+before_others n x = Some (n ∷ x.0, x.1)
 
-one_row : {A : Type 0} (before : List A) (row : A) (read : Option (List A)) → rows_behind before (read >>= λ rows. Some (row ∷ rows)) ≡ rows_behind (before ++ row ∷ []) read
-one_row {A = A} before row (Some rows) = ap (λ (rs : List A). Some rs) (simp append_assoc)
-one_row before row None = refl
+some_too : {A : Type 0} (n : A) (read : Option (List A × List ℕ)) → is_some (read >>= before_others n) ≡ is_some read
+some_too n (Some x) = refl
+some_too n None = refl
 
-pub rows_of_none : {A : Type 0} (read : Option (List A)) → rows_behind [] read ≡ read
-rows_of_none (Some rows) = refl
-rows_of_none None = refl
+module _ {X Y : Type 0} (read_at : ℕ → X → List ℕ → Option (Y × List ℕ)) (place : ℕ) (left : List X) (bytes : List ℕ) where
+  passes_by : (next : List X) (after : List ℕ) (read : Option (Y × List ℕ)) → Some after ≡ option_map (λ r. r.1) read
+      → is_some (read >>= λ first. each_at read_at (place + 1) next first.1 >>= before_others first.0) ≡ is_some (each_at read_at (place + 1) next after)
+  passes_by next after None h = absurd cc
+  passes_by next after (Some r) h =
+      let same : after ≡ r.1 = cc in
+      rw same (some_too r.0 (each_at read_at (place + 1) next r.1))
 
-module _ (types : List ParameterType) (before : List (List BulkValue)) (count i : ℕ) (total : Option (List (List BulkValue))) where
-  pub rows_go_on : (bytes : List ℕ) (row : List BulkValue) (after : List ℕ) → i < count → false ≡ (length bytes == 0) → row_at types bytes ≡ Some (row, after)
+  stops_by : (next : List X) (read : Option (Y × List ℕ)) → None ≡ option_map (λ r. r.1) read
+      → is_some (read >>= λ first. each_at read_at (place + 1) next first.1 >>= before_others first.0) ≡ false
+  stops_by next None h = refl
+  stops_by next (Some r) h = absurd cc
+
+  pub each_passes : (x : X) (next : List X) (after : List ℕ) → left ≡ x ∷ next → Some after ≡ option_map (λ r. r.1) (read_at place x bytes) → is_some (each_at read_at place left bytes) ≡ is_some (each_at read_at (place + 1) next after)
+  unfolding each_at
+  each_passes x next after e h = rw e (passes_by next after (read_at place x bytes) h)
+
+  pub each_stops : (x : X) (next : List X) → left ≡ x ∷ next → None ≡ option_map (λ r. r.1) (read_at place x bytes) → is_some (each_at read_at place left bytes) ≡ false
+  unfolding each_at
+  each_stops x next e h = rw e (stops_by next (read_at place x bytes) h)
+
+  pub each_passed : left ≡ [] → is_some (each_at read_at place left bytes) ≡ true
+  unfolding each_at
+  each_passed e = rw e refl
+
+-- ---- rows up to the first that can't be read
+
+-- rows before others
+abbrev pub rows_behind : List (List BulkValue) → List (List BulkValue) × List ℕ → List (List BulkValue) × List ℕ
+rows_behind before rows = (before ++ rows.0, rows.1)
+
+module _ (types : List ParameterType) (before : List (List BulkValue)) (count i : ℕ) (bytes : List ℕ) (total : List (List BulkValue) × List ℕ) where
+  pub rows_go_on : (row : List BulkValue) (after : List ℕ) → i < count → row_at types bytes ≡ Some (row, after)
       → rows_behind before (rows_at (count - i) types bytes) ≡ total → rows_behind (before ++ row ∷ []) (rows_at (count - (i + 1)) types after) ≡ total
   unfolding rows_at
-  rows_go_on [] row after lt some h so_far = absurd cc
-  rows_go_on (b ∷ bytes) row after lt some h so_far =
+  rows_go_on row after lt h so_far =
       let k : count - i ≡ suc (count - (i + 1)) = omega arith in
-      let one : rows_behind before (rows_at (count - i) types (b ∷ bytes)) ≡ rows_behind (before ++ row ∷ []) (rows_at (count - (i + 1)) types after) =
-      rw (k, h) (one_row before row (rows_at (count - (i + 1)) types after)) in
+      let one : rows_behind before (rows_at (count - i) types bytes) ≡ rows_behind (before ++ row ∷ []) (rows_at (count - (i + 1)) types after) =
+      rw (k, h) (λ j. (sym (append_assoc before (row ∷ []) (rows_at (count - (i + 1)) types after).0) j, (rows_at (count - (i + 1)) types after).1)) in
       sym one ∙ so_far
 
-  pub rows_fail : (r : NotRead) (bytes : List ℕ) → i < count → false ≡ (length bytes == 0) → Fails r (row_at types bytes)
-      → rows_behind before (rows_at (count - i) types bytes) ≡ total → Fails r total
+  pub rows_end : i < count → row_at types bytes ≡ None → rows_behind before (rows_at (count - i) types bytes) ≡ total → (before, bytes) ≡ total
   unfolding rows_at
-  rows_fail Memory bytes lt some h so_far = tt
-  rows_fail Other [] lt some h so_far = absurd cc
-  rows_fail Other (b ∷ bytes) lt some h so_far =
+  rows_end lt h so_far =
       let k : count - i ≡ suc (count - (i + 1)) = omega arith in
-      let one : rows_behind before (rows_at (count - i) types (b ∷ bytes)) ≡ None = rw (k, h) refl in
-      sym so_far ∙ one
+      let one : rows_behind before (rows_at (count - i) types bytes) ≡ (before, bytes) = rw (k, h) (λ j. (append-nil before j, bytes)) in
+      sym one ∙ so_far
 
-  pub rows_done : (bytes : List ℕ) → true ≡ (length bytes == 0) → rows_behind before (rows_at (count - i) types bytes) ≡ total → total ≡ Some before
+  pub rows_done : count ≤ i → rows_behind before (rows_at (count - i) types bytes) ≡ total → (before, bytes) ≡ total
   unfolding rows_at
-  rows_done (b ∷ bytes) none so_far = absurd (omega (arith, eqb-true (length (b ∷ bytes)) 0 (sym none)))
-  rows_done [] none so_far = by (count - i) so_far
-    where
-      by : (n : ℕ) → rows_behind before (rows_at n types []) ≡ total → total ≡ Some before
-      by zero e = sym e ∙ ap (λ (rs : List (List BulkValue)). Some rs) (append-nil before)
-      by (suc n) e = sym e ∙ ap (λ (rs : List (List BulkValue)). Some rs) (append-nil before)
-
-  pub rows_left : (bytes : List ℕ) → count ≤ i → (length bytes == 0) ≡ false → rows_behind before (rows_at (count - i) types bytes) ≡ total → total ≡ None
-  unfolding rows_at
-  rows_left [] le some so_far = absurd cc
-  rows_left (b ∷ bytes) le some so_far =
+  rows_done le so_far =
       let k : count - i ≡ 0 = omega arith in
-      let one : rows_behind before (rows_at (count - i) types (b ∷ bytes)) ≡ None = rw k refl in
-      sym so_far ∙ one
+      let one : rows_behind before (rows_at (count - i) types bytes) ≡ (before, bytes) = rw k (λ j. (append-nil before j, bytes)) in
+      sym one ∙ so_far
 
 pub nothing_left : {X : Type 0} (xs : List X) → length xs ≡ 0 → xs ≡ []
 nothing_left [] e = refl

@@ -2,7 +2,8 @@
 -- "COM_STMT_BULK_EXECUTE". A body is what stands behind the command's first byte; x.0 is what was
 -- read and x.1 the bytes left.
 use Rattle.std.specs.Prelude.{ℕ, zero, suc, ◌+◌, Bool, false, ◌==◌, ◌||◌, not, List, [], ◌∷◌, length, nat_lt, Option}
-use Rattle.std.specs.Prelude.{Some, None}
+use Rattle.std.specs.Prelude.{Some, None, unwrap_or}
+use Rattle.std.specs.Option.{option_map}
 use Rattle.mysql_cells.specs.declared.value.Value.TheVariants.{NULL}
 use Rattle.mysql_const.specs.BulkIndicators.{bulk_indicator_named}
 use Rattle.mysql_const.specs.FlagSets.{contains}
@@ -65,25 +66,29 @@ bulk_value_at t bytes = do
 abbrev pub row_at : List ParameterType → List ℕ → Option (List BulkValue × List ℕ)
 row_at types bytes = each_at (λ place t b. bulk_value_at t b) 0 types bytes
 
--- rows to the end of the bytes, at most so many: each takes a byte or more
-unfoldable pub rows_at : ℕ → List ParameterType → List ℕ → Option (List (List BulkValue))
-rows_at most types [] = Some []
-rows_at zero types (b ∷ bytes) = None
-rows_at (suc most) types (b ∷ bytes) = do
-  first ← row_at types (b ∷ bytes)
-  others ← rows_at most types first.1
-  Some (first.0 ∷ others)
+-- a row before others
+abbrev pub with_row : List BulkValue → List (List BulkValue) × List ℕ → List (List BulkValue) × List ℕ
+with_row first others = (first ∷ others.0, others.1)
+
+-- rows, at most so many, up to the first that can't be read, and the bytes from that one on
+unfoldable pub rows_at : ℕ → List ParameterType → List ℕ → List (List BulkValue) × List ℕ
+rows_at zero types bytes = ([], bytes)
+rows_at (suc most) types bytes =
+    unwrap_or (option_map (λ first. with_row first.0 (rows_at most types first.1)) (row_at types bytes)) ([], bytes)
 
 -- a bulk execution: the statement's id, whether a result for each row is asked for, the types of
--- the parameters where it carries them, and what the parameters hold in each row
+-- the parameters where it carries them, what the parameters hold in each row, and the bytes from the
+-- first row on that can't be read: servers may execute the rows before them
 pub record BulkExecution : Type 0 where
   pub statement : ℕ
   pub unit_results : Bool
   pub types : Option (List BoundType)
   pub rows : List (List BulkValue)
+  pub rest : List ℕ
 
--- A bulk execution by what is in force: of a statement with parameters, for which no long data
--- waits, and at least one row. Of a broken statement there is none.
+-- A bulk execution by what is in force, from its front: of a statement with parameters, for which no
+-- long data waits, and at least one row, each of which takes a byte or more. Of a broken statement
+-- there is none.
 unfoldable pub bulk_execution_at : Capabilities → InForce → List ℕ → Option BulkExecution
 bulk_execution_at capabilities s body = do
   must (has_bulk_operations capabilities)
@@ -94,11 +99,12 @@ bulk_execution_at capabilities s body = do
   must (are_bulk_flags head.flags)
   own ← own_types_at (contains head.flags send_types_to_server) false s.count head.rest
   types ← types_that_count s own.0
-  must (nat_lt 0 (length own.1))
-  rows ← rows_at (length own.1) types own.1
+  rows ← Some (rows_at (length own.1) types own.1)
+  must (nat_lt 0 (length rows.0))
   Some (record {
     statement = head.statement;
     unit_results = contains head.flags send_unit_results;
     types = own.0;
-    rows = rows;
+    rows = rows.0;
+    rest = rows.1;
   })

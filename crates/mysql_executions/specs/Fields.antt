@@ -1,7 +1,7 @@
 -- Reading bytes from left to right, field by field; there is nothing where one isn't laid out so.
 -- MySQL: Client/Server Protocol, "Protocol Basics: Integer Types" and "String Types". x.0 is what
 -- was read and x.1 the bytes left.
-use Rattle.std.specs.Prelude.{ℕ, ◌+◌, Bool, true, false, List, [], ◌∷◌, length, Option, Some, None, ◌==◌}
+use Rattle.std.specs.Prelude.{ℕ, ◌+◌, Bool, true, false, List, [], ◌∷◌, Option, Some, None}
 use Rattle.mysql_buf.specs.Reading as buffer
 
 -- one reading after another
@@ -23,10 +23,6 @@ first >> next = first >>= λ _. next
 -- the number in the first n bytes, the lowest first
 abbrev pub number_at : ℕ → List ℕ → Option (ℕ × List ℕ)
 number_at n bytes = buffer.little_at n bytes
-
--- no byte is left
-abbrev pub at_end : List ℕ → Option ℕ
-at_end bytes = must (length bytes == 0)
 
 -- something for each element of a list, one after another, by its place: the first one's is given
 unfoldable pub each_at : {X Y : Type 0} → (ℕ → X → List ℕ → Option (Y × List ℕ)) → (place : ℕ) → List X →

@@ -3,6 +3,7 @@ pub mod Types
 pub mod InForce
 pub mod Executions
 pub mod Bulks
+pub mod Unclear
 pub mod Attributes
 pub mod After
 pub mod Views

@@ -1,5 +1,6 @@
 -- What the crate's types hold, as values, and what its functions answer.
-use Rattle.std.specs.Prelude.{◌≡◌, Bool, true, false, List, Option, Some, None, Result, Ok, Err, map}
+use Rattle.std.specs.Prelude.{◌≡◌, ℕ, ◌+◌, ◌++◌, length, Bool, true, false, List, Option, Some, None, Result, Ok, Err}
+use Rattle.std.specs.Prelude.{map}
 use Rattle.std.specs.Global.{Vec}
 use Rattle.std.specs.Option.{option_map}
 use Rattle.mysql_executions.specs.declared.bulk.BulkExecution.{BulkExecution as CodeBulk}
@@ -10,12 +11,18 @@ use Rattle.mysql_executions.specs.declared.type_reading.TypesRead.{TypesRead as 
 use Rattle.mysql_executions.specs.declared.not_read.NotRead.{NotRead}
 use Rattle.mysql_executions.specs.declared.not_read.NotRead.TheVariants.{Other, Memory}
 use Rattle.mysql_executions.specs.declared.bulk_reading.BulkHead.{BulkHead as CodeBulkHead}
+use Rattle.mysql_executions.specs.declared.bulk_reading.RowsRead.{RowsRead as CodeRowsRead}
 use Rattle.mysql_executions.specs.Bulks.{BulkExecution, BulkHead}
 use Rattle.mysql_executions.specs.declared.execution_reading.Binding.{Binding as CodeBinding}
 use Rattle.mysql_executions.specs.declared.execution_reading.ExecutionHead.{ExecutionHead as CodeHead}
 use Rattle.mysql_executions.specs.declared.types.ParameterType.{ParameterType}
 use Rattle.mysql_executions.specs.Executions.{Binding, Execution, ExecutionHead}
 use Rattle.mysql_executions.specs.Types.{TypesRead, unnamed}
+use Rattle.mysql_executions.specs.Unclear.{UnclearValues, first_unclear}
+use Rattle.mysql_executions.specs.declared.unclear.Looked.{Looked}
+use Rattle.mysql_executions.specs.declared.unclear.Looked.TheVariants as looked
+use Rattle.mysql_executions.specs.declared.unclear.UnclearCells.{UnclearCells as CodeCells}
+use Rattle.mysql_executions.specs.declared.unclear.UnclearValues.{UnclearValues as CodeUnclear}
 
 -- types where a command carries them
 abbrev pub types_of : Option (Vec BoundType) → Option (List BoundType)
@@ -26,10 +33,19 @@ execution_of e = record {
   statement = e.statement;
   cursor = e.cursor;
   count_available = e.count_available;
+  nameless_flags = e.nameless_flags;
+  iterations = e.iterations;
   types = types_of e.types;
   parameters = e.parameters.items;
   attributes = e.attributes.items;
+  rest = e.rest;
 }
+
+abbrev pub cells_of : Option CodeCells → Option (ℕ × List ℕ)
+cells_of cells = option_map (λ cells. (cells.first, cells.bytes)) cells
+
+abbrev pub unclear_of : CodeUnclear → UnclearValues
+unclear_of u = record { cells = cells_of u.cells; long_data = u.long_data.items }
 
 abbrev pub rows_of : List (Vec BulkValue) → List (List BulkValue)
 rows_of rows = map (λ row. row.items) rows
@@ -40,6 +56,7 @@ bulk_of e = record {
   unit_results = e.unit_results;
   types = types_of e.types;
   rows = rows_of e.rows.items;
+  rest = e.rest;
 }
 
 -- what a call gave, seen by a view, is what reading finds, unless memory ran out
@@ -56,10 +73,27 @@ IfRead (Err e) P = e ≡ Memory
 abbrev pub types_read_of : CodeTypesRead → TypesRead
 types_read_of types = record { found = types.found.items; rest = option_map (λ rest. rest.now) types.rest }
 
+abbrev pub rows_read_of : CodeRowsRead → List (List BulkValue) × List ℕ
+rows_read_of rows = (rows_of rows.found.items, rows.rest.now)
+
 -- the types that count: a command's own, else those in force
 abbrev pub types_by : Option (List BoundType) → List ParameterType → List ParameterType
 types_by (Some own) in_force = unnamed own
 types_by None in_force = in_force
+
+-- the first unclear cell by what was found of cells, of which places count from this one on, where
+-- other cells stand from a place on, each behind so many bytes
+abbrev pub found_by : (before first behind : ℕ) → List (Option ParameterType) → Looked → Option (ℕ × List ℕ)
+found_by before first behind others (looked.Unclear place cell) = Some (first + place, cell.now)
+found_by before first behind others (looked.Clear rest) = first_unclear before (first + behind) others rest.now
+found_by before first behind others looked.Cut = None
+
+-- That was found in these bytes of cells of which the first stands at this place, wherever places
+-- begin to count and whatever cells stand behind these.
+abbrev pub IsFound : (before place : ℕ) → List (Option ParameterType) → List ℕ → Looked → Type 0
+IsFound before place cells bytes found = (first : ℕ) (others : List (Option ParameterType)) →
+    first_unclear before (first + place) (cells ++ others) bytes
+    ≡ found_by before first (place + length cells) others found
 
 abbrev pub binding_of : CodeBinding → Binding
 binding_of b = record { nulls = b.nulls.now; bound = b.bound; rest = b.rest.now }

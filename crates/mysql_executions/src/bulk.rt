@@ -1,7 +1,9 @@
 //! Bulk executions.
 
 use crate::types::BoundType;
+use crate::unclear::UnclearCells;
 use mysql_cells::Value;
+use mysql_queries::ByteString;
 
 /// What a parameter holds in a row of a bulk execution.
 ///
@@ -29,4 +31,9 @@ pub struct BulkExecution {
     pub types: Option<Vec<BoundType>>,
     /// What the parameters hold in each row.
     pub rows: Vec<Vec<BulkValue>>,
+    /// The bytes from the first row on that can't be read, none of a client library's. Servers may
+    /// execute the rows before them.
+    pub rest: ByteString,
+    /// The cells that servers read each their way, none of a client library's.
+    pub unclear: Option<UnclearCells>,
 }

@@ -1,25 +1,31 @@
 //! Bulk executions as they are read.
 
-ghost use Rattle.std.specs.Prelude.{◌≡◌, ◌<◌, ◌≤◌, ◌+◌, ◌-◌, IfOk, length, map};
+ghost use Rattle.std.specs.Prelude.{◌≡◌, ◌<◌, ◌≤◌, ◌+◌, ◌-◌, IfOk, IfSome, is_some, length, map};
 ghost use Rattle.std.specs.Option.{option_map};
 ghost use Rattle.mysql_const.specs.BulkIndicators.{bulk_indicator_named};
 ghost use Rattle.mysql_executions.specs.Bulks.{are_bulk_flags as are_flags, bulk_execution_at, bulk_head};
 ghost use Rattle.mysql_executions.specs.Bulks.{bulk_value_at, indicated_at, row_at, rows_at, send_types_to_server};
 ghost use Rattle.mysql_const.specs.FlagSets.{contains};
 ghost use Rattle.mysql_executions.specs.Types.{has_bulk_operations as has_bulks};
-ghost use Rattle.mysql_executions.specs.Views.{Gives, bulk_head_of, bulk_of, rows_of, types_by, types_of};
+ghost use Rattle.mysql_executions.specs.Views.{Gives, IfRead, bulk_head_of, bulk_of, rows_read_of, types_by};
+ghost use Rattle.mysql_executions.specs.Unclear.{unclear_bulk_at};
+ghost use Rattle.mysql_executions.specs.Views.{cells_of, types_of};
 
 use crate::bulk::{BulkExecution, BulkValue};
 use crate::execution_reading::{check_types, must};
 use crate::fields::{read_u8, read_u16, read_u32};
 use crate::not_read::NotRead;
+use crate::skipping::skip_typed_value;
 use crate::statement::StatementParameters;
 use crate::type_reading::read_own_types;
 use crate::types::{BoundType, ParameterType};
+use crate::unclear::read_unclear_rows;
 use crate::value_reading::{count_of, read_typed_value, type_of};
 use bitflags::Flags;
+use mysql_buf::ParseBuf;
 use mysql_cells::Value;
 use mysql_const::{Capabilities, MariadbBulkIndicator, MariadbCapabilities};
+use mysql_queries::ByteString;
 use std::alloc::{AllocError, Global};
 
 /// The flag of a bulk that asks for a result for each row.
@@ -146,42 +152,82 @@ fn read_row<'a>(
     Ok((values, rest))
 }
 
-/// Reads rows to the end of the bytes. Each takes a byte or more, so there are no more than bytes.
-fn read_rows(
+/// Rows up to the first that can't be read, and the bytes from that one on.
+#[derive(Drop)]
+pub struct RowsRead<'a> {
+    pub found: Vec<Vec<BulkValue>>,
+    pub rest: &'a [u8],
+}
+
+/// Reads rows up to the first that can't be read. Each takes a byte or more, so there are no more than
+/// bytes. Only memory is refused.
+fn read_rows<'a>(
     alloc: Global,
     own: &Option<Vec<BoundType>>,
     in_force: &[ParameterType],
-    bytes: &[u8],
-) -> Result<Vec<Vec<BulkValue>>, NotRead>
-    ensures { Gives (λ x. rows_of x.items) result
-        (rows_at (length bytes.now) (types_by (types_of own.now) in_force.now) bytes.now) }
+    bytes: &'a [u8],
+) -> Result<RowsRead<'a>, NotRead>
+    ensures { IfRead result (λ rows. rows_read_of rows ≡
+        rows_at (length bytes.now) (types_by (types_of own.now) in_force.now) bytes.now) }
 {
-    let mut rows = Vec::new(alloc);
+    let mut found = Vec::new(alloc);
     let mut rest = bytes;
     for _ in 0..bytes.len() {
-        if rest.is_empty() {
-            return Ok(rows);
+        match read_row(alloc, own, in_force, rest) {
+            Ok((row, after)) => {
+                found.push(row)?;
+                rest = after;
+            }
+            Err(NotRead::Other) => return Ok(RowsRead { found, rest }),
+            Err(NotRead::Memory) => return Err(NotRead::Memory),
         }
-        let (row, after) = read_row(alloc, own, in_force, rest)?;
-        rows.push(row)?;
-        rest = after;
     }
-    if rest.is_empty() {
-        Ok(rows)
-    } else {
-        Err(NotRead::Other)
+    Ok(RowsRead { found, rest })
+}
+
+/// What follows a parameter in a row, which can be read.
+#[tactic(auto, unfolding(crate::specs::Bulks::bulk_value_at))]
+fn skip_bulk_value(kind: ParameterType, bytes: &[u8]) -> Option<&[u8]>
+    ensures { option_map (λ rest. rest.now) result ≡ option_map (λ x. x.1) (bulk_value_at kind bytes.now) }
+{
+    let mut rest = ParseBuf(bytes);
+    let number = rest.checked_eat_u8()?;
+    match MariadbBulkIndicator::try_from(number) {
+        Ok(MariadbBulkIndicator::BULK_INDICATOR_NONE) => skip_typed_value(kind, rest.0),
+        Ok(
+            MariadbBulkIndicator::BULK_INDICATOR_NULL
+            | MariadbBulkIndicator::BULK_INDICATOR_DEFAULT
+            | MariadbBulkIndicator::BULK_INDICATOR_IGNORE,
+        ) => Some(rest.0),
+        Err(_) => None,
     }
 }
 
+/// Whether a row comes first that can be read.
+pub fn begins_row(own: &Option<Vec<BoundType>>, in_force: &[ParameterType], bytes: &[u8]) -> bool
+    ensures { result ≡ is_some (row_at (types_by (types_of own.now) in_force.now) bytes.now) }
+{
+    let mut rest = bytes;
+    for place in 0..count_of(own, in_force) {
+        let kind = type_of(own, in_force, place);
+        match skip_bulk_value(kind, rest) {
+            Some(after) => rest = after,
+            None => return false,
+        }
+    }
+    true
+}
+
 /// Reads a bulk execution.
-#[tactic(auto, unfolding(crate::specs::Bulks::bulk_execution_at))]
+#[tactic(auto, unfolding(crate::specs::Bulks::bulk_execution_at, crate::specs::Unclear::unclear_bulk_at))]
 fn read_body(
     alloc: Global,
     capabilities: Capabilities,
     s: &StatementParameters,
     body: &[u8],
 ) -> Result<BulkExecution, NotRead>
-    ensures { Gives bulk_of result (bulk_execution_at capabilities s.now body.now) }
+    ensures reads { Gives bulk_of result (bulk_execution_at capabilities s.now body.now) }
+    ensures unclear { IfOk result (λ e. unclear_bulk_at s.now body.now ≡ cells_of e.unclear) }
 {
     must(has_bulk_operations(capabilities))?;
     must(!s.is_broken())?;
@@ -197,23 +243,35 @@ fn read_body(
         head.rest,
     )?;
     check_types(s, &own)?;
-    must(!rest.is_empty())?;
-    let rows = read_rows(alloc, &own, s.types(), rest)?;
+    let RowsRead {
+        found: rows,
+        rest: behind,
+    } = read_rows(alloc, &own, s.types(), rest)?;
+    must(!rows.is_empty())?;
+    let unclear = read_unclear_rows(alloc, &own, s.types(), &rows, rest)?;
+    let behind = ByteString::copy(alloc, behind)?;
     Ok(BulkExecution {
         statement: head.statement,
         unit_results: head.flags & SEND_UNIT_RESULTS == SEND_UNIT_RESULTS,
         types: own,
         rows,
+        rest: behind,
+        unclear,
     })
 }
 
 /// Reads the body of a bulk execution, behind the command's first byte, by what is in force.
 ///
-/// None where it isn't laid out so: flags that a bulk can't have, a parameter without a type, a type
-/// without cells, an indicator without a name, too few bytes, no row; and where MariaDB's bulk
-/// executions aren't in force, the statement has no parameters or is broken, or long data waits.
+/// It is read as servers execute it: rows up to the first that can't be read, and the bytes from that
+/// one on.
 ///
-/// Promise: exactly the bulk execution that stands there (`bulk_execution_at`).
+/// None where it can't be: flags that a bulk can't have, a parameter without a type, or no readable
+/// row. A row isn't readable for a type without cells, an indicator without a name, or too few bytes.
+/// None also where MariaDB's bulk executions aren't in force, the statement has no parameters or is
+/// broken, or long data waits.
+///
+/// Promise: exactly the bulk execution that stands there (`bulk_execution_at`), and exactly those of
+/// its cells are unclear that are so (`unclear_bulk_at`).
 ///
 /// # Errors
 /// For want of memory.
@@ -225,8 +283,10 @@ pub fn read_bulk_execution(
     parameters: &StatementParameters,
     body: &[u8],
 ) -> Result<Option<BulkExecution>, AllocError>
-    ensures { IfOk result (λ found. option_map bulk_of found ≡
+    ensures reads { IfOk result (λ found. option_map bulk_of found ≡
         bulk_execution_at capabilities parameters.now body.now) }
+    ensures unclear { IfOk result (λ found. IfSome found (λ e.
+        unclear_bulk_at parameters.now body.now ≡ cells_of e.unclear)) }
 {
     match read_body(alloc, capabilities, parameters, body) {
         Ok(execution) => Ok(Some(execution)),

@@ -1,22 +1,26 @@
 //! Executions as they are read.
 
-ghost use Rattle.std.specs.Prelude.{◌≡◌, ◌==◌, ◌||◌, ◌<◌, ◌≤◌, ◌+◌, ◌-◌, ◌/◌, ◌^◌, IfOk, length};
+ghost use Rattle.std.specs.Prelude.{◌≡◌, ◌==◌, ◌||◌, ◌<◌, ◌≤◌, ◌+◌, ◌-◌, ◌/◌, ◌^◌, IfOk, IfSome, Some, length};
 ghost use Rattle.std.specs.Option.{option_map};
 ghost use Rattle.mysql_const.specs.FlagSets.{contains as has_flags};
-ghost use Rattle.mysql_executions.specs.Executions.{are_execution_flags, binding_at, count_at, execution_at};
-ghost use Rattle.mysql_executions.specs.Executions.{execution_head, gives_count, readable_head};
+ghost use Rattle.mysql_executions.specs.Executions.{binding_at, count_at, execution_at};
+ghost use Rattle.mysql_executions.specs.Executions.{execution_head, gives_count, named_flags, readable_head};
 ghost use Rattle.mysql_executions.specs.InForce.{types_that_count};
 ghost use Rattle.mysql_executions.specs.Types.{has_query_attributes as has_attributes, own_types_at, types_at};
+ghost use Rattle.mysql_executions.specs.Unclear.{unclear_at};
 ghost use Rattle.mysql_executions.specs.Views.{Gives, Holds, binding_of, execution_of, head_of, types_by, types_of};
+ghost use Rattle.mysql_executions.specs.Views.{unclear_of};
 
 use crate::fields::{read_bytes, read_lenenc_int, read_u8, read_u32};
 use crate::not_read::NotRead;
 use crate::statement::StatementParameters;
 use crate::type_reading::{read_all_types, read_own_types};
 use crate::types::{BoundType, Execution};
+use crate::unclear::read_unclear;
 use crate::value_reading::{read_attributes, read_parameters};
 use bitflags::Flags;
 use mysql_const::{Capabilities, CapabilityFlags, CursorType};
+use mysql_queries::ByteString;
 use std::alloc::{AllocError, Global};
 
 /// The flag of an execution that says that the number of parameters is given.
@@ -134,14 +138,14 @@ pub fn read_execution_head(
     })
 }
 
-/// Whether an execution can have these flags.
-fn are_execution_flags(capabilities: Capabilities, flags: u8) -> bool
-    ensures { result ≡ are_execution_flags capabilities flags }
+/// The flags of an execution that have a name.
+pub fn named_flags(capabilities: Capabilities, flags: u8) -> u8
+    ensures { result ≡ named_flags capabilities flags }
 {
     if has_query_attributes(capabilities) {
-        flags < 16
+        flags % 16
     } else {
-        flags < 8
+        flags % 8
     }
 }
 
@@ -205,26 +209,26 @@ fn read_readable_head<'a>(
 {
     must(!s.is_broken())?;
     let head = read_execution_head(capabilities, s.count(), body)?;
-    must(are_execution_flags(capabilities, head.flags))?;
-    must(head.iterations == 1)?;
     must(needs_no_types(&head.binding, head.count, s.count()))?;
     Ok(head)
 }
 
 /// Reads an execution.
-#[tactic(auto, unfolding(crate::specs::Executions::execution_at))]
+#[tactic(auto, unfolding(crate::specs::Executions::execution_at, crate::specs::Unclear::unclear_at))]
 fn read_body(
     alloc: Global,
     capabilities: Capabilities,
     s: &StatementParameters,
     body: &[u8],
 ) -> Result<Execution, NotRead>
-    ensures { Gives execution_of result (execution_at capabilities s.now body.now) }
+    ensures reads { Gives execution_of result (execution_at capabilities s.now body.now) }
+    ensures unclear { IfOk result (λ e. unclear_at capabilities s.now body.now ≡ Some (unclear_of e.unclear)) }
 {
     let head = read_readable_head(capabilities, s, body)?;
     let (own, rest) = read_head_types(alloc, capabilities, s.count(), &head.binding)?;
     check_types(s, &own)?;
     let (further, rest) = read_further_types(alloc, capabilities, s.count(), head.count, rest)?;
+    let unclear = read_unclear(alloc, s, &own, head.binding.nulls, &further, rest)?;
     let (parameters, rest) = read_parameters(alloc, s, &own, head.binding.nulls, rest)?;
     let (attributes, rest) = read_attributes(
         alloc,
@@ -233,24 +237,31 @@ fn read_body(
         further,
         rest,
     )?;
-    must(rest.is_empty())?;
+    let named = named_flags(capabilities, head.flags);
     Ok(Execution {
         statement: head.statement,
         cursor: CursorType(head.flags % 8),
-        count_available: head.flags >= PARAMETER_COUNT_AVAILABLE,
+        count_available: named >= PARAMETER_COUNT_AVAILABLE,
+        nameless_flags: head.flags - named,
+        iterations: head.iterations,
         types: own,
         parameters,
         attributes,
+        rest: ByteString::copy(alloc, rest)?,
+        unclear,
     })
 }
 
 /// Reads the body of an execution, behind the command's first byte, by what is in force.
 ///
-/// None where it isn't laid out so: a flag that an execution can't have, iterations other than 1,
-/// fewer parameters than the statement has, attributes without types, a parameter without a type, a
-/// type without cells, too few bytes, bytes that are left over; and where the statement is broken.
+/// It is read as servers do: flags without a name, an iteration count other than 1 and bytes behind the
+/// last value are told.
 ///
-/// Promise: exactly the execution that stands there (`execution_at`).
+/// None where it can't be: fewer parameters than the statement has, attributes or a parameter without
+/// a type, a type without cells, too few bytes. None also where the statement is broken.
+///
+/// Promise: exactly the execution that stands there (`execution_at`). Exactly those of its values are
+/// unclear that are so by their cells and by what was in force (`unclear_at`).
 ///
 /// # Errors
 /// For want of memory.
@@ -262,8 +273,10 @@ pub fn read_execution(
     parameters: &StatementParameters,
     body: &[u8],
 ) -> Result<Option<Execution>, AllocError>
-    ensures { IfOk result (λ found. option_map execution_of found ≡
+    ensures reads { IfOk result (λ found. option_map execution_of found ≡
         execution_at capabilities parameters.now body.now) }
+    ensures unclear { IfOk result (λ found. IfSome found (λ e.
+        unclear_at capabilities parameters.now body.now ≡ Some (unclear_of e.unclear))) }
 {
     match read_body(alloc, capabilities, parameters, body) {
         Ok(execution) => Ok(Some(execution)),

@@ -10,9 +10,11 @@ mod fields;
 pub mod laws;
 mod not_read;
 pub mod refused;
+mod skipping;
 pub mod statement;
 mod type_reading;
 pub mod types;
+pub mod unclear;
 mod value_reading;
 mod waiting;
 
@@ -24,3 +26,4 @@ pub use execution_reading::read_execution;
 pub use refused::Refused;
 pub use statement::StatementParameters;
 pub use types::{Attribute, BoundType, Execution, ParameterType};
+pub use unclear::{UnclearCells, UnclearValues};

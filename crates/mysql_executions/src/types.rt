@@ -1,5 +1,6 @@
 //! Types of parameters, and executions that carry them.
 
+use crate::unclear::UnclearValues;
 use mysql_cells::Value;
 use mysql_const::{ColumnType, CursorType};
 use mysql_queries::ByteString;
@@ -40,6 +41,9 @@ pub struct Attribute {
 
 /// An execution of a prepared statement.
 ///
+/// Servers run it with any unnamed flags and any iteration count, and read no further than its last
+/// value.
+///
 /// Follows "COM_STMT_EXECUTE" of the client/server protocol documentation.
 #[derive(Debug, PartialEq, Eq, Drop)]
 pub struct Execution {
@@ -49,10 +53,19 @@ pub struct Execution {
     pub cursor: CursorType,
     /// Whether the flags say that the number of parameters is given (PARAMETER_COUNT_AVAILABLE).
     pub count_available: bool,
+    /// The flags that have no name, none of a client library's.
+    pub nameless_flags: u8,
+    /// The iteration count: 1 of each client library.
+    pub iterations: u32,
     /// The types of the statement's parameters, where the execution carries them.
     pub types: Option<Vec<BoundType>>,
     /// What the statement's parameters hold: NULL, a value, or the long data that was sent before.
     pub parameters: Vec<Value>,
     /// The parameters beyond those of the statement.
     pub attributes: Vec<Attribute>,
+    /// The bytes behind the last value, none of a client library's.
+    pub rest: ByteString,
+    /// The values that servers read each their way, none of a client library's. It says how the
+    /// payload spells them: what is put is spelled so that each server reads it alike, where it can be.
+    pub unclear: UnclearValues,
 }

@@ -65,7 +65,7 @@ fn read_parameter<'a>(
 }
 
 /// Whether the bit of a place is set.
-fn is_null(nulls: &[u8], place: usize) -> bool
+pub fn is_null(nulls: &[u8], place: usize) -> bool
     ensures { result ≡ is_null_at 0 nulls.now place }
 {
     match nulls.get(place / 8) {

@@ -1,12 +1,13 @@
 //! What a client says, as a line without its end.
 
 use crate::values::{
-    print_bytes, print_bytes_if, print_number, print_one, print_text, print_value, print_values,
+    print_bytes, print_bytes_if, print_number, print_one, print_text, print_value,
 };
 use mysql_auth::AuthPlugin;
 use mysql_authentication::{LoginResponse, ResponseEvent};
+use mysql_cells::Value;
 use mysql_commands::Command;
-use mysql_executions::{Attribute, BulkExecution, BulkValue, Execution};
+use mysql_executions::{Attribute, BulkExecution, BulkValue, Execution, UnclearCells};
 use mysql_login::ComChangeUser;
 use std::alloc::Global;
 use std::io;
@@ -83,15 +84,87 @@ fn print_execution<W: Write>(
     execution: &Execution,
 ) -> io::Result<()> {
     print_one(output, "execute", u64::from(execution.statement))?;
-    print_values(alloc, output, execution.parameters.as_slice())?;
-    print_attributes(alloc, output, execution.attributes.as_slice())
+    for (place, value) in execution.parameters.iter().enumerate() {
+        print_unless_unclear(alloc, output, execution.unclear.is_at(place), value)?;
+    }
+    print_execution_attributes(alloc, output, execution)?;
+    if execution.nameless_flags != 0 {
+        output.write_all(b" flags")?;
+        print_number(output, u64::from(execution.nameless_flags))?;
+    }
+    if execution.iterations != 1 {
+        output.write_all(b" iterations")?;
+        print_number(output, u64::from(execution.iterations))?;
+    }
+    print_rest(output, execution.rest.as_slice())?;
+    print_unclear(output, &execution.unclear.cells)
 }
 
-/// Prints a row of a bulk execution.
-fn print_bulk_row<W: Write>(alloc: Global, output: &mut W, row: &[BulkValue]) -> io::Result<()> {
+/// Prints a value, or ` ?` for one that servers read each their way.
+fn print_unless_unclear<W: Write>(
+    alloc: Global,
+    output: &mut W,
+    is_unclear: bool,
+    value: &Value,
+) -> io::Result<()> {
+    if is_unclear {
+        output.write_all(b" ?")
+    } else {
+        print_value(alloc, output, value)
+    }
+}
+
+/// Prints an execution's attributes behind a word that says so, where there are some.
+fn print_execution_attributes<W: Write>(
+    alloc: Global,
+    output: &mut W,
+    execution: &Execution,
+) -> io::Result<()> {
+    if execution.attributes.is_empty() {
+        return Ok(());
+    }
+    let first = execution.parameters.len();
+    output.write_all(b" with")?;
+    for (place, attribute) in execution.attributes.iter().enumerate() {
+        print_bytes(output, attribute.bound_type.name.as_slice())?;
+        output.write_all(b" =")?;
+        let is_unclear = execution.unclear.is_at(first.saturating_add(place));
+        print_unless_unclear(alloc, output, is_unclear, &attribute.value)?;
+    }
+    Ok(())
+}
+
+/// Prints the bytes of cells that servers read each their way, where there are some.
+fn print_unclear<W: Write>(output: &mut W, unclear: &Option<UnclearCells>) -> io::Result<()> {
+    match unclear {
+        Some(cells) => {
+            output.write_all(b" unclear")?;
+            print_bytes(output, cells.bytes.as_slice())
+        }
+        None => Ok(()),
+    }
+}
+
+/// Prints the bytes of an execution that are left over, where there are some.
+fn print_rest<W: Write>(output: &mut W, rest: &[u8]) -> io::Result<()> {
+    if rest.is_empty() {
+        return Ok(());
+    }
+    output.write_all(b" rest")?;
+    print_bytes(output, rest)
+}
+
+/// Prints a row of a bulk execution, of which so many first values are clear.
+fn print_bulk_row<W: Write>(
+    alloc: Global,
+    output: &mut W,
+    row: &[BulkValue],
+    clear: usize,
+) -> io::Result<()> {
     output.write_all(b" (")?;
-    for value in row {
+    for (place, value) in row.iter().enumerate() {
         match value {
+            _ if place >= clear => output.write_all(b" ?")?,
             BulkValue::Value(value) => print_value(alloc, output, value)?,
             BulkValue::Default => output.write_all(b" default")?,
             BulkValue::Ignore => output.write_all(b" ignore")?,
@@ -103,10 +176,16 @@ fn print_bulk_row<W: Write>(alloc: Global, output: &mut W, row: &[BulkValue]) ->
 /// Prints a bulk execution.
 fn print_bulk<W: Write>(alloc: Global, output: &mut W, bulk: &BulkExecution) -> io::Result<()> {
     print_one(output, "bulk-execute", u64::from(bulk.statement))?;
+    let mut clear = match &bulk.unclear {
+        Some(cells) => cells.first,
+        None => usize::MAX,
+    };
     for row in bulk.rows.as_slice() {
-        print_bulk_row(alloc, output, row.as_slice())?;
+        print_bulk_row(alloc, output, row.as_slice(), clear)?;
+        clear = clear.saturating_sub(row.len());
     }
-    Ok(())
+    print_rest(output, bulk.rest.as_slice())?;
+    print_unclear(output, &bulk.unclear)
 }
 
 /// Prints a request of a replica.

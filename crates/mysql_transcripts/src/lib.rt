@@ -1,7 +1,7 @@
 //! Transcripts of connections: their records, and their events in short lines for people.
 //!
-//! A transcript is a list of records, in the order in which bytes came: the letter of a side, `c` or
-//! `s`, a length in 4 bytes, the lowest first, and the bytes.
+//! A transcript is a list of records, in the order in which bytes came. A record is the letter of a
+//! side, `c` or `s`, a length in 4 bytes, the lowest first, and the bytes.
 #![tactic(auto)]
 
 mod client;

@@ -84,15 +84,3 @@ pub(crate) fn print_value<W: Write>(
         moment => print_moment(alloc, output, moment),
     }
 }
-
-/// Prints values one after another.
-pub(crate) fn print_values<W: Write>(
-    alloc: Global,
-    output: &mut W,
-    values: &[Value],
-) -> io::Result<()> {
-    for value in values {
-        print_value(alloc, output, value)?;
-    }
-    Ok(())
-}
