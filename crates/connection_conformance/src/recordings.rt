@@ -85,7 +85,7 @@ fn front<'a>(stream: &'a [u8], numbers: &mut Numbers) -> &'a [u8] {
     }
 }
 
-/// Reads all of it in each of these orders, with rows that are lent where that is said, and returns
+/// Reads all of it in each of these orders, with rows that are lent where that is said. It returns
 /// the most that was kept by the last.
 fn read_in_orders(
     alloc: Global,

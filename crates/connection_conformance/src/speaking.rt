@@ -6,7 +6,7 @@ use crate::numbers::Numbers;
 use crate::readings::{Task, feed_whole};
 use crate::streams::packet_length;
 use crate::troubles::Trouble;
-use mysql_connection_machine::{Connection, PutRefusal};
+use mysql_connection_machine::{Connection, PayloadRefusal, PutRefusal};
 use mysql_connection_rules::{Fault, Side};
 use mysql_connection_state::Event;
 use std::alloc::Global;
@@ -29,7 +29,18 @@ pub struct Said<'a> {
     pub same: u64,
 }
 
-impl Said<'_> {
+impl<'a> Said<'a> {
+    /// The payload of the side's next packet, as it was said first.
+    fn payload(&self, side: Side) -> &'a [u8] {
+        let left = match side {
+            Side::Client => self.client,
+            Side::Server => self.server,
+        };
+        let length = packet_length(left).unwrap_or(0);
+        let payload = left.get(4..length);
+        payload.unwrap_or(&[])
+    }
+
     /// A packet of a side was said again by these bytes.
     fn take(&mut self, side: Side, bytes: &[u8]) {
         let left = match side {
@@ -44,6 +55,33 @@ impl Said<'_> {
             Side::Client => self.client = behind,
             Side::Server => self.server = behind,
         }
+    }
+}
+
+/// Whether a line tells of cells that servers read each their way. Its event is put by others, which
+/// each server reads alike.
+fn is_unclear(line: &[u8]) -> bool {
+    match str::from_utf8(line) {
+        Ok(line) => line.split(" unclear=").count() > 1,
+        Err(_) => false,
+    }
+}
+
+/// Puts the payload of an event, once more where memory is refused.
+fn put_payload(
+    connection: &mut Connection,
+    side: Side,
+    payload: &[u8],
+    out: &mut Vec<u8>,
+) -> Result<(), Trouble> {
+    let put = match connection.put_payload(side, payload, out) {
+        Err(PayloadRefusal::Memory) => connection.put_payload(side, payload, out),
+        answer => answer,
+    };
+    match put {
+        Ok(_) => Ok(()),
+        Err(PayloadRefusal::Memory) => Err(Trouble::Memory),
+        Err(_) => Err(Trouble::Put),
     }
 }
 
@@ -102,6 +140,7 @@ fn stand_alike(one: &Connection, other: &Connection) -> bool {
         && one.phase() == other.phase()
         && one.capabilities() == other.capabilities()
         && one.held() == other.held()
+        && one.session_mode() == other.session_mode()
 }
 
 impl Speakers {
@@ -122,10 +161,11 @@ impl Speakers {
         }
     }
 
-    /// Says an event: its side puts it, and the others read it.
+    /// Says an event, which was said first by this payload: its side puts it, and the others read it.
     fn say(
         &mut self,
         event: &Event,
+        payload: &[u8],
         line: &[u8],
         out: &mut Vec<u8>,
         numbers: &mut Numbers,
@@ -140,7 +180,11 @@ impl Speakers {
         let mut heard = Vec::new(self.alloc);
         out.clear();
         let (speaker, listener) = self.pair(side);
-        put(speaker, event, out)?;
+        if is_unclear(line) {
+            put_payload(speaker, side, payload, out)?;
+        } else {
+            put(speaker, event, out)?;
+        }
         feed_pieces(listener, side, out.as_slice(), numbers)?;
         hear(listener, line, &mut heard)?;
         feed_pieces(&mut self.auditor, side, out.as_slice(), numbers)?;
@@ -171,7 +215,8 @@ fn say_events(
         match source.next_event() {
             Ok(Some(event)) => {
                 put_event(&event, &mut line)?;
-                speakers.say(&event, line.as_slice(), &mut out, &mut numbers)?;
+                let payload = said.payload(event.side());
+                speakers.say(&event, payload, line.as_slice(), &mut out, &mut numbers)?;
                 said.take(event.side(), out.as_slice());
             }
             Ok(None) => break,

@@ -20,7 +20,8 @@ pub use mysql_columns::{ExtendedColumn, ListedColumn};
 pub use mysql_command_writer::{CommandRefusal, put_command};
 pub use mysql_commands::{
     Attribute, BoundType, BulkExecution, BulkValue, Capabilities, CapabilityFlags, Command,
-    Execution, MariadbCapabilities, ParameterType, Reply, StatementParameters,
+    Execution, MariadbCapabilities, ParameterType, Reply, StatementParameters, UnclearCells,
+    UnclearValues,
 };
 pub use mysql_connection_lines::{write_end, write_event, write_lent_row};
 pub use mysql_connection_machine::{
@@ -41,3 +42,4 @@ pub use mysql_login;
 pub use mysql_reply_event_writer::{ReplyPutRefusal, put_event};
 pub use mysql_reply_events::{Context, EventReader, ReplyEvent, ReplyFault, ReplyKind, Turn};
 pub use mysql_session;
+pub use mysql_session_modes::{SessionMode, Tracking, mode_begun, mode_behind_ok};

@@ -32,7 +32,7 @@ pub fn puts_or_refusals()
 
 /// Events that were taken, put or are left to take are, in order, those of the one run.
 ///
-/// So it is whatever pieces of two streams came, and whatever events were put in between.
+/// That holds for any pieces of two streams, and any events that were put in between.
 pub fn puts_are_the_run()
     ensures { PutsAreTheRun }
 {

@@ -1,4 +1,4 @@
-//! What is put on a connection is read as it was put, and a client, a server and an auditor between
+//! What is put on a connection is read as it was put. A client, a server and an auditor between
 //! them agree on one list of events.
 #![tactic(auto)]
 

@@ -1,18 +1,22 @@
 -- What stands of one statement behind a command.
-use Rattle.std.proofs.Common.{◌≡◌, ◌≢◌, ℕ, Bool, true, false, List, ◌∷◌, Option, Some, None, nat_eq, refl, sym, ap, subst, ◌∙◌, arith}
-use Rattle.std.specs.Prelude.{◌==◌, ◌||◌, if◌then◌else◌}
+use Rattle.std.proofs.Common.{◌≡◌, ◌≢◌, ℕ, Bool, true, false, List, ◌∷◌, Option, Some, None, refl, sym, ap, subst, ◌∙◌, arith}
+use Rattle.std.specs.Prelude.{◌==◌, ◌||◌, if◌then◌else◌, not}
 use Rattle.std.specs.Option.{option_and_then}
+use Rattle.std.specs.BTreeMap.{is_at}
 use Rattle.std.specs.Map.{lookup}
+use Rattle.std.specs.Ordering.{nat_cmp}
 use Rattle.std.proofs.lemmas.Bool.Decides.{nat_tests}
 use Rattle.mysql_commands.specs.Commands as commands
 use Rattle.mysql_commands.specs.Commands.{Command, command_at}
 use Rattle.mysql_connection_rules.specs.Standing.{Standing}
-use Rattle.mysql_connection_rules.specs.Steps.{after_data, by_number, carried_types, changing, closing, execution_of}
+use Rattle.mysql_connection_rules.specs.Standing.About.{Nothing}
+use Rattle.mysql_connection_rules.specs.Steps.{after_data, by_number, carried_types, changing, closing, execution_by_id, execution_of, reply_due}
+use Rattle.mysql_reply_events.specs.declared.context.ReplyKind.TheVariants as kinds
 use Rattle.mysql_connection_statements.specs.Statements.{Statement, change_at, counted, executed, is_reset, statement_at, with_long_data, with_statement}
-use Rattle.mysql_executions.specs.After.{after_execution, after_long_data, after_reset}
+use Rattle.mysql_executions.specs.After.{after_execution, after_long_data, after_reset, bulk_types, execution_types}
 use Rattle.mysql_executions.specs.InForce.{InForce}
-use Rattle.mysql_executions.specs.Types.{unnamed}
-use Rattle.mysql_execution_contents.specs.Agreement.{is_about_parameters, with_data}
+use Rattle.mysql_executions.specs.Types.{has_bulk_operations, unnamed}
+use Rattle.mysql_execution_contents.specs.Agreement.{after_bulk, is_about_parameters, with_data}
 use Rattle.mysql_connection_contents.specs.Contents.{Stands, is_id, is_logged_in}
 use Rattle.mysql_connection_contents.proofs.Statements.{OwnIds, changed_elsewhere, changed_own, closed_elsewhere, put_elsewhere, put_own}
 
@@ -52,7 +56,7 @@ module _ (s : Standing) (id : ℕ) (p : InForce) (stands : Stands s.statements i
   -- ---- executions
 
   executed_here : (number : ℕ) (body : List ℕ) (other : ℕ) (found : Option Statement) (test : Bool) → (other == id) ≡ test → statement_at s.statements other ≡ found
-      → Goes s id (if test then after_execution (unnamed (carried_types s.capabilities number p.count body)) p else p) (execution_of number body (Some other) found s)
+      → Goes s id (if test then after_execution (unnamed (carried_types s.capabilities number p.count body)) p else p) (execution_by_id number body (Some other) found s)
   executed_here number body other None true is at = absurd (let none : None ≡ Some stands.statement = sym at ∙ ap (statement_at s.statements) (same_id other id is) ∙ stands.found in cc)
   executed_here number body other None false is at = record { stands = stands; capabilities = refl; logged_in = refl }
   executed_here number body other (Some st) true is at =
@@ -70,10 +74,29 @@ module _ (s : Standing) (id : ℕ) (p : InForce) (stands : Stands s.statements i
   executed_here number body other (Some st) false is at =
       record { stands = put_elsewhere s.statements id p other (executed (carried_types s.capabilities number st.parameters.count body) st) (other_id other id is) stands; capabilities = refl; logged_in = refl }
 
-  pub execution_goes : (number : ℕ) (body : List ℕ) (q : Option ℕ)
-      → Goes s id (if is_id q id then after_execution (unnamed (carried_types s.capabilities number p.count body)) p else p) (execution_of number body q (option_and_then (statement_at s.statements) q) s)
-  execution_goes number body None = record { stands = stands; capabilities = refl; logged_in = refl }
-  execution_goes number body (Some other) = executed_here number body other (statement_at s.statements other) (other == id) refl refl
+  known_goes : (number : ℕ) (body : List ℕ) (q : Option ℕ)
+      → Goes s id (if is_id q id then after_execution (unnamed (carried_types s.capabilities number p.count body)) p else p) (execution_by_id number body q (option_and_then (statement_at s.statements) q) s)
+  known_goes number body None = record { stands = stands; capabilities = refl; logged_in = refl }
+  known_goes number body (Some other) = executed_here number body other (statement_at s.statements other) (other == id) refl refl
+
+  pub execution_goes : (body : List ℕ) (q : Option ℕ)
+      → Goes s id (if is_id q id then after_execution (unnamed (execution_types s.capabilities p.count body)) p else p) (execution_of 0x17 body q (option_and_then (statement_at s.statements) q) s)
+  execution_goes body q = known_goes 0x17 body q
+
+  same_goes : (test : Bool) (mid : Standing) → Goes s id p mid → Goes s id (if test then p else p) mid
+  same_goes true mid goes = goes
+  same_goes false mid goes = goes
+
+  -- a bulk execution changes nothing where MariaDB's aren't in force
+  bulk_by : (in_force : Bool) (body : List ℕ) (q : Option ℕ)
+      → Goes s id (if is_id q id then (if in_force then after_execution (unnamed (bulk_types p.count body)) p else p) else p)
+      (if not in_force then reply_due kinds.Binary None Nothing s else execution_by_id 0xfa body q (option_and_then (statement_at s.statements) q) s)
+  bulk_by true body q = known_goes 0xfa body q
+  bulk_by false body q = same_goes (is_id q id) (reply_due kinds.Binary None Nothing s) (record { stands = stands; capabilities = refl; logged_in = refl })
+
+  pub bulk_goes : (body : List ℕ) (q : Option ℕ)
+      → Goes s id (if is_id q id then after_bulk s.capabilities body p else p) (execution_of 0xfa body q (option_and_then (statement_at s.statements) q) s)
+  bulk_goes body q = bulk_by (has_bulk_operations s.capabilities) body q
 
   -- ---- long data, resets
 
@@ -101,7 +124,7 @@ module _ (s : Standing) (id : ℕ) (p : InForce) (stands : Stands s.statements i
 
   closed_by : (other : ℕ) (test : Bool) → (other == id) ≡ test → OwnIds s.statements → test ≡ false → Stands (closing (Some other) s).statements id p
   closed_by other true is own stays = absurd cc
-  closed_by other false is own stays = closed_elsewhere s.statements id p other own (other_id other id is) stands
+  closed_by other false is own stays = closed_elsewhere s.statements id p other (other_id other id is) stands
 
   closing_goes : (q : Option ℕ) → OwnIds s.statements → is_id q id ≡ false → Stands (closing q s).statements id p
   closing_goes None own stays = stands
@@ -112,7 +135,7 @@ module _ (s : Standing) (id : ℕ) (p : InForce) (stands : Stands s.statements i
 
   same_as : (mid : Standing) → mid.statements.by_id ≡ s.statements.by_id → mid.capabilities ≡ s.capabilities → is_logged_in mid.phase ≡ true → Same mid
   same_as mid entries capabilities logged =
-      record { stands = record { statement = stands.statement; found = ap (lookup (nat_eq id)) entries ∙ stands.found; parameters = stands.parameters }; capabilities = capabilities; logged_in = logged }
+      record { stands = record { statement = stands.statement; found = ap (lookup (is_at (nat_cmp id))) entries ∙ stands.found; parameters = stands.parameters }; capabilities = capabilities; logged_in = logged }
 
   closing_capabilities : (q : Option ℕ) → (closing q s).capabilities ≡ s.capabilities
   closing_capabilities None = refl

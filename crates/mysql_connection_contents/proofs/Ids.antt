@@ -1,7 +1,6 @@
 -- Each statement keeps an id of its own, whatever is said.
-use Rattle.std.proofs.Common.{◌≡◌, ℕ, Bool, true, false, List, [], ◌∷◌, Option, Some, None, Result, Ok, Err, nat_eq, refl, sym, ap, subst}
+use Rattle.std.proofs.Common.{◌≡◌, ℕ, Bool, true, false, List, [], ◌∷◌, Option, Some, None, Result, Ok, Err, refl, sym, ap, subst}
 use Rattle.std.specs.Prelude.{◌==◌, ◌||◌, if◌then◌else◌}
-use Rattle.std.specs.List.{IsDistinct}
 use Rattle.mysql_authentication.specs.Events.{Authentication as AuthenticationSaid, Greeting as GreetingSaid, Response as ResponseSaid}
 use Rattle.mysql_authentication.specs.Events.Authentication.{Accepted, AuthMore, AuthSwitch, Denied, NextFactor, OldAuthSwitch, PluginData}
 use Rattle.mysql_authentication.specs.Events.Greeting.{Greeted, Rejected}
@@ -20,10 +19,12 @@ use Rattle.mysql_connection_rules.specs.Events as events
 use Rattle.mysql_connection_rules.specs.Standing.{About, InReply, Phase, Standing}
 use Rattle.mysql_connection_rules.specs.Standing.About.{Executing, OfStatement, Preparing, Resetting}
 use Rattle.mysql_connection_rules.specs.Standing as phases
+use Rattle.mysql_connection_rules.specs.StepLaws.{step_said}
 use Rattle.mysql_connection_rules.specs.Steps.{Step, after_authentication, after_command, after_data, after_denial, after_event, after_greeting, after_response, behind_reply, by_number, by_turn, changed_by, changing, closing}
-use Rattle.mysql_connection_rules.specs.Steps.{context_of, execution_of, greets_anew, id_in_question, in_phase, in_turn, is_compressed, is_fast, is_whole, of_login, of_reply, parameters_in_question, reply_after, says}
+use Rattle.mysql_connection_rules.specs.Steps.{after_acceptance, context_of, execution_by_id, execution_of, greets_anew, id_in_question, in_phase, in_turn, is_compressed, is_fast, is_unagreed_bulk, is_whole, of_login, of_reply, parameters_in_question, reply_after, says}
 use Rattle.mysql_connection_rules.specs.Steps.{statement_in_question, step, turn_in_reply, with_columns, with_statements}
-use Rattle.mysql_connection_statements.specs.Statements.{Statement, Statements, counted, having_columns, is_reset, taken_back, with_long_data}
+use Rattle.mysql_connection_statements.proofs.Entries.{none_ascend}
+use Rattle.mysql_connection_statements.specs.Statements.{Statement, Statements, counted, having_columns, is_reset, no_statements, taken_back, with_long_data}
 use Rattle.mysql_reply_events.specs.Events.{Event as ReplySaid, ReplySoFar}
 use Rattle.mysql_reply_events.specs.Events.Event.{ErrorEvent, OkEvent, PreparedEvent}
 use Rattle.mysql_reply_events.specs.Table.{event_at, file_data_at}
@@ -54,15 +55,17 @@ Own s = OwnIds s.statements
 
 -- ---- commands
 
-pub no_ids : IsDistinct nat_eq []
-unfolding IsDistinct
-no_ids = tt
+pub no_ids : OwnIds no_statements
+no_ids = none_ascend
 
 module _ (s : Standing) (own : Own s) where
+  known_ids : (number : ℕ) (body : List ℕ) (q : Option ℕ) (found : Option Statement) → Own (execution_by_id number body q found s)
+  known_ids number body (Some id) (Some st) = put_ids s.statements id _ own
+  known_ids number body None found = own
+  known_ids number body (Some id) None = own
+
   execution_ids : (number : ℕ) (body : List ℕ) (q : Option ℕ) (found : Option Statement) → Own (execution_of number body q found s)
-  execution_ids number body (Some id) (Some st) = put_ids s.statements id _ own
-  execution_ids number body None found = own
-  execution_ids number body (Some id) None = own
+  execution_ids number body q found = either Own (is_unagreed_bulk s.capabilities number) _ _ (λ is. own) (λ is. known_ids number body q found)
 
   changing_ids : (change : Statement → Statement) (q : Option ℕ) → Own (changing change q s)
   changing_ids change None = own
@@ -123,9 +126,13 @@ denied_stays : (exchange : Exchange) (s : Standing) → Stays s (after_denial ex
 denied_stays exchanges.Login s = record { statements = refl; capabilities = refl; logged_in = refl }
 denied_stays exchange s = record { statements = refl; capabilities = refl; logged_in = refl }
 
-pub authentication_stays : (exchange : Exchange) (s : Standing) (said : AuthenticationSaid) → Stays s (after_authentication exchange s said)
-authentication_stays exchange s (Accepted ok) =
+accepted_stays : (exchange : Exchange) (s : Standing) → Stays s (after_acceptance exchange s)
+accepted_stays exchanges.Login s =
     either (Stays s) (is_compressed s.capabilities) _ _ (λ is. record { statements = refl; capabilities = refl; logged_in = refl }) (λ is. record { statements = refl; capabilities = refl; logged_in = refl })
+accepted_stays exchange s = record { statements = refl; capabilities = refl; logged_in = refl }
+
+pub authentication_stays : (exchange : Exchange) (s : Standing) (said : AuthenticationSaid) → Stays s (after_authentication exchange s said)
+authentication_stays exchange s (Accepted ok) = accepted_stays exchange s
 authentication_stays exchange s (Denied error) = denied_stays exchange s
 authentication_stays exchange s (AuthMore bytes) =
     either (Stays s) (is_fast s.plugin bytes) _ _ (λ is. record { statements = refl; capabilities = refl; logged_in = refl }) (λ is. record { statements = refl; capabilities = refl; logged_in = refl })
@@ -172,5 +179,6 @@ phase_ids (phases.Reply r) s payload e mid own h = turn_ids (turn_in_reply r.so_
 phase_ids (phases.Over reason) s payload e mid own h = absurd cc
 
 pub step_ids : (s : Standing) (payload : List ℕ) (e : Event) (mid : Standing) → OwnIds s.statements → step s payload ≡ Ok (e, mid) → OwnIds mid.statements
-unfolding step
-step_ids s payload e mid own h = phase_ids s.phase s payload e mid own h
+step_ids s payload e mid own h =
+    let said = step_said s payload e mid h in
+    subst Own (sym said.stands) (phase_ids s.phase s payload e said.leaves own said.says)

@@ -7,6 +7,7 @@ use Rattle.mysql_connection_rules.specs.Events as events
 use Rattle.mysql_connection_rules.specs.Standing.{About, InReply, Phase, Standing}
 use Rattle.mysql_connection_rules.specs.Standing.About.{Preparing}
 use Rattle.mysql_connection_rules.specs.Standing as phases
+use Rattle.mysql_connection_rules.specs.StepLaws.{step_said}
 use Rattle.mysql_connection_rules.specs.Steps.{after_event, behind_reply, by_turn, changed_by, context_of, in_phase, in_turn, is_whole, of_reply, reply_after, step, turn_in_reply, with_columns, with_statements}
 use Rattle.mysql_connection_statements.specs.Statements.{Statements, counted, prepared_as}
 use Rattle.mysql_executions.specs.After.{freshly_prepared}
@@ -63,8 +64,10 @@ module _ (id count : ℕ) where
 
   -- behind the answer to a prepare the statement stands
   pub prepared_goes : (s : Standing) (payload : List ℕ) (e : Event) (mid : Standing) → step s payload ≡ Ok (e, mid) → PreparesIn id count s.phase e → Made s mid
-  unfolding step
-  prepared_goes s payload e mid h prepares = phase_made s.phase s payload e mid h prepares
+  prepared_goes s payload e mid h prepares =
+      let said = step_said s payload e mid h in
+      let made = phase_made s.phase s payload e said.leaves said.says prepares in
+      subst (Made s) (sym said.stands) (record { stands = made.stands; capabilities = made.capabilities; logged_in = made.logged_in })
 
 pub prepared_statements_stand : PreparedStatementsStand
 prepared_statements_stand s mid payload event id count h prepares = (prepared_goes id count s payload event mid h prepares).stands

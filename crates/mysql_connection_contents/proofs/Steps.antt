@@ -11,6 +11,7 @@ use Rattle.mysql_connection_rules.specs.Events.{Event}
 use Rattle.mysql_connection_rules.specs.Events as events
 use Rattle.mysql_connection_rules.specs.Standing.{InReply, Phase, Standing}
 use Rattle.mysql_connection_rules.specs.Standing as phases
+use Rattle.mysql_connection_rules.specs.StepLaws.{step_said}
 use Rattle.mysql_connection_rules.specs.Steps.{after_authentication, after_command, after_data, after_event, by_turn, changing, context_of, greets_anew, id_in_question, in_phase, in_turn}
 use Rattle.mysql_connection_rules.specs.Steps.{of_login, of_reply, parameters_in_question, says, statement_in_question, step, turn_in_reply}
 use Rattle.mysql_connection_statements.specs.Statements.{Statement, counted, is_reset, statement_at, with_long_data}
@@ -20,7 +21,7 @@ use Rattle.mysql_execution_contents.proofs.Commands.{about_by}
 use Rattle.mysql_reply_events.specs.Events.{Event as ReplySaid, ReplySoFar}
 use Rattle.mysql_reply_events.specs.Table.{event_at, file_data_at}
 use Rattle.mysql_connection_contents.specs.Contents.{CommandLeaves, EventLeaves, IsSettled, LeavesIn, Stands, is_due, is_id, is_logged_in, sets_said}
-use Rattle.mysql_connection_contents.proofs.Commands.{Goes, data_goes, execution_goes, other_goes, reset_goes, same_id}
+use Rattle.mysql_connection_contents.proofs.Commands.{Goes, bulk_goes, data_goes, execution_goes, other_goes, reset_goes, same_id}
 use Rattle.mysql_connection_contents.proofs.Ids.{authentication_stays, not_anew, said_is, says_is}
 use Rattle.mysql_connection_contents.proofs.Replies.{reply_goes}
 use Rattle.mysql_connection_contents.proofs.Statements.{OwnIds, both}
@@ -43,8 +44,8 @@ module _ (s : Standing) (id : ℕ) (p : InForce) (stands : Stands s.statements i
   about_goes : (number : ℕ) (body : List ℕ) → is_about_parameters (number ∷ body) ≡ true → Behind number body
   about_goes number body about =
       about_by (λ n. Behind n body) number (number == 0x17) (number == 0xfa) (number == 0x18) (number == 0x1a) refl refl refl refl about
-      (execution_goes s id p stands 0x17 body (id_in_question s.statements (0x17 ∷ body)))
-      (execution_goes s id p stands 0xfa body (id_in_question s.statements (0xfa ∷ body)))
+      (execution_goes s id p stands body (id_in_question s.statements (0x17 ∷ body)))
+      (bulk_goes s id p stands body (id_in_question s.statements (0xfa ∷ body)))
       (let q = id_in_question s.statements (0x18 ∷ body) in
       record { stands = data_goes s id p stands q (0x18 ∷ body) (asked (0x18 ∷ body)); capabilities = data_capabilities q (0x18 ∷ body) (asked (0x18 ∷ body)) s; logged_in = refl })
       (let q = id_in_question s.statements (0x1a ∷ body) in
@@ -117,5 +118,10 @@ module _ (s : Standing) (id : ℕ) (p : InForce) (stands : Stands s.statements i
   phase_behaves (phases.Over reason) payload e mid logged own leaves h = absurd cc
 
   pub step_behaves : (payload : List ℕ) (e : Event) (mid : Standing) → IsSettled s → LeavesIn id s.phase s.statements payload e → step s payload ≡ Ok (e, mid) → Behaves (is_due s.phase && flag payload) payload e mid
-  unfolding step
-  step_behaves payload e mid settled leaves h = phase_behaves s.phase payload e mid settled.logged_in settled.own_ids leaves h
+  step_behaves payload e mid settled leaves h =
+      let said = step_said s payload e mid h in
+      let behaves = phase_behaves s.phase payload e said.leaves settled.logged_in settled.own_ids leaves said.says in
+      subst (Behaves (is_due s.phase && flag payload) payload e) (sym said.stands) (record {
+        goes = record { stands = behaves.goes.stands; capabilities = behaves.goes.capabilities; logged_in = behaves.goes.logged_in };
+        says = behaves.says;
+      })

@@ -1,10 +1,9 @@
 -- What a client says of one prepared statement on a connection.
 -- MySQL: Client/Server Protocol, "Prepared Statements", "COM_STMT_EXECUTE",
 -- "COM_STMT_SEND_LONG_DATA", "COM_STMT_RESET"; MariaDB: "COM_STMT_BULK_EXECUTE".
-use Rattle.std.specs.Prelude.{◌≡◌, ◌≢◌, ℕ, Bool, true, false, not, ◌==◌, ◌&&◌, nat_eq, List, []}
+use Rattle.std.specs.Prelude.{◌≡◌, ◌≢◌, ℕ, Bool, true, false, not, ◌==◌, ◌&&◌, List, []}
 use Rattle.std.specs.Prelude.{◌∷◌, ◌++◌, ◌⊎◌, map, Option, Some, None, Ok}
-use Rattle.std.specs.List.{AllByRecursion, IsDistinct, filter, list_all}
-use Rattle.std.specs.Map.{keys_of}
+use Rattle.std.specs.List.{AllByRecursion, filter, list_all}
 use Rattle.mysql_connection_packets.specs.FirstPacket.{Whole, first_packet}
 use Rattle.mysql_connection_rules.specs.declared.limits.Limits.{Limits}
 use Rattle.mysql_connection_rules.specs.declared.side.Side.{Side}
@@ -18,8 +17,8 @@ use Rattle.mysql_connection_rules.specs.Steps.{id_in_question, step, turn}
 use Rattle.mysql_connection_rules.specs.Streams.{Beginning, Says, Streams, World, from_greeting}
 use Rattle.mysql_connection_rules.specs.Streams.{from_login, limit_of, moved, next, numbered}
 use Rattle.mysql_connection_rules.specs.Streams.{start, stream_of}
-use Rattle.mysql_connection_statements.specs.Statements.{Statement, Statements, no_statements}
-use Rattle.mysql_connection_statements.specs.Statements.{statement_at}
+use Rattle.mysql_connection_statements.specs.Statements.{IsOrdered, Statement, Statements}
+use Rattle.mysql_connection_statements.specs.Statements.{no_statements, statement_at}
 use Rattle.mysql_const.specs.declared.capabilities.Capabilities.{Capabilities}
 use Rattle.mysql_execution_contents.specs.Agreement.{Agree, BulksInForce, all_there}
 use Rattle.mysql_execution_contents.specs.Agreement.{is_about_parameters, sets_of}
@@ -151,10 +150,10 @@ is_logged_in phases.Greeting = false
 is_logged_in phases.Response = false
 is_logged_in phase = true
 
--- A user has begun to log in, and each statement has an id of its own.
+-- A user has begun to log in, and the ids of the statements ascend.
 pub record IsSettled (s : Standing) : Type 0 where
   pub logged_in : is_logged_in s.phase ≡ true
-  pub own_ids : IsDistinct nat_eq (keys_of s.statements.by_id)
+  pub own_ids : IsOrdered s.statements
 
 -- Where what a client says of a prepared statement on a connection is what `receive` reads, its
 -- executions have these contents, in this order, and nothing between. Nothing else on the
@@ -178,9 +177,9 @@ BothBeginWithNone = (limits : Limits) →
     BeginsWithNone (from_greeting limits) ×
     ((capabilities : Capabilities) → BeginsWithNone (from_login limits capabilities))
 
--- Each statement has an id of its own at first, and whatever is said.
+-- The ids of the statements ascend at first, and whatever is said.
 abbrev pub IdsAreOwn : Standing → Type 0
-IdsAreOwn s = IsDistinct nat_eq (keys_of s.statements.by_id)
+IdsAreOwn s = IsOrdered s.statements
 
 abbrev pub IdsBeginOwn : Type 0
 IdsBeginOwn = (begun : Beginning) → BeginsWithNone begun → IdsAreOwn begun.first

@@ -22,10 +22,11 @@ use mysql_execution_contents::laws::{prepared_statements_agree, received_command
 /// - it goes on to stand: it isn't closed, the user isn't changed, the session doesn't begin anew,
 ///   and no other statement gets its id;
 /// - an execution of it that is refused was read by the server, whose error is neither 1835 nor
-///   1295, and the types that are in force are ones that all servers take;
+///   1295;
+/// - the types that are in force are ones that all servers take;
 /// - query attributes aren't in force, and bulk executions are, where there are any.
 ///
-/// A command that names the statement as the one that was prepared last counts as one about it, and
+/// A command that names the statement as the one that was prepared last counts as one about it.
 /// `receive` reads only those that name it by its id.
 ///
 /// MySQL: Client/Server Protocol, "Prepared Statements"; MariaDB: Client/Server Protocol,
@@ -41,9 +42,9 @@ pub fn prepared_statements_stand()
     ensures { PreparedStatementsStand }
 {}
 
-/// Each statement of a connection has an id of its own, at first and whatever is said.
+/// The ids of a connection's statements ascend, at first and whatever is said.
 ///
-/// At the greeting, and behind a login, there is none.
+/// So each statement has an id of its own. At the greeting, and behind a login, there is none.
 pub fn statements_keep_own_ids()
     ensures none { BothBeginWithNone }
     ensures begins { IdsBeginOwn }

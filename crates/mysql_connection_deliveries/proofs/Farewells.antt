@@ -8,6 +8,7 @@ use Rattle.mysql_connection_rules.specs.Events.{Event}
 use Rattle.mysql_connection_rules.specs.Events as events
 use Rattle.mysql_connection_rules.specs.Standing.{InReply, Phase, Standing}
 use Rattle.mysql_connection_rules.specs.Standing as phases
+use Rattle.mysql_connection_rules.specs.StepLaws.{step_said}
 use Rattle.mysql_connection_rules.specs.Steps.{after_authentication, after_command, after_event, after_greeting, after_response, by_turn, context_of, greets_anew, in_phase, in_turn, of_login, of_reply, parameters_in_question, says, step, turn_in_reply}
 use Rattle.mysql_connection_statements.specs.Statements.{counted}
 use Rattle.mysql_reply_events.specs.Events.{Event as ReplySaid, ReplySoFar}
@@ -47,5 +48,5 @@ module _ (error : ServerError) where
   phase_says (phases.Over reason) s payload mid h = absurd cc
 
   pub no_last_words : (s : Standing) (payload : List ℕ) (mid : Standing) → step s payload ≡ Ok (last, mid) → ⊥
-  unfolding step
-  no_last_words s payload mid h = phase_says s.phase s payload mid h
+  no_last_words s payload mid h =
+      let said = step_said s payload last mid h in phase_says s.phase s payload said.leaves said.says

@@ -7,7 +7,7 @@ use Rattle.mysql_command_rules.specs.Cause.{max_places}
 use Rattle.mysql_command_rules.specs.Commands.{pieces_from}
 use Rattle.mysql_command_rules.specs.Reading.{HaveContents}
 use Rattle.mysql_command_rules.specs.Sent.{SentPayload, as_execution, last_of, on_the_way, payloads_of, prepare_of, sets_of}
-use Rattle.mysql_command_rules.specs.SpelledRoad.{Execute}
+use Rattle.mysql_command_rules.specs.declared.road.Road.TheVariants.{Execute}
 use Rattle.mysql_command_rules.proofs.Executable.{IsSendable}
 use Rattle.mysql_command_rules.proofs.ExecutionSizes.{sent_as}
 use Rattle.mysql_command_rules.proofs.Executions.{execution_reads, nothing_apart}

@@ -5,7 +5,8 @@ use Rattle.std.proofs.lemmas.List.{append_assoc, length-map, map-append}
 use Rattle.mysql_command_rules.specs.Laws.{ReadsEach, SentPayloadsRead}
 use Rattle.mysql_command_rules.specs.Reading.{HaveContents}
 use Rattle.mysql_command_rules.specs.Sent.{AreSent, SentPayload, as_execution, as_requests, payloads_of, prepare_of, sets_of}
-use Rattle.mysql_command_rules.specs.SpelledRoad.{SpelledRoad, Text, Execute, Bulk}
+use Rattle.mysql_command_rules.specs.declared.road.Road.{Road}
+use Rattle.mysql_command_rules.specs.declared.road.Road.TheVariants.{Text, Execute, Bulk}
 use Rattle.mysql_command_rules.proofs.Executable.{all_sendable}
 use Rattle.mysql_command_rules.proofs.Held.{contents_in_a_row}
 use Rattle.mysql_command_rules.proofs.Leaving.{behind_prepare}
@@ -28,14 +29,14 @@ use Rattle.mysql_connection_deliveries.specs.Records.{HasHeard}
 use Rattle.mysql_connection_deliveries.proofs.Further.{ReadBehind, further_behind, payloads_are}
 
 -- by a statement the prepare is sent first
-prepare_first : (road : SpelledRoad) (statement : Statement) (room : ℕ) (values : List (List Value)) (sent : List SentPayload) → IsByStatement road → AreSent road statement room values sent
+prepare_first : (road : Road) (statement : Statement) (room : ℕ) (values : List (List Value)) (sent : List SentPayload) → IsByStatement road → AreSent road statement room values sent
     → (rest : List SentPayload) × (sent ≡ prepare_of statement ∷ rest)
-prepare_first (Text spelling) statement room values sent by is = absurd by
+prepare_first Text statement room values sent by is = absurd by
 prepare_first Execute statement room values sent by is = (flat_map (as_execution statement) values, is)
 prepare_first Bulk statement room values sent by is = (as_requests statement values is.0, is.2)
 
-reads_by : (road : SpelledRoad) → IsByStatement road → SentPayloadsRead Execute → SentPayloadsRead Bulk → SentPayloadsRead road
-reads_by (Text spelling) by executions requests = absurd by
+reads_by : (road : Road) → IsByStatement road → SentPayloadsRead Execute → SentPayloadsRead Bulk → SentPayloadsRead road
+reads_by Text by executions requests = absurd by
 reads_by Execute by executions requests = executions
 reads_by Bulk by executions requests = requests
 

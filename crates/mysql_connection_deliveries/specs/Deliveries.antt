@@ -7,7 +7,8 @@ use Rattle.std.specs.Prelude.{Some, false}
 use Rattle.std.specs.List.{AllByRecursion, filter, flat_map}
 use Rattle.mysql_command_rules.specs.Sent.{payloads_of}
 use Rattle.mysql_command_rules.specs.Sets.{Given}
-use Rattle.mysql_command_rules.specs.SpelledRoad.{SpelledRoad, Text}
+use Rattle.mysql_command_rules.specs.declared.road.Road.{Road}
+use Rattle.mysql_command_rules.specs.declared.road.Road.TheVariants.{Text}
 use Rattle.mysql_connection_agreement.specs.Laws.{IsAuditor, IsClient, IsServer, Member, sent_by}
 use Rattle.mysql_connection_agreement.specs.Puts.{is_of}
 use Rattle.mysql_connection_contents.specs.Contents.{BeginsWithNone, Leaves, PreparesIn}
@@ -45,8 +46,8 @@ pub record IsPrepared (payloads : List Spoken) (id count : ℕ) : Type 0 where
   pub stays : AllByRecursion (Leaves id) behind
 
 -- By executions of a prepared statement, or by bulk executions.
-abbrev pub IsByStatement : SpelledRoad → Type 0
-IsByStatement (Text spelling) = ⊥
+abbrev pub IsByStatement : Road → Type 0
+IsByStatement Text = ⊥
 IsByStatement road = Unit {0}
 
 -- Where what the client said about a prepared statement is what is sent of sets behind the prepare
@@ -54,7 +55,7 @@ IsByStatement road = Unit {0}
 -- between.
 abbrev pub SetsAreSaid : List Spoken → Type 0
 SetsAreSaid payloads =
-    (road : SpelledRoad) (query : Sql) (sets : List (List ℕ) → List Given) (id limit : ℕ)
+    (road : Road) (query : Sql) (sets : List (List ℕ) → List Given) (id limit : ℕ)
     (old new : List ℕ) (delivery : Delivers road query sets id limit old new)
     (said : IsPrepared payloads id
     (place_count (statement_of query delivery.tokens id).query)) →

@@ -17,8 +17,8 @@ use mysql_receive::laws::written_cells_are_held;
 
 /// A machine whose events are all taken has heard the payloads of both streams.
 ///
-/// So it is whatever pieces of them came, and whatever was put in between: its events are what those
-/// payloads say, one after another, and last words of the server at most behind them.
+/// That holds for any pieces of them, and anything that was put in between. Its events are what
+/// those payloads say, one after another, and last words of the server at most behind them.
 ///
 /// MySQL: Client/Server Protocol, "Connection Lifecycle".
 pub fn machines_hear()
@@ -56,16 +56,16 @@ pub fn events_are_spoken()
 
 /// The executions of a prepared statement say the sets that were sent of it.
 ///
-/// The sets are delivered as `Query::send` and `Query::send_more` promise, by executions or in bulk.
-/// The server's answer to a prepare gave the statement the id by which they are sent, and as many
-/// parameters as the query has places; and what the client says of it behind that answer is what is
-/// sent of them, payload by payload. Whatever else is said in between doesn't matter. Then the
+/// The sets are delivered as `Query::send` and `Query::send_more` promise, by executions or in
+/// bulk. The server's answer to a prepare gave the statement the id by which they are sent, and as
+/// many parameters as the query has places. What the client says of it behind that answer is what
+/// is sent of them, payload by payload. Whatever else is said in between doesn't matter. Then the
 /// executions say the contents of the sets: all of them, in order, and nothing between. The same is
 /// so where it is what `Query::send_more` alone appends of sets.
 ///
 /// That is so as far as the statement isn't closed or replaced, nor goes with a change of user or a
-/// reset of the connection, and no error takes an execution back; where query attributes aren't in
-/// force, and bulk executions are if there are any.
+/// reset of the connection. No error takes an execution back, query attributes aren't in force, and
+/// bulk executions are if there are any.
 ///
 /// MySQL: Client/Server Protocol, "Prepared Statements"; MariaDB: Client/Server Protocol,
 /// "3 - Binary Protocol (Prepared Statements)".
@@ -80,9 +80,9 @@ pub fn delivered_sets_are_said()
 
 /// What a client puts on a connection, an auditor between it and the server reads.
 ///
-/// The three go by the same limits. Once all bytes of both have come to the auditor, in whatever
-/// pieces and order, and all events are taken, the client's events that it has are those that the
-/// client put, the server's those that the server put, in order, and of each prepared statement the
+/// The three go by the same limits. All bytes of both have come to the auditor, in whatever pieces
+/// and order, and all events are taken. Then the client's events that it has are those that the
+/// client put, in order. The server's are those that the server put. Of each prepared statement the
 /// executions say the sets that were sent of it.
 ///
 /// MySQL: Client/Server Protocol, "Connection Lifecycle" and "Prepared Statements".
@@ -96,9 +96,9 @@ pub fn put_sets_are_read()
 
 /// What a client put, payload by payload, an auditor between it and the server reads.
 ///
-/// The three go by the same limits. Once all bytes of both have come to the auditor, and all events
-/// are taken, its events begin with those of the client's own record of payloads that it put and
-/// took; and where what the client put of a prepared statement is what is sent of sets, their
+/// The three go by the same limits. All bytes of both have come to the auditor, and all events are
+/// taken. Then its events begin with those of the client's own record of payloads that it put and
+/// took. Where what the client put of a prepared statement is what is sent of sets, their
 /// executions say the sets.
 ///
 /// MySQL: Client/Server Protocol, "Connection Lifecycle" and "Prepared Statements".

@@ -10,11 +10,13 @@ use Rattle.mysql_connection_peek.specs.Peeks.{said_in}
 use Rattle.mysql_connection_rules.specs.Events.{Event}
 use Rattle.mysql_connection_rules.specs.Standing.{Phase, Standing}
 use Rattle.mysql_connection_rules.specs.Standing as phases
-use Rattle.mysql_connection_rules.specs.Steps.{in_turn, step}
+use Rattle.mysql_connection_rules.specs.SessionModes.{mode_behind}
+use Rattle.mysql_connection_rules.specs.StepLaws.{step_says}
+use Rattle.mysql_connection_rules.specs.Steps.{after_command, in_turn, step}
 use Rattle.mysql_connection_rules.specs.Streams.{World, limit_of}
 use Rattle.mysql_connection_rules.specs.declared.side.Side.{Side}
 use Rattle.mysql_connection_rules.specs.declared.side.Side.TheVariants.{Client}
-use Rattle.mysql_connection_state.specs.Follows.{after_said}
+use Rattle.mysql_connection_state.specs.Follows.{after_said, command_said}
 use Rattle.mysql_wire.specs.Framing.{framing, number_after}
 use Rattle.mysql_connection_machine.proofs.InPlace.{front_of, gone}
 use Rattle.mysql_connection_machine.proofs.PutPayloads.{appended}
@@ -30,8 +32,10 @@ use Rattle.mysql_connection_machine.specs.declared.put_refusal.PutRefusal.TheVar
 
 pub command_leads : (s : Standing) (payload : List ℕ) → s.phase ≡ phases.Command →
     step s payload ≡ Ok (command_event s payload, after_said s payload)
-unfolding step
-command_leads s payload phase = ap (λ (p : Phase). in_turn p s payload) phase
+unfolding mode_behind
+command_leads s payload phase =
+    step_says s payload (command_event s payload) (after_command s payload (command_said s payload))
+    (ap (λ (p : Phase). in_turn p s payload) phase)
 
 command_peeked : (s : Standing) (payload : List ℕ) → s.phase ≡ phases.Command →
     said_in (step s payload) ≡ Ok (command_event s payload)

@@ -4,18 +4,19 @@ use Rattle.std.specs.Prelude.{◌≡◌, ◌≢◌, ◌+◌, ◌-◌, ◌≤◌,
 use Rattle.std.specs.Prelude.{if◌then◌else◌}
 use Rattle.std.specs.Prelude.{Option, Some, None, Result, Ok, Err}
 use Rattle.std.specs.Option.{option_and_then}
+use Rattle.mysql_connection_packets.specs.FirstPacket.{Found, Whole, first_packet}
 use Rattle.mysql_connection_rules.specs.Laws.{WithinLimits, unread_length}
 use Rattle.mysql_connection_rules.specs.declared.fault.Fault.TheVariants as faults
 use Rattle.mysql_connection_rules.specs.declared.side.Side.{Side}
 use Rattle.mysql_connection_rules.specs.declared.side.Side.TheVariants.{Client, Server}
-use Rattle.mysql_connection_rules.specs.Standing.{Phase}
+use Rattle.mysql_connection_rules.specs.Standing.{Phase, Standing}
 use Rattle.mysql_connection_rules.specs.Steps.{turn}
 use Rattle.mysql_connection_rules.specs.Streams.{Beginning, Coming, End, Fails, Failure, Piece, Says}
 use Rattle.mysql_connection_rules.specs.Streams.{Stream, Waits, World, come, held, next, no_bytes}
 use Rattle.mysql_connection_rules.specs.Streams.{room, start}
 use Rattle.mysql_connection_rules.specs.Streams.{stream_of}
 use Rattle.mysql_connection_rules.specs.Events.Event.{Replied}
-use Rattle.mysql_connection_state.specs.Views.{event_view}
+use Rattle.mysql_connection_state.specs.Views.{EventHasUnclear, event_view}
 use Rattle.mysql_connection_statements.specs.Statements.{Statement, Statements, resolved, statement_at}
 use Rattle.mysql_connection_state.specs.declared.event.Event.{Event}
 use Rattle.mysql_reply_events.specs.Events.Event.{RowEvent}
@@ -136,6 +137,19 @@ abbrev pub TakesBytes : {X : Type 0} → World → Result (Option X) ConnectionF
 TakesBytes old (Ok (Some event)) new = unread_length new + 4 ≤ unread_length old
 TakesBytes old result new = Unit {0}
 
+-- UNCLEAR VALUES
+
+-- An event has the unclear values of the payload of this packet, where it is whole.
+abbrev pub FoundHasUnclear : Found → Standing → Event → Type 0
+FoundHasUnclear found s event = (payload : List ℕ) (number : ℕ) (rest : List ℕ) →
+    found ≡ Whole payload number rest → EventHasUnclear s payload event
+
+-- An event that comes next has those of the client's packet that stands first, where the client's
+-- payload is due. Of the server's nothing is said.
+abbrev pub NextHasUnclear : World → Event → Type 0
+NextHasUnclear w event = turn w.standing.phase ≡ Some Client → FoundHasUnclear
+    (first_packet w.limits.client w.standing.number w.unread.client.bytes) w.standing event
+
 -- ROWS THAT ARE LENT
 
 -- What comes next of the world, of which a row is lent; by any other answer none is.
@@ -146,6 +160,11 @@ AnswersLent old (Ok (Some (lent.Event event))) new =
 AnswersLent old (Ok (Some lent.Row)) new =
     (row : Row) × (new.row ≡ Some row) × (next old ≡ Says (Replied (RowEvent row)) new.world)
 AnswersLent old (Err fault) new = FindsFault old fault new.world × (new.row ≡ None)
+
+-- The same of an event that is no row that is lent.
+abbrev pub LentHasUnclear : World → LentEvent → Type 0
+LentHasUnclear w (lent.Event event) = NextHasUnclear w event
+LentHasUnclear w lent.Row = Unit {0}
 
 -- LIMITS
 

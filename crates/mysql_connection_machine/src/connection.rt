@@ -4,7 +4,7 @@ ghost use Rattle.std.specs.Prelude.{◌≡◌, Err, IfOk, IfSome, None, OnOk, mi
 ghost use Rattle.mysql_connection_machine.specs.Endings.{end_view, ending_of};
 ghost use Rattle.mysql_connection_machine.specs.Machines.{Answers, AnswersFault, AnswersLent, Feeds};
 ghost use Rattle.mysql_connection_machine.specs.Machines.{HoldsAtMost, TakesBytes, both_ended};
-ghost use Rattle.mysql_connection_machine.specs.Machines.{ended};
+ghost use Rattle.mysql_connection_machine.specs.Machines.{LentHasUnclear, NextHasUnclear, ended};
 ghost use Rattle.mysql_connection_machine.specs.Machines.{failure_in, failure_view, new_machine};
 ghost use Rattle.mysql_connection_machine.specs.Machines.{room_left, statement_meant, stream_in, turn_in};
 ghost use Rattle.mysql_connection_machine.specs.PuttingPayloads.{PutsPayloadOn, PutsWithoutEventOn, is_due_of};
@@ -15,7 +15,7 @@ ghost use Rattle.mysql_connection_machine.specs.Writing.{IsReadFrom, PutsOn};
 ghost use Rattle.mysql_connection_machine.specs.declared.payload_refusal.PayloadRefusal.TheVariants as refusals;
 ghost use Rattle.mysql_connection_machine.specs.declared.put_refusal.PutRefusal.TheVariants.{NotDue};
 ghost use Rattle.mysql_connection_rules.specs.Streams.{from_greeting, from_login, held, limit_of};
-ghost use Rattle.mysql_connection_state.specs.Views.{event_view, plain_phase};
+ghost use Rattle.mysql_connection_state.specs.Views.{EventHasUnclear, event_view, plain_phase};
 ghost use Rattle.mysql_connection_writer.specs.Executions.{execution_said};
 ghost use Rattle.mysql_connection_writer.specs.NextRows.{row_said};
 ghost use Rattle.mysql_row_refs.specs.RowRefs.{row_ref_view};
@@ -37,6 +37,7 @@ use mysql_connection_statements::Statement;
 use mysql_const::Capabilities;
 use mysql_row_refs::RowRef;
 use mysql_rows::Row;
+use mysql_session_modes::SessionMode;
 use std::alloc::Global;
 use std::marker::Model;
 
@@ -45,7 +46,7 @@ use std::marker::Model;
 ///
 /// Each payload is due of one side, so that what comes of the other waits until its turn. So the
 /// events are those of the two streams, however their bytes arrive. Of each side as many bytes wait
-/// unread as the longest payload takes with its headers; a side that is refused is fed again once
+/// unread as the longest payload takes with its headers. A side that is refused is fed again once
 /// events were taken.
 ///
 ///     let mut connection = Connection::new(alloc, limits);
@@ -55,8 +56,8 @@ use std::marker::Model;
 ///         ..
 ///     }
 ///
-/// Contracts see it as a `Machine`: the limits, what stands, what is unread of both streams, the
-/// fault that was found, and the row that was lent last.
+/// Contracts see it as a `Machine`: the limits, what stands, and what is unread of both streams.
+/// Beside them stand the fault that was found, and the row that was lent last.
 ///
 /// MySQL: Client/Server Protocol, "Connection Lifecycle".
 pub struct Connection {
@@ -89,6 +90,8 @@ impl Drop for Connection {
 impl Connection {
     /// A connection of which no byte came.
     ///
+    /// Any limits are taken; [`Limits`] says what small ones do.
+    ///
     /// MySQL: Client/Server Protocol, "Connection Lifecycle".
     pub fn new(alloc: Global, limits: Limits) -> Connection
         ensures { result ≡ new_machine (from_greeting limits) }
@@ -116,10 +119,10 @@ impl Connection {
     }
 
     /// Takes a piece of a side's stream, whole; nothing of it is read yet. After an `Err` nothing
-    /// has changed, but that for want of memory no row is lent any more.
+    /// has changed, but that no row is lent any more where memory ran out.
     ///
     /// Promise: the piece is taken where the stream is open and there is room for it, but for want
-    /// of memory, and each refusal comes exactly where it is named (`Feeds`).
+    /// of memory. Each refusal comes exactly where it is named (`Feeds`).
     ///
     /// # Errors
     /// - `Closed` where the side's stream has ended.
@@ -160,7 +163,8 @@ impl Connection {
     /// over.
     ///
     /// Promise: exactly what comes next of the two streams (`next`), for any bytes; an event takes
-    /// its bytes and leaves all others.
+    /// its bytes and leaves all others. Exactly those values of an execution are unclear that are so
+    /// by its bytes and by what is in force (`NextHasUnclear`).
     ///
     /// # Errors
     /// - The fault of the packet that stands first, with its side and its place: `TooLarge`,
@@ -175,6 +179,8 @@ impl Connection {
         ensures failed { IfSome self.old.failure (λ failure.
             AnswersFault result failure × (self.new ≡ self.old)) }
         ensures answers { self.old.failure ≡ None → Answers self.old.world result self.new.world }
+        ensures unclear { IfOk result (λ found. IfSome found (λ event.
+            NextHasUnclear self.old.world event)) }
         ensures row { self.old.failure ≡ None → self.new.row ≡ None }
         ensures fault { self.old.failure ≡ None → self.new.failure ≡ failure_in result }
         ensures fewer { TakesBytes self.old.world result self.new.world }
@@ -207,7 +213,7 @@ impl Connection {
     ///     }
     ///
     /// Promise: exactly what comes next of the two streams, and the row that is lent is that event's
-    /// (`AnswersLent`).
+    /// (`AnswersLent`). An execution's unclear values are those of `next_event` (`LentHasUnclear`).
     ///
     /// # Errors
     /// - Those of [`Connection::next_event`], in the same order. After an error it has failed in the
@@ -220,6 +226,8 @@ impl Connection {
             AnswersFault result failure × (self.new ≡ self.old)) }
         ensures answers { self.old.failure ≡ None →
             AnswersLent self.old.world result (record { world = self.new.world; row = self.new.row }) }
+        ensures unclear { IfOk result (λ found. IfSome found (λ event.
+            LentHasUnclear self.old.world event)) }
         ensures fault { self.old.failure ≡ None → self.new.failure ≡ failure_in result }
         ensures fewer { TakesBytes self.old.world result self.new.world }
     {
@@ -256,14 +264,14 @@ impl Connection {
     ///     connection.put(&event, &mut output)?;
     ///     socket.write_all(&output)?;
     ///
-    /// Promise: exactly the packets of the one payload are appended that the event has here, and they
+    /// Promise: exactly the packets of the one payload are appended that the event has here. They
     /// are read here as the event, by this connection and by any other that has seen the same
-    /// (`AppendsEvent`, `Puts`); or it is refused for the first cause that there is, and nothing has
-    /// changed (`RefusesEvent`).
+    /// (`AppendsEvent`, `Puts`). Or it is refused for the first cause that there is, and nothing
+    /// has changed (`RefusesEvent`).
     ///
     /// # Errors
-    /// - `NotDue` where it isn't the turn of the event's side, where bytes of that side wait unread or
-    ///   its stream has ended, and where the connection has failed.
+    /// - `NotDue` where it isn't the turn of the event's side, or bytes of that side wait unread.
+    ///   Or its stream has ended, or the connection has failed.
     /// - `BadEvent` where no payload says the event here, with its packet's cause.
     /// - `TooLarge` where its payload is longer than the limit of its side.
     /// - `Held` where more would be kept behind it than the limit leaves.
@@ -332,10 +340,10 @@ impl Connection {
     /// Puts an execution of the statement of this id with these values, in the order of its placeholders.
     ///
     /// As [`Connection::put`] of its event. Types go with it only where those in force won't do, as
-    /// servers keep them: at the first execution, and where a value has no cell by them. NULL has one by
-    /// any type. An unsigned number below 2^63 is put as one with a sign, as it is read. Where its types
-    /// are in force, no long data waits and query attributes aren't in force, it is written where it
-    /// goes, and no event is made of it.
+    /// servers keep them. That is at the first execution, and where a value has no cell by them.
+    /// NULL has one by any type. An unsigned number below 2^63 is put as one with a sign, as it is
+    /// read. It is written where it goes, with no event made of it. This holds where its types are
+    /// in force, and neither long data nor query attributes are.
     ///
     ///     for set in &sets {
     ///         connection.put_execution(id, set, &mut output)?;
@@ -345,9 +353,9 @@ impl Connection {
     /// Promise: exactly what `put` of that event does (`PutsExecutionOn`, `execution_said`).
     ///
     /// # Errors
-    /// - Those of [`Connection::put`], in the same order: `BadEvent(Command(UnknownStatement))` of a
-    ///   statement that isn't known, and `BadEvent(Command(ReadsOtherwise))` where the values aren't as
-    ///   many as its placeholders, or long data that waits is another text.
+    /// - Those of [`Connection::put`], in the same order. `BadEvent(Command(UnknownStatement))` is
+    ///   of a statement that isn't known. `BadEvent(Command(ReadsOtherwise))` is where the values
+    ///   aren't as many as its placeholders, or long data that waits is another text.
     ///
     /// MySQL: Client/Server Protocol, "COM_STMT_EXECUTE" (new_params_bind_flag).
     #[tactic(auto, using(crate::proofs::PutEvents::read_from))]
@@ -401,14 +409,15 @@ impl Connection {
     ///     let event = connection.put_payload(Side::Client, payload, &mut output)?;
     ///     socket.write_all(&output)?;
     ///
-    /// Promise: exactly this payload's packets are appended, numbered as it is due, and they are read
+    /// Promise: exactly this payload's packets are appended, numbered as it is due. They are read
     /// here as the event that is answered, by this connection and by any other that has seen the
-    /// same (`AppendsPayload`, `Puts`); or it is refused for the first cause that there is, and nothing
-    /// has changed (`RefusesPayload`).
+    /// same (`AppendsPayload`, `Puts`). Or it is refused for the first cause that there is, and
+    /// nothing has changed (`RefusesPayload`). Exactly those values of an execution are unclear that are
+    /// so by its bytes and by what is in force (`EventHasUnclear`).
     ///
     /// # Errors
-    /// - `NotDue` where it isn't the turn of the side, where bytes of it wait unread or its stream has
-    ///   ended, and where the connection has failed.
+    /// - `NotDue` where it isn't the turn of the side, or bytes of it wait unread. Or its
+    ///   stream has ended, or the connection has failed.
     /// - `TooLarge` where the payload is longer than the limit of its side.
     /// - `BadPayload` where it can't be read here, with the fault.
     /// - `Held` where more would be kept behind it than the limit leaves.
@@ -429,6 +438,8 @@ impl Connection {
             out.old.items result self.new out.new.items }
         ensures read { IfOk result (λ event. IsReadFrom self.old.world (event_view event)
             out.old.items out.new.items self.new.world) }
+        ensures unclear { IfOk result (λ event.
+            EventHasUnclear self.old.world.standing payload.now event) }
     {
         puts_are_read();
         held_stays();
@@ -550,6 +561,18 @@ impl Connection {
         self.reader.state().capabilities()
     }
 
+    /// What is known of the session's SQL mode, by what came of the server so far.
+    ///
+    /// A login, a change of user and a reset of the connection tell it. Behind a statement it is known
+    /// only where the server tells each change: `SET session_track_system_variables = 'sql_mode'`.
+    ///
+    /// MySQL Reference Manual, "Server SQL Modes", "Server Tracking of Client Session State".
+    pub fn session_mode(&self) -> SessionMode
+        ensures { result ≡ self.now.world.standing.mode }
+    {
+        self.reader.state().session_mode()
+    }
+
     /// The prepared statement that this id of a command stands for: 0xffffffff for that which was
     /// prepared last.
     ///
@@ -578,8 +601,9 @@ impl Connection {
 
     /// Ends both streams, and says how the connection stands.
     ///
-    /// Nothing is taken. Where an event or a fault comes next it is `Unread`, also where that is last
-    /// words behind the end of the client's stream: [`Connection::next_event`] answers it.
+    /// Nothing is taken. Where an event or a fault comes next it is `Unread`, and
+    /// [`Connection::next_event`] answers it. That holds of last words too, behind the end of the
+    /// client's stream.
     ///
     /// Promise: exactly by what comes next of the two ended streams (`ending_of`).
     ///

@@ -61,12 +61,12 @@ impl Connection {
     /// Puts the payloads of packets of a side, one after another, as long as they are due.
     ///
     /// It takes what `Query::send`, `Query::send_more`, `write_reply` or a `ReplyWriter` append: a
-    /// set with its long data, or a whole reply, is one call. Answers how many bytes of `packets` were
-    /// taken: all, or those before the first packet whose turn hasn't come. What is cut off at the
-    /// end is left. The packets' own numbers are looked at in the chunks of one payload alone: each is
-    /// framed anew, by the number that is due. No event is made of a command, and none of its values is
-    /// read; one that is laid out as none is put as `Other`, which nothing tells here. Of packets that
-    /// were sent the first payloads are put, by the law
+    /// set with its long data, or a whole reply, is one call. Answers how many bytes of `packets`
+    /// were taken: all, or those before the first packet whose turn hasn't come. What is cut off at
+    /// the end is left. The packets' own numbers are looked at in the chunks of one payload alone:
+    /// each is framed anew, by the number that is due. No event is made of a command, and none of
+    /// its values is read. One that is laid out as none is put as `Other`, which nothing tells
+    /// here. Of packets that were sent the first payloads are put, by the law
     /// [`sent_packets_are_put`](crate::laws::sent_packets_are_put).
     ///
     ///     let used = connection.put_packets(Side::Client, packets, &mut output)?;

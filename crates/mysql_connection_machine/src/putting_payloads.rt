@@ -1,7 +1,8 @@
 //! Payloads that are put: looked at, framed, and gone on behind.
 
-ghost use Rattle.std.specs.Prelude.{◌≡◌};
+ghost use Rattle.std.specs.Prelude.{◌≡◌, IfOk};
 ghost use Rattle.mysql_connection_machine.specs.PuttingPayloads.{PutsPayloadOf, awaits_payload};
+ghost use Rattle.mysql_connection_state.specs.Views.{EventHasUnclear};
 
 use crate::due::is_free;
 use crate::payload_refusal::PayloadRefusal;
@@ -29,8 +30,10 @@ impl StreamsReader {
         payload: &[u8],
         out: &mut Vec<u8>,
     ) -> Result<Event, PayloadRefusal>
-        ensures { PutsPayloadOf self.old side payload.now out.old.items result self.new
+        ensures puts { PutsPayloadOf self.old side payload.now out.old.items result self.new
             out.new.items }
+        ensures unclear { IfOk result (λ event.
+            EventHasUnclear self.old.world.standing payload.now event) }
     {
         payloads_are_in_turn();
         if !self.awaits_payload(side) {

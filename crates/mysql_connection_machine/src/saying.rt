@@ -1,6 +1,6 @@
 //! What a payload says, where what is kept then has room.
 
-ghost use Rattle.std.specs.Prelude.{◌≡◌, MatchResult};
+ghost use Rattle.std.specs.Prelude.{◌≡◌, IfOk, MatchResult};
 ghost use Rattle.std.specs.Cow.{cow_slice_items};
 ghost use Rattle.mysql_connection_machine.specs.Takes.{SaysBy, SaysInPlaceBy, Settles};
 ghost use Rattle.mysql_connection_machine.specs.Takes.{words_step};
@@ -8,6 +8,7 @@ ghost use Rattle.mysql_connection_rules.specs.Steps.{step};
 ghost use Rattle.mysql_connection_rules.specs.Streams.{begins_error};
 ghost use Rattle.mysql_connection_rules.specs.declared.side.Side.TheVariants.{Server};
 ghost use Rattle.mysql_connection_state.specs.Reads.{Reads};
+ghost use Rattle.mysql_connection_state.specs.Views.{EventHasUnclear};
 
 use crate::room::is_kept;
 use mysql_connection_rules::{Fault, Limits, Side};
@@ -46,7 +47,8 @@ pub fn say_bytes(
     state: &mut State,
     payload: &[u8],
 ) -> Result<Event, Fault>
-    ensures { SaysBy limits side next (step state.old.standing payload.now) result state.new.standing }
+    ensures says { SaysBy limits side next (step state.old.standing payload.now) result state.new.standing }
+    ensures unclear { IfOk result (λ event. EventHasUnclear state.old.standing payload.now event) }
 {
     let event = state.read(payload)?;
     let settled = settle(limits, side, next, state);
@@ -108,8 +110,10 @@ pub fn say(
     state: &mut State,
     payload: CowSlice<'_, u8>,
 ) -> Result<Event, Fault>
-    ensures { SaysBy limits side next (step state.old.standing (cow_slice_items payload.entry))
+    ensures says { SaysBy limits side next (step state.old.standing (cow_slice_items payload.entry))
         result state.new.standing }
+    ensures unclear { IfOk result (λ event.
+        EventHasUnclear state.old.standing (cow_slice_items payload.entry) event) }
 {
     say_bytes(limits, side, next, state, payload.as_slice())
 }

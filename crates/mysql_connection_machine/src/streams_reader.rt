@@ -1,9 +1,11 @@
 //! Both streams of a connection, and what stands of it: the next event of them.
 
-ghost use Rattle.std.specs.Prelude.{◌≡◌, ◌≤◌, None, Some, false, min, option_map, OnErr, OnOk, true};
+ghost use Rattle.std.specs.Prelude.{◌≡◌, ◌≤◌, IfOk, IfSome, None, OnErr, OnOk, Some, false};
+ghost use Rattle.std.specs.Prelude.{min, option_map, true};
 ghost use Rattle.mysql_connection_machine.specs.Endings.{end_view, is_waiting, server_number};
 ghost use Rattle.mysql_connection_machine.specs.Endings.{waiting_ending};
 ghost use Rattle.mysql_connection_machine.specs.Machines.{Answers, AnswersLent, failure_view};
+ghost use Rattle.mysql_connection_machine.specs.Machines.{LentHasUnclear, NextHasUnclear};
 ghost use Rattle.mysql_connection_machine.specs.Machines.{lending_none};
 ghost use Rattle.mysql_connection_packets.specs.FirstPacket.{Short, first_packet};
 ghost use Rattle.mysql_connection_machine.specs.NextRows.{LendsRow};
@@ -166,6 +168,8 @@ impl StreamsReader {
     fn next_of_client(&mut self) -> Result<Option<Event>, ConnectionFault>
         requires { turn self.old.world.standing.phase ≡ Some Client }
         ensures answers { Answers self.old.world result self.new.world }
+        ensures unclear { IfOk result (λ found. IfSome found (λ event.
+            NextHasUnclear self.old.world event)) }
         ensures row { self.new.row ≡ None }
     {
         self.lends = false;
@@ -218,6 +222,8 @@ impl StreamsReader {
     /// The next event of both streams.
     pub fn next_event(&mut self) -> Result<Option<Event>, ConnectionFault>
         ensures answers { Answers self.old.world result self.new.world }
+        ensures unclear { IfOk result (λ found. IfSome found (λ event.
+            NextHasUnclear self.old.world event)) }
         ensures row { self.new.row ≡ None }
     {
         self.lends = false;
@@ -231,7 +237,9 @@ impl StreamsReader {
 
     // An event that is no row, where the client's payload or the server's last words are due.
     fn next_of_others(&mut self) -> Result<Option<LentEvent>, ConnectionFault>
-        ensures { AnswersLent self.old.world result self.new }
+        ensures answers { AnswersLent self.old.world result self.new }
+        ensures unclear { IfOk result (λ found. IfSome found (λ event.
+            LentHasUnclear self.old.world event)) }
     {
         match self.next_event() {
             Ok(None) => Ok(None),
@@ -286,7 +294,9 @@ impl StreamsReader {
     /// The next event of both streams; a row is lent, where it has one chunk.
     pub fn next_event_lent(&mut self) -> Result<Option<LentEvent>, ConnectionFault>
         requires { kept self.old.world.standing ≤ room_to_keep self.old.world.limits }
-        ensures { AnswersLent self.old.world result self.new }
+        ensures answers { AnswersLent self.old.world result self.new }
+        ensures unclear { IfOk result (λ found. IfSome found (λ event.
+            LentHasUnclear self.old.world event)) }
     {
         if self.lend_row() {
             Ok(Some(LentEvent::Row))
@@ -299,7 +309,9 @@ impl StreamsReader {
     // taken there pays for none of it.
     #[inline(never)]
     fn lend_next(&mut self) -> Result<Option<LentEvent>, ConnectionFault>
-        ensures { AnswersLent self.old.world result self.new }
+        ensures answers { AnswersLent self.old.world result self.new }
+        ensures unclear { IfOk result (λ found. IfSome found (λ event.
+            LentHasUnclear self.old.world event)) }
     {
         match self.state.turn() {
             Some(Side::Server) if !is_early(&self.state, self.server.as_slice()) => {

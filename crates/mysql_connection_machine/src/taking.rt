@@ -1,7 +1,8 @@
 //! The payload that stands first of a stream, taken from it.
 
-ghost use Rattle.std.specs.Prelude.{◌≡◌, OnErr};
+ghost use Rattle.std.specs.Prelude.{◌≡◌, IfOk, IfSome, OnErr};
 ghost use Rattle.mysql_connection_packets.specs.FirstPacket.{first_packet};
+ghost use Rattle.mysql_connection_machine.specs.Machines.{FoundHasUnclear};
 ghost use Rattle.mysql_connection_machine.specs.Takes.{FindsIn, IsLentFrom, TakesBy, TakesLentBy};
 ghost use Rattle.mysql_connection_machine.specs.Takes.{words_step};
 ghost use Rattle.mysql_connection_rules.specs.Steps.{step};
@@ -84,6 +85,9 @@ pub fn take_packet(
     ensures taken { TakesBy limits side (step state.old.standing)
         (first_packet (limit_of side limits) state.old.standing.number stream.old.stream.bytes)
         state.old.standing stream.old.stream result state.new.standing stream.new.stream }
+    ensures unclear { IfOk result (λ found. IfSome found (λ event. FoundHasUnclear
+        (first_packet (limit_of side limits) state.old.standing.number stream.old.stream.bytes)
+        state.old.standing event)) }
     ensures err { OnErr result (stream.new.stream ≡ stream.old.stream) }
 {
     let limit = limit_of(side, limits);

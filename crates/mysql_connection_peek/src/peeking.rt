@@ -1,10 +1,10 @@
 //! The payload that is due, whatever it is.
 
-ghost use Rattle.std.specs.Prelude.{Ok};
+ghost use Rattle.std.specs.Prelude.{IfOk, Ok};
 ghost use Rattle.mysql_connection_rules.specs.Events as events;
 ghost use Rattle.mysql_connection_rules.specs.Steps.{step};
 ghost use Rattle.mysql_connection_state.specs.Reads.{Gives};
-ghost use Rattle.mysql_connection_state.specs.Views.{event_view};
+ghost use Rattle.mysql_connection_state.specs.Views.{EventHasUnclear, event_view};
 ghost use Rattle.mysql_connection_peek.specs.Peeks.{IsPlain, Peeks};
 
 use crate::command::peek_command;
@@ -25,7 +25,8 @@ fn peek_answer(alloc: Global, payload: &[u8]) -> Result<Event, Fault>
 // What the payload that is due says, where no exchange is due, nor a reply.
 fn peek_plain(alloc: Global, state: &State, payload: &[u8]) -> Result<Event, Fault>
     requires { IsPlain state.now.standing.phase }
-    ensures { Peeks (step state.now.standing payload.now) result }
+    ensures peeks { Peeks (step state.now.standing payload.now) result }
+    ensures unclear { IfOk result (λ event. EventHasUnclear state.now.standing payload.now event) }
 {
     match state.phase() {
         Phase::Greeting => peek_greeting(alloc, payload),
@@ -40,6 +41,8 @@ fn peek_plain(alloc: Global, state: &State, payload: &[u8]) -> Result<Event, Fau
 /// What the payload that is due says, of the side whose turn it is. The state doesn't change.
 ///
 /// Promise: exactly the event of the table of steps, or its fault, for any bytes (`Peeks`, `step`).
+/// Exactly those values of an execution are unclear that are so by its bytes and by what is in force
+/// (`EventHasUnclear`).
 ///
 /// # Errors
 /// - `OldProtocol`, `BadGreeting`, `BadLogin`, `BadSwitch`, `BadReply`, each named by what can't be
@@ -50,7 +53,8 @@ fn peek_plain(alloc: Global, state: &State, payload: &[u8]) -> Result<Event, Fau
 /// MySQL: Client/Server Protocol, "Connection Phase" and "Command Phase"; MariaDB: Client/Server
 /// Protocol, "Connecting", "2 - Text Protocol" and "3 - Binary Protocol (Prepared Statements)".
 pub fn peek_event(alloc: Global, state: &State, payload: &[u8]) -> Result<Event, Fault>
-    ensures { Peeks (step state.now.standing payload.now) result }
+    ensures peeks { Peeks (step state.now.standing payload.now) result }
+    ensures unclear { IfOk result (λ event. EventHasUnclear state.now.standing payload.now event) }
 {
     if let Some(exchange) = state.exchange() {
         return peek_authentication(alloc, exchange, state.capabilities().protocol, payload);

@@ -13,9 +13,9 @@ ghost use Rattle.mysql_executions.specs.Views.{bulk_of, execution_of, types_of};
 
 use crate::refusal::RecodingRefusal;
 use crate::types::types_there;
-use indexmap::IndexMap;
 use mysql_commands::{BulkExecution, Command, Execution, ParameterType};
 use std::alloc::{AllocError, Global};
+use std::collections::BTreeMap;
 
 /// The id that stands for the statement that was prepared last.
 const LAST_PREPARED: u32 = 0xffff_ffff;
@@ -24,16 +24,17 @@ const LAST_PREPARED: u32 = 0xffff_ffff;
 ///
 /// A server gives each statement its id, so the commands of a client that one server had name no
 /// statement of another. Who prepares each statement on both connections, and tells the two ids,
-/// recodes commands by them: a proxy that goes over to another server, or a replay of a recording.
+/// recodes commands by them. Such are a proxy that goes over to another server, and a replay of a
+/// recording.
 ///
-/// Contracts see the other id of each id (`known`). Each call takes constant time beside what it
-/// copies.
+/// Contracts see the other id of each id (`known`). Each call takes time that grows with the
+/// logarithm of their number, beside what it copies.
 ///
 /// MySQL: Client/Server Protocol, "Prepared Statements" ("COM_STMT_PREPARE Response", statement_id).
 #[derive(Drop)]
 pub struct StatementIds {
     alloc: Global,
-    by_id: IndexMap<u32, u32>,
+    by_id: BTreeMap<u32, u32>,
 }
 
 impl StatementIds {
@@ -43,7 +44,7 @@ impl StatementIds {
     {
         StatementIds {
             alloc,
-            by_id: IndexMap::new(alloc),
+            by_id: BTreeMap::new(alloc),
         }
     }
 
@@ -126,8 +127,8 @@ impl StatementIds {
 
     /// The command for the other connection, where its statement has another id.
     ///
-    /// An execution, a bulk execution, long data, a close, a reset or a fetch names its statement by
-    /// the id there; an execution that carries no types gets those that are in force of its
+    /// An execution, a bulk execution, long data, a close, a reset or a fetch names its statement
+    /// by the id there. An execution that carries no types gets those that are in force of its
     /// statement here, since none may be there. All else is as it was, and no value is copied. A
     /// statement that is closed by its id is known no more, and none is behind a change of user.
     /// 0xffffffff stays: it names the statement that was prepared last, which is the same one where
@@ -178,7 +179,7 @@ impl StatementIds {
             }),
             Command::Close(id) => {
                 let other = self.id_or_refusal(id)?;
-                self.by_id.swap_remove(&id);
+                self.by_id.remove(&id);
                 Ok(Command::Close(other))
             }
             Command::ResetStatement(id) => { Ok(Command::ResetStatement(self.id_or_refusal(id)?)) }

@@ -6,6 +6,8 @@ use Rattle.mysql_connection_statements.specs.Statements.{Statements, no_statemen
 use Rattle.mysql_connection_statements.specs.declared.pending.Pending.{Pending}
 use Rattle.mysql_const.specs.declared.capabilities.Capabilities.{Capabilities}
 use Rattle.mysql_handshake.specs.Capabilities.{both_words}
+use Rattle.mysql_session_modes.specs.SessionModes.{unknown_mode}
+use Rattle.mysql_session_modes.specs.declared.session_mode.SessionMode.{SessionMode}
 use Rattle.mysql_reply_events.specs.Events.{ReplySoFar}
 use Rattle.mysql_reply_events.specs.declared.context.ReplyKind.{ReplyKind}
 use Rattle.mysql_connection_rules.specs.declared.reason.Reason.{Reason}
@@ -59,7 +61,7 @@ pub data Phase : Type 0 where
 
 -- The phase; the number that is due of the next packet; whether the payload that came last is the
 -- client's; the capabilities that the server offers, and those in force; the plugin in force; the
--- prepared statements.
+-- prepared statements; what is known of the session's SQL mode.
 pub record Standing : Type 0 where
   pub phase : Phase
   pub number : ℕ
@@ -68,6 +70,7 @@ pub record Standing : Type 0 where
   pub capabilities : Capabilities
   pub plugin : Option Plugin
   pub statements : Statements
+  pub mode : SessionMode
 
 abbrev pub no_capabilities : Capabilities
 no_capabilities = both_words 0 0
@@ -82,6 +85,7 @@ at_first = record {
   capabilities = no_capabilities;
   plugin = None;
   statements = no_statements;
+  mode = unknown_mode;
 }
 
 -- Behind a login by which these capabilities are in force a command is due, and no statement is
@@ -95,6 +99,7 @@ logged_in capabilities = record {
   capabilities = capabilities;
   plugin = None;
   statements = no_statements;
+  mode = unknown_mode;
 }
 
 -- WHAT IS KEPT

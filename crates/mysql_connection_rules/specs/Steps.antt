@@ -2,7 +2,7 @@
 -- MySQL: Client/Server Protocol, "Connection Phase", "Command Phase" and "Connection Lifecycle";
 -- MariaDB: Client/Server Protocol, "Connecting", "2 - Text Protocol", "3 - Binary Protocol
 -- (Prepared Statements)" and "Replication Protocol".
-use Rattle.std.specs.Prelude.{ℕ, ◌+◌, ◌-◌, Bool, true, false, ◌==◌, ◌&&◌, ◌||◌, if◌then◌else◌}
+use Rattle.std.specs.Prelude.{ℕ, ◌+◌, ◌-◌, Bool, true, false, not, ◌==◌, ◌&&◌, ◌||◌, if◌then◌else◌}
 use Rattle.std.specs.Prelude.{List, [], ◌∷◌, Option, Some, None, Result, Ok, Err, bytes_eq}
 use Rattle.std.specs.Prelude.{unwrap_or}
 use Rattle.std.specs.Option.{option_and_then, option_map}
@@ -31,6 +31,7 @@ use Rattle.mysql_const.specs.declared.capabilities.Capabilities.{Capabilities}
 use Rattle.mysql_executions.specs.After.{bulk_types, execution_types}
 use Rattle.mysql_executions.specs.Bulks.{bulk_head}
 use Rattle.mysql_executions.specs.InForce.{InForce}
+use Rattle.mysql_executions.specs.Types.{has_bulk_operations}
 use Rattle.mysql_executions.specs.declared.refused.Refused.{Refused}
 use Rattle.mysql_executions.specs.declared.refused.Refused.TheVariants as refused
 use Rattle.mysql_executions.specs.declared.types.BoundType.{BoundType}
@@ -57,8 +58,10 @@ use Rattle.mysql_connection_rules.specs.declared.reason.Reason.{Reason}
 use Rattle.mysql_connection_rules.specs.declared.reason.Reason.TheVariants as reasons
 use Rattle.mysql_connection_rules.specs.declared.side.Side.{Side}
 use Rattle.mysql_connection_rules.specs.declared.side.Side.TheVariants.{Client, Server}
+use Rattle.mysql_session_modes.specs.declared.session_mode.SessionMode.{SessionMode}
 use Rattle.mysql_connection_rules.specs.Events.{Event}
 use Rattle.mysql_connection_rules.specs.Events as events
+use Rattle.mysql_connection_rules.specs.SessionModes.{mode_behind}
 use Rattle.mysql_connection_rules.specs.Standing.{About, InReply, Phase, Standing}
 use Rattle.mysql_connection_statements.specs.Statements.{Statement, Statements, after_close}
 use Rattle.mysql_connection_statements.specs.Statements.{after_prepared}
@@ -173,9 +176,15 @@ is_fast plugin bytes = is_caching plugin && bytes_eq bytes (3 ∷ [])
 abbrev pub plugin_asked : SwitchFields → Plugin
 plugin_asked p = plugin_named (without_zero p.auth_plugin)
 
-abbrev pub after_authentication : Exchange → Standing → AuthenticationSaid → Standing
-after_authentication exchange s (Accepted ok) =
+-- Behind a login's OK what follows may be compressed. Behind a change of user the connection goes on as
+-- it did before.
+abbrev pub after_acceptance : Exchange → Standing → Standing
+after_acceptance exchanges.Login s =
     if is_compressed s.capabilities then over reasons.Compressed s else in_phase phases.Command s
+after_acceptance exchange s = in_phase phases.Command s
+
+abbrev pub after_authentication : Exchange → Standing → AuthenticationSaid → Standing
+after_authentication exchange s (Accepted ok) = after_acceptance exchange s
 after_authentication exchange s (Denied error) = after_denial exchange s
 after_authentication exchange s (AuthSwitch p) = with_plugin exchange (Some (plugin_asked p)) s
 after_authentication exchange s OldAuthSwitch = with_plugin exchange (Some OldPassword) s
@@ -250,13 +259,24 @@ after_executing id statement refused types s =
     (about_execution id (pending_of id refused types statement))
     (with_statements (with_statement id (executed types statement) s.statements) s)
 
--- An execution, by its number and what stands behind it; of a statement that isn't known there is
--- only a reply.
-abbrev pub execution_of : ℕ → List ℕ → Option ℕ → Option Statement → Standing → Standing
-execution_of number body (Some id) (Some statement) s =
+-- A bulk execution where MariaDB's aren't in force: it is answered before any statement is looked for.
+-- (MariaDB: "COM_STMT_BULK_EXECUTE", the capability MARIADB_CLIENT_STMT_BULK_OPERATIONS.)
+abbrev pub is_unagreed_bulk : Capabilities → ℕ → Bool
+is_unagreed_bulk capabilities number = (number == 0xfa) && not (has_bulk_operations capabilities)
+
+-- An execution of the statement of this id; of one that isn't known there is only a reply.
+abbrev pub execution_by_id : ℕ → List ℕ → Option ℕ → Option Statement → Standing → Standing
+execution_by_id number body (Some id) (Some statement) s =
     after_executing id statement (refused_as number body)
     (carried_types s.capabilities number statement.parameters.count body) s
-execution_of number body id statement s = reply_due kinds.Binary None Nothing s
+execution_by_id number body id statement s = reply_due kinds.Binary None Nothing s
+
+-- An execution, by its number and what stands behind it; a bulk one that isn't in force is about no
+-- statement and changes nothing.
+abbrev pub execution_of : ℕ → List ℕ → Option ℕ → Option Statement → Standing → Standing
+execution_of number body id statement s =
+    if is_unagreed_bulk s.capabilities number then reply_due kinds.Binary None Nothing s
+    else execution_by_id number body id statement s
 
 -- A command changes the statement that it is about, where that is known.
 abbrev pub changing : (Statement → Statement) → Option ℕ → Standing → Standing
@@ -450,6 +470,14 @@ in_turn phases.Command s payload = command_step s payload
 in_turn (phases.Reply r) s payload = by_turn (turn_in_reply r.so_far.awaited) r s payload
 in_turn (phases.Over reason) s payload = Err faults.Unasked
 
+-- What is known of the session's mode is told by the event.
+abbrev pub in_mode : SessionMode → Standing → Standing
+in_mode mode s = record s { mode = mode }
+
+abbrev pub with_mode : Standing → Step → Step
+with_mode s (Ok said) = Ok (said.0, in_mode (mode_behind s said.0) said.1)
+with_mode s (Err fault) = Err fault
+
 -- What the payload that is due says, and what stands behind it.
 unfoldable pub step : Standing → List ℕ → Step
-step s payload = in_turn s.phase s payload
+step s payload = with_mode s (in_turn s.phase s payload)

@@ -31,7 +31,7 @@ pub fn run_is_one()
 
 /// Events that were taken, and those that are left to take, are the events of the one run.
 ///
-/// So it is whatever pieces of two streams came, in whatever order, and whenever events were taken.
+/// That holds for any pieces of two streams, in any order, and whenever events were taken.
 /// They come in its order, and end where it ends, by the same fault if by one.
 pub fn pieces_are_the_run()
     ensures { PiecesAreTheRun }
@@ -41,7 +41,7 @@ pub fn pieces_are_the_run()
     rests_follow();
 }
 
-/// The events of fronts of two streams are a front of their events.
+/// The events of prefixes of two streams are a prefix of their events.
 ///
 /// A fault of fronts is the streams' fault, behind the same events.
 pub fn fronts_read_on()

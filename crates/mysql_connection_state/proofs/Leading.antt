@@ -10,7 +10,7 @@ use Rattle.mysql_connection_rules.specs.Events.{Event}
 use Rattle.mysql_connection_rules.specs.Events.Event.{Answer, Asked, Authentication, Farewell, FileData, Greeting, Replied, Response}
 use Rattle.mysql_connection_rules.specs.Standing.{InReply, Phase, Standing}
 use Rattle.mysql_connection_rules.specs.Standing as phases
-use Rattle.mysql_connection_rules.specs.Steps.{after_authentication, after_command, after_event, after_greeting, after_response, by_turn, context_of, greets_anew, in_phase, in_turn, of_login, of_reply, says, step, turn_in_reply}
+use Rattle.mysql_connection_rules.specs.Steps.{after_authentication, after_command, after_event, after_greeting, after_response, by_turn, context_of, greets_anew, in_phase, in_turn, of_login, of_reply, says, turn_in_reply}
 use Rattle.mysql_connection_rules.specs.declared.exchange.Exchange.{Exchange}
 use Rattle.mysql_connection_rules.specs.declared.fault.Fault.{Fault}
 use Rattle.mysql_connection_rules.specs.declared.fault.Fault.TheVariants as faults
@@ -116,6 +116,5 @@ by_phase (phases.Reply r) s payload said after due h =
 by_phase (phases.Over reason) s payload said after due h = absurd cc
 
 pub step_leads : (s : Standing) (payload : List ℕ) (said : Event) (after : Standing) →
-    step s payload ≡ Ok (said, after) → Leads s payload said after
-unfolding step
+    in_turn s.phase s payload ≡ Ok (said, after) → Leads s payload said after
 step_leads s payload said after h = by_phase s.phase s payload said after refl h

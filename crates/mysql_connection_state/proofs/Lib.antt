@@ -4,4 +4,5 @@ pub mod Leading
 pub mod Parts
 pub mod Passing
 pub mod Turns
+pub mod InModes
 mod NextRows

@@ -18,12 +18,14 @@ use Rattle.mysql_connection_rules.specs.Standing.About.{Executing, Nothing, OfSt
 use Rattle.mysql_connection_rules.specs.Standing.About.{Resetting, Streaming}
 use Rattle.mysql_connection_rules.specs.Standing.Phase.{Reply}
 use Rattle.mysql_connection_rules.specs.Steps.{about_after, by_turn, context_of, in_phase, in_turn, reply_after}
-use Rattle.mysql_connection_rules.specs.Steps.{reply_step, step, turn, turn_in_reply}
+use Rattle.mysql_connection_rules.specs.StepLaws.{step_fails}
+use Rattle.mysql_connection_rules.specs.Steps.{reply_step, turn, turn_in_reply}
 use Rattle.mysql_connection_rules.specs.declared.fault.Fault.TheVariants.{BadReply}
 use Rattle.mysql_connection_state.specs.NextRows.{ReadsNoNextRow, TakesRow, TakesRowOfReply, awaits_next_row}
 use Rattle.mysql_connection_state.specs.Reads.{SaysRow}
 use Rattle.mysql_connection_state.specs.Views.{ConnectionState, ReadsBy, in_reply_view}
 use Rattle.mysql_connection_state.specs.declared.due.InReply.{InReply as HeldReply}
+use Rattle.mysql_connection_state.proofs.InModes.{reads_row}
 use Rattle.mysql_connection_state.proofs.Parts.{row_said}
 
 -- behind a row no more is kept of what the reply is about
@@ -42,10 +44,9 @@ keeps s r size row so_far phase =
     omega (arith, about_keeps s.statements r.about row, ap (phase_size s.statements) phase)
 
 -- where rows are due, the step is that of the reply
-rows_step : (s : Standing) (r : InReply) (payload : List ℕ) → s.phase ≡ Reply r →
-    r.so_far.awaited ≡ Rows true → step s payload ≡ reply_step r s payload
-unfolding step
-rows_step s r payload phase awaited =
+rows_turn : (s : Standing) (r : InReply) (payload : List ℕ) → s.phase ≡ Reply r →
+    r.so_far.awaited ≡ Rows true → in_turn s.phase s payload ≡ reply_step r s payload
+rows_turn s r payload phase awaited =
     ap (λ (phase : Phase). in_turn phase s payload) phase ∙
     ap (λ (awaited : Awaited). by_turn (turn_in_reply awaited) r s payload) awaited
 
@@ -60,7 +61,7 @@ no_row old reply payload phase same rows (inr (inr (awaited, bad))) =
     let r = in_reply_view reply in
     let event : event_at (context_of old.standing r) reply.reader.so_far payload ≡ Err BadRow = rw (← same) bad in
     let stepped : reply_step r old.standing payload ≡ Err (BadReply BadRow) = rw event refl in
-    inr (inr (rows_step old.standing r payload phase awaited ∙ stepped))
+    inr (inr (step_fails old.standing payload (BadReply BadRow) (rows_turn old.standing r payload phase awaited ∙ stepped)))
 
 -- by what the reply answers
 pub taken : (old new : ConnectionState) (reply after : HeldReply) (payload : List ℕ) (took : Bool) →
@@ -77,8 +78,8 @@ taken old new reply after payload true phase same rows stands lends took =
       turn = ap turn phase ∙ ap (λ (awaited : Awaited). Some (turn_in_reply awaited)) took.0;
       row = said.read.row;
       lies = subst (λ (rows : Option RowReader). RowAt rows payload said.read.row) (sym lends) said.read.lies;
-      step = rows_step s r payload phase took.0 ∙ stepped ∙
-          ap (λ (w : Standing). Ok (Replied (RowEvent said.read.row), w)) (sym stands);
+      step = reads_row s payload said.read.row new.standing (rows_turn s r payload phase took.0 ∙ stepped ∙
+          ap (λ (w : Standing). Ok (Replied (RowEvent said.read.row), w)) (sym stands));
       kept = subst (λ (w : Standing). kept w ≤ kept s)
           (ap (λ (r : InReply). in_phase (Reply r) s) (sym said.reply) ∙ sym stands)
           (keeps s r (counted payload) said.read.row after.reader.so_far phase);

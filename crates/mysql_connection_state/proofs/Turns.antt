@@ -3,7 +3,7 @@ use Rattle.std.proofs.Common.{◌≡◌, ℕ, List, true, refl}
 use Rattle.mysql_connection_rules.specs.Standing.{InReply, Phase, Standing}
 use Rattle.mysql_connection_rules.specs.Standing.Phase.{Answer, Authentication, Command, Greeting}
 use Rattle.mysql_connection_rules.specs.Standing.Phase.{Over, Reply, Response}
-use Rattle.mysql_connection_rules.specs.Steps.{by_turn, in_turn, reply_step, step, turn_in_reply}
+use Rattle.mysql_connection_rules.specs.Steps.{by_turn, in_turn, reply_step, turn_in_reply}
 use Rattle.mysql_connection_rules.specs.declared.side.Side.{Side}
 use Rattle.mysql_connection_rules.specs.declared.side.Side.TheVariants.{Client, Server}
 use Rattle.mysql_connection_state.specs.Reads.{awaits_reply, is_server}
@@ -25,6 +25,5 @@ in_reply (Reply r) s payload h =
 in_reply (Over reason) s payload h = absurd cc
 
 pub reply_due : (s : Standing) (payload : List ℕ) → awaits_reply s.phase ≡ true →
-    (r : InReply) × (s.phase ≡ Reply r) × (step s payload ≡ reply_step r s payload)
-unfolding step
+    (r : InReply) × (s.phase ≡ Reply r) × (in_turn s.phase s payload ≡ reply_step r s payload)
 reply_due s payload h = in_reply s.phase s payload h

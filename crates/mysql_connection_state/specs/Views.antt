@@ -1,9 +1,9 @@
 -- What the code holds, as values.
 -- MySQL: Client/Server Protocol, "Connection Lifecycle", "Connection Phase" and "Command Phase".
-use Rattle.std.specs.Prelude.{◌≡◌, Option, None}
+use Rattle.std.specs.Prelude.{◌≡◌, ℕ, List, Option, None}
 use Rattle.mysql_authentication.specs.Views.{authentication_view, greeting_view}
 use Rattle.mysql_authentication.specs.Views.{response_event_view}
-use Rattle.mysql_commands.specs.Views.{command_view}
+use Rattle.mysql_commands.specs.Views.{HasUnclear, command_view}
 use Rattle.mysql_const.specs.declared.capabilities.Capabilities.{Capabilities}
 use Rattle.mysql_reply_events.specs.Events.{Awaited}
 use Rattle.mysql_reply_events.specs.Events as awaiting
@@ -16,6 +16,7 @@ use Rattle.mysql_connection_rules.specs.Standing.{About, InReply, Phase, Standin
 use Rattle.mysql_connection_rules.specs.Standing.About.{Executing, Nothing, OfStatement, Preparing}
 use Rattle.mysql_connection_rules.specs.Standing.About.{Resetting, Streaming}
 use Rattle.mysql_connection_rules.specs.Standing as phases
+use Rattle.mysql_connection_rules.specs.Steps.{parameters_in_question}
 use Rattle.mysql_connection_state.specs.declared.due.About.{About as HeldAbout}
 use Rattle.mysql_connection_state.specs.declared.due.About.TheVariants as about
 use Rattle.mysql_connection_state.specs.declared.due.Due.{Due}
@@ -35,6 +36,13 @@ event_view (held.Command command) = events.Asked (command_view command.value)
 event_view (held.Reply said) = events.Replied (reply_view said.value)
 event_view (held.FileData bytes) = events.FileData bytes
 event_view (held.Farewell error) = events.Farewell (server_error_view error)
+
+-- Of a command that this payload says here exactly those values are unclear that are so by its bytes
+-- and its statement. Of another event nothing is said.
+abbrev pub EventHasUnclear : Standing → List ℕ → HeldEvent → Type 0
+EventHasUnclear s payload (held.Command command) =
+    HasUnclear s.capabilities (parameters_in_question s.statements payload) payload command.value
+EventHasUnclear s payload event = Unit {0}
 
 abbrev pub about_view : HeldAbout → About
 about_view about.Nothing = Nothing

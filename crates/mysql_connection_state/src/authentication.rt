@@ -1,17 +1,17 @@
 //! Payloads by which a user is logged in or changed.
 
-ghost use Rattle.std.specs.Prelude.{◌≡◌, OnErr, OnOk, Some, if◌then◌else◌, option_map};
+ghost use Rattle.std.specs.Prelude.{◌≡◌, IfOk, OnErr, OnOk, Some, if◌then◌else◌, option_map};
 ghost use Rattle.mysql_auth.specs.Views.{plugin_view};
 ghost use Rattle.mysql_authentication.specs.Readings.{authentication_at};
 ghost use Rattle.mysql_authentication.specs.Views.{authentication_view};
 ghost use Rattle.mysql_connection_rules.specs.Standing as phases;
-ghost use Rattle.mysql_connection_rules.specs.Steps.{after_authentication, after_denial};
+ghost use Rattle.mysql_connection_rules.specs.Steps.{after_acceptance, after_authentication, after_denial};
 ghost use Rattle.mysql_connection_rules.specs.Steps.{answered as answered_by};
 ghost use Rattle.mysql_connection_rules.specs.Steps.{authentication_step, greets_anew, in_phase};
 ghost use Rattle.mysql_connection_rules.specs.Steps.{is_compressed};
-ghost use Rattle.mysql_connection_rules.specs.Steps.{is_fast, of_login, over, with_plugin};
-ghost use Rattle.mysql_connection_rules.specs.declared.reason.Reason.TheVariants as reasons;
+ghost use Rattle.mysql_connection_rules.specs.Steps.{is_fast, of_login, with_plugin};
 ghost use Rattle.mysql_connection_state.specs.Reads.{Gives, Reads, answer_step};
+ghost use Rattle.mysql_connection_state.specs.Views.{EventHasUnclear};
 
 use crate::due::Due;
 use crate::event::Event;
@@ -91,15 +91,19 @@ fn greets_anew(exchange: Exchange, payload: &[u8]) -> bool
 }
 
 impl State {
-    // The user is logged in.
-    fn accepted(&mut self)
-        ensures { self.new.standing ≡ (if is_compressed self.old.standing.capabilities
-            then over reasons.Compressed self.old.standing else in_phase phases.Command self.old.standing) }
+    // The user is logged in, or changed.
+    fn accepted(&mut self, exchange: Exchange)
+        ensures { self.new.standing ≡ after_acceptance exchange self.old.standing }
     {
-        if is_compressed(self.capabilities) {
-            self.set_due(Due::Over(Reason::Compressed));
-        } else {
-            self.set_due(Due::Command);
+        match exchange {
+            Exchange::Login => {
+                if is_compressed(self.capabilities) {
+                    self.set_due(Due::Over(Reason::Compressed));
+                } else {
+                    self.set_due(Due::Command);
+                }
+            }
+            Exchange::ChangeUser | Exchange::BareChange => self.set_due(Due::Command),
         }
     }
 
@@ -153,7 +157,7 @@ impl State {
     {
         match said {
             AuthenticationEvent::Accepted(_) => {
-                self.accepted();
+                self.accepted(exchange);
                 Ok(())
             }
             AuthenticationEvent::Denied(_) => {
@@ -192,7 +196,8 @@ impl State {
         exchange: Exchange,
         payload: &[u8],
     ) -> Result<Event, Fault>
-        ensures { Reads (authentication_step exchange self.old.standing payload.now) result self.new.standing }
+        ensures reads { Reads (authentication_step exchange self.old.standing payload.now) result self.new.standing }
+        ensures unclear { IfOk result (λ event. EventHasUnclear self.old.standing payload.now event) }
     {
         if greets_anew(exchange, payload) {
             return Err(Fault::BadGreeting);
@@ -206,7 +211,8 @@ impl State {
     /// Reads the client's answer to such a one.
     #[inline(never)]
     pub(crate) fn read_answer(&mut self, exchange: Exchange, payload: &[u8]) -> Result<Event, Fault>
-        ensures { Reads (answer_step exchange self.old.standing payload.now) result self.new.standing }
+        ensures reads { Reads (answer_step exchange self.old.standing payload.now) result self.new.standing }
+        ensures unclear { IfOk result (λ event. EventHasUnclear self.old.standing payload.now event) }
     {
         let Ok(bytes) = ByteString::copy(self.alloc, payload) else {
             return Err(Fault::Memory);

@@ -4,13 +4,13 @@ ghost use Rattle.std.specs.Prelude.{◌≡◌, IfOk, None, OnErr, OnOk, option_m
 ghost use Rattle.std.specs.Option.{option_and_then, option_copied};
 ghost use Rattle.mysql_auth.specs.Views.{plugin_view};
 ghost use Rattle.mysql_commands.specs.Commands.{command_at};
-ghost use Rattle.mysql_commands.specs.Views.{command_view};
+ghost use Rattle.mysql_commands.specs.Views.{HasUnclear, command_view};
 ghost use Rattle.mysql_rows.specs.Views.{shared_columns};
 ghost use Rattle.mysql_connection_rules.specs.Standing as standing;
 ghost use Rattle.mysql_connection_rules.specs.Steps as steps;
 ghost use Rattle.mysql_connection_statements.specs.Statements.{is_reset, statement_at};
 ghost use Rattle.mysql_connection_state.specs.Reads.{Reads};
-ghost use Rattle.mysql_connection_state.specs.Views.{about_view};
+ghost use Rattle.mysql_connection_state.specs.Views.{EventHasUnclear, about_view};
 ghost use Rattle.mysql_reply_events.specs.declared.context.ReplyKind.TheVariants as kinds;
 
 use crate::due::{About, Due, InReply};
@@ -67,9 +67,11 @@ fn command_of(
     statements: &Statements,
     payload: &[u8],
 ) -> Result<Command<'static>, AllocError>
-    ensures { IfOk result (λ command. command_view command ≡
+    ensures reads { IfOk result (λ command. command_view command ≡
         command_at capabilities (steps.parameters_in_question statements.now payload.now)
         payload.now) }
+    ensures unclear { IfOk result (λ command. HasUnclear capabilities
+        (steps.parameters_in_question statements.now payload.now) payload.now command) }
 {
     let parameters = parameters_in_question(statements, payload);
     Command::read(alloc, capabilities, parameters, payload)?.into_owned(alloc)
@@ -331,7 +333,8 @@ impl State {
 
     /// Reads a command.
     pub(crate) fn read_command(&mut self, payload: &[u8]) -> Result<Event, Fault>
-        ensures { Reads (steps.command_step self.old.standing payload.now) result self.new.standing }
+        ensures reads { Reads (steps.command_step self.old.standing payload.now) result self.new.standing }
+        ensures unclear { IfOk result (λ event. EventHasUnclear self.old.standing payload.now event) }
     {
         let command = command_of(self.alloc, self.capabilities, &self.statements, payload)?;
         let command = boxed(self.alloc, command)?;

@@ -1,15 +1,17 @@
 //! What one payload of a connection says.
 
-ghost use Rattle.std.specs.Prelude.{◌≡◌, IfOk, option_map};
+ghost use Rattle.std.specs.Prelude.{◌≡◌, IfOk, IfSome, List, option_map, ℕ};
 ghost use Rattle.mysql_authentication.specs.Views.{authentication_view, greeting_view};
 ghost use Rattle.mysql_authentication.specs.Views.{response_event_view};
-ghost use Rattle.mysql_commands.specs.Views.{command_view};
+ghost use Rattle.mysql_commands.specs.Views.{HasUnclear, command_view};
 ghost use Rattle.mysql_connection_rules.specs.Events.Event.{Asked, Authentication, Greeting};
 ghost use Rattle.mysql_connection_rules.specs.Events.Event.{Replied, Response};
 ghost use Rattle.mysql_connection_rules.specs.Events.{side_of};
+ghost use Rattle.mysql_connection_rules.specs.Standing.{Standing};
+ghost use Rattle.mysql_connection_rules.specs.Steps.{parameters_in_question};
 ghost use Rattle.mysql_reply_events.specs.Views.{event_view as reply_view};
 ghost use Rattle.mysql_connection_state.specs.Reads.{asked, replied};
-ghost use Rattle.mysql_connection_state.specs.Views.{event_view};
+ghost use Rattle.mysql_connection_state.specs.Views.{EventHasUnclear, event_view};
 
 use mysql_authentication::{AuthenticationEvent, GreetingEvent, ResponseEvent};
 use mysql_commands::Command;
@@ -22,8 +24,8 @@ use std::alloc::{AllocError, Global};
 /// What one payload of a connection says. It borrows nothing; large kinds are in a box, so that an
 /// event is moved at little cost.
 ///
-/// Its drop is written out, so that it is one step of a caller's proof; so a `match` borrows what an
-/// event holds, and [`Event::into_reply`] and [`Event::into_command`] take it out.
+/// Its drop is written out, so that it is one step of a caller's proof. So a `match` borrows what
+/// an event holds, and [`Event::into_reply`] and [`Event::into_command`] take it out.
 ///
 /// MySQL: Client/Server Protocol, "Connection Lifecycle", "Connection Phase" and "Command Phase".
 pub enum Event {
@@ -64,7 +66,7 @@ impl Event {
     /// The server greets, or refuses the connection.
     ///
     /// # Errors
-    /// - `AllocError` for want of memory.
+    /// - `AllocError` when memory runs out.
     pub fn greeting(alloc: Global, said: GreetingEvent<'static>) -> Result<Event, AllocError>
         ensures { IfOk result (λ event. event_view event ≡ Greeting (greeting_view said.entry)) }
     {
@@ -74,7 +76,7 @@ impl Event {
     /// The client logs in, or asks for TLS.
     ///
     /// # Errors
-    /// - `AllocError` for want of memory.
+    /// - `AllocError` when memory runs out.
     pub fn response(alloc: Global, said: ResponseEvent<'static>) -> Result<Event, AllocError>
         ensures { IfOk result (λ event. event_view event ≡ Response (response_event_view said.entry)) }
     {
@@ -84,7 +86,7 @@ impl Event {
     /// A payload of the server's while a user is logged in or changed.
     ///
     /// # Errors
-    /// - `AllocError` for want of memory.
+    /// - `AllocError` when memory runs out.
     pub fn authentication(
         alloc: Global,
         said: AuthenticationEvent<'static>,
@@ -98,9 +100,12 @@ impl Event {
     /// What the client asks for.
     ///
     /// # Errors
-    /// - `AllocError` for want of memory.
+    /// - `AllocError` when memory runs out.
     pub fn command(alloc: Global, command: Command<'static>) -> Result<Event, AllocError>
-        ensures { IfOk result (λ event. event_view event ≡ Asked (command_view command.entry)) }
+        ensures same { IfOk result (λ event. event_view event ≡ Asked (command_view command.entry)) }
+        ensures unclear { (s : Standing) (payload : List ℕ) →
+            HasUnclear s.capabilities (parameters_in_question s.statements payload) payload command.entry →
+            IfOk result (λ event. EventHasUnclear s payload event) }
     {
         Ok(Event::Command(Box::new(alloc, command)?))
     }
@@ -108,7 +113,7 @@ impl Event {
     /// What the server replies.
     ///
     /// # Errors
-    /// - `AllocError` for want of memory.
+    /// - `AllocError` when memory runs out.
     pub fn reply(alloc: Global, said: ReplyEvent) -> Result<Event, AllocError>
         ensures { IfOk result (λ event. event_view event ≡ Replied (reply_view said)) }
     {
@@ -143,8 +148,11 @@ impl Event {
 
     /// What the client asks for, where it is that.
     pub fn into_command(self) -> Option<Box<Command<'static>>>
-        ensures { option_map (λ command. command_view command.value) result ≡
+        ensures same { option_map (λ command. command_view command.value) result ≡
             asked (event_view self) }
+        ensures unclear { (s : Standing) (payload : List ℕ) → EventHasUnclear s payload self →
+            IfSome result (λ command. HasUnclear s.capabilities
+            (parameters_in_question s.statements payload) payload command.value) }
     {
         match self {
             Event::Command(command) => Some(command),

@@ -6,7 +6,7 @@ ghost use Rattle.mysql_executions.specs.Bulks.{bulk_head};
 ghost use Rattle.mysql_rows.specs.Views.{shared_columns};
 ghost use Rattle.mysql_connection_rules.specs.Steps.{about_execution, after_executing};
 ghost use Rattle.mysql_connection_rules.specs.Steps.{carried_types, execution_of};
-ghost use Rattle.mysql_connection_rules.specs.Steps.{id_in_question, refused_as};
+ghost use Rattle.mysql_connection_rules.specs.Steps.{id_in_question, is_unagreed_bulk, refused_as};
 ghost use Rattle.mysql_connection_statements.specs.Statements.{statement_at};
 ghost use Rattle.mysql_connection_state.specs.Follows.{after_settled};
 ghost use Rattle.mysql_connection_state.specs.Views.{about_view};
@@ -18,6 +18,7 @@ use mysql_columns::Column;
 use mysql_commands::Command;
 use mysql_connection_statements::{Pending, Statement, Statements};
 use mysql_const::Capabilities;
+use mysql_executions::bulk_reading::has_bulk_operations;
 use mysql_executions::{BoundType, Refused, read_bulk_types, read_execution_types};
 use mysql_reply_events::ReplyKind;
 use std::alloc::{AllocError, Global};
@@ -60,6 +61,13 @@ pub fn shared_columns_of(
         Some(columns) => Ok(Some(columns.clone()?)),
         None => Ok(None),
     }
+}
+
+/// A bulk execution where MariaDB's aren't in force: it is about no statement.
+pub fn is_unagreed_bulk(capabilities: Capabilities, number: u8) -> bool
+    ensures { result ≡ is_unagreed_bulk capabilities number }
+{
+    number == BULK_EXECUTE && !has_bulk_operations(capabilities)
 }
 
 /// The types that an execution carries, by its number and what stands behind it.
@@ -141,7 +149,8 @@ impl State {
 
     /// An execution was put that leaves all as it is.
     ///
-    /// It is of the statement of this id, which last had these columns: only its reply is due.
+    /// It is of the statement of this id, which last had these columns. Only its reply is due, and
+    /// the mode is known where it is tracked.
     ///
     /// MySQL: Client/Server Protocol, "COM_STMT_EXECUTE".
     pub fn execute_settled(&mut self, id: u32, columns: Option<RcSlice<Column>>)
@@ -149,9 +158,11 @@ impl State {
             after_settled id (option_map shared_columns columns) self.old.standing }
     {
         self.await_reply(ReplyKind::Binary, columns, About::OfStatement(id));
+        self.run_statement();
     }
 
-    /// An execution came, with this number; of a statement that isn't known there is only a reply.
+    /// An execution came, with this number. There is only a reply of a statement that isn't known, and
+    /// of a bulk execution that isn't in force.
     pub(crate) fn execution(
         &mut self,
         number: u8,
@@ -162,6 +173,10 @@ impl State {
             (option_and_then (statement_at self.old.standing.statements) id) self.old.standing) }
         ensures err { OnErr result (self.new ≡ self.old) }
     {
+        if is_unagreed_bulk(self.capabilities, number) {
+            self.await_reply(ReplyKind::Binary, None, About::Nothing);
+            return Ok(());
+        }
         let Some(id) = id else {
             self.await_reply(ReplyKind::Binary, None, About::Nothing);
             return Ok(());

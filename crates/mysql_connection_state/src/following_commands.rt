@@ -1,26 +1,33 @@
 //! Commands that were put: what is kept behind each, and what changes.
 
-ghost use Rattle.std.specs.Prelude.{◌≡◌, ◌==◌, ◌||◌, ℕ, List, None, Some, false};
+ghost use Rattle.std.specs.Prelude.{◌≡◌, ◌==◌, ◌||◌, ℕ, List, ◌∷◌, None, Some, false};
 ghost use Rattle.std.specs.Option.{option_and_then, option_map};
 ghost use Rattle.mysql_commands.specs.Views.{command_view};
 ghost use Rattle.mysql_connection_rules.specs.Standing as standing;
-ghost use Rattle.mysql_connection_rules.specs.Standing.{kept};
+ghost use Rattle.mysql_connection_rules.specs.Standing.{Standing, kept};
 ghost use Rattle.mysql_connection_rules.specs.Steps as steps;
 ghost use Rattle.mysql_connection_statements.specs.Statements.{Statement, counted, is_reset};
 ghost use Rattle.mysql_connection_statements.specs.Statements.{statement_at};
+ghost use Rattle.mysql_session_modes.specs.SessionModes.{mode_behind_statement, mode_behind_text};
 ghost use Rattle.mysql_rows.specs.Views.{shared_columns};
 ghost use Rattle.mysql_connection_state.specs.Follows.{Goes, after_said};
+ghost use Rattle.mysql_connection_state.specs.Views.{ConnectionState};
 ghost use Rattle.mysql_reply_events.specs.declared.context.ReplyKind.TheVariants as kinds;
 
 use crate::commands::command_in;
 use crate::due::About;
-use crate::executions::{carried_types, id_in_question, refused_as, shared_columns_of};
+use crate::executions::{
+    carried_types, id_in_question, is_unagreed_bulk, refused_as, shared_columns_of,
+};
 use crate::following::{FollowRefusal, fit};
+use crate::modes::mode_asked;
 use crate::state::State;
 use mysql_columns::Column;
 use mysql_commands::Command;
+use mysql_executions::execution_reading::has_query_attributes;
 use mysql_executions::{BoundType, Refused};
 use mysql_reply_events::ReplyKind;
+use mysql_session_modes::SessionMode;
 use std::rc::RcSlice;
 
 /// What a payload counts of which something is kept: no payload is so long that it doesn't fit.
@@ -93,7 +100,8 @@ impl State {
         }
     }
 
-    // Only a reply is due, behind an execution of a statement that isn't known.
+    // Only a reply is due, behind an execution of a statement that isn't known, or a bulk one that isn't in
+    // force.
     fn pass_unknown(&mut self, room: u128) -> Result<(), FollowRefusal>
         ensures { Goes self.old (steps.reply_due kinds.Binary None standing.Nothing
             self.old.standing) room result self.new }
@@ -136,6 +144,9 @@ impl State {
             (option_and_then (statement_at self.old.standing.statements) id) self.old.standing) room
             result self.new }
     {
+        if is_unagreed_bulk(self.capabilities, number) {
+            return self.pass_unknown(room);
+        }
         let Some(id) = id else {
             return self.pass_unknown(room);
         };
@@ -202,14 +213,47 @@ impl State {
         }
     }
 
-    // A query was put: only its reply is due.
-    fn pass_query(&mut self, room: u128) -> Result<(), FollowRefusal>
-        ensures { Goes self.old (steps.reply_due kinds.Text None standing.Nothing self.old.standing)
-            room result self.new }
+    // Where a command was passed, this is known of the mode.
+    fn pass_in_mode(
+        &mut self,
+        passed: Result<(), FollowRefusal>,
+        mode: SessionMode,
+    ) -> Result<(), FollowRefusal>
+        ensures { (old : ConnectionState) (after : Standing) (room : ℕ) →
+            Goes old after room passed self.old →
+            Goes old (steps.in_mode mode after) room result self.new }
+    {
+        match passed {
+            Ok(()) => {
+                self.set_mode(mode);
+                Ok(())
+            }
+            Err(refusal) => Err(refusal),
+        }
+    }
+
+    // A query was put, without attributes: only its reply is due.
+    fn pass_text(&mut self, text: &[u8], room: u128) -> Result<(), FollowRefusal>
+        ensures { Goes self.old (steps.in_mode (mode_behind_text text.now self.old.standing.mode)
+            (steps.reply_due kinds.Text None standing.Nothing self.old.standing)) room result
+            self.new }
     {
         fit(self.statements.stored() as u128, room)?;
         self.await_reply(ReplyKind::Text, None, About::Nothing);
+        self.run_text(text);
         Ok(())
+    }
+
+    // A query was put, which is read where it may have attributes.
+    fn pass_query(&mut self, text: &[u8], payload: &[u8], room: u128) -> Result<(), FollowRefusal>
+        ensures { payload.now ≡ 0x03 ∷ text.now →
+            Goes self.old (after_said self.old.standing payload.now) room result self.new }
+    {
+        if has_query_attributes(self.capabilities) {
+            self.pass_read(payload, room)
+        } else {
+            self.pass_text(text, room)
+        }
     }
 
     // An execution was put, by its number: what it says beside the fields in front changes nothing, so
@@ -221,13 +265,32 @@ impl State {
         payload: &[u8],
         room: u128,
     ) -> Result<(), FollowRefusal>
-        ensures { Goes self.old (steps.execution_of number body.now
+        ensures { Goes self.old (steps.in_mode (mode_behind_statement self.old.standing.mode)
+            (steps.execution_of number body.now
             (steps.id_in_question self.old.standing.statements payload.now)
             (steps.statement_in_question self.old.standing.statements payload.now)
-            self.old.standing) room result self.new }
+            self.old.standing)) room result self.new }
     {
+        let mode = self.session_mode().behind_statement();
         let id = id_in_question(&self.statements, payload);
-        self.pass_execution(number, body, id, room)
+        let passed = self.pass_execution(number, body, id, room);
+        self.pass_in_mode(passed, mode)
+    }
+
+    // An execution was put.
+    fn pass_execute(&mut self, body: &[u8], payload: &[u8], room: u128) -> Result<(), FollowRefusal>
+        ensures { payload.now ≡ 0x17 ∷ body.now →
+            Goes self.old (after_said self.old.standing payload.now) room result self.new }
+    {
+        self.pass_unread(0x17, body, payload, room)
+    }
+
+    // A bulk execution was put.
+    fn pass_bulk(&mut self, body: &[u8], payload: &[u8], room: u128) -> Result<(), FollowRefusal>
+        ensures { payload.now ≡ 0xfa ∷ body.now →
+            Goes self.old (after_said self.old.standing payload.now) room result self.new }
+    {
+        self.pass_unread(0xfa, body, payload, room)
     }
 
     // A command was put, which is read.
@@ -236,7 +299,10 @@ impl State {
         ensures { Goes self.old (after_said self.old.standing payload.now) room result self.new }
     {
         let command = command_in(self.alloc, self.capabilities, &self.statements, payload)?;
-        self.pass_command(&command, payload, room)
+        let said: &Command = &command;
+        let mode = mode_asked(self.session_mode(), said);
+        let passed = self.pass_command(said, payload, room);
+        self.pass_in_mode(passed, mode)
     }
 
     /// Goes on behind a command that was put by this payload, whatever it says.
@@ -258,9 +324,9 @@ impl State {
         ensures { Goes self.old (after_said self.old.standing payload.now) room result self.new }
     {
         match payload {
-            [0x03, ..] => self.pass_query(room),
-            [0x17, body @ ..] => self.pass_unread(0x17, body, payload, room),
-            [0xfa, body @ ..] => self.pass_unread(0xfa, body, payload, room),
+            [0x03, text @ ..] => self.pass_query(text, payload, room),
+            [0x17, body @ ..] => self.pass_execute(body, payload, room),
+            [0xfa, body @ ..] => self.pass_bulk(body, payload, room),
             _ => self.pass_read(payload, room),
         }
     }

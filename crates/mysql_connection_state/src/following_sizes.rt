@@ -57,7 +57,7 @@ fn resetting_size(statements: &Statements, event: &ReplyEvent) -> u128
 
 /// What is kept for the statements and for what a reply is about that goes on.
 ///
-/// So it is behind an event whose payload counts so much.
+/// That is behind an event whose payload counts so much.
 pub fn going_size(statements: &Statements, about: &About, more: usize, event: &ReplyEvent) -> u128
     ensures size { result ≡
         going_size_of (about_view about.now) more (reply_view event.now) statements.now }

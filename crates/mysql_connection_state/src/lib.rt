@@ -14,6 +14,7 @@ mod following_commands;
 mod following_replies;
 mod following_sizes;
 mod login;
+mod modes;
 mod next_rows;
 mod owned;
 pub mod phase;

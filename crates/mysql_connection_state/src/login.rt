@@ -12,6 +12,7 @@ ghost use Rattle.mysql_connection_rules.specs.Steps.{after_greeting, after_login
 ghost use Rattle.mysql_connection_rules.specs.Steps.{login_fault as login_fault_of, of_login, says};
 ghost use Rattle.mysql_connection_rules.specs.declared.exchange.Exchange.TheVariants as exchanges;
 ghost use Rattle.mysql_connection_state.specs.Reads.{Gives, Reads, or_bad_error};
+ghost use Rattle.mysql_connection_state.specs.Views.{EventHasUnclear};
 
 use crate::due::Due;
 use crate::event::Event;
@@ -122,9 +123,10 @@ impl State {
     /// Reads the server's first payload.
     #[inline(never)]
     pub(crate) fn read_greeting(&mut self, payload: &[u8]) -> Result<Event, Fault>
-        ensures { Reads (says events.Greeting (after_greeting self.old.standing)
+        ensures reads { Reads (says events.Greeting (after_greeting self.old.standing)
             (of_login (greeting_at payload.now)))
             result self.new.standing }
+        ensures unclear { IfOk result (λ event. EventHasUnclear self.old.standing payload.now event) }
     {
         let said = boxed(self.alloc, greeting(self.alloc, payload)?)?;
         self.greeted(&said);
@@ -170,8 +172,9 @@ impl State {
     /// Reads the client's first payload.
     #[inline(never)]
     pub(crate) fn read_response(&mut self, payload: &[u8]) -> Result<Event, Fault>
-        ensures { Reads (says events.Response (after_response self.old.standing)
+        ensures reads { Reads (says events.Response (after_response self.old.standing)
             (of_login (response_at self.old.standing.offered.protocol.0 payload.now))) result self.new.standing }
+        ensures unclear { IfOk result (λ event. EventHasUnclear self.old.standing payload.now event) }
     {
         let said = response(self.alloc, self.offered.protocol, payload)?;
         let said = boxed(self.alloc, said)?;

@@ -25,9 +25,9 @@ impl State {
     /// Reads a row that is due behind another one where it lies. `false` says nothing of the
     /// payload: [`State::read_in_place`] reads it then.
     ///
-    /// Promise: where it is `true`, the row is the one that `read` would answer, it is the server's
-    /// turn, no more is kept than before, and [`State::row_ref`] of this payload gives the row; else
-    /// nothing has changed but what `row_ref` gives (`TakesRow`).
+    /// Promise: where it is `true`, the row is the one that `read` would answer, and
+    /// [`State::row_ref`] of this payload gives it. It is the server's turn, and no more is kept
+    /// than before. Else nothing has changed but what `row_ref` gives (`TakesRow`).
     ///
     /// MySQL: Client/Server Protocol, "Text Resultset Row" and "Binary Protocol Resultset Row".
     pub fn take_row(&mut self, payload: &[u8]) -> bool

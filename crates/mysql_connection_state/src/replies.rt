@@ -1,10 +1,10 @@
 //! Payloads of a reply, and of a file that it asks for.
 
-ghost use Rattle.std.specs.Prelude.{◌≡◌, None, OnOk, true};
+ghost use Rattle.std.specs.Prelude.{◌≡◌, IfOk, IfSome, List, None, OnOk, true, ℕ};
 ghost use Rattle.mysql_const.specs.declared.capabilities.Capabilities.{Capabilities};
 ghost use Rattle.mysql_connection_rules.specs.Events.Event.{Replied};
 ghost use Rattle.mysql_connection_rules.specs.Standing as phases;
-ghost use Rattle.mysql_connection_rules.specs.Standing.{InReply as StandingReply};
+ghost use Rattle.mysql_connection_rules.specs.Standing.{InReply as StandingReply, Standing};
 ghost use Rattle.mysql_connection_rules.specs.Steps as steps;
 ghost use Rattle.mysql_reply_events.specs.Standing.{RowAt};
 ghost use Rattle.mysql_reply_events.specs.Views.{event_view as reply_view};
@@ -15,7 +15,8 @@ ghost use Rattle.mysql_connection_state.specs.Reads.{IsInReply, Reads, ReadsInPl
 ghost use Rattle.mysql_connection_state.specs.Reads.{SaysInPlace, SaysPart, SaysPartInPlace};
 ghost use Rattle.mysql_connection_state.specs.Reads.{TakesFile, awaits_reply, kept_columns};
 ghost use Rattle.mysql_connection_state.specs.Reads.{reply_fault, told};
-ghost use Rattle.mysql_connection_state.specs.Views.{Fits, about_view, event_view, in_reply_view};
+ghost use Rattle.mysql_connection_state.specs.Views.{EventHasUnclear, Fits, about_view, event_view};
+ghost use Rattle.mysql_connection_state.specs.Views.{in_reply_view};
 ghost use Rattle.mysql_connection_state.specs.Views.{phase_view, plain_reply};
 ghost use Rattle.mysql_connection_state.specs.declared.due.Due.TheVariants as held;
 
@@ -229,6 +230,7 @@ impl State {
         ensures state { (r : StandingReply) → self.old.standing.phase ≡ phases.Reply r →
             self.new.standing ≡ told r (reply_view event.value) self.old.standing }
         ensures event { event_view result ≡ Replied (reply_view event.value) }
+        ensures unclear { (s : Standing) (payload : List ℕ) → EventHasUnclear s payload result }
     {
         if self.has_whole_reply() {
             self.end_reply(&event);
@@ -239,8 +241,9 @@ impl State {
     // Reads a payload of the server.
     fn read_reply(&mut self, payload: &[u8]) -> Result<Event, Fault>
         requires { IsInReply self.old.standing.phase }
-        ensures { (r : StandingReply) → self.old.standing.phase ≡ phases.Reply r →
+        ensures reads { (r : StandingReply) → self.old.standing.phase ≡ phases.Reply r →
             Reads (steps.reply_step r self.old.standing payload.now) result self.new.standing }
+        ensures unclear { IfOk result (λ event. EventHasUnclear self.old.standing payload.now event) }
     {
         let Due::Reply(reply) = &mut self.due else {
             unreachable!()
@@ -257,8 +260,9 @@ impl State {
     // Reads bytes of the client's file.
     fn read_file(&mut self, payload: &[u8]) -> Result<Event, Fault>
         requires { IsInReply self.old.standing.phase }
-        ensures { (r : StandingReply) → self.old.standing.phase ≡ phases.Reply r →
+        ensures reads { (r : StandingReply) → self.old.standing.phase ≡ phases.Reply r →
             Reads (steps.file_step r self.old.standing payload.now) result self.new.standing }
+        ensures unclear { IfOk result (λ event. EventHasUnclear self.old.standing payload.now event) }
     {
         let Due::Reply(reply) = &mut self.due else {
             unreachable!()
@@ -275,8 +279,9 @@ impl State {
     /// Reads a payload of a reply, or of a file that it asks for.
     pub(crate) fn read_in_reply(&mut self, payload: &[u8], side: Side) -> Result<Event, Fault>
         requires { IsInReply self.old.standing.phase }
-        ensures { (r : StandingReply) → self.old.standing.phase ≡ phases.Reply r →
+        ensures reads { (r : StandingReply) → self.old.standing.phase ≡ phases.Reply r →
             Reads (steps.by_turn side r self.old.standing payload.now) result self.new.standing }
+        ensures unclear { IfOk result (λ event. EventHasUnclear self.old.standing payload.now event) }
     {
         match side {
             Side::Client => self.read_file(payload),
@@ -300,9 +305,11 @@ impl State {
     // Reads a payload of the server; a row where it lies.
     fn read_reply_in_place(&mut self, payload: &[u8]) -> Result<Option<Event>, Fault>
         requires { IsInReply self.old.standing.phase }
-        ensures { (r : StandingReply) → self.old.standing.phase ≡ phases.Reply r →
+        ensures reads { (r : StandingReply) → self.old.standing.phase ≡ phases.Reply r →
             ReadsInPlace (steps.reply_step r self.old.standing payload.now) payload.now result
             self.new }
+        ensures unclear { IfOk result (λ found. IfSome found (λ event.
+            EventHasUnclear self.old.standing payload.now event)) }
     {
         let Due::Reply(reply) = &mut self.due else {
             unreachable!()
@@ -320,12 +327,28 @@ impl State {
         }
     }
 
+    // Reads the payload that is due, a row where it lies; the mode stays.
+    fn read_in_place_by_phase(&mut self, payload: &[u8]) -> Result<Option<Event>, Fault>
+        ensures reads { ReadsInPlace (steps.in_turn self.old.standing.phase self.old.standing
+            payload.now) payload.now result self.new }
+        ensures unclear { IfOk result (λ found. IfSome found (λ event.
+            EventHasUnclear self.old.standing payload.now event)) }
+    {
+        if self.awaits_reply() {
+            return self.read_reply_in_place(payload);
+        }
+        match self.read_by_phase(payload) {
+            Ok(event) => Ok(Some(event)),
+            Err(fault) => Err(fault),
+        }
+    }
+
     /// Reads the payload that is due as [`State::read`] does, but a row where it lies.
     ///
     /// `None` is a row: [`State::row_ref`] of this payload then gives it. Nothing of it is copied.
     ///
     /// Promise: the row is the one that `read` would answer, and so is what stands behind it
-    /// (`ReadsInPlace`).
+    /// (`ReadsInPlace`). An event's unclear values are those that `read` would mark.
     ///
     /// # Errors
     /// - Those of [`State::read`], in the same order. After an error the state may be anything.
@@ -333,14 +356,19 @@ impl State {
     /// MySQL: Client/Server Protocol, "Text Resultset Row" and "Binary Protocol Resultset Row"; C
     /// API, "mysql_use_result()".
     pub fn read_in_place(&mut self, payload: &[u8]) -> Result<Option<Event>, Fault>
-        ensures { ReadsInPlace (steps.step self.old.standing payload.now) payload.now result
+        ensures reads { ReadsInPlace (steps.step self.old.standing payload.now) payload.now result
             self.new }
+        ensures unclear { IfOk result (λ found. IfSome found (λ event.
+            EventHasUnclear self.old.standing payload.now event)) }
     {
-        if self.awaits_reply() {
-            return self.read_reply_in_place(payload);
-        }
-        match self.read(payload) {
-            Ok(event) => Ok(Some(event)),
+        let mode = self.session_mode();
+        let resets = self.is_resetting();
+        match self.read_in_place_by_phase(payload) {
+            Ok(Some(event)) => {
+                self.tell_mode(mode, resets, &event);
+                Ok(Some(event))
+            }
+            Ok(None) => Ok(None),
             Err(fault) => Err(fault),
         }
     }

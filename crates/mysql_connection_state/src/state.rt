@@ -1,14 +1,14 @@
 //! What stands of a connection between two payloads.
 
-ghost use Rattle.std.specs.Prelude.{◌≡◌, option_map};
+ghost use Rattle.std.specs.Prelude.{◌≡◌, IfOk, option_map};
 ghost use Rattle.std.specs.Option.{option_and_then, option_copied};
 ghost use Rattle.mysql_auth.specs.Views.{plugin_view};
 ghost use Rattle.mysql_connection_statements.specs.Statements.{resolved, statement_at};
 ghost use Rattle.mysql_connection_rules.specs.Standing.{at_first, kept, logged_in, phase_size};
-ghost use Rattle.mysql_connection_rules.specs.Steps.{in_phase, step, turn};
+ghost use Rattle.mysql_connection_rules.specs.Steps.{in_phase, in_turn, step, turn};
 ghost use Rattle.mysql_connection_rules.specs.Streams.{is_client, number_in, numbered};
 ghost use Rattle.mysql_connection_state.specs.Reads.{IsCount, Reads, farewell_step};
-ghost use Rattle.mysql_connection_state.specs.Views.{Fits, phase_view, plain_phase};
+ghost use Rattle.mysql_connection_state.specs.Views.{EventHasUnclear, Fits, phase_view, plain_phase};
 
 use crate::changes::about_size;
 use crate::due::Due;
@@ -20,13 +20,15 @@ use mysql_connection_rules::{Fault, Reason, Side};
 use mysql_connection_statements::Statements;
 use mysql_const::{Capabilities, CapabilityFlags, MariadbCapabilities};
 use mysql_executions::StatementParameters;
+use mysql_session_modes::SessionMode;
 use std::alloc::Global;
 use std::marker::Model;
 
 /// What stands of a connection between two payloads.
 ///
-/// That is what is due, the number that is due, the capabilities that the server offers and those in
-/// force, the plugin in force, and the prepared statements.
+/// That is what is due, the number that is due, and the prepared statements. With them stand the
+/// capabilities that the server offers, those in force, the plugin in force, and what is known of the
+/// session's SQL mode.
 ///
 /// Contracts see it as a `ConnectionState`: a `Standing`, and what reads rows where they lie.
 ///
@@ -40,6 +42,7 @@ pub struct State {
     pub(crate) capabilities: Capabilities,
     pub(crate) plugin: Option<AuthPlugin<'static>>,
     pub(crate) statements: Statements,
+    pub(crate) mode: SessionMode,
 }
 
 impl Model for State {
@@ -60,6 +63,7 @@ impl Model for State {
         capabilities = s.capabilities;
         plugin = option_map plugin_view s.plugin;
         statements = s.statements;
+        mode = s.mode;
       };
       rows = rows_of s.due;
     } };
@@ -79,6 +83,7 @@ impl Drop for State {
             capabilities: _,
             plugin: _plugin,
             statements: _statements,
+            mode: _,
         } = self;
     }
 }
@@ -126,6 +131,7 @@ impl State {
             capabilities: no_capabilities(),
             plugin: None,
             statements: Statements::new(alloc),
+            mode: SessionMode::unknown(),
         }
     }
 
@@ -143,6 +149,7 @@ impl State {
             capabilities,
             plugin: None,
             statements: Statements::new(alloc),
+            mode: SessionMode::unknown(),
         }
     }
 
@@ -154,25 +161,11 @@ impl State {
         self.due = due;
     }
 
-    /// Reads the payload that is due, of the side whose turn it is.
-    ///
-    /// Promise: the event and what stands behind it are exactly those of the table of steps, or its
-    /// fault, for any bytes (`step`).
-    ///
-    /// # Errors
-    /// - `OldProtocol`, `BadGreeting`, `BadLogin`, `BadSwitch`, `BadReply`, each named by what
-    ///   can't be read.
-    /// - `Unasked` where nothing is due.
-    /// - `Memory`.
-    ///
-    /// After an error the state may be anything.
-    ///
-    /// MySQL: Client/Server Protocol, "Connection Phase" and "Command Phase"; MariaDB:
-    /// Client/Server Protocol, "Connecting", "2 - Text Protocol" and "3 - Binary Protocol (Prepared
-    /// Statements)".
-    #[tactic(auto, unfolding(mysql_connection_rules::specs::Steps::step))]
-    pub fn read(&mut self, payload: &[u8]) -> Result<Event, Fault>
-        ensures { Reads (step self.old.standing payload.now) result self.new.standing }
+    // Reads the payload that is due; the mode stays.
+    pub(crate) fn read_by_phase(&mut self, payload: &[u8]) -> Result<Event, Fault>
+        ensures reads { Reads (in_turn self.old.standing.phase self.old.standing payload.now) result
+            self.new.standing }
+        ensures unclear { IfOk result (λ event. EventHasUnclear self.old.standing payload.now event) }
     {
         match &self.due {
             Due::Greeting => self.read_greeting(payload),
@@ -191,6 +184,38 @@ impl State {
                 self.read_in_reply(payload, side)
             }
             Due::Over(_) => Err(Fault::Unasked),
+        }
+    }
+
+    /// Reads the payload that is due, of the side whose turn it is.
+    ///
+    /// Promise: the event and what stands behind it are exactly those of the table of steps, or its
+    /// fault, for any bytes (`step`). Exactly those values of an execution are unclear that are so by
+    /// its bytes and by what is in force (`EventHasUnclear`).
+    ///
+    /// # Errors
+    /// - `OldProtocol`, `BadGreeting`, `BadLogin`, `BadSwitch`, `BadReply`, each named by what
+    ///   can't be read.
+    /// - `Unasked` where nothing is due.
+    /// - `Memory`.
+    ///
+    /// After an error the state may be anything.
+    ///
+    /// MySQL: Client/Server Protocol, "Connection Phase" and "Command Phase"; MariaDB:
+    /// Client/Server Protocol, "Connecting", "2 - Text Protocol" and "3 - Binary Protocol (Prepared
+    /// Statements)".
+    pub fn read(&mut self, payload: &[u8]) -> Result<Event, Fault>
+        ensures reads { Reads (step self.old.standing payload.now) result self.new.standing }
+        ensures unclear { IfOk result (λ event. EventHasUnclear self.old.standing payload.now event) }
+    {
+        let mode = self.session_mode();
+        let resets = self.is_resetting();
+        match self.read_by_phase(payload) {
+            Ok(event) => {
+                self.tell_mode(mode, resets, &event);
+                Ok(event)
+            }
+            Err(fault) => Err(fault),
         }
     }
 

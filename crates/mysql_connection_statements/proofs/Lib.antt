@@ -1,3 +1,4 @@
+pub mod Entries
 pub mod Changes
 pub mod Sums
 pub mod Totals

@@ -1,28 +1,13 @@
 -- How much is kept for all statements behind a change of one.
-use Rattle.std.proofs.Common.{◌≡◌, ℕ, ◌+◌, ◌-◌, Bool, true, false, if◌then◌else◌, List, [], ◌∷◌, Option, Some, None, nat_eq, refl, ap, ◌∙◌, sym, arith, ◌≤◌, OnErr, Result, Ok, Err}
-use Rattle.std.specs.Map.{lookup}
+use Rattle.std.proofs.Common.{◌≡◌, ℕ, ◌+◌, ◌-◌, Bool, true, false, if◌then◌else◌, List, Option, Some, None, refl, ap, ◌∙◌, sym, arith, ◌≤◌, OnErr, Result, Ok, Err}
 use Rattle.std.specs.Option.{option_and_then}
-use Rattle.indexmap.specs.IndexMap.{insert_entry}
+use Rattle.std.specs.BTreeMap.{insert_entry}
+use Rattle.std.specs.Ordering.{nat_cmp}
 use Rattle.mysql_executions.specs.declared.refused.Refused.{Refused}
 use Rattle.mysql_executions.specs.declared.types.BoundType.{BoundType}
+use Rattle.mysql_connection_statements.proofs.Entries.{found_again}
 use Rattle.mysql_connection_statements.specs.Statements.{Statement, Statements, change_at, changed, executed, executing_size, has_nothing, more_before, pending_of, statement_at, statement_size, stored_size, waiting_size, with_statement}
 use Rattle.mysql_connection_statements.specs.declared.pending.Pending.{Pending}
-
-same_number : (n : ℕ) → nat_eq n n ≡ true
-same_number n = search arith
-
-found_first : (test : Bool) (e : ℕ × Statement) (es : List (ℕ × Statement)) (id : ℕ) (statement : Statement) →
-    nat_eq id e.0 ≡ test → lookup (nat_eq id) (insert_entry nat_eq es id statement) ≡ Some statement →
-    lookup (nat_eq id) (if test then (e.0, statement) ∷ es else e ∷ insert_entry nat_eq es id statement) ≡ Some statement
-found_first true e es id statement is rest = rw is refl
-found_first false e es id statement is rest = rw is rest
-
--- what was put under an id is found there
-pub found_again : (es : List (ℕ × Statement)) (id : ℕ) (statement : Statement) →
-    lookup (nat_eq id) (insert_entry nat_eq es id statement) ≡ Some statement
-found_again [] id statement = rw (same_number id) refl
-found_again (e ∷ es) id statement =
-    found_first (nat_eq id e.0) e es id statement refl (found_again es id statement)
 
 -- behind a change of a statement that is known
 pub changed_stored : (s : Statements) (id : ℕ) (statement : Statement) (change : Statement → Statement) →
@@ -34,10 +19,10 @@ changed_stored s id statement change known =
 
 -- behind two changes, of which the first put the statement there
 pub changed_twice : (s : Statements) (id : ℕ) (first : Statement) (change : Statement → Statement) (last : Option ℕ) →
-    (let put : Statements = record { by_id = insert_entry nat_eq s.by_id id first; last = last; stored = s.stored - stored_size (statement_at s id) + statement_size first } in
+    (let put : Statements = record { by_id = insert_entry nat_cmp s.by_id id first; last = last; stored = s.stored - stored_size (statement_at s id) + statement_size first } in
     change_at id change put).stored ≡ s.stored - stored_size (statement_at s id) + statement_size (change first)
 changed_twice s id first change last =
-    let put : Statements = record { by_id = insert_entry nat_eq s.by_id id first; last = last; stored = s.stored - stored_size (statement_at s id) + statement_size first } in
+    let put : Statements = record { by_id = insert_entry nat_cmp s.by_id id first; last = last; stored = s.stored - stored_size (statement_at s id) + statement_size first } in
     let once = changed_stored put id first change (sym (found_again s.by_id id first)) in
     omega arith
 

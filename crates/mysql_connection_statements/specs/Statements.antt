@@ -1,11 +1,13 @@
 -- The prepared statements of a connection: what stands of each, and what a command and its reply
 -- change. MySQL: Client/Server Protocol, "Prepared Statements"; MariaDB: Client/Server Protocol,
 -- "3 - Binary Protocol (Prepared Statements)".
-use Rattle.std.specs.Prelude.{ℕ, ◌+◌, ◌*◌, ◌-◌, ◌==◌, ◌&&◌, ◌||◌, Bool, not, if◌then◌else◌, nat_eq, nat_lt}
+use Rattle.std.specs.Prelude.{ℕ, ◌+◌, ◌*◌, ◌-◌, ◌==◌, ◌&&◌, ◌||◌, Bool, not, if◌then◌else◌, nat_lt}
 use Rattle.std.specs.Prelude.{List, []}
 use Rattle.std.specs.Prelude.{length, Option, Some, None}
-use Rattle.std.specs.Map.{lookup}
-use Rattle.indexmap.specs.IndexMap.{insert_entry, swap_remove_entry}
+use Rattle.std.specs.BTreeMap.{insert_entry, is_at}
+use Rattle.std.specs.List.Sorted.{IsStrictlySortedBy}
+use Rattle.std.specs.Map.{keys_of, lookup, remove_entry}
+use Rattle.std.specs.Ordering.{nat_cmp}
 use Rattle.mysql_columns.specs.Columns.{ColumnDefinition}
 use Rattle.mysql_executions.specs.After.{after_execution, after_long_data, after_refusal}
 use Rattle.mysql_executions.specs.After.{after_reset, freshly_prepared}
@@ -26,7 +28,8 @@ pub record Statement : Type 0 where
   pub described : ℕ
   pub sent : ℕ
 
--- The statements by their ids, the id that was prepared last, and what is kept for all of them.
+-- The statements by their ids, in the order of the ids, the id that was prepared last, and what is kept
+-- for all of them.
 pub record Statements : Type 0 where
   pub by_id : List (ℕ × Statement)
   pub last : Option ℕ
@@ -35,8 +38,12 @@ pub record Statements : Type 0 where
 abbrev pub no_statements : Statements
 no_statements = record { by_id = []; last = None; stored = 0 }
 
+-- The ids ascend, so that each statement has one of its own.
+abbrev pub IsOrdered : Statements → Type 0
+IsOrdered s = IsStrictlySortedBy nat_cmp (keys_of s.by_id)
+
 abbrev pub statement_at : Statements → ℕ → Option Statement
-statement_at s id = lookup (nat_eq id) s.by_id
+statement_at s id = lookup (is_at (nat_cmp id)) s.by_id
 
 -- This id stands for the one that was prepared last. (MariaDB: "COM_STMT_EXECUTE", 'Statement id'.)
 abbrev pub last_prepared : ℕ
@@ -67,7 +74,7 @@ stored_size (Some statement) = statement_size statement
 -- A statement stands under this id, in the place of one that stood there.
 abbrev pub with_statement : ℕ → Statement → Statements → Statements
 with_statement id statement s = record {
-  by_id = insert_entry nat_eq s.by_id id statement;
+  by_id = insert_entry nat_cmp s.by_id id statement;
   last = s.last;
   stored = s.stored - stored_size (statement_at s id) + statement_size statement;
 }
@@ -108,7 +115,7 @@ unless_it id (Some last) = if id == last then None else Some last
 
 abbrev pub after_close : ℕ → Statements → Statements
 after_close id s = record {
-  by_id = swap_remove_entry (nat_eq id) s.by_id;
+  by_id = remove_entry (is_at (nat_cmp id)) s.by_id;
   last = unless_it id s.last;
   stored = s.stored - stored_size (statement_at s id);
 }

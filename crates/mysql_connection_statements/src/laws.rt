@@ -5,6 +5,8 @@ ghost use Rattle.mysql_connection_statements.specs.Laws.{StaysSummedAtAClose};
 ghost use Rattle.mysql_connection_statements.specs.Laws.{StaysSummedAtAPrepare};
 
 /// What is kept for all statements is the sum of what is kept for each, whatever commands came.
+///
+/// Their ids ascend.
 pub fn stored_is_the_sum()
     ensures begins { BeginsSummed }
     ensures prepare { StaysSummedAtAPrepare }

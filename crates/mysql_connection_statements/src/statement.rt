@@ -28,9 +28,8 @@ use std::rc::RcSlice;
 
 /// A prepared statement of a connection.
 ///
-/// It has its text, what is in force of its parameters, and the columns that it last had, and
-/// counts the payloads that are kept for it. (MySQL: Client/Server Protocol, "Prepared
-/// Statements".)
+/// It has its text, what is in force of its parameters, and the columns that it last had. It counts
+/// the payloads that are kept for it. (MySQL: Client/Server Protocol, "Prepared Statements".)
 #[derive(Drop)]
 pub struct Statement {
     text: ByteString,

@@ -19,11 +19,11 @@ ghost use Rattle.mysql_connection_statements.specs.Statements.{taken_back, with_
 use crate::pending::Pending;
 use crate::sizes::{changed_sum, with_part};
 use crate::statement::Statement;
-use indexmap::IndexMap;
 use mysql_columns::Column;
 use mysql_executions::{BoundType, Refused};
 use mysql_queries::ByteString;
 use std::alloc::{AllocError, Global};
+use std::collections::BTreeMap;
 use std::marker::Model;
 use std::rc::RcSlice;
 
@@ -33,17 +33,17 @@ const LAST_PREPARED: u32 = 0xffff_ffff;
 /// The prepared statements of a connection by their ids.
 ///
 /// It also has which of them was prepared last, and how much is kept for all of them. Each call
-/// takes constant time beside what it copies.
+/// takes time that grows with the logarithm of their number, beside what it copies.
 ///
-/// Contracts see the list of the ids with their statements, the last one's id and the sum
-/// (`Statements`). Follows "Prepared Statements" of the client/server protocol documentation, and
+/// Contracts see the list of the ids with their statements, in the order of the ids, the last one's
+/// id and the sum (`Statements`). Follows "Prepared Statements" of the client/server protocol documentation, and
 /// "COM_STMT_EXECUTE" (statement id) of MariaDB's.
 ///
 /// Where a call answers an error for want of memory, or since a sum is too large, nothing changes.
 #[derive(Drop)]
 pub struct Statements {
     alloc: Global,
-    by_id: IndexMap<u32, Statement>,
+    by_id: BTreeMap<u32, Statement>,
     last: Option<u32>,
     stored: usize,
 }
@@ -63,7 +63,7 @@ impl Statements {
     {
         Statements {
             alloc,
-            by_id: IndexMap::new(alloc),
+            by_id: BTreeMap::new(alloc),
             last: None,
             stored: 0,
         }
@@ -82,7 +82,8 @@ impl Statements {
     pub fn get_settled(&self, id: u32) -> Option<&Statement>
         ensures { IfSome result (λ statement. IsSettledAt self.now id statement.now) }
     {
-        if id == LAST_PREPARED {
+        // The contract of the map's length says that its ids ascend.
+        if id == LAST_PREPARED || self.by_id.len() == 0 {
             return None;
         }
         let statement = self.by_id.get(&id)?;
@@ -162,7 +163,7 @@ impl Statements {
         ensures { self.new ≡ after_close id self.old }
     {
         let size = self.size_at(id);
-        self.by_id.swap_remove(&id);
+        self.by_id.remove(&id);
         self.last = unless_it(id, self.last);
         self.stored = (self.stored as u128).saturating_sub(size) as usize;
     }

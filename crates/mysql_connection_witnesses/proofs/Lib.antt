@@ -3,3 +3,4 @@ pub mod AboutStreams
 pub mod AboutPuts
 pub mod AboutReceiving
 pub mod AboutReplies
+pub mod AboutModes

@@ -5,3 +5,4 @@ pub mod Puts
 pub mod Recoding
 pub mod Receiving
 pub mod Replies
+pub mod Modes

@@ -1,6 +1,7 @@
 -- What the definitions of events that are put exclude. MySQL: Client/Server Protocol, "Connection Lifecycle",
 -- "Sequence ID", "COM_STMT_EXECUTE", "COM_QUERY Response", "Binary Protocol Value".
-use Rattle.std.specs.Prelude.{◌≡◌, ℕ, true, false, List, [], ◌∷◌, None, Err, Some, pos}
+use Rattle.std.specs.Prelude.{◌≡◌, ℕ, true, false, List, [], ◌∷◌, Option, None, Err, Some, pos}
+use Rattle.mysql_cells.specs.declared.value.Value.{Value}
 use Rattle.mysql_cells.specs.declared.value.Value.TheVariants.{Int, UInt}
 use Rattle.mysql_commands.specs.Commands.{Execute, Ping, command_at}
 use Rattle.mysql_connection_agreement.specs.Puts.{is_free, number_for, packets_for}
@@ -21,9 +22,12 @@ use Rattle.mysql_connection_rules.specs.declared.side.Side.{Side}
 use Rattle.mysql_connection_rules.specs.declared.side.Side.TheVariants.{Server}
 use Rattle.mysql_connection_statements.specs.Statements.{Statement}
 use Rattle.mysql_connection_writer.specs.Commands.{parameters_named}
+use Rattle.mysql_connection_writer.specs.Executions.{execution_by}
 use Rattle.mysql_connection_writer.specs.Payloads.{payload_of}
+use Rattle.mysql_const.specs.declared.capabilities.Capabilities.{Capabilities}
 use Rattle.mysql_const.specs.declared.column_type.ColumnType.TheVariants.{MYSQL_TYPE_LONGLONG}
 use Rattle.mysql_executions.specs.Executions.{Execution}
+use Rattle.mysql_executions.specs.InForce.{InForce}
 use Rattle.mysql_handshake.specs.Capabilities.{both_words}
 use Rattle.mysql_reply_events.specs.declared.context.ReplyKind.TheVariants.{Text}
 use Rattle.mysql_reply_events.specs.declared.fault.ReplyFault.TheVariants.{BadCount}
@@ -78,10 +82,22 @@ execution_of_number = record {
   statement = 1;
   cursor = record { 0 = 0 };
   count_available = false;
+  nameless_flags = 0;
+  iterations = 1;
   types = None;
   parameters = UInt 1 ∷ [];
   attributes = [];
+  rest = [];
 }
+
+-- An execution that is made of values has one iteration, no flag without a name and no byte behind its
+-- last value. Excluded: an odd one. MySQL: Client/Server Protocol, "COM_STMT_EXECUTE".
+abbrev pub ValuesMakeNoOddExecution : Type 0
+ValuesMakeNoOddExecution = (capabilities : Capabilities) (parameters : Option InForce) (id : ℕ)
+    (values : List Value) →
+    ((execution_by capabilities parameters id values).iterations ≡ 1) ×
+    (((execution_by capabilities parameters id values).nameless_flags ≡ 0) ×
+    ((execution_by capabilities parameters id values).rest ≡ []))
 
 -- An execution is written by what is in force of the statement that it names. Excluded: the parameters of
 -- another one, as of that which was prepared last. MySQL: Client/Server Protocol, "COM_STMT_EXECUTE".

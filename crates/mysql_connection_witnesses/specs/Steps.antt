@@ -4,7 +4,7 @@
 -- MariaDB: Client/Server Protocol, "Connecting", "COM_STMT_EXECUTE" (statement id).
 use Rattle.std.specs.Prelude.{◌≡◌, ◌+◌, ℕ, true, false, List, [], ◌∷◌, None, Err, Some}
 use Rattle.mysql_auth.specs.Plugins.Plugin.{NativePassword}
-use Rattle.mysql_authentication.specs.Events.Authentication.{AuthMore}
+use Rattle.mysql_authentication.specs.Events.Authentication.{Accepted, AuthMore}
 use Rattle.mysql_columns.specs.Extended.{ExtendedDefinition}
 use Rattle.mysql_commands.specs.Commands.{Command, Execute, command_at}
 use Rattle.mysql_connection_rules.specs.Standing as phases
@@ -12,12 +12,13 @@ use Rattle.mysql_connection_rules.specs.Standing.{InReply, Standing}
 use Rattle.mysql_connection_rules.specs.Standing.About.{Nothing, Preparing, Streaming}
 use Rattle.mysql_connection_rules.specs.Steps.{after_authentication, after_command, after_event, authentication_step}
 use Rattle.mysql_connection_rules.specs.Steps.{changed_by, parameters_in_question, reply_due, sized}
-use Rattle.mysql_connection_rules.specs.declared.exchange.Exchange.TheVariants.{BareChange, Login}
+use Rattle.mysql_connection_rules.specs.declared.exchange.Exchange.TheVariants.{BareChange, ChangeUser, Login}
 use Rattle.mysql_connection_rules.specs.declared.fault.Fault.TheVariants.{BadGreeting}
 use Rattle.mysql_connection_rules.specs.declared.reason.Reason.TheVariants.{Dump}
 use Rattle.mysql_connection_statements.specs.Statements.{Statement, Statements, no_statements, prepared_as}
 use Rattle.mysql_connection_statements.specs.Statements.{statement_at}
 use Rattle.mysql_handshake.specs.Capabilities.{both_words}
+use Rattle.mysql_ok_packets.specs.OkPackets.{OkPacket}
 use Rattle.mysql_reply_events.specs.Events as awaiting
 use Rattle.mysql_reply_events.specs.Events.{ReplySoFar}
 use Rattle.mysql_reply_events.specs.Events.Event.{ColumnEvent, ErrorEvent, PreparedEvent}
@@ -46,7 +47,19 @@ abbrev pub ChangesOfUserCloseStatements : Type 0
 ChangesOfUserCloseStatements = (s : Standing) (command : Command) →
     (after_command s (0x11 ∷ []) command).statements ≡ no_statements
 
+-- Behind the OK of a change of user a command is due, whatever is in force. Excluded: a connection that
+-- is over there, as behind a login where both sides compress. MySQL: Client/Server Protocol, "Compression".
+abbrev pub ChangesOfUserGoOn : Type 0
+ChangesOfUserGoOn = (s : Standing) (ok : OkPacket) →
+    (after_authentication ChangeUser s (Accepted ok)).phase ≡ phases.Command
+
 -- COMMANDS
+
+-- A bulk execution that isn't in force leaves the statements. Excluded: one whose types are in force behind
+-- it, and one by which long data goes. MariaDB: Client/Server Protocol, "COM_STMT_BULK_EXECUTE".
+abbrev pub UnagreedBulksChangeNothing : Type 0
+UnagreedBulksChangeNothing = (s : Standing) (body : List ℕ) (command : Command) →
+    (after_command (record s { capabilities = both_words 0 0 }) (0xfa ∷ body) command).statements ≡ s.statements
 
 -- two statements, of which the second was prepared last
 abbrev pub two_statements : (one other : Statement) → Statements
@@ -72,9 +85,34 @@ KnownExecutionsAreRead = (text : List ℕ) (size : ℕ) (other : Statement) →
       statement = 1;
       cursor = record { 0 = 0 };
       count_available = false;
+      nameless_flags = 0;
+      iterations = 1;
       types = None;
       parameters = [];
       attributes = [];
+      rest = [];
+    })
+
+-- the front of an execution of the statement 1 with the flag 40, no iteration, and a byte behind it
+abbrev pub odd_execution_of_1 : List ℕ
+odd_execution_of_1 = 0x17 ∷ 1 ∷ 0 ∷ 0 ∷ 0 ∷ 0x40 ∷ 0 ∷ 0 ∷ 0 ∷ 0 ∷ 0xff ∷ []
+
+-- Such an execution is one, with what is odd of it. Excluded: another payload, by which a byte would hide
+-- the statement. MySQL: Client/Server Protocol, "COM_STMT_EXECUTE".
+abbrev pub OddExecutionsAreRead : Type 0
+OddExecutionsAreRead = (text : List ℕ) (size : ℕ) (other : Statement) →
+    command_at (both_words 0 0)
+    (parameters_in_question (two_statements (prepared_as text 0 size) other) odd_execution_of_1) odd_execution_of_1
+    ≡ Execute (record {
+      statement = 1;
+      cursor = record { 0 = 0 };
+      count_available = false;
+      nameless_flags = 0x40;
+      iterations = 0;
+      types = None;
+      parameters = [];
+      attributes = [];
+      rest = 0xff ∷ [];
     })
 
 -- The reply to an execution is read as binary, also where its statement isn't known. Excluded: a query's,

@@ -1,11 +1,12 @@
-//! Witnesses of connections, and of the streams of commands and of replies below them: of wrong answers
-//! that a contract excludes, each by a law at a smallest input.
+//! Witnesses of connections, and of the streams of commands and of replies below them. They are of
+//! wrong answers that a contract excludes, each by a law at a smallest input.
 //!
 //! A contract says what a call answers by definitions. Each function here has no code: its contract
 //! says of such a definition that it excludes an answer which a wrong body would give. So no later
 //! body can give it, as long as the contract cites the definition.
 #![tactic(auto)]
 
+pub mod modes;
 pub mod puts;
 pub mod receiving;
 pub mod recoding;

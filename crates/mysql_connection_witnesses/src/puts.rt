@@ -4,7 +4,8 @@ ghost use Rattle.mysql_connection_witnesses.specs.Puts.{AnswersAreNumberedOn, Co
 ghost use Rattle.mysql_connection_witnesses.specs.Puts.{ExecutionsAreWrittenByTheirStatement, HasThatPayload};
 ghost use Rattle.mysql_connection_witnesses.specs.Puts.{NumbersAreNotPutAsOthers, PayloadsAreOfTheirSide};
 ghost use Rattle.mysql_connection_witnesses.specs.Puts.{RefusedEventsChangeNothing, RefusedPayloadsChangeNothing};
-ghost use Rattle.mysql_connection_witnesses.specs.Puts.{RowsAreDueBehindColumns, WhatWaitsComesFirst};
+ghost use Rattle.mysql_connection_witnesses.specs.Puts.{RowsAreDueBehindColumns, ValuesMakeNoOddExecution};
+ghost use Rattle.mysql_connection_witnesses.specs.Puts.{WhatWaitsComesFirst};
 
 /// Nothing is put before bytes that wait.
 ///
@@ -35,6 +36,13 @@ pub fn what_is_put_has_the_number_due()
 pub fn refusals_change_nothing()
     ensures events { RefusedEventsChangeNothing }
     ensures payloads { RefusedPayloadsChangeNothing }
+{}
+
+/// An execution that is made of values is no odd one.
+///
+/// Excluded: one with another iteration count than 1, a flag without a name, or bytes behind its values.
+pub fn values_make_no_odd_execution()
+    ensures { ValuesMakeNoOddExecution }
 {}
 
 /// An execution is written by what is in force of the statement that it names.

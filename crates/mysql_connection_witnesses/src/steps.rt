@@ -1,6 +1,8 @@
 //! The table of steps: logging in, commands, replies.
 
-ghost use Rattle.mysql_connection_witnesses.specs.Steps.{ChangesOfUserCloseStatements, ColumnsCount};
+ghost use Rattle.mysql_connection_witnesses.specs.Steps.{ChangesOfUserCloseStatements, ChangesOfUserGoOn};
+ghost use Rattle.mysql_connection_witnesses.specs.Steps.{ColumnsCount, OddExecutionsAreRead};
+ghost use Rattle.mysql_connection_witnesses.specs.Steps.{UnagreedBulksChangeNothing};
 ghost use Rattle.mysql_connection_witnesses.specs.Steps.{ExecutionsAreReadByTheirStatement};
 ghost use Rattle.mysql_connection_witnesses.specs.Steps.{ExecutionsHaveBinaryReplies, IdsAreTheServers};
 ghost use Rattle.mysql_connection_witnesses.specs.Steps.{KnownExecutionsAreRead, NewGreetingsAreNoData};
@@ -25,6 +27,28 @@ pub fn new_greetings_are_no_data()
 /// Excluded: statements that are kept over it.
 pub fn changes_of_user_close_statements()
     ensures { ChangesOfUserCloseStatements }
+{}
+
+/// Behind the OK of a change of user a connection goes on.
+///
+/// Excluded: one that is over, since compressed packets would follow a login.
+pub fn changes_of_user_go_on()
+    ensures { ChangesOfUserGoOn }
+{}
+
+/// A bulk execution that isn't in force changes nothing.
+///
+/// Excluded: one by whose types later executions are read.
+#[tactic(auto, unfolding(bitflags::proofs::OnLiterals::bitflags_on_literals))]
+pub fn unagreed_bulks_change_nothing()
+    ensures { UnagreedBulksChangeNothing }
+{}
+
+/// An execution with what no client library sends is one.
+///
+/// Excluded: another payload, by which a byte would hide the statement and its values.
+pub fn odd_executions_are_read()
+    ensures { OddExecutionsAreRead }
 {}
 
 /// An execution is read by what is in force of the statement that it names.

@@ -18,9 +18,9 @@ use Rattle.mysql_connection_rules.specs.Events.{Event}
 use Rattle.mysql_connection_rules.specs.Events as events
 use Rattle.mysql_connection_rules.specs.Standing.{Phase, Standing}
 use Rattle.mysql_connection_rules.specs.Standing as phases
-use Rattle.mysql_connection_rules.specs.Steps.{after_command, parameters_in_question, step}
+use Rattle.mysql_connection_rules.specs.Steps.{after_command, parameters_in_question}
 use Rattle.mysql_connection_writer.proofs.Lifting.{lifted, ok_same, some_same, unwritten}
-use Rattle.mysql_connection_writer.proofs.InLogin.{SaysIn, WritesIn}
+use Rattle.mysql_connection_writer.proofs.InLogin.{SaysIn, WritesIn, with_its_mode}
 use Rattle.mysql_connection_writer.proofs.Named.{is_bytes, named}
 use Rattle.mysql_connection_writer.proofs.OwnValues.{command_own, own_command}
 use Rattle.mysql_connection_writer.specs.Commands.{command_payload, is_own_command, parameters_named, parameters_of}
@@ -84,13 +84,13 @@ pub command_written : (s : Standing) (capabilities : Capabilities) (parameters :
     Writes (λ p. command_at capabilities parameters p ≡ c) (command_payload capabilities parameters c)
     (bad.Command (cause_against capabilities parameters c)) old new result →
     WritesEvent s (events.Asked c) old new result
-unfolding step
 command_written s capabilities parameters c old new result h fits in_force same w =
-    command_in s.phase s c old new result h fits
+    with_its_mode s (events.Asked c) old new result
+    (command_in s.phase s c old new result h fits
     (subst (λ (its : Option InForce). Writes (λ p. command_at s.capabilities its p ≡ c)
     (command_payload s.capabilities its c) (bad.Command (cause_against s.capabilities its c)) old new result) same
     (subst (λ (by : Capabilities). Writes (λ p. command_at by parameters p ≡ c)
-    (command_payload by parameters c) (bad.Command (cause_against by parameters c)) old new result) in_force w))
+    (command_payload by parameters c) (bad.Command (cause_against by parameters c)) old new result) in_force w)))
 
 no_command_in : (phase : Phase) (s : Standing) (c : Command) (old : List ℕ) → awaits_command phase ≡ false →
     WritesIn phase s (events.Asked c) old old (Err (refusals.BadEvent bad.ReadsOtherwise))
@@ -99,8 +99,9 @@ no_command_in phase s c old h = unwritten (SaysIn phase s (events.Asked c)) None
 
 pub no_command : (s : Standing) (c : Command) (old : List ℕ) → awaits_command s.phase ≡ false →
     WritesEvent s (events.Asked c) old old (Err (refusals.BadEvent bad.ReadsOtherwise))
-unfolding step
-no_command s c old h = no_command_in s.phase s c old h
+no_command s c old h =
+    with_its_mode s (events.Asked c) old old (Err (refusals.BadEvent bad.ReadsOtherwise))
+    (no_command_in s.phase s c old h)
 
 -- WHAT A COMMAND'S WRITER PUTS
 

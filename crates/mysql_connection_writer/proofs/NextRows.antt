@@ -14,6 +14,8 @@ use Rattle.mysql_connection_rules.specs.Events.{Event}
 use Rattle.mysql_connection_rules.specs.Events as events
 use Rattle.mysql_connection_rules.specs.Standing.{About, Executing, InReply, OfStatement, Phase, Preparing, Resetting, Standing, Streaming}
 use Rattle.mysql_connection_rules.specs.Standing as phases
+use Rattle.mysql_connection_rules.specs.SessionModes.{mode_behind}
+use Rattle.mysql_connection_rules.specs.StepLaws.{step_said, step_says}
 use Rattle.mysql_connection_rules.specs.Steps.{about_after, after_authentication, after_command, after_event, after_greeting, after_part}
 use Rattle.mysql_connection_rules.specs.Steps.{after_response, by_turn, changed_by, context_of, file_step, greets_anew, in_phase, in_turn}
 use Rattle.mysql_connection_rules.specs.Steps.{of_login, of_reply, parameters_in_question, reply_after, reply_step, says, step}
@@ -84,13 +86,13 @@ rows_no_file awaited h = rw h refl
 row_step : (s : Standing) (r : InReply) (row : Row) (p : Payload) → s.phase ≡ phases.Reply r → r.so_far.awaited ≡ Rows true →
     IsAnswered r.about → event_at (context_of s r) r.so_far p ≡ Ok (RowEvent row, r.so_far) →
     step s p ≡ Ok (events.Replied (RowEvent row), s)
-unfolding step
+unfolding mode_behind
 row_step s r row p phase awaited about reads =
     let in_reply : reply_step r s p ≡ Ok (events.Replied (RowEvent row), after_event r (counted p) (RowEvent row) r.so_far s) = rw reads refl in
     let told : in_turn (phases.Reply r) s p ≡ Ok (events.Replied (RowEvent row), after_event r (counted p) (RowEvent row) r.so_far s) =
     by_server r s p (rows_no_file r.so_far.awaited awaited) ∙ in_reply in
-    ap (λ (x : Phase). in_turn x s p) phase ∙ told
-    ∙ ap (λ (x : Standing). Ok (events.Replied (RowEvent row), x)) (nothing_after s r (counted p) row phase awaited about)
+    step_says s p (events.Replied (RowEvent row)) s (ap (λ (x : Phase). in_turn x s p) phase ∙ told
+    ∙ ap (λ (x : Standing). Ok (events.Replied (RowEvent row), x)) (nothing_after s r (counted p) row phase awaited about))
 
 -- WHAT A WRITER OF ROWS APPENDS
 
@@ -187,5 +189,6 @@ replied_in law (phases.Reply r) s after row p is h = reply_leads law r s after r
 replied_in law (phases.Over reason) s after row p is h = absurd cc
 
 pub rows_lead : EventsLeadOn → RowsLeadToRows
-unfolding step
-rows_lead law s after row p h = replied_in law s.phase s after row p refl h
+rows_lead law s after row p h =
+    let said = step_said s p (events.Replied (RowEvent row)) after h in
+    subst IsAmongRows (sym said.stands) (replied_in law s.phase s said.leaves row p refl said.says)

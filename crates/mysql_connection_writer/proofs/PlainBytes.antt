@@ -10,7 +10,7 @@ use Rattle.mysql_connection_rules.specs.Events as events
 use Rattle.mysql_connection_rules.specs.Standing.{InReply, Phase, Standing}
 use Rattle.mysql_connection_rules.specs.Standing as phases
 use Rattle.mysql_connection_rules.specs.Steps.{after_event, by_turn, context_of, file_step, in_phase, of_reply, reply_step}
-use Rattle.mysql_connection_rules.specs.Steps.{says, step, turn_in_reply}
+use Rattle.mysql_connection_rules.specs.Steps.{turn_in_reply}
 use Rattle.mysql_connection_statements.specs.Statements.{counted}
 use Rattle.mysql_connection_writer.proofs.Lifting.{lifted, said_of, some_same, unwritten}
 use Rattle.mysql_connection_writer.specs.Payloads.{Payload}
@@ -19,7 +19,7 @@ use Rattle.mysql_connection_writer.specs.Writes.{Writes, WritesEvent}
 use Rattle.mysql_connection_writer.specs.declared.refusal.EventRefusal.{EventRefusal}
 use Rattle.mysql_connection_writer.specs.declared.refusal.BadEvent.TheVariants.{ReadsOtherwise}
 use Rattle.mysql_connection_writer.specs.declared.refusal.EventRefusal.TheVariants as refusals
-use Rattle.mysql_connection_writer.proofs.InLogin.{SaysIn, WritesIn}
+use Rattle.mysql_connection_writer.proofs.InLogin.{SaysIn, WritesIn, with_its_mode}
 
 -- ANSWERS
 
@@ -42,8 +42,9 @@ answer_in phase s bytes old new result h w = absurd cc
 pub answer_written : (s : Standing) (bytes old new : List ℕ) (result : Result (Unit {0}) EventRefusal) →
     awaits_answer s.phase ≡ true → Writes (λ p. p ≡ bytes) (Some bytes) ReadsOtherwise old new result →
     WritesEvent s (events.Answer bytes) old new result
-unfolding step
-answer_written s bytes old new result h w = answer_in s.phase s bytes old new result h w
+answer_written s bytes old new result h w =
+    with_its_mode s (events.Answer bytes) old new result
+    (answer_in s.phase s bytes old new result h w)
 
 no_answer_in : (phase : Phase) (s : Standing) (bytes old : List ℕ) → awaits_answer phase ≡ false →
     WritesIn phase s (events.Answer bytes) old old (Err (refusals.BadEvent ReadsOtherwise))
@@ -52,8 +53,9 @@ no_answer_in phase s bytes old h = unwritten (SaysIn phase s (events.Answer byte
 
 pub no_answer : (s : Standing) (bytes old : List ℕ) → awaits_answer s.phase ≡ false →
     WritesEvent s (events.Answer bytes) old old (Err (refusals.BadEvent ReadsOtherwise))
-unfolding step
-no_answer s bytes old h = no_answer_in s.phase s bytes old h
+no_answer s bytes old h =
+    with_its_mode s (events.Answer bytes) old old (Err (refusals.BadEvent ReadsOtherwise))
+    (no_answer_in s.phase s bytes old h)
 
 -- THE CLIENT'S FILE
 
@@ -101,8 +103,9 @@ file_in phase s bytes old new result h w = absurd cc
 pub file_written : (s : Standing) (bytes old new : List ℕ) (result : Result (Unit {0}) EventRefusal) →
     awaits_file s.phase ≡ true → Writes (λ p. p ≡ bytes) (Some bytes) ReadsOtherwise old new result →
     WritesEvent s (events.FileData bytes) old new result
-unfolding step
-file_written s bytes old new result h w = file_in s.phase s bytes old new result h w
+file_written s bytes old new result h w =
+    with_its_mode s (events.FileData bytes) old new result
+    (file_in s.phase s bytes old new result h w)
 
 -- a server's payload says none
 no_file : (r : InReply) (s after : Standing) (p bytes : Payload) →
@@ -121,5 +124,6 @@ no_file_in phase s bytes old h = unwritten (SaysIn phase s (events.FileData byte
 
 pub no_file_data : (s : Standing) (bytes old : List ℕ) → awaits_file s.phase ≡ false →
     WritesEvent s (events.FileData bytes) old old (Err (refusals.BadEvent ReadsOtherwise))
-unfolding step
-no_file_data s bytes old h = no_file_in s.phase s bytes old h
+no_file_data s bytes old h =
+    with_its_mode s (events.FileData bytes) old old (Err (refusals.BadEvent ReadsOtherwise))
+    (no_file_in s.phase s bytes old h)

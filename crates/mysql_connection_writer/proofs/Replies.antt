@@ -14,12 +14,12 @@ use Rattle.mysql_connection_rules.specs.Events as events
 use Rattle.mysql_connection_rules.specs.Standing.{InReply, Phase, Standing}
 use Rattle.mysql_connection_rules.specs.Standing as phases
 use Rattle.mysql_connection_rules.specs.Steps.{after_event, context_of, file_step, in_phase, in_turn, of_reply}
-use Rattle.mysql_connection_rules.specs.Steps.{reply_step, step}
+use Rattle.mysql_connection_rules.specs.Steps.{reply_step}
 use Rattle.mysql_connection_statements.specs.Statements.{counted}
 use Rattle.mysql_connection_state.specs.Follows.{IsReplyReader, ReadsReply}
 use Rattle.mysql_connection_state.specs.Reads.{IsInReply}
 use Rattle.mysql_connection_writer.proofs.Lifting.{led_to, ok_same, said_of, unwritten}
-use Rattle.mysql_connection_writer.proofs.InLogin.{SaysIn, WritesIn}
+use Rattle.mysql_connection_writer.proofs.InLogin.{SaysIn, WritesIn, with_its_mode}
 use Rattle.mysql_connection_writer.proofs.PlainBytes.{by_client, by_server}
 use Rattle.mysql_connection_writer.specs.Phases.{is_file}
 use Rattle.mysql_connection_writer.specs.Payloads.{Payload}
@@ -156,10 +156,10 @@ reply_in s r reader event old new (Err refusals.Memory) its w = w
 pub reply_written : (s : Standing) (reader : ReaderState) (event : ReplySaid) (old new : List ℕ)
     (result : Result (Unit {0}) EventRefusal) → IsReplyReader s (Some reader) →
     PutsReply reader event old new result → WritesEvent s (events.Replied event) old new result
-unfolding step
 reply_written s reader event old new result its w =
-    subst (λ (phase : Phase). WritesIn phase s (events.Replied event) old new result) (sym its.1.phase)
-    (reply_in s its.0 reader event old new result its.1 w)
+    with_its_mode s (events.Replied event) old new result
+    (subst (λ (phase : Phase). WritesIn phase s (events.Replied event) old new result) (sym its.1.phase)
+    (reply_in s its.0 reader event old new result its.1 w))
 
 pub none_due : (reader : ReaderState) (event : ReplySaid) → reader.fault ≡ None → takes_payload reader ≡ false →
     (can : CanBePut reader event) → ⊥
@@ -173,5 +173,6 @@ no_reply_in phase s event old h = unwritten (SaysIn phase s (events.Replied even
 
 pub no_reply_due : (s : Standing) (event : ReplySaid) (old : List ℕ) → (IsInReply s.phase → ⊥) →
     WritesEvent s (events.Replied event) old old (Err (refusals.BadEvent bad.ReadsOtherwise))
-unfolding step
-no_reply_due s event old h = no_reply_in s.phase s event old h
+no_reply_due s event old h =
+    with_its_mode s (events.Replied event) old old (Err (refusals.BadEvent bad.ReadsOtherwise))
+    (no_reply_in s.phase s event old h)

@@ -1,5 +1,5 @@
 -- Executions of values that are written by the types in force: what they say, and where they lead.
-use Rattle.std.proofs.Common.{◌≡◌, ◌<◌, ◌^◌, ◌++◌, ℕ, Bool, true, false, List, [], ◌∷◌, length, map, Option, Some, Result, Ok, Err, refl, sym, ap, ◌∙◌, subst, append-nil}
+use Rattle.std.proofs.Common.{◌≡◌, ◌<◌, ◌^◌, ◌++◌, ℕ, Bool, true, false, List, [], ◌∷◌, length, map, Option, Some, Result, Ok, Err, refl, sym, ap, ◌∙◌, subst, append-nil, lit<}
 use Rattle.std.specs.List.{AllByRecursion}
 use Rattle.std.specs.Option.{option_and_then, option_map}
 use Rattle.std.specs.declared.alloc.AllocError.{AllocError}
@@ -23,6 +23,8 @@ use Rattle.mysql_connection_rules.specs.Events.Event.{Asked}
 use Rattle.mysql_connection_rules.specs.Standing.{Phase, Standing}
 use Rattle.mysql_connection_rules.specs.Standing.About.{OfStatement}
 use Rattle.mysql_connection_rules.specs.Standing as phases
+use Rattle.mysql_connection_rules.specs.SessionModes.{mode_behind}
+use Rattle.mysql_connection_rules.specs.StepLaws.{step_says}
 use Rattle.mysql_connection_rules.specs.Steps.{about_execution, after_command, after_executing, execution_of, id_in_question, in_turn, parameters_in_question, reply_due, statement_in_question, step, with_statements}
 use Rattle.mysql_reply_events.specs.declared.context.ReplyKind.TheVariants as kinds
 use Rattle.mysql_connection_statements.specs.Settled.{IsSettledAt}
@@ -39,6 +41,8 @@ fits_all : (id : ℕ) (values : List Value) → id < 2 ^ 32 → length values < 
     AllByRecursion (λ value. FitsFields value) values → FitsExecution (without_types id values)
 fits_all id values small few each = record {
   statement = small;
+  flags = lit< tt;
+  iterations = lit< tt;
   count = rw (append-nil values) few;
   parameters = each;
   attributes = tt;
@@ -90,7 +94,7 @@ module _ (s : Standing) (id : ℕ) (statement : Statement) (values : List Value)
         no_types : execution_types s.capabilities statement.parameters.count body ≡ []
         no_types = carried s.capabilities statement.parameters body e back
 
-        leads : after_command s (0x17 ∷ body) (Execute e) ≡ after_settled id statement.columns s
+        leads : after_command s (0x17 ∷ body) (Execute e) ≡ reply_due kinds.Binary statement.columns (OfStatement id) s
         leads =
             ap (λ (x : Option ℕ). execution_of 0x17 body x (statement_in_question s.statements (0x17 ∷ body)) s) found_id
             ∙ ap (λ (x : Option Statement). execution_of 0x17 body (Some id) x s) found
@@ -102,12 +106,13 @@ module _ (s : Standing) (id : ℕ) (statement : Statement) (values : List Value)
             ∙ ap (λ (x : Statements). reply_due kinds.Binary statement.columns (OfStatement id) (with_statements x s)) settled.3
 
         steps : step s (0x17 ∷ body) ≡ Ok (Asked (Execute e), after_settled id statement.columns s)
-        unfolding step
+        unfolding mode_behind
         steps =
-            ap (λ (x : Phase). in_turn x s (0x17 ∷ body)) phase
+            step_says s (0x17 ∷ body) (Asked (Execute e)) (reply_due kinds.Binary statement.columns (OfStatement id) s)
+            (ap (λ (x : Phase). in_turn x s (0x17 ∷ body)) phase
             ∙ ap (λ (x : Option InForce). let c = command_at s.capabilities x (0x17 ∷ body) in Ok (Asked c, after_command s (0x17 ∷ body) c)) in_force
             ∙ ap (λ (x : Command). Ok (Asked x, after_command s (0x17 ∷ body) x)) reads
-            ∙ ap (λ (x : Standing). Ok (Asked (Execute e), x)) leads
+            ∙ ap (λ (x : Standing). Ok (Asked (Execute e), x)) leads)
 
         -- it says so, and leads there
         says : (old : List ℕ) → WritesExecution s statement id values old (old ++ 0x17 ∷ body) (Ok true)

@@ -20,7 +20,7 @@ use mysql_const::{Capabilities, ColumnType, CursorType};
 use mysql_execution_writer::laws::executions_read_back;
 use mysql_execution_writer::{can_put, put_in_force};
 use mysql_executions::laws::read_types_are_carried;
-use mysql_executions::{BoundType, Execution, ParameterType, StatementParameters};
+use mysql_executions::{BoundType, Execution, ParameterType, StatementParameters, UnclearValues};
 use mysql_queries::ByteString;
 use std::alloc::{AllocError, Global};
 
@@ -125,9 +125,13 @@ fn execution_by(
         statement: id,
         cursor: CursorType::CURSOR_TYPE_NO_CURSOR,
         count_available: false,
+        nameless_flags: 0,
+        iterations: 1,
         types: None,
         parameters: all_as_read(alloc, values)?,
         attributes: Vec::new(alloc),
+        rest: ByteString::from_vec(Vec::new(alloc)),
+        unclear: UnclearValues::none(alloc),
     };
     if !can_execute(capabilities, parameters, &execution) {
         execution.types = Some(own_types(alloc, values)?);
@@ -143,7 +147,7 @@ fn execution_by(
 /// Promise: exactly this event (`execution_said`).
 ///
 /// # Errors
-/// - `AllocError` for want of memory.
+/// - `AllocError` when memory runs out.
 ///
 /// MySQL: Client/Server Protocol, "COM_STMT_EXECUTE".
 pub fn execution_event(
@@ -169,8 +173,8 @@ fn count(values: &[Value]) -> usize
 
 /// Appends the payload of an execution of this statement with these values, not framed.
 ///
-/// It does where each value is read as itself and has a cell by the types in force, which it doesn't
-/// carry, and where query attributes aren't in force.
+/// It does where each value is read as itself and has a cell by the types in force, which it
+/// doesn't carry. Query attributes aren't in force then.
 ///
 /// `false` says nothing of the values: [`execution_event`] and [`write_event`](crate::write_event)
 /// write them then, where they have a payload. After it, and after an error, what stood before stands
@@ -180,7 +184,7 @@ fn count(values: &[Value]) -> usize
 /// is due (`WritesExecution`).
 ///
 /// # Errors
-/// - `AllocError` for want of memory.
+/// - `AllocError` when memory runs out.
 ///
 /// MySQL: Client/Server Protocol, "COM_STMT_EXECUTE" (new_params_bind_flag).
 #[inline(always)]

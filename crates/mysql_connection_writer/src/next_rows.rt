@@ -19,7 +19,7 @@ use std::alloc::AllocError;
 /// Promise: what was appended says the row, behind which the same stands (`WritesNextRow`).
 ///
 /// # Errors
-/// - `AllocError` for want of memory.
+/// - `AllocError` when memory runs out.
 ///
 /// `out` is as it was after an error, and where the answer is `false`.
 ///

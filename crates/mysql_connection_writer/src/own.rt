@@ -117,6 +117,20 @@ pub fn id_of(execution: &Execution) -> u32
     execution.statement
 }
 
+// The iteration count of an execution.
+fn iterations_of(execution: &Execution) -> u32
+    ensures { result ≡ execution.now.iterations }
+{
+    execution.iterations
+}
+
+// The flags of an execution that have no name.
+fn nameless_flags_of(execution: &Execution) -> u8
+    ensures { result ≡ execution.now.nameless_flags }
+{
+    execution.nameless_flags
+}
+
 /// The id of a bulk execution's statement.
 pub fn id_of_bulk(execution: &BulkExecution) -> u32
     ensures { result ≡ execution.now.statement }
@@ -139,6 +153,8 @@ fn execution_fits(execution: &Execution) -> Result<(), AllocError>
 {
     counts_fit(execution.parameters.len(), execution.attributes.len())?;
     let _id = id_of(execution);
+    let _iterations = iterations_of(execution);
+    let _flags = nameless_flags_of(execution);
     own_names_fit(&execution.types);
     all_fields_fit(execution.parameters.as_slice());
     attributes_fit(execution.attributes.as_slice());

@@ -15,18 +15,18 @@ use mysql_connection_state::{Event, State};
 ///
 /// Whose turn it is isn't looked at: last words may be written in any phase. The state doesn't change.
 ///
-/// Promise: exactly the event's payload is appended, and the table of steps reads it as the event; or
-/// nothing is, since no payload of its own says it there, and the cause is the one that its packet's
-/// writer names (`WritesEvent`, `payload_of`, `cause_of`).
+/// Promise: exactly the event's payload is appended, and the table of steps reads it as the event.
+/// Or nothing is, since no payload of its own says it there. The cause is then the one that its
+/// packet's writer names (`WritesEvent`, `payload_of`, `cause_of`).
 ///
 /// # Errors
 /// - `BadEvent(Login)` for a packet of logging in, or last words, with the first cause against it.
-/// - `BadEvent(Command)` for a command, with the cause against it: `ReadsOtherwise` also where an
-///   unsigned number below 2^63 would be read as a signed one, `UnknownStatement` for an execution of
-///   a statement that isn't known here.
-/// - `BadEvent(ReadsOtherwise)` for an event of another phase; for data of a plugin that would be read
-///   as a new greeting; for a reply's event that would be read otherwise, or bytes of a file where none
-///   are due.
+/// - `BadEvent(Command)` for a command, with the cause against it. It is `ReadsOtherwise` also
+///   where an unsigned number below 2^63 would be read as a signed one. It is `UnknownStatement`
+///   for an execution of a statement that isn't known here.
+/// - `BadEvent(ReadsOtherwise)` for an event of another phase, and for data of a plugin that would
+///   be read as a new greeting. The same holds for a reply's event that would be read otherwise, and
+///   for bytes of a file where none are due.
 /// - `Memory`.
 ///
 /// `out` is as it was after an error.

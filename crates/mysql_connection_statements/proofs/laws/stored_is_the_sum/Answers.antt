@@ -1,6 +1,9 @@
-use Rattle.mysql_connection_statements.proofs.Sums.{changed_summed, closed_summed, put_summed}
+use Rattle.mysql_connection_statements.proofs.Sums.{begins_summed, changed_summed, closed_summed, put_summed}
 use Rattle.mysql_connection_statements.specs.Statements.{forgetting_last}
 use Rattle.mysql_connection_statements.proofs.laws.stored_is_the_sum.Goals as goal
+
+pub returns-clause-begins : goal.returns-clause-begins
+returns-clause-begins c = begins_summed
 
 pub returns-clause-prepare : goal.returns-clause-prepare
 returns-clause-prepare c = λ id statement s summed. put_summed (forgetting_last s) summed id statement

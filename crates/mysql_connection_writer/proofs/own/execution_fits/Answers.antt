@@ -15,6 +15,8 @@ returns c =
     c.attributes_fit.ensures in
     record {
       statement = omega arith;
+      flags = omega arith;
+      iterations = omega arith;
       count = all_counted e.parameters.items e.attributes.items (omega arith);
       parameters = subst (λ (xs : List Value). AllByRecursion (λ value. FitsFields value) xs)
           c.as_slice.ensures.value c.all_fields_fit.ensures;

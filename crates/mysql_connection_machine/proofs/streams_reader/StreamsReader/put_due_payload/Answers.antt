@@ -11,13 +11,13 @@ use Rattle.mysql_connection_machine.proofs.streams_reader.StreamsReader.put_due_
 pub put_payload-requires : goal.put_payload-requires
 put_payload-requires c =
     let peeked = subst (λ (r : LendingWorld). said_in (step r.world.standing c.args.payload.now) ≡ Ok (event_view c.in-Ok.event))
-    c.self.view_is c.in-Ok.ensures in
+    c.self.view_is c.in-Ok.ensures.peeks in
     record { said = said c.payloads_are_in_turn.ensures c.args.self.now.world c.args.payload.now (event_view c.in-Ok.event) peeked }
 
-pub returns-in-Ok-put_payload : goal.returns-in-Ok-put_payload
-returns-in-Ok-put_payload c =
+pub returns-in-Ok-put_payload-clause-puts : goal.returns-in-Ok-put_payload-clause-puts
+returns-in-Ok-put_payload-clause-puts c =
     let peeked = subst (λ (r : LendingWorld). said_in (step r.world.standing c.args.payload.now) ≡ Ok (event_view c.in-Ok.event))
-    c.self.view_is c.in-Ok.ensures in
+    c.self.view_is c.in-Ok.ensures.peeks in
     let due : IsDue c.args.self.now.world c.args.side c.args.payload.now = record {
       awaited = sym c.awaits_payload.ensures ∙ c.if-not-awaits_payload.false;
       within = subst (λ (r : LendingWorld). length c.args.payload.now ≤ limit_of c.args.side r.world.limits) c.self.view_is
@@ -27,10 +27,10 @@ returns-in-Ok-put_payload c =
     c.args.out.now.items c.in-Ok-put_payload.field-0 c.put_payload.new.self c.put_payload.new.out.items due peeked
     c.in-Ok-put_payload.ensures
 
-pub returns-in-Err-Held : goal.returns-in-Err-Held
-returns-in-Err-Held c =
+pub returns-in-Err-Held-clause-puts : goal.returns-in-Err-Held-clause-puts
+returns-in-Err-Held-clause-puts c =
     let peeked = subst (λ (r : LendingWorld). said_in (step r.world.standing c.args.payload.now) ≡ Ok (event_view c.in-Ok.event))
-    c.self.view_is c.in-Ok.ensures in
+    c.self.view_is c.in-Ok.ensures.peeks in
     let due : IsDue c.args.self.now.world c.args.side c.args.payload.now = record {
       awaited = sym c.awaits_payload.ensures ∙ c.if-not-awaits_payload.false;
       within = subst (λ (r : LendingWorld). length c.args.payload.now ≤ limit_of c.args.side r.world.limits) c.self.view_is

@@ -6,8 +6,8 @@ use Rattle.mysql_connection_state.specs.Reads.{SaysPart}
 use Rattle.mysql_connection_state.specs.Views.{ReadsBy, in_reply_view}
 use Rattle.mysql_connection_state.proofs.state.State.read_reply.Goals as goal
 
-pub returns-in-Err : goal.returns-in-Err
-returns-in-Err c = λ (r : InReply) (is : c.args.self.now.standing.phase ≡ Reply r).
+pub returns-in-Err-clause-reads : goal.returns-in-Err-clause-reads
+returns-in-Err-clause-reads c = λ (r : InReply) (is : c.args.self.now.standing.phase ≡ Reply r).
     let due : c.args.self.now.standing.phase ≡ Reply (in_reply_view c.in-Reply.reply) =
     rw (← c.self.view_is, c.in-Reply.is) refl in
     let same : in_reply_view c.in-Reply.reply ≡ r = cc in
@@ -16,8 +16,8 @@ returns-in-Err c = λ (r : InReply) (is : c.args.self.now.standing.phase ≡ Rep
     part_fault c.in-Reply.reply c.read.new.self.reader r c.args.self.now.standing _
     c.args.payload.now c.in-Err.fault same (rw (← c.self.view_is) reads.context) c.in-Err.ensures
 
-pub returns-in-Ok : goal.returns-in-Ok
-returns-in-Ok c = λ (r : InReply) (is : c.args.self.now.standing.phase ≡ Reply r).
+pub returns-in-Ok-clause-reads : goal.returns-in-Ok-clause-reads
+returns-in-Ok-clause-reads c = λ (r : InReply) (is : c.args.self.now.standing.phase ≡ Reply r).
     let due : c.args.self.now.standing.phase ≡ Reply (in_reply_view c.in-Reply.reply) =
     rw (← c.self.view_is, c.in-Reply.is) refl in
     let same : in_reply_view c.in-Reply.reply ≡ r = cc in

@@ -6,8 +6,8 @@ use Rattle.mysql_connection_state.specs.Reads.{SaysPart, SaysRow}
 use Rattle.mysql_connection_state.specs.Views.{ReadsBy, in_reply_view}
 use Rattle.mysql_connection_state.proofs.state.State.read_reply_in_place.Goals as goal
 
-pub returns-in-None : goal.returns-in-None
-returns-in-None c = λ (r : InReply) (is : c.args.self.now.standing.phase ≡ Reply r).
+pub returns-in-None-clause-reads : goal.returns-in-None-clause-reads
+returns-in-None-clause-reads c = λ (r : InReply) (is : c.args.self.now.standing.phase ≡ Reply r).
     let due : c.args.self.now.standing.phase ≡ Reply (in_reply_view c.in-Reply.reply) =
     rw (← c.self.view_is, c.in-Reply.is) refl in
     let same : in_reply_view c.in-Reply.reply ≡ r = cc in
@@ -22,8 +22,8 @@ returns-in-None c = λ (r : InReply) (is : c.args.self.now.standing.phase ≡ Re
     said in
     (said.read.row, said.read.lies, rw (← c.self.view_is) (rw (← c.self.view_is) at stepped))
 
-pub returns-in-Err : goal.returns-in-Err
-returns-in-Err c = λ (r : InReply) (is : c.args.self.now.standing.phase ≡ Reply r).
+pub returns-in-Err-clause-reads : goal.returns-in-Err-clause-reads
+returns-in-Err-clause-reads c = λ (r : InReply) (is : c.args.self.now.standing.phase ≡ Reply r).
     let due : c.args.self.now.standing.phase ≡ Reply (in_reply_view c.in-Reply.reply) =
     rw (← c.self.view_is, c.in-Reply.is) refl in
     let same : in_reply_view c.in-Reply.reply ≡ r = cc in
@@ -32,8 +32,8 @@ returns-in-Err c = λ (r : InReply) (is : c.args.self.now.standing.phase ≡ Rep
     part_fault c.in-Reply.reply c.read_in_place.new.self.reader r c.args.self.now.standing _
     c.args.payload.now c.in-Err.fault same (rw (← c.self.view_is) reads.context) c.in-Err.ensures
 
-pub returns-in-Some : goal.returns-in-Some
-returns-in-Some c = λ (r : InReply) (is : c.args.self.now.standing.phase ≡ Reply r).
+pub returns-in-Some-clause-reads : goal.returns-in-Some-clause-reads
+returns-in-Some-clause-reads c = λ (r : InReply) (is : c.args.self.now.standing.phase ≡ Reply r).
     let due : c.args.self.now.standing.phase ≡ Reply (in_reply_view c.in-Reply.reply) =
     rw (← c.self.view_is, c.in-Reply.is) refl in
     let same : in_reply_view c.in-Reply.reply ≡ r = cc in

@@ -8,6 +8,6 @@ returns-then-size-self c =
       own_id c.args.self.now c.args.id c.if-id.false,
       rw (← c.self.view_is) (sym known),
       c.is_settled.ensures c.if-is_settled.true,
-      rw (← c.self.view_is) (kept_in_place _ c.args.id c.in_ok-statement.statement.now known
+      rw (← c.self.view_is) (kept_in_place _ c.args.id c.in_ok-statement.statement.now c.len.ensures.ordered known
           (rw (← c.size.ensures.size) c.if-size-self.true)),
     )

@@ -6,7 +6,7 @@ use Rattle.mysql_connection_statements.proofs.statements.Statements.reset.Goals 
 pub returns-clause-ok : goal.returns-clause-ok
 returns-clause-ok c =
     rw (← c.self.view_is) (changed_in_place _ c.args.id (is_reset) c.in-Some.statement.now c.reset.new.self _ _
-    c.in-Some.ensures.value c.reset.ensures (c.get_mut.follows.holds c.reset.new.self).0
+    c.in-Some.ensures.ordered c.in-Some.ensures.value c.reset.ensures (c.get_mut.follows.holds c.reset.new.self).0
     (rw (← c.size.ensures.size, ← c.size_reset.ensures.size) c.in_ok-stored.ensures.ok))
 
 pub returns-in_err-stored-clause-unchanged : goal.returns-in_err-stored-clause-unchanged

@@ -9,7 +9,7 @@ use Rattle.mysql_connection_statements.proofs.statements.Statements.set_columns.
 pub returns-clause-ok : goal.returns-clause-ok
 returns-clause-ok c =
     rw (← c.self.view_is) (changed_in_place _ c.args.id (having_columns (option_map shared_columns c.args.columns) c.args.size) c.in-Some.statement.now c.set_columns.new.self _ _
-    c.in-Some.ensures.value c.set_columns.ensures (c.get_mut.follows.holds c.set_columns.new.self).0
+    c.in-Some.ensures.ordered c.in-Some.ensures.value c.set_columns.ensures (c.get_mut.follows.holds c.set_columns.new.self).0
     (rw (← c.size.ensures.size, ← c.size_with_columns-after.ensures.size (option_map shared_columns c.args.columns)) c.in_ok-stored.ensures.ok))
 
 pub returns-in_err-stored-clause-unchanged : goal.returns-in_err-stored-clause-unchanged

@@ -1,0 +1,3 @@
+pub mod SessionModes
+pub mod Told
+pub mod Views
