@@ -50,8 +50,8 @@ extern "C" {
 
 /* The number of this interface. mysql_session_abi() answers the library's: compare them before
  * any other call. It changes with each change of what the library exports and of a struct, and the
- * shared object's name has it: libmysql_session.so.6. */
-#define MYSQL_SESSION_ABI 6
+ * shared object's name has it: libmysql_session.so.7. */
+#define MYSQL_SESSION_ABI 7
 
 uint32_t mysql_session_abi(void);
 
@@ -199,17 +199,25 @@ enum mysql_session_flag {
     MYSQL_SESSION_NO_BACKSLASH_ESCAPES = 1,
     /* Double quotes are those of identifiers. */
     MYSQL_SESSION_ANSI_QUOTES = 2,
-    /* Byte strings are written as 0x and hexadecimal digits, the empty one as ''. No mode: calls
-     * that read a stream take no notice of it. Dates and durations stand in quotes as ever. */
-    MYSQL_SESSION_HEXADECIMAL = 4
+    /* Byte strings are written as _utf8mb4 0x and hexadecimal digits where they are UTF-8, else as
+     * _binary 0x and digits, the empty one as ''. A server takes them for a text or for bytes, also
+     * where it wants a number. Calls that read a stream read such literals too. No mode: dates and
+     * durations stay in quotes. */
+    MYSQL_SESSION_HEXADECIMAL = 4,
+    /* In place of a mode that isn't known. No call takes it: each answers NO_SUCH_MODE. */
+    MYSQL_SESSION_UNKNOWN_MODE = 8
 };
 
 /* The flags of the mode that a server's status tells, as its greeting and each of its OK packets
- * have it; no code. MySQL doesn't tell ANSI_QUOTES in it, MariaDB does. */
+ * have it; no code. MySQL doesn't tell ANSI_QUOTES in it, MariaDB does. Behind a procedure that
+ * changed the mode a status may tell another one than the server is in. Better go by
+ * mysql_session_connection_mode. */
 uint32_t mysql_session_mode_of_status(uint16_t status);
 
-/* The flags of the mode that the value of the variable sql_mode tells, names between commas in any
- * case; no code. ANSI_QUOTES is told by each name that stands for it too, as ANSI does. */
+/* The flags of the mode that the value of the variable sql_mode tells; no code. Names are between
+ * commas, in any case, and blanks around them don't count. ANSI_QUOTES is told by each name that has
+ * it too, as ANSI does. MYSQL_SESSION_UNKNOWN_MODE where a name is neither MySQL's nor MariaDB's, or
+ * is MSSQL, in which [ and ] quote names. There take MYSQL_SESSION_HEXADECIMAL, or send by execute. */
 uint32_t mysql_session_mode_of_sql_mode(const uint8_t *value, size_t len);
 
 /* 1 where literals in quotes are safe in a text that a server reads in the collation of this id
@@ -941,9 +949,10 @@ uint32_t mysql_session_binlog_dump_gtid_put(mysql_session_handle *out, uint32_t 
  * waits until its turn, so the events don't depend on how the bytes arrive. Payloads are put on it
  * too: a client puts what it asks, and feeds what the server sends; a server does the reverse.
  *
- * Its handle is of another kind, and begins as MYSQL_SESSION_NOTHING too. What is said above of
- * handles holds for it. But it may pass to another thread between two calls, under a lock or the
- * like. */
+ * Its handle has another type, and begins as MYSQL_SESSION_NOTHING too. What is said above of
+ * handles holds for it. No call looks whether it got a handle of the other type by a cast: that is
+ * the program's fault, also of mysql_session_free. But a connection may pass to another thread
+ * between two calls, under a lock or the like. */
 typedef struct mysql_session_connection {
     void *at;
 } mysql_session_connection;
@@ -959,6 +968,9 @@ enum mysql_session_side {
  * Of each side as much waits unread as its longest payload takes with its headers. What `held`
  * leaves beside both is for what is kept of statements, columns and long data. Take twice as much
  * as both. Where nothing is left, no statement is prepared and no column is read: CONNECTION_KEPT.
+ * It counts payloads, not memory. What is kept takes up to 15 bytes of memory for each byte counted,
+ * and long data of a late parameter up to 60,000. One event takes up to 770 for each byte of its
+ * payload, until the next call. These were measured (docs/COSTS.md), and no contract has them.
  * Answers OK, MEMORY. */
 uint32_t mysql_session_connection_new(mysql_session_connection *connection, size_t client,
                                       size_t server, size_t held);
@@ -997,7 +1009,8 @@ enum mysql_session_event_kind {
      * mysql_session_connection_rest of the server, behind its header of four bytes, as long as the
      * event isn't taken. */
     MYSQL_SESSION_EVENT_GREETING = 2,
-    /* capabilities, mariadb_capabilities, charset, number (the longest packet that it takes) */
+    /* capabilities, mariadb_capabilities, charset, number (the longest packet that it takes). The
+     * second are 0 where capabilities has CLIENT_LONG_PASSWORD: a client of MySQL has none. */
     MYSQL_SESSION_EVENT_SECURE_REQUEST = 3,
     MYSQL_SESSION_EVENT_LOGIN = 4,          /* those, user, database, plugin, data (its response),
                                              * attributes */
@@ -1049,8 +1062,10 @@ enum mysql_session_event_kind {
     MYSQL_SESSION_EVENT_TABLE_DUMP = 0x113,      /* database, text (the table) */
     MYSQL_SESSION_EVENT_REGISTER_REPLICA = 0x115, /* number (the replica), text (its host), user */
     MYSQL_SESSION_EVENT_PREPARE = 0x116,         /* text */
-    MYSQL_SESSION_EVENT_EXECUTE = 0x117,         /* statement, params, attributes, flags (a cursor),
-                                                  * text (of its prepare) */
+    MYSQL_SESSION_EVENT_EXECUTE = 0x117,         /* statement, params, attributes, flags (bits 0 to 2
+                                                  * a cursor, others unnamed), number (the iteration
+                                                  * count), data (behind the last value), text (of
+                                                  * its prepare) */
     MYSQL_SESSION_EVENT_LONG_DATA = 0x118,       /* statement, number (the place), data */
     MYSQL_SESSION_EVENT_CLOSE = 0x119,           /* statement */
     MYSQL_SESSION_EVENT_RESET_STATEMENT = 0x11a, /* statement */
@@ -1059,7 +1074,8 @@ enum mysql_session_event_kind {
     MYSQL_SESSION_EVENT_BINLOG_DUMP_GTID = 0x11e, /* as BINLOG_DUMP */
     MYSQL_SESSION_EVENT_RESET_CONNECTION = 0x11f,
     MYSQL_SESSION_EVENT_CLONE = 0x120,           /* data */
-    MYSQL_SESSION_EVENT_BULK_EXECUTE = 0x1fa,    /* statement, rows, params (in each), text */
+    MYSQL_SESSION_EVENT_BULK_EXECUTE = 0x1fa,    /* statement, rows, params (in each), text, data
+                                                  * (from the first row on that can't be read) */
     /* A payload that is laid out as none of these: data, and number, its first byte. */
     MYSQL_SESSION_EVENT_OTHER = 0x200
 };
@@ -1152,9 +1168,27 @@ enum mysql_session_bulk_kind {
 uint32_t mysql_session_connection_value(mysql_session_connection *connection, size_t row,
                                         size_t place, mysql_session_value *value);
 
+/* Whether servers read a value of the event that was told last each their way. It is that of a
+ * parameter in a row of an execution, both numbers from 0; attributes are counted behind the
+ * parameters. Such a value is one of these:
+ *
+ * - its length begins with fb or ff;
+ * - it is a date whose length isn't 0, 4, 7 or 11, or one of the type DATE with a time of day;
+ * - it is a duration whose length isn't 0, 8 or 12, or whose sign isn't 0 or 1;
+ * - it is of the type INT24, YEAR, BIT or GEOMETRY;
+ * - it is behind such a value;
+ * - it is long data of a parameter that had another type before.
+ *
+ * No client library sends one, and what _value shows of it isn't what each server executes. `cells`
+ * are the bytes of the command from the first such cell on; of long data alone there are none.
+ * Answers OK, OUT_OF_RANGE (no event was told), EMPTY_HANDLE. */
+uint32_t mysql_session_connection_unclear(mysql_session_connection *connection, size_t row,
+                                          size_t place, bool *unclear, const uint8_t **cells,
+                                          size_t *len);
+
 /* An attribute of the event that was told last, by its number from 0. It is of a login or a change
- * of user (the value is bytes), of a query or an execution. Answers OK, OUT_OF_RANGE, EMPTY_HANDLE.
- */
+ * of user (the value is bytes), of a query or an execution. Attributes are in the order in which
+ * they came, two of one name too. Answers OK, OUT_OF_RANGE, EMPTY_HANDLE. */
 uint32_t mysql_session_connection_attribute(mysql_session_connection *connection, size_t number,
                                             const uint8_t **name, size_t *len,
                                             mysql_session_value *value);
@@ -1215,6 +1249,15 @@ typedef struct mysql_session_standing {
 /* Answers OK, EMPTY_HANDLE. */
 uint32_t mysql_session_connection_standing(mysql_session_connection *connection,
                                            mysql_session_standing *standing);
+
+/* The flags of the session's mode, as mysql_session_mode_of_sql_mode answers them; no code. A login,
+ * a change of user and a reset of the connection tell it. Behind a statement it is known only where
+ * the server tells each change. Have it do so, where it has CLIENT_SESSION_TRACK, by
+ * SET session_track_system_variables = 'sql_mode', sql_mode = @@sql_mode
+ * whose answer tells the mode. (SECURITY.md, "The mode of a session", keeps the other variables.)
+ * MYSQL_SESSION_UNKNOWN_MODE where it isn't known, and for an empty handle: then take
+ * MYSQL_SESSION_HEXADECIMAL, or execute. */
+uint32_t mysql_session_connection_mode(mysql_session_connection *connection);
 
 /* The prepared statement that this id of a command means: its text, and how many parameters it has.
  * 0xffffffff is the statement that was prepared last. Answers OK, OUT_OF_RANGE,

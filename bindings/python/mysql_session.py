@@ -26,8 +26,8 @@ The rows of a reply come as values too, made in C, each as its column says:
         print(result)
 
 The extension is _native.abi3.so in the folder that the environment variable MYSQL_SESSION_LIBRARY
-names, else beside this file, as a wheel has it, else where `bindings/build` puts it. `__build__`
-says whether the library in it was proved before it was compiled.
+names. Else it is beside this file, as a wheel has it, else where `bindings/build` puts it.
+`__build__` says whether the library in it was proved before it was compiled.
 
 Texts (queries, names, messages) are str, which goes as UTF-8, or bytes; what comes out is bytes.
 
@@ -50,15 +50,25 @@ the caller hasn't got counts as not given. Before 3.11 such an interrupt may los
 Only a `Connection` that reads an event and is refused memory by the library has failed: that is its
 fault from then on.
 
+An interrupt may come as any call returns. So one of `feed` or `ParameterSets.add` leaves open
+whether the call took its argument. `Connection.room` and `len` of the sets tell; a receiver, a
+recoder or a reader doesn't, and is begun anew. An interrupt behind `next` of a connection's events
+loses that event: `for` and `next_event` lose none.
+
+What a peer sends costs what it weighs: time and memory grow with its bytes, however they are cut
+up. Columns of rows, and texts and columns of statements, are copied once. Events, rows and tables
+of theirs have the same objects. A call that raises shows what it couldn't give anew at the next
+call. So where a cell ends `take_values`, take the results by `take`.
+
 What an object holds is freed by `close`, at the end of `with`, or when it is collected. Where that
-happens in another thread, its own thread frees it when it makes its next object, and nobody where
-that thread has ended: `close` what a thread leaves. A closed object's calls raise
+happens in another thread, its own thread frees it when it makes its next object. Where that thread
+has ended nobody does: `close` what a thread leaves. A closed object's calls raise
 `MySQLSessionError` with `Code.EMPTY_HANDLE`.
 
 Texts of values (`Road.TEXT`, `bind_text`, `literal`) are safe for a server in the `Mode` that the
 call is given. The connection is in UTF-8 or another character set that `is_safe_to_quote`. For any
 other a value may end its literal. Without a mode that is a server whose SQL mode has neither
-NO_BACKSLASH_ESCAPES nor ANSI_QUOTES: take the mode that the server tells, by `Mode.of`.
+NO_BACKSLASH_ESCAPES nor ANSI_QUOTES: take the session's mode, by `Connection.mode`.
 `Spelling.HEXADECIMAL` is safe in each character set, and executions at each server.
 
 Numbers that are too large for their field raise OverflowError.
@@ -107,7 +117,7 @@ __all__ = [
 __version__ = "0.1.0"
 
 # The number of the interface that this module calls.
-ABI = 6
+ABI = 7
 
 # The max_allowed_packet that most servers have.
 DEFAULT_LIMIT = 1 << 24
@@ -222,10 +232,12 @@ class Spelling(enum.IntEnum):
     NULL are spelled as ever, and dates and durations stand in quotes."""
 
     QUOTED = 0
-    """UTF-8 between single quotes, by the mode of the server, and other bytes as 0x and digits."""
+    """UTF-8 between single quotes, by the mode of the server, and other bytes as 0x and digits,
+    which are a number where a server wants one."""
     HEXADECIMAL = 4
-    """0x and two digits for each byte, and '' for no bytes: the same in each mode and each
-    character set."""
+    """`_utf8mb4 0x` and two digits for each byte of UTF-8, `_binary 0x` and digits for other bytes,
+    and '' for no bytes. They are the same in each mode and each character set, and a text or a
+    string of bytes also where a number is wanted."""
 
 
 class EndKind(enum.IntEnum):
@@ -416,7 +428,7 @@ class Collation(enum.IntEnum):
 # ---- Modes --------------------------------------------------------------------------------------
 
 # The library's flags; a spelling is the third.
-_NO_BACKSLASH_ESCAPES, _ANSI_QUOTES = 1, 2
+_NO_BACKSLASH_ESCAPES, _ANSI_QUOTES, _UNKNOWN_MODE = 1, 2, 8
 
 
 @dataclasses.dataclass(frozen=True)
@@ -437,25 +449,30 @@ class Mode:
     @classmethod
     def of(cls, status: int) -> Mode:
         """The mode that the status of a server tells, as its greeting and its OK and EOF packets
-        have it (MySQL: Client/Server Protocol, "Status Flags"; MariaDB: "OK_Packet").
+        have it. See MySQL: Client/Server Protocol, "Status Flags", and MariaDB: "OK_Packet".
 
         MySQL tells NO_BACKSLASH_ESCAPES in its status and not ANSI_QUOTES, for which the bit is
-        MariaDB's. Where a MySQL server may be in ANSI_QUOTES, take the variable sql_mode, as
-        session tracking tells it, and `of_sql_mode`. A packet with MariaDB's bit, which has no name
-        in MySQL's protocol, is refused by `read_greeting` and `ReplyReader`.
+        MariaDB's. Behind a procedure that changed the mode a status may tell another one than the
+        server is in: better go by `Connection.mode`. A packet with MariaDB's bit, which has no name
+        in MySQL's protocol, is refused by `ReplyReader`.
         """
         return cls._told(_native.mode_of_status(status))
 
     @classmethod
-    def of_sql_mode(cls, value: Text) -> Mode:
-        """The mode that the value of the variable sql_mode tells: names between commas, their
-        letters in any case (MySQL Reference Manual, "Server SQL Modes"; MariaDB: "SQL_MODE").
+    def of_sql_mode(cls, value: Text) -> Optional[Mode]:
+        """The mode that the value of the variable sql_mode tells (MySQL Reference Manual, "Server
+        SQL Modes"; MariaDB: "SQL_MODE"). Names are between commas, their letters in any case, and
+        blanks around them don't count.
 
-        ANSI_QUOTES is also told by each name that stands for it and others: ANSI, and DB2, MAXDB,
-        MSSQL, ORACLE and POSTGRESQL, which MariaDB has, and MySQL before 8.0. Other names say
-        nothing of how a text is read.
+        ANSI_QUOTES is also told by each name that stands for it and others. These are ANSI, and
+        DB2, MAXDB, ORACLE and POSTGRESQL, which MariaDB has, and MySQL before 8.0. Other names of
+        both manuals say nothing of how a text is read.
+
+        None where a name is in neither manual, or is MSSQL, in which [ and ] quote names: the mode
+        isn't known. Take `Spelling.HEXADECIMAL`, or an execution.
         """
-        return cls._told(_native.mode_of_sql_mode(value))
+        flags = _native.mode_of_sql_mode(value)
+        return None if flags == _UNKNOWN_MODE else cls._told(flags)
 
     @classmethod
     def _told(cls, flags: int) -> Mode:
@@ -741,14 +758,15 @@ class Receiver(_Object):
     """Reads the parameter sets that a stream of commands about one query carries.
 
     The statement is the id that the stream's executions name. The mode is that of the server which
-    the stream was sent to: for one in another mode texts, and the query's placeholders, may be
-    others than this receiver reads. Raises MySQLSessionError: LIMIT_TOO_SMALL, MIXED (names and
-    question marks as placeholders), MEMORY.
+    the stream was sent to. For one in another mode texts, and the query's placeholders, may be
+    others than this receiver reads. By `Spelling.HEXADECIMAL` it reads literals behind `_utf8mb4`
+    and `_binary` too. Raises MySQLSessionError: LIMIT_TOO_SMALL, MIXED (names and question marks as
+    placeholders), MEMORY.
     """
 
     def __init__(self, query: Text, statement: int = 1, limit: int = DEFAULT_LIMIT, *,
-                 mode: Mode = Mode()) -> None:
-        super().__init__(_native.receiver(query, statement, limit, _flags(mode)))
+                 mode: Mode = Mode(), spelling: Spelling = Spelling.QUOTED) -> None:
+        super().__init__(_native.receiver(query, statement, limit, _flags(mode, spelling)))
 
     def feed(self, piece: Union[bytes, bytearray, memoryview]) -> None:
         """Takes the next piece of the stream, of any length.
@@ -786,7 +804,7 @@ class ParameterSets(_Object):
     """Parameter sets that are put together for `send`.
 
     A set is a sequence with a value for each placeholder, in their order: see `Parameter`. A bool
-    is 0 or 1; an int below 2**63 is signed, one of 2**63 and more has no sign, and `Road.BULK`
+    is 0 or 1. An int below 2**63 is signed, and one of 2**63 and more has no sign: `Road.BULK`
     refuses the two in one place. A str is its UTF-8. A datetime has to be naive.
     """
 
@@ -818,8 +836,8 @@ _NAME = re.compile(rb":([a-z_][a-z0-9_]*)")
 
 
 def names_of(query: Text, *, mode: Mode = Mode()) -> Tuple[str, ...]:
-    """The names of a query's placeholders at a server in this mode, one for each place, in the order
-    of the places; none where they are question marks.
+    """The names of a query's placeholders at a server in this mode. There is one for each place, in
+    the order of the places; none where they are question marks.
 
     Raises MySQLSessionError: MIXED, REFUSED_TOO_MANY_PLACES.
     """
@@ -856,9 +874,9 @@ def send(query: Text, sets: Union[ParameterSets, Iterable[Params]], road: Road,
          spelling: Spelling = Spelling.QUOTED) -> bytes:
     """The commands that carry these sets to a server, as framed packets.
 
-    By `Road.EXECUTE` and `Road.BULK` the first packet is the prepare, and the others name the
-    statement by this id: a server answers the prepare with an id of its own. A receiver of the same
-    query, id, limit and mode reads the sets back. The sets stay as they are.
+    By `Road.EXECUTE` and `Road.BULK` the first packet is the prepare. The others name the statement
+    by this id: a server answers the prepare with an id of its own. A receiver of the same query,
+    id, limit and mode reads the sets back. The sets stay as they are.
 
     By `Road.TEXT` values are literals in the query's text. Safe for a server in this mode. By
     `Spelling.QUOTED` the connection is in UTF-8 or another character set that `is_safe_to_quote`.
@@ -937,8 +955,8 @@ class Recoder(_Object):
     """
 
     def __init__(self, query: Text, statement: int = 1, limit: int = DEFAULT_LIMIT, *,
-                 mode: Mode = Mode()) -> None:
-        super().__init__(_native.recoder(query, statement, limit, _flags(mode)))
+                 mode: Mode = Mode(), spelling: Spelling = Spelling.QUOTED) -> None:
+        super().__init__(_native.recoder(query, statement, limit, _flags(mode, spelling)))
 
     def feed(self, piece: Union[bytes, bytearray, memoryview]) -> bytes:
         """Takes the next piece; gives the executions of the sets that are whole with it, before
@@ -979,9 +997,10 @@ class Recoder(_Object):
 
 
 def recode(query: Text, stream: Union[bytes, bytearray, memoryview], statement: int = 1,
-           limit: int = DEFAULT_LIMIT, *, mode: Mode = Mode()) -> bytes:
+           limit: int = DEFAULT_LIMIT, *, mode: Mode = Mode(),
+           spelling: Spelling = Spelling.QUOTED) -> bytes:
     """The executions that carry the sets of a stream which is all at hand. Raises as `Recoder`."""
-    with Recoder(query, statement, limit, mode=mode) as recoder:
+    with Recoder(query, statement, limit, mode=mode, spelling=spelling) as recoder:
         executions = recoder.feed(stream)
         return executions + recoder.end()
 
@@ -1147,8 +1166,9 @@ TableResult = Union[Ok, Table, Prepared, ServerError, File]
 class Values:
     """How cells become values: as their columns' types say, or by converters in place of that.
 
-    int, float, Decimal, datetime, date and timedelta, as `rows_as_dicts` has them; str of texts by
-    the character set of the column's collation, bytes where that is binary; None for NULL.
+    They are int, float, Decimal, datetime, date and timedelta, as `rows_as_dicts` has them. Texts
+    are str, by the character set of the column's collation, or bytes where that is binary. NULL is
+    None.
 
     A converter is given a cell as `Cell` has it, bytes of a text row or the value of a binary one,
     and never NULL. It is called for each cell of a column of its type (of `ColumnType`). What it
@@ -1172,8 +1192,8 @@ _FORM_CELLS, _FORM_VALUES, _FORM_COLUMNS = range(3)
 class ReplyReader(_Object):
     """Reads a server's reply to one command as it comes.
 
-    The capabilities are those that both sides have; `first` is the number of the reply's first
-    packet, mostly 1; a payload has at most `limit` bytes.
+    The capabilities are those that both sides have. `first` is the number of the reply's first
+    packet, mostly 1. A payload has at most `limit` bytes.
     """
 
     def __init__(self, kind: ReplyKind, capabilities: int, first: int = 1,
@@ -1204,7 +1224,7 @@ class ReplyReader(_Object):
         return results
 
     def take_values(self, values: Optional[Values] = None) -> List[ValueResult]:
-        """The same as `take`, but that rows are `ValueRows`: each cell is a value of its column's
+        """The same as `take`, but that rows are `ValueRows`. Each cell is a value of its column's
         type, or what a converter of `values` makes of it.
 
         Raises RowError at the first cell that isn't as its column says, and what a converter raises.
@@ -1255,7 +1275,7 @@ def read_reply(kind: ReplyKind, capabilities: int, reply: Union[bytes, bytearray
 
 class RowError(ValueError):
     """A row isn't what was asked for. `column` is the name of the column that it is about, and
-    `row` the number of the row, from 0; each is None where it is about no single one."""
+    `row` the number of the row, from 0. Each is None where it is about no single one."""
 
     def __init__(self, why: str, column: Optional[str], row: Optional[int] = None) -> None:
         super().__init__(why, column, row)
@@ -1269,7 +1289,8 @@ class RowError(ValueError):
 
 _Reader = Callable[[Any], Any]
 
-_WHOLE_TEXT = re.compile(rb"[+-]?[0-9]+\Z")
+# No more digits than Python reads by default, for what older versions take grows by their square.
+_WHOLE_TEXT = re.compile(rb"[+-]?[0-9]{1,4300}\Z")
 _DATE_TEXT = re.compile(rb"([0-9]{4})-([0-9]{2})-([0-9]{2})"
                         rb"(?: ([0-9]{2}):([0-9]{2}):([0-9]{2})(?:\.([0-9]{1,6}))?)?\Z")
 _TIME_TEXT = re.compile(rb"(-?)([0-9]{2,9}):([0-9]{2}):([0-9]{2})(?:\.([0-9]{1,6}))?\Z")
@@ -1455,12 +1476,17 @@ def _names(columns: Sequence[Column]) -> List[str]:
     return [it.name.decode("utf-8", "surrogateescape") for it in columns]
 
 
-def _place(name: str, names: Sequence[str]) -> int:
-    """The place of the one column of a name."""
-    if names.count(name) != 1:
-        raise RowError("there are several columns of this name" if name in names
-                       else "there is no column of this name", name)
-    return names.index(name)
+def _places(wanted: Iterable[str], names: Sequence[str]) -> List[int]:
+    """The places of the columns of these names, each of which one column has."""
+    found = {name: at for at, name in enumerate(names)}
+    several = {name for at, name in enumerate(names) if found[name] != at}
+    places = []
+    for name in wanted:
+        if name in several or name not in found:
+            raise RowError("there are several columns of this name" if name in several
+                           else "there is no column of this name", name)
+        places.append(found[name])
+    return places
 
 
 def _fields_of(record: Any) -> Dict[str, bool]:
@@ -1472,6 +1498,13 @@ def _fields_of(record: Any) -> Dict[str, bool]:
     if issubclass(record, tuple) and hasattr(record, "_fields"):
         return {it: it in record._field_defaults for it in record._fields}
     raise TypeError(f"{record.__name__} is neither a dataclass nor a NamedTuple")
+
+
+def _filled(record: Any, names: Iterable[str]) -> List[str]:
+    """The fields of a record that columns of these names fill."""
+    there = set(names)
+    return [name for name, has_default in _fields_of(record).items()
+            if not has_default or name in there]
 
 
 def rows_as(record: Callable[..., _Record], columns: Sequence[Column],
@@ -1489,10 +1522,9 @@ def rows_as(record: Callable[..., _Record], columns: Sequence[Column],
     type.
     """
     names, types = _names(columns), typing.get_type_hints(record)
-    fields = [name for name, has_default in _fields_of(record).items()
-              if not has_default or name in names]
+    fields = _filled(record, names)
     readings = tuple(_reading(at, types[name], columns[at])
-                     for at, name in ((_place(name, names), name) for name in fields))
+                     for at, name in zip(_places(fields, names), fields))
     records: List[_Record] = _native.rows_of(rows, len(columns), names, readings, tuple(fields),
                                              record)
     return records
@@ -1504,11 +1536,11 @@ def rows_as_dicts(columns: Sequence[Column],
     Decimal, str, bytes (of columns that are no text), datetime, date, timedelta. Dates and
     durations that `datetime` lacks are DateFields and TimeFields, and NULL is None.
 
-    Raises RowError where two columns have one name, and where a cell isn't as its column says.
+    Raises RowError where two columns have one name, and where a cell isn't as its column says. Each
+    call reads the columns anew: give it many rows at once.
     """
     names = _names(columns)
-    readings = tuple(_reading(_place(name, names), Any, columns[at])
-                     for at, name in enumerate(names))
+    readings = tuple(_reading(at, Any, columns[at]) for at in _places(names, names))
     dicts: List[Dict[str, Any]] = _native.rows_of(rows, len(columns), names, readings, tuple(names),
                                                   None)
     return dicts
@@ -1534,9 +1566,8 @@ def rows_as_tuples(columns: Sequence[Column], rows: Iterable[Sequence[Cell]],
 def _records_of(columns: Sequence[Column], rows: List[Tuple[Any, ...]], record: Any) -> List[Any]:
     """Rows with values as dicts, or as records of a class."""
     names = _names(columns)
-    fields = names if record is None else [
-        name for name, has_default in _fields_of(record).items() if not has_default or name in names]
-    readings = tuple((_place(name, names), _How.AS_IT_IS, None, None, True) for name in fields)
+    fields = names if record is None else _filled(record, names)
+    readings = tuple((at, _How.AS_IT_IS, None, None, True) for at in _places(fields, names))
     made: List[Any] = _native.rows_of(rows, len(columns), names, readings, tuple(fields), record)
     return made
 
@@ -1738,7 +1769,8 @@ class Statement(NamedTuple):
 
 
 Named = Tuple[Tuple[bytes, Cell], ...]
-"""Attributes: each has a name and a value, which of a login is bytes."""
+"""Attributes in their order: each has a name and a value, which of a login is bytes. Two may have
+one name."""
 
 Bound = Union[Cell, BulkKind]
 """What a parameter of a bulk execution holds."""
@@ -2019,10 +2051,21 @@ class ExecuteEvent(Event):
 
     statement: int
     text: bytes
-    """The text by which it was prepared."""
+    """The text by which it was prepared, mostly the same object for all of its executions."""
     values: Tuple[Cell, ...]
     attributes: Named
     cursor: int
+    nameless_flags: int = 0
+    """The bits of the flags that have no name, none of a client library's."""
+    iterations: int = 1
+    """The iteration count: 1 of each client library."""
+    rest: bytes = b""
+    """The bytes behind the last value, none of a client library's."""
+    unclear: Tuple[int, ...] = ()
+    """The numbers of the values that servers read each their way, from 0, none of a client library's:
+    a server may execute another value than this one. Attributes are counted behind the values."""
+    unclear_cells: bytes = b""
+    """The bytes of the command from the first such cell on; of long data alone there are none."""
 
 
 @dataclasses.dataclass(frozen=True)
@@ -2032,6 +2075,13 @@ class BulkExecuteEvent(Event):
     statement: int
     text: bytes
     rows: Tuple[Tuple[Bound, ...], ...]
+    rest: bytes = b""
+    """The bytes from the first row on that can't be read; servers execute the rows before them."""
+    first_unclear: Optional[Tuple[int, int]] = None
+    """The row of the first value that servers read each their way, and its number in the row, from 0;
+    those behind it are so too. No client library sends one. A server may execute other values."""
+    unclear_cells: bytes = b""
+    """The bytes of the command from that value's cell on."""
 
 
 @dataclasses.dataclass(frozen=True)
@@ -2116,9 +2166,9 @@ class _Standing(NamedTuple):
 
 
 class Connection(_Object):
-    """A whole connection: it is fed the bytes of both sides, in any pieces and order, and tells
-    what was said, each payload as one event. What one side says can be put in place of fed: a
-    client puts its commands and feeds what the server sends, a server does the reverse.
+    """A whole connection. It is fed the bytes of both sides, in any pieces and order, and tells
+    what was said, each payload as one event. What one side says can be put in place of fed. A
+    client puts its commands and feeds what the server sends, and a server does the reverse.
 
         connection = Connection()
         for event in connection.feed(Side.SERVER, greeting):
@@ -2127,8 +2177,8 @@ class Connection(_Object):
 
     A payload of the client has at most `client` bytes, one of the server `server`. `held` limits
     what is held in all, by default twice as much as both. Of each side as much waits unread as its
-    longest payload takes. What is left is for what is kept of statements, columns and long data.
-    Where nothing is left, no statement is prepared and no column is read: CONNECTION_KEPT.
+    longest payload takes. What is left is for what is kept of statements, columns and long data. It
+    counts payloads, not memory (docs/COSTS.md has the measures). Where nothing is left, no statement is prepared and no column is read: CONNECTION_KEPT.
 
     An event is a copy, and stays as it is. After a fault each call for an event raises it again;
     the events before it were told.
@@ -2167,7 +2217,7 @@ class Connection(_Object):
     def feed(self, side: Side, data: Union[bytes, bytearray, memoryview]) -> Iterator[Event]:
         """Takes a piece of a side's stream, and gives the events that stand whole then.
 
-        The piece is taken at once, whole; events are read as they are asked for, and those that
+        The piece is taken at once, whole. Events are read as they are asked for, and those that
         aren't asked for stay for the next call. Behind a fault bytes are taken too, and never read.
         Raises MySQLSessionError with CONNECTION_HELD if more of the side would wait unread than its
         longest payload takes, which `room` tells before. With CONNECTION_CLOSED it is raised after
@@ -2228,7 +2278,7 @@ class Connection(_Object):
         return tables[0] if tables else None
 
     def put(self, side: Side, payload: Union[bytes, bytearray, memoryview]) -> Put:
-        """Puts a payload of the side that is due, as if its packets had come: gives these, to be
+        """Puts a payload of the side that is due, as if its packets had come. Gives these, to be
         sent to the other side, and what the payload says. The other side reads the same event.
 
         The payload is taken byte by byte as it is. `Command` has those of commands, `put_greeting`
@@ -2244,7 +2294,7 @@ class Connection(_Object):
         CONNECTION_TOO_LARGE: it is past the side's limit. The fault that the payload would be.
         CONNECTION_KEPT: more would be kept than the limit leaves. Or MEMORY.
 
-        Where MemoryError or KeyboardInterrupt ends the call the payload may be put: `unsent` has
+        Where MemoryError or KeyboardInterrupt ends the call the payload may be put. `unsent` has
         its packets then, and the side's next put gives them before its own.
         """
         side = side if type(side) is Side else Side(side)
@@ -2257,18 +2307,18 @@ class Connection(_Object):
 
     def put_packets(self, side: Side,
                     packets: Union[bytes, bytearray, memoryview]) -> Tuple[bytes, int]:
-        """Puts the payloads of packets one after another, while they are due of the side: gives
+        """Puts the payloads of packets one after another, while they are due of the side. Gives
         their packets as they are sent, and how many bytes of `packets` were taken.
 
         The packets are such as `send`, `executions` and `ReplyWriter` make. Of several executions
-        the first is taken, with the long data before it: the next one is due behind its reply, and
+        the first is taken, with the long data before it. The next one is due behind its reply, and
         put by another call with what is left. A packet that is cut off at the end is left.
 
         Nothing tells of a command that is laid out as none, whose event `put` gives. Such are
         executions of a statement that `statement` doesn't know, or for other capabilities than are
         in force.
 
-        Raises MySQLSessionError as `put` does where nothing is taken for it; a refusal behind a
+        Raises MySQLSessionError as `put` does where nothing is taken for it. A refusal behind a
         payload that was put comes at the call with what is left. Where MemoryError or
         KeyboardInterrupt ends the call, `unsent` has as many bytes as were taken.
         """
@@ -2299,7 +2349,8 @@ class Connection(_Object):
 
     def columns(self) -> Tuple[Column, ...]:
         """The columns of the event that was told last: of a row all, of a column itself; of any
-        other event none. So take them with the row: behind it another event is the last."""
+        other event none. So take them with the row: behind it another event is the last. Rows of
+        one result have one tuple of them."""
         columns: Tuple[Column, ...] = self._native.columns()
         return columns
 
@@ -2353,6 +2404,22 @@ class Connection(_Object):
     def mariadb_capabilities(self) -> int:
         """MariaDB's own capabilities in force."""
         return int(self._standing().mariadb_capabilities)
+
+    @property
+    def mode(self) -> Optional[Mode]:
+        """The session's SQL mode, by what came of the server so far: None where it isn't known.
+
+        A login, a change of user and a reset of the connection tell it. Behind a statement it is
+        known only where the server tells each change. Have it do so, if it has
+        `Capability.SESSION_TRACK`, by `SET session_track_system_variables = 'sql_mode', sql_mode =
+        @@sql_mode`, whose answer tells the mode. Where it is None take `Spelling.HEXADECIMAL`, or
+        execute (MySQL Reference Manual, "Server Tracking of Client Session State").
+        """
+        flags = self._native.mode()
+        if flags == _UNKNOWN_MODE:
+            self._standing()  # which a closed connection hasn't
+            return None
+        return Mode._told(flags)
 
     @property
     def fault(self) -> Optional[ConnectionFault]:
@@ -2512,9 +2579,9 @@ def put_login(user: Text, capabilities: int, response: bytes = b"", database: Te
 
     CONNECT_WITH_DB and PLUGIN_AUTH are set as the database and the plugin are given or not. The
     response is what the plugin makes of the password and the scramble, never the password's own
-    text, and of an empty password none: docs/LOGGING_IN.md says how it is made. Raises
-    MySQLSessionError by BAD_PACKET where a text can't be written whole: one with a zero byte, or a
-    response of more than 255 bytes without PLUGIN_AUTH_LENENC_CLIENT_DATA.
+    text. Of an empty password it is none. docs/LOGGING_IN.md says how it is made. Raises
+    MySQLSessionError by BAD_PACKET where a text can't be written whole. Such is one with a zero
+    byte, or a response of more than 255 bytes without PLUGIN_AUTH_LENENC_CLIENT_DATA.
     """
     payload: bytes = _native.login_put(capabilities, mariadb_capabilities, max_packet_size, user,
                                        response, database, plugin)

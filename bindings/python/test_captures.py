@@ -7,6 +7,7 @@ import io
 import os
 import pathlib
 import random
+import re
 import struct
 import subprocess
 import sys
@@ -16,13 +17,17 @@ from typing import Dict, List, NamedTuple, Sequence
 
 HERE = pathlib.Path(__file__).resolve().parent
 EXAMPLES = HERE / "examples"
+TESTING = HERE.parent / "testing"
 RECORDINGS = HERE.parent.parent / "crates" / "connection_conformance" / "data"
 sys.path.insert(0, str(EXAMPLES))
+sys.path.append(str(TESTING))
 
 import captures  # noqa: E402  (found by the line above)
+import masking  # noqa: E402
 import mysql_session as ms  # noqa: E402
 import read_capture  # noqa: E402
 import streams  # noqa: E402
+import with_passwords  # noqa: E402
 from captures import ACK, FIN, RST, SYN, Address  # noqa: E402
 
 CLIENT, SERVER = Address("192.0.2.1", 50000), Address("192.0.2.2", 3306)
@@ -321,7 +326,7 @@ class Recordings(unittest.TestCase):
                 left.remove(queue)
             else:
                 packets.append(packet)
-        ran = self.read(written(packets), "--lines")
+        ran = self.read(written(packets), "--lines", "--secrets")
         found = self.lines(ran.stdout)
         for place, name in enumerate(self.NAMES):
             wanted = (RECORDINGS / (name + ".events")).read_text().splitlines()
@@ -333,7 +338,7 @@ class Recordings(unittest.TestCase):
         begins behind the greeting isn't read, and is told of where its port was asked for."""
         packets = conversation(self.sent("pipelined", 40000), random.Random(7))[2:]
         wanted = (RECORDINGS / "pipelined.events").read_text().splitlines()
-        ran = self.read(written(packets), "--lines")
+        ran = self.read(written(packets), "--lines", "--secrets")
         self.assertEqual(self.lines(ran.stdout), {1: wanted})
         self.assertEqual(ran.returncode, 0)
         rest = [it for it in packets if it.source != SERVER or it.number != packets[0].number]
@@ -365,7 +370,7 @@ class Recordings(unittest.TestCase):
                        Packet(client, server, 1000 + len(asked), 5000, ACK | FIN),
                        Packet(server, client, 5000 + len(said), 1000, ACK | FIN)]
             wanted = (RECORDINGS / (name + ".events")).read_text().splitlines()[count:]
-            options = ("--lines", "--port", "3306")
+            options = ("--lines", "--secrets", "--port", "3306")
             ran = self.read(written(packets), *options, "--capabilities", words)
             self.assertEqual((self.lines(ran.stdout), ran.returncode), ({1: wanted}, 0), name)
             ran = self.read(written(packets), *options)
@@ -395,6 +400,51 @@ class Recordings(unittest.TestCase):
         for value, text in rows:
             self.assertEqual(read_capture.shown(value), text)
 
+    def test_masks(self) -> None:
+        """Statements without their passwords, by the rows that the auditing proxy has as well."""
+        rows = TESTING / "rows" / "masks.txt"
+        count = 0
+        for number, line in enumerate(rows.read_text(encoding="utf-8").splitlines(), 1):
+            if line and not line.startswith("#"):
+                kind, text, *more = (it.replace("<LF>", "\n") for it in line.split(" | "))
+                wanted = (more[0] if more else text).encode(), kind != "shown"
+                found = masking.masked(text.encode(), "plain" not in kind)
+                self.assertEqual(found, wanted, f"row {number}")
+                count += 1
+        self.assertGreater(count, 80)
+
+    def test_passwords(self) -> None:
+        """No password of a statement, of a value or of a reply is printed, but with --secrets."""
+        client, server = with_passwords.conversation(*self.sent("php-execute", 40000).values())
+        sent = {Address("192.0.2.1", 40000): client, SERVER: server}
+        packets = conversation(sent, random.Random(12))
+        for options in ((), ("--lines",)):
+            ran = self.read(written(packets), *options)
+            self.assertEqual((ran.stderr, ran.returncode), ("", 0))
+            self.assertEqual(with_passwords.leaks(ran.stdout), [])
+            self.assertIn("over quit", ran.stdout)
+            self.assertIn("shown" if not options else b"'shown'".hex(), ran.stdout)
+            ran = self.read(written(packets), *options, "--secrets")
+            self.assertEqual(with_passwords.leaks(ran.stdout), list(with_passwords.PASSWORDS))
+
+    def test_answers(self) -> None:
+        """Of what is said in an authentication the length alone is printed."""
+        answers = re.compile(r"((?:answer|password|data)=)x([0-9a-f]*)")
+        said = ("client Login", "client ChangeUser", "client AuthAnswer", "server AuthSwitch",
+                "server AuthMore", "server NextFactor", "server PluginData",
+                "client RegisterSlave", "client Other byte=17 ")
+        packets: List[Packet] = []
+        wanted: Dict[int, List[str]] = {}
+        for name in self.NAMES:
+            lines = (RECORDINGS / (name + ".events")).read_text().splitlines()
+            if any(it.startswith(said[1:]) for it in lines):
+                packets += conversation(self.sent(name, 40000 + len(wanted)), random.Random(13))
+                wanted[len(wanted) + 1] = [
+                    answers.sub(lambda it: f"{it.group(1)}({len(it.group(2)) // 2} bytes)", it)
+                    if it.startswith(said) else it for it in lines]
+        self.assertGreater(len(wanted), 5)
+        self.assertEqual(self.lines(self.read(written(packets), "--lines").stdout), wanted)
+
     def test_others(self) -> None:
         """Connections of other protocols are left out, and files that are no captures refused."""
         sent = {Address("192.0.2.1", 40000): b"GET / HTTP/1.0\r\n\r\n", SERVER: b"HTTP/1.0 200 OK"}
@@ -414,7 +464,7 @@ class Recordings(unittest.TestCase):
             packets = conversation(self.sent(name, 40000), at, 300)
             lost = at.choice([it for it in packets[2:] if it.data])
             packets.remove(lost)
-            ran = self.read(written(packets), "--lines", "--port", "3306")
+            ran = self.read(written(packets), "--lines", "--secrets", "--port", "3306")
             wanted = (RECORDINGS / (name + ".events")).read_text().splitlines()
             found = self.lines(ran.stdout).get(1, [])
             self.assertEqual(found[:-1], wanted[:len(found[:-1])], name)

@@ -84,7 +84,7 @@ class Examples(unittest.TestCase):
                        ["answer 0: 1 rows", error, "the recorded stream ends: whole"], 1)
 
     def test_recorded_mode(self) -> None:
-        """What was recorded at a server in another mode is read by it; the test server is in the
+        """What was recorded at a server in another mode is read by it. The test server is in the
         default mode, so that the text is another one."""
         mode = ms.Mode(no_backslash_escapes=True)
         stream = ms.send("SELECT ?", [("\\",)], ms.Road.TEXT, mode=mode)
@@ -113,7 +113,7 @@ class Examples(unittest.TestCase):
                           + ms.code_text(ms.Code.FAULT_OTHER_COMMAND), done.stdout)
             self.assertEqual(done.returncode, 1)
             done = replay(port, stream, "SELECT ?", "--road", "execute")
-            self.assertIn("the query isn't prepared: error 1064", done.stderr)
+            self.assertIn("replay: error 1064 (42000)", done.stderr)
             self.assertEqual(done.returncode, 2)
             done = replay(port, stream, "SELECT ?", "--road", "bulk")
             self.assertIn("the server takes no bulk executions", done.stderr)
@@ -155,6 +155,22 @@ def connected(answers: Mapping[str, test_server.Given]) -> Iterator[client.Clien
         with client.Client(socket.create_connection(("127.0.0.1", port))) as it:
             it.log_in("anyone", "secret", "shop")
             yield it
+
+
+class TestMode(unittest.TestCase):
+    def test_texts(self) -> None:
+        """Behind a statement the mode isn't known of a server that doesn't track it."""
+        query, value = "SELECT id FROM goods WHERE name = ?", ["\\' OR 1=1 -- "]
+        with connected({}) as it:
+            self.assertEqual(it.mode, ms.Mode())
+            self.assertEqual(it.text(query, value), query.replace("?", "").encode()
+                             + rb"'\\\' OR 1=1 -- '")
+            it.query("SET @a = 1")
+            self.assertIsNone(it.mode)
+            self.assertEqual(it.text(query, value), query.replace("?", "").encode()
+                             + b"_utf8mb4 0x5C27204F5220313D31202D2D20")
+            with self.assertRaises(ValueError):
+                it.text(r"SELECT '\', ?", [1])
 
 
 class TestServer(unittest.TestCase):

@@ -2,7 +2,8 @@
 interrupts, and of how long it takes: `make check`.
 
 Where the environment variable MYSQL_SESSION_INTERRUPTS has a number, so many interrupts come at
-random moments, in place of some hundred.
+random moments, in place of some hundred. MYSQL_SESSION_SEED has the seed of an earlier run, which it
+prints; the moments are never quite the same.
 """
 
 from __future__ import annotations
@@ -272,16 +273,20 @@ class Stop(Exception):
 
 
 @unittest.skipIf(sys.version_info < (3, 11), "signals are handled between a call and its result")
-class Interrupts(Case):
-    """Interrupts at random moments: nothing is lost, and nothing comes twice."""
+class Interrupted(Case):
+    """Interrupts come at random moments, by a timer whose signal's handler raises."""
 
-    COUNT = int(os.environ.get("MYSQL_SESSION_INTERRUPTS", "300"))
+    SEED = int(os.environ.get("MYSQL_SESSION_SEED") or Random().randrange(1 << 32))
+
+    @classmethod
+    def setUpClass(cls) -> None:
+        print(f"{cls.__name__}: MYSQL_SESSION_SEED={cls.SEED}", file=sys.stderr)
 
     def setUp(self) -> None:
         def handle(*_: object) -> None:
             raise Stop
 
-        self.random, self.stops = Random(7), 0
+        self.random, self.stops = Random(self.SEED), 0
         self.before = signal.signal(signal.SIGALRM, handle)
 
     def tearDown(self) -> None:
@@ -313,6 +318,12 @@ class Interrupts(Case):
                 return given
             except Stop:
                 self.stops += 1
+
+
+class Interrupts(Interrupted):
+    """Interrupts at random moments: nothing is lost, and nothing comes twice."""
+
+    COUNT = int(os.environ.get("MYSQL_SESSION_INTERRUPTS", "300"))
 
     def rounds(self, work: Callable[[float], None], most: float) -> None:
         """Has work be done until so many interrupts came."""
@@ -415,6 +426,132 @@ class Interrupts(Case):
                 self.assertIsNone(reader.payload())
 
         self.rounds(work, 0.00001)
+
+
+class EachCall(Interrupted):
+    """Calls that give what their object has, twenty thousand in all. An interrupt comes at a random
+    moment of each, which is made again then. They give what calls give that nothing interrupts."""
+
+    COUNT = 2000
+
+    def each(self, call: Callable[[int], Any],
+             before: Callable[[int], object] = lambda number: None) -> List[Any]:
+        """What so many calls give by their numbers, before each of which something is done."""
+        given = []
+        for number in range(self.COUNT):
+            before(number)
+            most = self.random.choice((5e-6, 1e-5, 2e-5, 4e-5))
+            given.append(self.interrupted(lambda: call(number), most))
+        self.assertGreater(self.stops, self.COUNT // 50)
+        return given
+
+    def writes(self, write: Callable[[int], bytes], rest: Callable[[int], bytes]) -> List[bytes]:
+        """The same of calls that each write something. What an interrupted one wrote is the rest:
+        where that is nothing, it is made again."""
+        begun = -1
+
+        def once(number: int) -> bytes:
+            nonlocal begun
+            found = rest(number) if begun == number else b""
+            begun = number
+            return found or write(number)
+
+        return self.each(once)
+
+    def test_sets(self) -> None:
+        query, sets = "INSERT INTO t VALUES (?)", [(it,) for it in range(self.COUNT)]
+        with ms.Receiver(query) as receiver:
+            receiver.feed(ms.send(query, (), ms.Road.EXECUTE))
+            found = self.each(lambda number: receiver.take(), lambda number: receiver.feed(
+                ms.executions(query, [sets[number]], 1)))
+            self.assertEqual([it for taken in found for it in taken], sets)
+            self.assertEqual(receiver.take(), [])
+
+    def test_results(self) -> None:
+        column = Column(b"a", ColumnType.LONG, 0, 63)
+        reply = cells(column, list(range(self.COUNT)))
+        pieces = cut(reply, -(-len(reply) // self.COUNT))
+        for takes in ([ms.ReplyReader.take], [ms.ReplyReader.take_values, ms.ReplyReader.take_tables]):
+            with ms.ReplyReader(ReplyKind.QUERY, PROTOCOL_41) as reader:
+                def feed(number: int) -> None:
+                    if number < len(pieces):
+                        reader.feed(pieces[number])
+
+                rows: List[Any] = []
+                for results in self.each(lambda number: takes[number % len(takes)](reader), feed):
+                    for it in results:
+                        rows += it.tuples() if isinstance(it, ms.Table) else it.rows
+                self.assertEqual([int(it) for it, in rows], list(range(self.COUNT)))
+                self.assertEqual(reader.take(), [])
+                self.assertEqual(reader.end(), ms.End(ms.EndKind.WHOLE))
+
+    def test_events(self) -> None:
+        reply = cells(Column(b"a", ColumnType.LONG, 0, 63), list(range(2 * self.COUNT)))
+        with at_rows(reply) as connection:
+            found = self.each(lambda number: connection.next_event())
+            self.assertEqual([int(it.cells[0]) for it in found], list(range(self.COUNT)))
+            self.assertEqual(len(list(connection)), self.COUNT + 1)
+
+    def test_rows(self) -> None:
+        front = cells(Column(b"a", ColumnType.LONG, 0, 63), [])[:-9]
+        with at_rows(front) as connection:
+            def feed(number: int) -> None:
+                text = b"%d" % number
+                row = bytes([len(text)]) + text
+                connection.feed(Side.SERVER, ms.put_packet(row, (number + 4) % 256)[0])
+
+            found = self.each(lambda number: connection.take_rows(), feed)
+            self.assertEqual([int(it) for rows in found for it, in rows], list(range(self.COUNT)))
+            self.assertEqual(connection.take_rows(), [])
+
+    def test_payloads(self) -> None:
+        wanted = [b"%d" % it for it in range(self.COUNT)]
+        with ms.PacketReader() as reader:
+            for number, it in enumerate(wanted):
+                reader.feed(ms.put_packet(it, number % 256)[0])
+            self.assertEqual(self.each(lambda number: reader.payload()), wanted)
+            self.assertIsNone(reader.payload())
+
+    def test_puts(self) -> None:
+        """A ping and its answer in turn, as payloads and as packets."""
+        payloads = b"\x0e", b"\0\0\0\2\0\0\0"
+        packets = [ms.put_packet(it, number)[0] for number, it in enumerate(payloads)]
+        with ms.Connection.after_login(PROTOCOL_41) as connection:
+            writes: List[Callable[[int], bytes]] = [
+                lambda number: connection.put(Side(number % 2), payloads[number % 2]).packets,
+                lambda number: connection.put_packets(Side(number % 2), packets[number % 2])[0]]
+            for write in writes:
+                found = self.writes(write, lambda number: connection.unsent(Side(number % 2)))
+                self.assertEqual(found, packets * (self.COUNT // 2))
+                self.assertEqual([connection.unsent(it) for it in Side], [b"", b""])
+
+    def test_recoded(self) -> None:
+        query, sets = "INSERT INTO t VALUES (?)", [(it,) for it in range(self.COUNT)]
+        pieces = [ms.send(query, sets[:1], ms.Road.EXECUTE, 1),
+                  *(ms.executions(query, [it], 1) for it in sets[1:])]
+        with ms.Recoder(query) as recoder:
+            found = self.writes(lambda number: recoder.feed(pieces[number]),
+                                lambda number: recoder.rest())
+            self.assertEqual(found, pieces)
+            self.assertEqual(recoder.rest() + recoder.end(), b"")
+
+    def test_replies(self) -> None:
+        """What writes results, one after another."""
+        columns = [Column(b"a", ColumnType.LONG, 0, 63)]
+
+        def write(writer: ms.ReplyWriter, number: int) -> bytes:
+            if number % 4 == 0:
+                return writer.ok(number, more=True)
+            if number % 4 == 1:
+                return writer.rows(columns)
+            return writer.row([number]) if number % 4 == 2 else writer.end_rows(more=True)
+
+        with ms.ReplyWriter(ReplyKind.QUERY, PROTOCOL_41) as writer:
+            wanted = [write(writer, number) for number in range(self.COUNT)]
+        with ms.ReplyWriter(ReplyKind.QUERY, PROTOCOL_41) as writer:
+            found = self.writes(lambda number: write(writer, number), lambda number: writer.rest())
+            self.assertEqual(found, wanted)
+            self.assertEqual(writer.rest(), b"")
 
 
 class Linear(Case):

@@ -1,8 +1,8 @@
 """Tests of mysql_session: `make check`.
 
-Rows of sessions and of replies are run by bindings/testing/sessions.py.
-Where the environment variable MYSQL_SESSION_LARGE is set, bytes of 2 and of 4 GiB come out too:
-that takes 9 GB of memory, and a minute.
+Rows of sessions and of replies are run by bindings/testing/sessions.py. Where the environment
+variable MYSQL_SESSION_LARGE is set, bytes of 2 and of 4 GiB come out too. That takes 9 GB of
+memory, and a minute.
 """
 
 from __future__ import annotations
@@ -142,7 +142,8 @@ class Interface(Case):
         self.assertEqual(self.numbers("mysql_session_bulk_kind"), bulk)
         flags = {"NO_BACKSLASH_ESCAPES": ms._flags(Mode(no_backslash_escapes=True)),
                  "ANSI_QUOTES": ms._flags(Mode(ansi_quotes=True)),
-                 "HEXADECIMAL": ms._flags(Mode(), Spelling.HEXADECIMAL)}
+                 "HEXADECIMAL": ms._flags(Mode(), Spelling.HEXADECIMAL),
+                 "UNKNOWN_MODE": ms._UNKNOWN_MODE}
         self.assertEqual(self.numbers("mysql_session_flag"), flags)
         self.assertEqual((ms._flags(Mode()), ms._flags(Mode(True, True), Spelling.HEXADECIMAL)),
                          (0, 7))
@@ -415,7 +416,7 @@ class Modes(Case):
             self.assertEqual(ms.literal("'\\", mode=mode), wanted, mode)
             self.assertEqual(ms.bind_text("SELECT ?", ["'\\"], mode=mode), b"SELECT " + wanted)
         rows: List[Tuple[ms.Parameter, bytes]] = [
-            ("'\\", b"0x275C"), ("", b"''"), (b"\xff", b"0xFF"), (None, b"NULL"), (-7, b"-7"),
+            ("'\\", b"_utf8mb4 0x275C"), ("", b"''"), (b"\xff", b"_binary 0xFF"), (None, b"NULL"), (-7, b"-7"),
             (datetime.date(2024, 2, 29), b"'2024-02-29'"),
             (datetime.timedelta(0), b"'000:00:00'")]
         for mode in MODES:
@@ -462,12 +463,13 @@ class Modes(Case):
         executions = ms.send("SELECT ?", contents, Road.EXECUTE)
         for mode, road, spelling in itertools.product(MODES, Road, Spelling):
             stream = ms.send("SELECT ?", contents, road, mode=mode, spelling=spelling)
-            with ms.Receiver("SELECT ?", mode=mode) as receiver:
+            with ms.Receiver("SELECT ?", mode=mode, spelling=spelling) as receiver:
                 for piece in cut(stream, 1):
                     receiver.feed(piece)
                 self.assertEqual(receiver.take(), contents, (mode, road, spelling))
                 self.assertEqual(receiver.end(), ms.End(EndKind.WHOLE))
-            self.assertEqual(ms.recode("SELECT ?", stream, mode=mode), executions)
+            self.assertEqual(ms.recode("SELECT ?", stream, mode=mode, spelling=spelling),
+                             executions)
 
     def test_other_mode(self) -> None:
         """A value may end its literal at a server in another mode; in hexadecimal it can't."""
@@ -478,7 +480,7 @@ class Modes(Case):
                 self.refuses(Code.FAULT_TEXT_MISMATCH, lambda: receiver.feed(stream))
         streams = {ms.send("SELECT ?", [("' \\",)], Road.TEXT, mode=mode,
                            spelling=Spelling.HEXADECIMAL) for mode in MODES}
-        self.assertEqual(streams, {query_packet(b"SELECT 0x27205C")})
+        self.assertEqual(streams, {query_packet(b"SELECT _utf8mb4 0x27205C")})
 
     def test_default(self) -> None:
         """Calls without a mode mean the default, and quotes."""
@@ -502,12 +504,13 @@ class Modes(Case):
                 Mode.of(status)
 
     def test_of_sql_mode(self) -> None:
-        rows = {"": DEFAULT, "STRICT_TRANS_TABLES,NO_ENGINE_SUBSTITUTION": DEFAULT,
+        rows: Dict[str, Optional[Mode]] = {
+                "": DEFAULT, "STRICT_TRANS_TABLES,NO_ENGINE_SUBSTITUTION": DEFAULT,
                 "NO_BACKSLASH_ESCAPES": NO_ESCAPES,
                 "STRICT_ALL_TABLES,no_backslash_escapes": NO_ESCAPES,
                 "ANSI_QUOTES,NO_BACKSLASH_ESCAPES": BOTH, "Ansi": ANSI_QUOTES, "DB2": ANSI_QUOTES,
-                "MAXDB": ANSI_QUOTES, "MSSQL": ANSI_QUOTES, "ORACLE": ANSI_QUOTES,
-                "POSTGRESQL": ANSI_QUOTES, "ANSI_QUOTES_NOT,XNO_BACKSLASH_ESCAPES": DEFAULT}
+                "MAXDB": ANSI_QUOTES, "MSSQL": None, "ORACLE": ANSI_QUOTES,
+                "POSTGRESQL": ANSI_QUOTES, " Ansi_Quotes ,": ANSI_QUOTES, "ANSI_QUOTES,XNO_BACKSLASH_ESCAPES": None}
         for value, mode in rows.items():
             self.assertEqual(Mode.of_sql_mode(value), mode, value)
             self.assertEqual(Mode.of_sql_mode(value.encode()), mode, value)
@@ -1387,6 +1390,7 @@ CALLS: Dict[Type[ms._Object], Dict[str, Callable[[Any], object]]] = {
         "turn": lambda it: it.turn, "phase": lambda it: it.phase, "reason": lambda it: it.reason,
         "capabilities": lambda it: it.capabilities, "fault": lambda it: it.fault,
         "mariadb_capabilities": lambda it: it.mariadb_capabilities,
+        "mode": lambda it: it.mode,
         "close_side": lambda it: it.close_side(ms.Side.SERVER), "finish": ms.Connection.finish,
         "put": lambda it: it.put(ms.Side.CLIENT, b"\x0e"),
         "put_packets": lambda it: it.put_packets(ms.Side.CLIENT, b"\x01\0\0\0\x0e"),
@@ -1409,7 +1413,7 @@ def through(steps: Steps, between: Callable[[Any], object] = lambda it: None) ->
 
 @contextlib.contextmanager
 def collecting(call: Callable[[], object]) -> Iterator[None]:
-    """Within it, a call is made by the collector, also while a call of the extension runs: up to
+    """Within it, a call is made by the collector, also while a call of the extension runs. Up to
     Python 3.11 that begins as objects are made."""
     def collect(phase: str, _: object) -> None:
         if phase == "start":
@@ -1610,8 +1614,8 @@ except ImportError:  # Debian: libpython3-testsuite
 
 
 class Failing:
-    """Has a call fail at a place of a number, by one of these ways: an interrupt that comes as a call
-    of the extension returns, or where Python looks for one, and a growth of memory that is refused.
+    """Has a call fail at a place of a number, by one of two ways. An interrupt comes as a call of
+    the extension returns, or where Python looks for one. Or a growth of memory is refused.
     """
 
     # Of 3.13 a trace function that raises breaks the interpreter, of 3.12 refused memory does, also
@@ -1634,8 +1638,8 @@ class Failing:
         return self.left if self.way == "no memory" else 0
 
     def trace(self, frame: Any, event: str, _: object) -> Any:
-        """Interrupts at a place at which Python may handle a signal, in the module's own code: behind
-        a call, as a function begins, and where a loop goes on."""
+        """Interrupts at a place at which Python may handle a signal, in the module's own code.
+        These are behind a call, as a function begins, and where a loop goes on."""
         if frame.f_code.co_filename != ms.__file__:
             return None
         frame.f_trace_opcodes = True

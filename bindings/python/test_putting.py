@@ -225,6 +225,19 @@ class Putting(Case):
         with self.assertRaises(OverflowError):
             ms.Connection.after_login(1 << 32)
 
+    def test_client_of_mysql(self) -> None:
+        """A client of MySQL has none of MariaDB's own capabilities, by any bytes there."""
+        greeting = ms.put_greeting(7, "8.0.0", CAPABILITIES | 1, b"12345678", b"123456789012")
+        for bit, found in (0, 4), (1, 0):
+            with ms.Connection() as it:
+                it.put(Side.SERVER, greeting)
+                capabilities = CAPABILITIES & ~1 | bit
+                login = ms.put_login("root", capabilities, b"", mariadb_capabilities=4)
+                _, event = it.put(Side.CLIENT, login)
+                assert isinstance(event, ms.LoginEvent)
+                self.assertEqual(event.mariadb_capabilities, found)
+                self.assertEqual(ms.read_login(login).mariadb_capabilities, found)
+
     def test_proxy(self) -> None:
         """What stands between a client and a server reads of the one and puts to the other, by
         numbers of its own."""

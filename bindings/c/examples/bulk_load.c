@@ -10,10 +10,9 @@
  * one is refused none: they stand in one transaction, and the line of the first is told that is
  * refused.
  *
- * The rows are executions: no value is part of a text. Which bytes of the statement are
- * placeholders depends on the server's SQL mode, as its answers tell it. A MariaDB whose SQL mode
- * has ANSI_QUOTES can't be loaded: its status then has a bit without a name in the protocol, by
- * which the library refuses its greeting and its answers.
+ * The rows are executions: no value is part of a text. The statement has names in backticks alone,
+ * in which no backslash counts. So it has the same placeholders in each SQL mode, and the mode isn't
+ * asked for.
  *
  * The user has no password. At any time the program holds the rows of one request.
  */
@@ -46,9 +45,7 @@
     (CLIENT_PROTOCOL_41 | CLIENT_TRANSACTIONS | CLIENT_SECURE_CONNECTION | CLIENT_PLUGIN_AUTH)
 #define MARIADB_CLIENT_STMT_BULK_OPERATIONS 0x00000004u
 
-#define SERVER_MORE_RESULTS_EXISTS 8
-
-/* No packet is longer, so that each has one chunk and its reply begins with the number 1. */
+/* No payload is longer. */
 #define LIMIT (1u << 24)
 
 static void stop(const char *why, ...)
@@ -263,20 +260,68 @@ static size_t read_some(int server, uint8_t *bytes, size_t room)
     }
 }
 
+/* The connection to a server, and the packets that were put and aren't written yet. */
+typedef struct session {
+    int server;
+    mysql_session_connection connection;
+    mysql_session_handle out;
+} session;
+
+static void write_out(session *to)
+{
+    const uint8_t *data = NULL;
+    size_t len = 0;
+    check(mysql_session_bytes_data(&to->out, &data, &len), "a packet");
+    write_all(to->server, data, len);
+    check(mysql_session_bytes_clear(&to->out), "a packet");
+}
+
+static void put(session *to, const uint8_t *payload, size_t len)
+{
+    mysql_session_event event;
+    memset(&event, 0, sizeof event);
+    check(mysql_session_connection_put(&to->connection, MYSQL_SESSION_CLIENT, payload, len,
+                                       &to->out, &event), "a packet");
+    write_out(to);
+}
+
+/* Takes the server's next event, which may have to be waited for. */
+static mysql_session_event next(session *from)
+{
+    static uint8_t piece[65536];
+    mysql_session_event event;
+    memset(&event, 0, sizeof event);
+    check(mysql_session_connection_next(&from->connection, &event), "the server's answer");
+    while (event.kind == MYSQL_SESSION_EVENT_NONE) {
+        size_t len = read_some(from->server, piece, sizeof piece);
+        check(mysql_session_connection_feed(&from->connection, MYSQL_SESSION_SERVER, piece, len),
+              "the server's answer");
+        check(mysql_session_connection_next(&from->connection, &event), "the server's answer");
+    }
+    return event;
+}
+
+static int awaits_reply(session *from)
+{
+    mysql_session_standing standing;
+    memset(&standing, 0, sizeof standing);
+    check(mysql_session_connection_standing(&from->connection, &standing), "the connection");
+    return standing.turn == MYSQL_SESSION_SERVER;
+}
+
 /* What a reply says, as far as this program asks. */
 typedef struct answer {
     uint32_t statement;
     uint64_t affected_rows;
     uint64_t number; /* in the first cell of its rows */
-    uint32_t flags;  /* the server's mode behind it */
 } answer;
 
-static uint64_t number_in(mysql_session_handle *reply, size_t result)
+static uint64_t number_in(session *from)
 {
     mysql_session_value value;
     char digits[24];
     memset(&value, 0, sizeof value);
-    check(mysql_session_reply_cell(reply, result, 0, 0, &value), "a cell");
+    check(mysql_session_connection_value(&from->connection, 0, 0, &value), "a cell");
     if (value.kind != MYSQL_SESSION_BYTES || value.len >= sizeof digits)
         stop("the server gives no number");
     memcpy(digits, value.bytes, value.len);
@@ -284,89 +329,41 @@ static uint64_t number_in(mysql_session_handle *reply, size_t result)
     return strtoull(digits, NULL, 10);
 }
 
-/* Notes what a result says, and returns whether it ends the reply. */
-static int note_result(mysql_session_handle *reply, size_t number, answer *found)
+/* Reads the reply to a command to its end. */
+static answer read_reply(session *from)
 {
-    mysql_session_result result;
-    memset(&result, 0, sizeof result);
-    check(mysql_session_reply_result(reply, number, &result), "a result");
-    switch (result.kind) {
-    case MYSQL_SESSION_RESULT_OK:
-        found->affected_rows += result.affected_rows;
-        break;
-    case MYSQL_SESSION_RESULT_ROWS:
-        if (result.rows > 0)
-            found->number = number_in(reply, number);
-        if (!result.ended)
-            return 0;
-        break;
-    case MYSQL_SESSION_RESULT_PREPARED:
-        found->statement = result.statement;
-        return 1;
-    case MYSQL_SESSION_RESULT_ERROR:
-        stop("the server refuses: %.*s (%u)", (int)result.len, (const char *)result.text,
-             (unsigned)result.error_code);
-        break;
-    default:
-        stop("the server asks for a file");
+    answer found = { 0, 0, 0 };
+    while (awaits_reply(from)) {
+        mysql_session_event event = next(from);
+        switch (event.kind) {
+        case MYSQL_SESSION_EVENT_OK:
+            found.affected_rows += event.affected_rows;
+            break;
+        case MYSQL_SESSION_EVENT_PREPARED:
+            found.statement = event.statement;
+            break;
+        case MYSQL_SESSION_EVENT_ROW:
+            found.number = number_in(from);
+            break;
+        case MYSQL_SESSION_EVENT_ERROR:
+        case MYSQL_SESSION_EVENT_FAREWELL:
+            stop("the server refuses: %.*s (%u)", (int)event.len, (const char *)event.text,
+                 (unsigned)event.error_code);
+            break;
+        case MYSQL_SESSION_EVENT_FILE_REQUEST:
+            stop("the server asks for a file");
+            break;
+        default:
+            break;
+        }
     }
-    found->flags = mysql_session_mode_of_status(result.status);
-    return (result.status & SERVER_MORE_RESULTS_EXISTS) == 0;
-}
-
-/* Reads the reply to a command of this kind, whose first packet has the number 1, to its end. */
-static answer read_reply(int server, uint32_t kind)
-{
-    static uint8_t piece[65536];
-    mysql_session_handle reply = MYSQL_SESSION_NOTHING;
-    answer found = { 0, 0, 0, 0 };
-    size_t results = 0, at;
-    int over = 0;
-    check(mysql_session_reply_new(&reply, kind, CAPABILITIES, 1, LIMIT), "a reply");
-    while (!over) {
-        size_t len = read_some(server, piece, sizeof piece);
-        check(mysql_session_reply_feed(&reply, piece, len), "the server's reply");
-        check(mysql_session_reply_take(&reply), "the server's reply");
-        check(mysql_session_reply_results(&reply, &results), "the server's reply");
-        for (at = 0; at < results; at++)
-            over = note_result(&reply, at, &found);
-    }
-    mysql_session_free(&reply);
     return found;
 }
 
 /* ---- Logging in ------------------------------------------------------------------------------ */
 
-/* Reads the next packet of the server, which says nothing more before it is answered. */
-static void read_packet(int server, mysql_session_handle *packets, const uint8_t **payload,
-                        size_t *len)
-{
-    uint8_t piece[4096];
-    size_t used = 0;
-    bool whole = false;
-    while (!whole) {
-        size_t count = read_some(server, piece, sizeof piece);
-        check(mysql_session_packets_feed(packets, piece, count, &used, &whole), "a packet");
-        if (used != count)
-            stop("the server sends more than a packet");
-    }
-    check(mysql_session_packets_payload(packets, payload, len), "a packet");
-}
-
-static void write_packet(int server, const uint8_t *payload, size_t len, uint8_t number)
-{
-    mysql_session_handle framed = MYSQL_SESSION_NOTHING;
-    const uint8_t *data = NULL;
-    size_t framed_len = 0;
-    check(mysql_session_bytes_new(&framed), "a packet");
-    check(mysql_session_packet_put(&framed, payload, len, &number, LIMIT), "a packet");
-    check(mysql_session_bytes_data(&framed, &data, &framed_len), "a packet");
-    write_all(server, data, framed_len);
-    mysql_session_free(&framed);
-}
-
 /* The answer to a greeting: the user without a password, for this database. */
-static void write_login(int server, const char *user, const char *database)
+static void put_login(session *to, uint32_t capabilities, const char *user, const char *database)
 {
     static const uint8_t none[] = "";
     static const char plugin[] = "mysql_native_password";
@@ -374,63 +371,46 @@ static void write_login(int server, const char *user, const char *database)
     const uint8_t *data = NULL;
     size_t len = 0;
     check(mysql_session_bytes_new(&login), "the login");
-    check(mysql_session_login_put(&login, CAPABILITIES, MARIADB_CLIENT_STMT_BULK_OPERATIONS,
+    check(mysql_session_login_put(&login, capabilities, MARIADB_CLIENT_STMT_BULK_OPERATIONS,
                                   LIMIT, (const uint8_t *)user, strlen(user), none, 0,
                                   (const uint8_t *)database, strlen(database),
                                   (const uint8_t *)plugin, sizeof plugin - 1), "the login");
     check(mysql_session_bytes_data(&login, &data, &len), "the login");
-    write_packet(server, data, len, 1);
+    put(to, data, len);
     mysql_session_free(&login);
 }
 
-static void stop_refused(const uint8_t *payload, size_t len)
+static void log_in(session *to, const char *user, const char *database)
 {
-    /* Behind ff and a code of two bytes stand # and a state of five, where there is one. */
-    size_t from = len > 9 && payload[3] == '#' ? 9 : len < 3 ? len : 3;
-    stop("the server refuses the login: %.*s", (int)(len - from), (const char *)payload + from);
-}
-
-static void log_in(int server, const char *user, const char *database)
-{
-    mysql_session_handle packets = MYSQL_SESSION_NOTHING;
-    mysql_session_greeting greeting;
-    const uint8_t *payload = NULL;
-    uint8_t number = 2;
-    size_t len = 0;
-    memset(&greeting, 0, sizeof greeting);
-    check(mysql_session_packets_new(&packets, 0, LIMIT), "the greeting");
-    read_packet(server, &packets, &payload, &len);
-    if (len > 0 && payload[0] == 0xff)
-        stop_refused(payload, len);
-    check(mysql_session_greeting_read(payload, len, &greeting), "the greeting");
-    if ((greeting.mariadb_capabilities & MARIADB_CLIENT_STMT_BULK_OPERATIONS) == 0)
-        stop("the server %.*s takes no bulk executions", (int)greeting.version_len,
-             (const char *)greeting.version);
-    write_login(server, user, database);
-    /* The reader of packets goes on by the numbers of both sides. */
-    check(mysql_session_packets_new(&packets, number, LIMIT), "the login");
-    read_packet(server, &packets, &payload, &len);
-    while (len > 0 && payload[0] == 0xfe) {
-        /* Another plugin is asked for: no password is an empty answer by that one too. */
-        number = (uint8_t)(number + 2);
-        write_packet(server, payload, 0, (uint8_t)(number - 1));
-        check(mysql_session_packets_new(&packets, number, LIMIT), "the login");
-        read_packet(server, &packets, &payload, &len);
+    mysql_session_event event;
+    check(mysql_session_bytes_new(&to->out), "the connection");
+    check(mysql_session_connection_new(&to->connection, LIMIT, LIMIT, 4 * LIMIT),
+          "the connection");
+    event = next(to);
+    if (event.kind == MYSQL_SESSION_EVENT_GREETING) {
+        if ((event.mariadb_capabilities & MARIADB_CLIENT_STMT_BULK_OPERATIONS) == 0)
+            stop("the server %.*s takes no bulk executions", (int)event.len,
+                 (const char *)event.text);
+        put_login(to, CAPABILITIES & event.capabilities, user, database);
+        event = next(to);
     }
-    if (len == 0 || payload[0] != 0)
-        stop_refused(payload, len);
-    mysql_session_free(&packets);
+    while (event.kind == MYSQL_SESSION_EVENT_AUTH_SWITCH) {
+        /* Another plugin is asked for: no password is an empty answer by that one too. */
+        put(to, NULL, 0);
+        event = next(to);
+    }
+    if (event.kind != MYSQL_SESSION_EVENT_ACCEPTED)
+        stop("the server refuses the login: %.*s", (int)event.len, (const char *)event.text);
 }
 
 /* ---- Loading --------------------------------------------------------------------------------- */
 
 typedef struct load {
-    int server;
+    session to;
     char *query;
     size_t columns;
     size_t limit;
     uint32_t statement;
-    uint32_t flags;     /* the server's mode as the statement is prepared */
     size_t prepare_len; /* of the packet that each send begins with */
     mysql_session_handle sets;
     mysql_session_handle out;
@@ -440,24 +420,17 @@ typedef struct load {
     uint64_t loaded;
 } load;
 
-/* Runs a query without parameters: what is sent by text of one set of no values. None that is run
- * has a quote or a backslash, so that each is the same in each mode. */
-static answer run(int server, const char *query)
+/* Runs a query without parameters. */
+static answer run(session *to, const char *query)
 {
-    mysql_session_handle sets = MYSQL_SESSION_NOTHING, out = MYSQL_SESSION_NOTHING;
-    mysql_session_place place = { 0, 0 };
-    const uint8_t *data = NULL;
-    size_t len = 0;
-    check(mysql_session_sets_new(&sets), query);
-    check(mysql_session_sets_end_set(&sets), query);
-    check(mysql_session_bytes_new(&out), query);
-    check(mysql_session_send(&sets, (const uint8_t *)query, strlen(query), MYSQL_SESSION_TEXT, 0,
-                             LIMIT, 0, &out, &place), query);
-    check(mysql_session_bytes_data(&out, &data, &len), query);
-    write_all(server, data, len);
-    mysql_session_free(&sets);
-    mysql_session_free(&out);
-    return read_reply(server, MYSQL_SESSION_REPLY_TO_QUERY);
+    uint8_t payload[64];
+    size_t len = strlen(query);
+    if (len >= sizeof payload)
+        stop("the query is too long");
+    payload[0] = 0x03; /* COM_QUERY */
+    memcpy(payload + 1, query, len);
+    put(to, payload, len + 1);
+    return read_reply(to);
 }
 
 /* Puts a name behind a text, in quotes, with the quotes in it doubled. */
@@ -500,7 +473,7 @@ static void put_requests(load *to)
 {
     mysql_session_place place = { 0, 0 };
     uint32_t code = mysql_session_send(&to->sets, (const uint8_t *)to->query, strlen(to->query),
-                                       MYSQL_SESSION_BULK, to->statement, to->limit, to->flags,
+                                       MYSQL_SESSION_BULK, to->statement, to->limit, 0,
                                        &to->out, &place);
     char what[64] = "the statement";
     if (to->rows > 0)
@@ -508,53 +481,47 @@ static void put_requests(load *to)
     check(code, what);
 }
 
-/* Prepares the statement: what is sent of no rows is the prepare alone. */
-static void prepare(load *to)
+/* Sends packets up to the first that has a reply, and returns how many of their bytes went. */
+static size_t send_some(session *to, const uint8_t *packets, size_t len)
 {
-    const uint8_t *data = NULL;
-    put_requests(to);
-    check(mysql_session_bytes_data(&to->out, &data, &to->prepare_len), "the statement");
-    write_all(to->server, data, to->prepare_len);
-    to->statement = read_reply(to->server, MYSQL_SESSION_REPLY_TO_PREPARE).statement;
-    check(mysql_session_bytes_clear(&to->out), "the statement");
-}
-
-/* How long the packet is that the bytes begin with. */
-static size_t packet_len(const uint8_t *data, size_t len, size_t limit)
-{
-    mysql_session_handle packets = MYSQL_SESSION_NOTHING;
     size_t used = 0;
-    bool whole = false;
-    check(mysql_session_packets_new(&packets, 0, limit), "a request");
-    check(mysql_session_packets_feed(&packets, data, len, &used, &whole), "a request");
-    mysql_session_free(&packets);
-    if (!whole)
-        stop("a request is cut off");
+    check(mysql_session_connection_put_packets(&to->connection, MYSQL_SESSION_CLIENT, packets, len,
+                                               &to->out, &used), "a request");
+    write_out(to);
     return used;
 }
 
-/* Sends the rows, request by request. The prepare was answered once, and is left out. */
-static void send_rows(load *to)
+/* Prepares the statement: what is sent of no rows is the prepare alone. */
+static void prepare(load *of)
 {
     const uint8_t *data = NULL;
-    size_t len = 0, at = to->prepare_len;
-    uint64_t before = to->loaded;
-    if (to->rows == 0)
+    put_requests(of);
+    check(mysql_session_bytes_data(&of->out, &data, &of->prepare_len), "the statement");
+    send_some(&of->to, data, of->prepare_len);
+    of->statement = read_reply(&of->to).statement;
+    check(mysql_session_bytes_clear(&of->out), "the statement");
+}
+
+/* Sends the rows, request by request. The prepare was answered once, and is left out. */
+static void send_rows(load *of)
+{
+    const uint8_t *data = NULL;
+    size_t len = 0, at = of->prepare_len;
+    uint64_t before = of->loaded;
+    if (of->rows == 0)
         return;
-    put_requests(to);
-    check(mysql_session_bytes_data(&to->out, &data, &len), "a request");
+    put_requests(of);
+    check(mysql_session_bytes_data(&of->out, &data, &len), "a request");
     while (at < len) {
-        size_t count = packet_len(data + at, len - at, to->limit);
-        write_all(to->server, data + at, count);
-        to->loaded += read_reply(to->server, MYSQL_SESSION_REPLY_TO_EXECUTE).affected_rows;
-        at += count;
+        at += send_some(&of->to, data + at, len - at);
+        of->loaded += read_reply(&of->to).affected_rows;
     }
-    if (to->loaded - before != to->rows)
-        stop("the server loaded %" PRIu64 " of %lu rows", to->loaded - before,
-             (unsigned long)to->rows);
-    check(mysql_session_bytes_clear(&to->out), "a request");
-    check(mysql_session_sets_clear(&to->sets), "a request");
-    to->rows = to->bytes = 0;
+    if (of->loaded - before != of->rows)
+        stop("the server loaded %" PRIu64 " of %lu rows", of->loaded - before,
+             (unsigned long)of->rows);
+    check(mysql_session_bytes_clear(&of->out), "a request");
+    check(mysql_session_sets_clear(&of->sets), "a request");
+    of->rows = of->bytes = 0;
 }
 
 static void add_row(load *to, const csv *row)
@@ -574,14 +541,14 @@ static void load_file(load *to, csv *from)
 {
     check(mysql_session_sets_new(&to->sets), "the rows");
     check(mysql_session_bytes_new(&to->out), "the rows");
-    to->limit = (size_t)run(to->server, "SELECT @@max_allowed_packet").number;
+    to->limit = (size_t)run(&to->to, "SELECT @@max_allowed_packet").number;
     to->limit = to->limit < LIMIT ? to->limit : LIMIT;
-    to->flags = run(to->server, "START TRANSACTION").flags;
+    run(&to->to, "START TRANSACTION");
     prepare(to);
     while (read_row(from))
         add_row(to, from);
     send_rows(to);
-    run(to->server, "COMMIT");
+    run(&to->to, "COMMIT");
     mysql_session_free(&to->sets);
     mysql_session_free(&to->out);
 }
@@ -605,15 +572,17 @@ int main(int count, char **words)
     open_file(&file, words[6]);
     if (!read_row(&file))
         stop("%s: there is no line with the names of the columns", file.name);
-    made.server = connect_to(words[1], words[2]);
+    made.to.server = connect_to(words[1], words[2]);
     made.columns = file.count;
     made.query = query_of(words[5], &file);
-    log_in(made.server, words[3], words[4]);
+    log_in(&made.to, words[3], words[4]);
     load_file(&made, &file);
     took = seconds() - began;
     printf("%" PRIu64 " rows in %.3f seconds, %.0f rows per second\n", made.loaded, took,
            (double)made.loaded / took);
-    close(made.server);
+    close(made.to.server);
+    mysql_session_connection_free(&made.to.connection);
+    mysql_session_free(&made.to.out);
     fclose(file.file);
     free(made.query);
     free(file.bytes);

@@ -207,6 +207,8 @@ static void check_standing(const row *of)
     CHECK_DONE(mysql_session_connection_standing(&made, &standing));
     if (strcmp(of->kind, "held") == 0)
         CHECK_NUMBER(standing.held, of->number);
+    if (strcmp(of->kind, "mode") == 0)
+        CHECK_NUMBER(mysql_session_connection_mode(&made), of->number);
     if (strcmp(of->kind, "turn") == 0)
         CHECK_NUMBER(standing.turn,
                      of->side == ANY_SIDE ? (uint32_t)MYSQL_SESSION_NOBODY : of->side);

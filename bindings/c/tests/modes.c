@@ -51,10 +51,14 @@ static void texts(void)
     row(ESCAPELESS, "SELECT ?", "'\\", "SELECT '''\\'");
     row(ESCAPELESS | ANSI, "SELECT ?", "'\\", "SELECT '''\\'");
     for (mode = 0; mode < HEX; mode++) {
-        row(mode | HEX, "SELECT ?", "'\\", "SELECT 0x275C");
+        row(mode | HEX, "SELECT ?", "'\\", "SELECT _utf8mb4 0x275C");
         row(mode | HEX, "SELECT ?", "", "SELECT ''");
         row(mode | HEX, "SELECT ?", NULL, "SELECT 1");
     }
+    row(0, "SELECT 1 /*!80000 + ? */", "*/ x /*", "SELECT 1 /*!80000 + '*\\/ x /\\*' */");
+    row(ESCAPELESS, "SELECT 1 /*!80000 + ? */", "*/ x /*",
+        "SELECT 1 /*!80000 + 0x2A2F2078202F2A */");
+    row(0, "SELECT 1 /* ! */ + ?", "*/", "SELECT 1 /* ! */ + '*/'");
     row(ESCAPELESS, "SELECT '\\', ?", NULL, "SELECT '\\', 1");
     row(0, "SELECT '\\', ?", NULL, NULL);
     row(ANSI, "SELECT \"a\\\", ?", NULL, "SELECT \"a\\\", 1");
@@ -70,7 +74,7 @@ static void literals(void)
     CHECK_DONE(mysql_session_value_text(&sets, 0, 0, ESCAPELESS, &out));
     CHECK_DONE(mysql_session_value_text(&sets, 0, 0, ALL, &out));
     CHECK_DONE(mysql_session_bytes_data(&out, &data, &len));
-    CHECK_TEXT(data, len, "'\\'\\\\''''\\'0x275C");
+    CHECK_TEXT(data, len, "'\\'\\\\''''\\'_utf8mb4 0x275C");
     end();
 }
 
@@ -113,7 +117,8 @@ static void streams(void)
         sent(MYSQL_SESSION_TEXT, mode, mode, MYSQL_SESSION_OK);
         sent(MYSQL_SESSION_TEXT, mode, mode | HEX, MYSQL_SESSION_OK);
         for (read = 0; read < HEX; read++) {
-            sent(MYSQL_SESSION_TEXT, mode | HEX, read, MYSQL_SESSION_OK);
+            sent(MYSQL_SESSION_TEXT, mode | HEX, read | HEX, MYSQL_SESSION_OK);
+            sent(MYSQL_SESSION_TEXT, mode | HEX, read, MYSQL_SESSION_FAULT_TEXT_MISMATCH);
             sent(MYSQL_SESSION_EXECUTE, mode, read, MYSQL_SESSION_OK);
         }
     }
@@ -182,7 +187,9 @@ static void told_by_servers(void)
     CHECK_NUMBER(told("STRICT_TRANS_TABLES,NO_BACKSLASH_ESCAPES"), ESCAPELESS);
     CHECK_NUMBER(told("ansi_quotes"), ANSI);
     CHECK_NUMBER(told("ORACLE,NO_BACKSLASH_ESCAPES,IGNORE_SPACE"), ESCAPELESS | ANSI);
-    CHECK_NUMBER(told("NO_BACKSLASH_ESCAPES_NOT, ANSI_QUOTES"), 0);
+    CHECK_NUMBER(told(" NO_BACKSLASH_ESCAPES , ANSI_QUOTES "), ESCAPELESS | ANSI);
+    CHECK_NUMBER(told("NO_BACKSLASH_ESCAPES_NOT,ANSI_QUOTES"), MYSQL_SESSION_UNKNOWN_MODE);
+    CHECK_NUMBER(told("mssql"), MYSQL_SESSION_UNKNOWN_MODE);
     CHECK_NUMBER(mysql_session_is_safe_to_quote(45), 1);
     CHECK_NUMBER(mysql_session_is_safe_to_quote(28), 0);
     CHECK_NUMBER(mysql_session_is_safe_to_quote(1024 + 28), 0);

@@ -1,4 +1,10 @@
-"""A client that waits for what it asks: a socket, and `mysql_session.Connection` alone."""
+"""A client that waits for what it asks: a socket, and `mysql_session.Connection` alone.
+
+A text with values in it has to be written for the session's SQL mode, which any statement may
+change. So behind its login a client asks the server to tell each change of it, and goes by what the
+connection tells. That needs a server with CLIENT_SESSION_TRACK. A status isn't enough: behind a
+procedure that set the mode a MariaDB tells by it a mode that it isn't in.
+"""
 
 from __future__ import annotations
 
@@ -21,7 +27,13 @@ MARIADB_BULK = int(ms.MariadbCapability.STMT_BULK_OPERATIONS)
 CAPABILITIES = int(
     Capability.LONG_FLAG | Capability.PROTOCOL_41 | Capability.TRANSACTIONS
     | Capability.SECURE_CONNECTION | Capability.MULTI_RESULTS | Capability.PS_MULTI_RESULTS
-    | Capability.PLUGIN_AUTH | Capability.DEPRECATE_EOF | Capability.CONNECT_WITH_DB)
+    | Capability.PLUGIN_AUTH | Capability.DEPRECATE_EOF | Capability.CONNECT_WITH_DB
+    | Capability.SESSION_TRACK)
+
+# What is tracked already, and the mode with it. The answer tells the mode, which is set to itself.
+# It is the same in each mode.
+TRACK_MODE = ("SET session_track_system_variables = CONCAT_WS(',', 'sql_mode', "
+              "NULLIF(@@session_track_system_variables, '')), sql_mode = @@sql_mode")
 
 # What is answered first where the server names a plugin that isn't known here.
 NATIVE = b"mysql_native_password"
@@ -128,12 +140,14 @@ class Client:
         self._stream.close()
 
     def log_in(self, user: str, password: str = "", database: str = "",
-               capabilities: int = CAPABILITIES, mariadb_capabilities: int = MARIADB_BULK) -> None:
+               capabilities: int = CAPABILITIES,
+               mariadb_capabilities: int = MARIADB_BULK) -> ms.GreetingEvent:
         """Logs in by mysql_native_password or caching_sha2_password, with those of the capabilities
-        that the server has.
+        that the server has, and asks to be told the mode. Returns the server's greeting.
 
-        Raises Refused where the server refuses, PermissionError where it asks for another plugin
-        and there is a password, or for the password itself, which needs TLS or its key.
+        Raises Refused where the server refuses. Raises PermissionError where there is a password
+        and the server asks for another plugin. It is raised too where it asks for the password
+        itself, which needs TLS or its key.
         """
         greeting = self._greeted()
         plugin = greeting.plugin if greeting.plugin in PLUGINS else NATIVE
@@ -150,6 +164,36 @@ class Client:
                 raise PermissionError("the server wants the password itself, over TLS or by its key")
             elif isinstance(event, ms.DeniedEvent):
                 raise Refused(ms.ServerError(event.code, event.state, event.message))
+        self.track_mode()
+        return greeting
+
+    def track_mode(self) -> None:
+        """Asks the server for its SQL mode, and to tell each change of it, if it can. A reset of the
+        connection and a change of the user end that."""
+        if self.connection.capabilities & Capability.SESSION_TRACK:
+            self.query(TRACK_MODE)
+
+    @property
+    def mode(self) -> Optional[ms.Mode]:
+        """The session's SQL mode; None if it isn't known."""
+        return self.connection.mode
+
+    def text(self, query: ms.Text, values: ms.Params) -> bytes:
+        """A query with values in it, written for the session's mode, for which the server is asked if
+        it isn't known. If the server doesn't tell, values are in hexadecimal, which each mode reads
+        alike.
+
+        Raises ValueError of a query with a backslash if the mode isn't known. A backslash may end a
+        string or not, by the mode: `prepare` and `execute` are for such a query.
+        """
+        if self.mode is None:
+            self.track_mode()
+        mode = self.mode
+        if mode is not None:
+            return ms.bind_text(query, values, mode=mode)
+        if b"\\" in (query.encode() if isinstance(query, str) else bytes(query)):
+            raise ValueError("the session's mode isn't known, and the query has a backslash")
+        return ms.bind_text(query, values, spelling=ms.Spelling.HEXADECIMAL)
 
     @staticmethod
     def _response(plugin: bytes, password: str, scramble: bytes) -> bytes:
@@ -192,16 +236,18 @@ class Client:
     def execute(self, text: ms.Text, statement: int, sets: Iterable[Sequence[ms.Parameter]],
                 road: ms.Road = ms.Road.EXECUTE) -> Iterator[List[Result]]:
         """Executes a statement with sets of values, one after another or in bulk; the results of
-        each execution."""
-        for reply in self.ask_packets(ms.executions(text, sets, statement, road, self._limit)):
+        each execution. The mode tells only how many placeholders the text has."""
+        packets = ms.executions(text, sets, statement, road, self._limit,
+                                mode=self.mode or ms.Mode())
+        for reply in self.ask_packets(packets):
             results = Results()
             for event in reply:
                 results.take(event)
             yield results.whole()
 
     def ask_packets(self, packets: bytes) -> Iterator[Iterator[ms.Event]]:
-        """Sends what `executions` makes, each execution behind the reply to the one before; the
-        events of each reply, which are taken before the next one is asked for."""
+        """Sends what `executions` makes, each execution behind the reply to the one before. Gives
+        the events of each reply, which are taken before the next one is asked for."""
         while packets:
             put, used = self.connection.put_packets(Side.CLIENT, packets)
             if not used:

@@ -20,11 +20,15 @@ By --lines the greeting and the login of another connection of that client tell 
 both have. MariaDB's own stand behind a comma. Statements that were prepared before the capture
 aren't known: their executions are Other.
 
+Of what is said in an authentication the length alone is printed, and passwords in statements are
+masked. So are the values of a statement that has one, and what the server answers to it. --secrets
+prints them.
+
 With --save the bytes of each connection go to NUMBER.client and NUMBER.server in a folder, as replays
 and other examples take them.
 
-The status is 0 where all connections were read to their ends, 1 where not, and 2 where the file
-can't be read as a capture.
+The status is 0 where all connections were read to their ends, and 1 where not. It is 2 where the
+file can't be read as a capture.
 """
 
 from __future__ import annotations
@@ -33,10 +37,12 @@ import argparse
 import dataclasses
 import datetime
 import os
+import re
 import sys
-from typing import BinaryIO, Dict, Iterator, List, Optional, Sequence, Tuple
+from typing import BinaryIO, Dict, Iterator, List, Optional, Sequence, Set, Tuple, Union
 
 from captures import SECOND, CaptureError, Skipped, segments
+from masking import masked
 from streams import Connection, Connections, Piece
 
 sys.path.insert(0, os.path.join(os.path.dirname(os.path.abspath(__file__)), os.pardir))
@@ -58,6 +64,29 @@ NO_COMMANDS = (ms.SecureRequestEvent, ms.LoginEvent, ms.CutOffLoginEvent, ms.Ans
 # Fields that aren't printed but with --lines.
 HIDDEN = ("capabilities", "mariadb_capabilities", "collation", "max_packet_size", "response",
           "scramble", "status", "state_changes", "columns_follow")
+
+
+# What is said in an authentication, but for a login and a change of user.
+AUTHENTICATION = (ms.AuthSwitchEvent, ms.OldAuthSwitchEvent, ms.AuthMoreEvent, ms.NextFactorEvent,
+                  ms.PluginDataEvent, ms.AnswerEvent)
+# What a server says of a statement that may have a part of its text and of its values.
+ANSWERS = (ms.ColumnEvent, ms.FieldEvent, ms.RowEvent, ms.RawRowEvent, ms.LineEvent)
+
+# Commands about a prepared statement, and the id that stands for the last one.
+OF_STATEMENTS = (ms.ExecuteEvent, ms.BulkExecuteEvent, ms.LongDataEvent, ms.FetchEvent,
+                 ms.CloseEvent)
+OfStatement = Union[ms.ExecuteEvent, ms.BulkExecuteEvent, ms.LongDataEvent, ms.FetchEvent,
+                    ms.CloseEvent]
+LAST_STATEMENT = 0xFFFFFFFF
+
+COM_CHANGE_USER, EXECUTIONS = 0x11, (0x17, 0x18, 0xFA)
+
+# What is shown of a field: a text, or words, or None for how many bytes it has.
+Shown = Union[bytes, str, None]
+STARS = "*****"
+# The fields that have another name in lines.
+IN_LINES = {"response": "answer", "values": "parameters", "rows": "sets",
+            "unclear_cells": "unclear"}
 
 
 def greets(front: bytes) -> bool:
@@ -119,14 +148,107 @@ def shown(value: object) -> str:
     return str(value)
 
 
-def shown_event(event: ms.Event) -> str:
-    """An event in a few words: its name, and the fields that say something."""
+def shown_field(value: object, hidden: Shown) -> str:
+    """A field of which something is hidden."""
+    if hidden is None:
+        return f"({len(value)} bytes)" if isinstance(value, bytes) else STARS
+    return shown(hidden) if isinstance(hidden, bytes) else hidden
+
+
+def shown_event(event: ms.Event, hidden: Dict[str, Shown]) -> str:
+    """An event in a few words: its name, and the fields that say something. Of some that isn't what
+    they have; of an event with a field of no name all is hidden."""
     words = [event.side.name.lower(), event.name]
+    if "" in hidden:
+        return " ".join([*words, STARS])
     for field in dataclasses.fields(event):
-        value = getattr(event, field.name)
-        if field.name not in HIDDEN and value not in (None, 0, b"", ()):
-            words.append(f"{field.name}={shown(value)}")
+        name, value = field.name, getattr(event, field.name)
+        if name not in HIDDEN and value not in (None, 0, b"", ()):
+            what = shown_field(value, hidden[name]) if name in hidden else shown(value)
+            words.append(f"{name}={what}")
     return " ".join(words)
+
+
+def shown_line(line: str, hidden: Dict[str, Shown]) -> str:
+    """The line of an event, of whose fields some are hidden."""
+    if "" in hidden:
+        return " ".join([*line.split(" ", 2)[:2], STARS])
+    for name, what in hidden.items():
+        word = IN_LINES.get(name, name)
+        found = re.search(rf" {word}=(.*?)(?= \w+=|$)", line)
+        if found:
+            if what is None:
+                value = f"({len(found.group(1)) // 2} bytes)"
+            else:
+                value = "x" + what.hex() if isinstance(what, bytes) else what
+            line = f"{line[:found.start(1)]}{value}{line[found.end(1):]}"
+    return line
+
+
+class Secrets:
+    """Finds what isn't shown of the events of a connection."""
+
+    def __init__(self) -> None:
+        self._runs = False                  # whether the command that runs has a secret
+        self._statements: Set[int] = set()  # those whose values are secrets
+        self._last = False                  # whether the one that was prepared last has some
+
+    def of(self, event: ms.Event, machine: ms.Connection) -> Dict[str, Shown]:
+        """What is shown of the fields that have secrets; by no name, where all has."""
+        if isinstance(event, AUTHENTICATION):
+            return {"data": None}
+        if event.side == ms.Side.SERVER:
+            return self._of_reply(event)
+        if isinstance(event, ms.FileDataEvent):
+            return {}
+        mode = machine.mode
+        escapes = not (mode and mode.no_backslash_escapes)
+        if isinstance(event, OF_STATEMENTS):
+            return self._of_statement(event, escapes)
+        text = b""
+        if isinstance(event, (ms.QueryEvent, ms.PrepareEvent)):
+            text = event.text
+        elif isinstance(event, ms.OtherEvent):
+            text = event.data
+        text, self._runs = masked(text, escapes)
+        if isinstance(event, (ms.LoginEvent, ms.ChangeUserEvent)):
+            self._statements.clear()
+            return {"response": None}
+        if isinstance(event, ms.CommandEvent):
+            return {"password": None}  # of a replica, which lines have
+        if isinstance(event, ms.OtherEvent):
+            first = event.data[0] if event.data else 0
+            self._runs |= (first == COM_CHANGE_USER
+                           or first in EXECUTIONS and bool(self._statements))
+            return {"data": None} if self._runs else {}
+        return {"text": text} if self._runs else {}
+
+    def _of_reply(self, event: ms.Event) -> Dict[str, Shown]:
+        """The same of what a server says."""
+        if isinstance(event, ms.PreparedEvent):
+            self._last = self._runs
+            self._statements.discard(event.statement)
+            if self._runs:
+                self._statements.add(event.statement)
+        if self._runs and isinstance(event, ms.ErrorEvent):
+            return {"message": STARS}
+        return {"": STARS} if self._runs and isinstance(event, ANSWERS) else {}
+
+    def _of_statement(self, event: OfStatement, escapes: bool) -> Dict[str, Shown]:
+        """The same of a command about a prepared statement."""
+        number = event.statement
+        self._runs = self._last if number == LAST_STATEMENT else number in self._statements
+        if not self._runs:
+            return {}
+        if isinstance(event, ms.CloseEvent):
+            self._statements.discard(number)
+        if isinstance(event, ms.LongDataEvent):
+            return {"data": None}
+        if isinstance(event, (ms.ExecuteEvent, ms.BulkExecuteEvent)):
+            text, is_found = masked(event.text, escapes)
+            return {"text": text if is_found else STARS, "values": STARS, "rows": STARS,
+                    "rest": STARS, "unclear_cells": STARS}
+        return {}
 
 
 class Server:
@@ -165,6 +287,7 @@ class Reading:
         self.user, self.commands, self.rows, self.errors = b"", 0, 0, 0
         self.last = of.began            # when its last piece was captured
         self.machine: Optional[ms.Connection] = None
+        self._secrets = Secrets()
         self._server = Server(of, ports)
         self._early: List[Piece] = []
 
@@ -242,9 +365,12 @@ class Reading:
             self.errors += isinstance(event, ms.ErrorEvent)
             yield event
 
-    def line(self) -> str:
-        """The event that was taken last, as the library writes it."""
-        return self.machine.line() if self.machine is not None else ""
+    def shown(self, event: ms.Event, lines: bool, secrets: bool) -> str:
+        """The event that was taken last: as the library writes it, or in a few words."""
+        if self.machine is None:
+            return ""
+        hidden: Dict[str, Shown] = {} if secrets else self._secrets.of(event, self.machine)
+        return shown_line(self.machine.line(), hidden) if lines else shown_event(event, hidden)
 
     def end(self) -> str:
         """How the connection stands, as the library writes it."""
@@ -280,9 +406,9 @@ class Reading:
 class Reader:
     """Reads a capture, and prints what is in it."""
 
-    def __init__(self, ports: Sequence[int], lines: bool, capabilities: Optional[Tuple[int, int]],
-                 folder: Optional[str]) -> None:
-        self._ports, self._lines = ports, lines
+    def __init__(self, ports: Sequence[int], lines: bool, secrets: bool,
+                 capabilities: Optional[Tuple[int, int]], folder: Optional[str]) -> None:
+        self._ports, self._lines, self._secrets = ports, lines, secrets
         self._capabilities, self._folder = capabilities, folder
         self._readings: Dict[int, Reading] = {}
         self._others = 0
@@ -308,7 +434,7 @@ class Reader:
                                              self._folder)
         reading = self._readings[number]
         for event in reading.take(piece):
-            line = reading.line() if self._lines else shown_event(event)
+            line = reading.shown(event, self._lines, self._secrets)
             print(shown_time(piece.time), f"#{number}", line, flush=True)
         if piece.connection.ended:
             self._end(reading)
@@ -349,6 +475,7 @@ def options() -> argparse.Namespace:
                         help="a port of servers; without any, servers are known by their greeting")
     parser.add_argument("--lines", action="store_true",
                         help="events as the library writes them, with bytes in hexadecimal")
+    parser.add_argument("--secrets", action="store_true", help="passwords, too")
     parser.add_argument("--capabilities", metavar="WORD[,WORD]", type=capability_words,
                         help="of connections whose greeting wasn't captured: those of both sides")
     parser.add_argument("--save", metavar="FOLDER", help="where the bytes of connections go")
@@ -357,7 +484,7 @@ def options() -> argparse.Namespace:
 
 def main() -> int:
     given = options()
-    reader = Reader(given.port, given.lines, given.capabilities, given.save)
+    reader = Reader(given.port, given.lines, given.secrets, given.capabilities, given.save)
     try:
         if given.save:
             os.makedirs(given.save, exist_ok=True)

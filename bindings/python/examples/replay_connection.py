@@ -6,16 +6,16 @@
 The files have the bytes of both sides, as a proxy or a capture has them. The recording's own login
 isn't replayed: the connection is logged in anew, with those of the recording's capabilities that
 the server offers. Commands are put as they were recorded, with the ids that this server gives its
-statements; a file that the server asks for is the recorded one. Where the recording has query
+statements. A file that the server asks for is the recorded one. Where the recording has query
 attributes and the server doesn't know them, queries and executions are laid out without them.
 
 Each command is printed with what answers it, and where the recorded answer differs with that too.
 Answers are alike where they have the same results: as many rows or affected rows, or the same
-error. What would end a connection or the server isn't said, nor changes of the user, nor what
-servers say among themselves: it is told as left out.
+error. What would end a connection or the server isn't said. Nor are changes of the user, nor what
+servers say among themselves. All of it is told as left out.
 
-The status is 0 where all answers are alike, 1 where not, or where the recording can't be read to
-its end, and 2 where the replay itself failed. The password is in the environment variable
+The status is 0 where all answers are alike, and 1 where not, or where the recording can't be read
+to its end. It is 2 where the replay itself failed. The password is in the environment variable
 MYSQL_PASSWORD, if there is one.
 """
 

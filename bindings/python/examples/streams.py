@@ -4,7 +4,7 @@
         print(piece.connection.number, piece.sender, piece.data)
 
 Of bytes that came twice the first ones are taken. A direction in which bytes are missing waits for
-them, up to a limit; then, and where the connection ends, they are lost: nothing behind them is
+them, up to a limit. Then, and where the connection ends, they are lost. Nothing behind them is
 given, and `Direction.missing` tells of them.
 """
 

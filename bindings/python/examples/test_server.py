@@ -20,8 +20,8 @@ The table has a query's text and its answer, in a file of JSON or as a dict:
 A query with question marks is prepared and executed; of its rows those are sent that have its
 values in the columns that `where` names. In a dict a function of the values may stand in place of
 an answer; at the prepare each of them is None. Columns are of the types tinyint, smallint, int,
-bigint, year, decimal, varchar, text, json, blob, date, datetime and time, of which those of numbers
-may be unsigned. Texts are compared in small letters and with one blank between their words.
+bigint, year, decimal, varchar, text, json, blob, date, datetime and time. Those of numbers may be
+unsigned. Texts are compared in small letters and with one blank between their words.
 
 Every login is let in. SET, USE, transactions, pings and the like are answered by OK; any query that
 the table hasn't is error 1064.

@@ -16,7 +16,7 @@ static Connection *new_connection(PyObject *module)
 {
     Connection *self = (Connection *)new_object(module, CONNECTION);
     if (self && (out_new((Object *)self, 0) || out_new((Object *)self, 1) ||
-                 !(self->texts = PyDict_New())))
+                 !(self->texts = PyDict_New()) || !(self->kept_columns = PyDict_New())))
         Py_CLEAR(self);
     return self;
 }
@@ -131,7 +131,6 @@ static PyObject *put(Connection *self, uint32_t side, const In *payload)
         mysql_session_connection_put(at(self), side, payload->at, payload->len, out, &shown);
     if (code)
         return fail(self->state, code);
-    self->is_planned = false;
     self->is_greeted = true;
     connection_note(self, &shown);
     PyObject *event = connection_event(self, &shown);
@@ -168,8 +167,7 @@ static PyObject *put_packets(Connection *self, uint32_t side, const In *packets)
     mysql_session_handle *out = to_write((Object *)self, (int)side);
     uint32_t code = mysql_session_connection_put_packets(at(self), side, packets->at, packets->len,
                                                          out, &used);
-    self->is_planned = false;
-    PyDict_Clear(self->texts);
+    connection_note_packets(self, side, packets->at, used);
     if (code && !used)
         return fail(self->state, code);
     PyObject *taken = out_take((Object *)self, (int)side, fresh_of(side));
@@ -228,6 +226,12 @@ static PyObject *connection_columns(PyObject *it, PyObject *none)
     Connection *self = (Connection *)it;
     if (begin((Object *)self))
         return NULL;
+    if (self->shows_row) {
+        PyObject *columns = connection_know_columns(self) ? NULL : self->shown.columns;
+        Py_XINCREF(columns);
+        self->busy = false;
+        return columns;
+    }
     PyObject *list = PyList_New(0);
     for (size_t i = 0; list; i++) {
         mysql_session_column column;
@@ -262,7 +266,8 @@ static PyObject *connection_statement(PyObject *it, PyObject *number)
     else if (code)
         made = fail(self->state, code);
     else
-        made = PyObject_CallFunction(self->state->statement, "NH", bytes_of(text, len), params);
+        made = PyObject_CallFunction(self->state->statement, "NH",
+                                     connection_text(self, id, text, len), params);
     self->busy = false;
     return made;
 }
@@ -299,6 +304,15 @@ static PyObject *connection_standing(PyObject *it, PyObject *none)
                                 (Py_ssize_t)s.held);
 }
 
+static PyObject *connection_mode(PyObject *it, PyObject *none)
+{
+    (void)none;
+    Connection *self = (Connection *)it;
+    if (check((Object *)self))
+        return NULL;
+    return PyLong_FromUnsignedLong(mysql_session_connection_mode(at(self)));
+}
+
 static PyObject *connection_close_side(PyObject *it, PyObject *side)
 {
     Connection *self = (Connection *)it;
@@ -324,6 +338,7 @@ static PyObject *connection_finish(PyObject *it, PyObject *none)
     if (!connection_set_aside(self)) {
         uint32_t code = mysql_session_connection_finish(at(self), &end);
         self->is_planned = false;
+        self->shows_row = false;
         made = code ? fail(self->state, code)
                     : Py_BuildValue("(IIIIK)", (unsigned)end.kind, (unsigned)end.reason,
                                     (unsigned)end.side, (unsigned)end.fault,
@@ -340,13 +355,14 @@ static int connection_clear(PyObject *it)
     Connection *self = (Connection *)it;
     self->is_taken = false;
     self->is_planned = false;
+    self->shows_row = false;
     connection_drop_table(self);
     Py_CLEAR(self->scramble);
     Py_CLEAR(self->copied);
     Py_CLEAR(self->last);
     Py_CLEAR(self->kept);
     Py_CLEAR(self->planned_for);
-    Py_CLEAR(self->columns);
+    shown_clear(&self->shown);
     return 0;
 }
 
@@ -355,7 +371,7 @@ static PyObject *connection_close(PyObject *it, PyObject *none)
     PyObject *done = object_close(it, none);
     if (done) {
         connection_clear(it);
-        PyDict_Clear(((Connection *)it)->texts);
+        connection_forget((Connection *)it);
     }
     return done;
 }
@@ -368,7 +384,8 @@ static int connection_traverse(PyObject *it, visitproc visit, void *arg)
     Py_VISIT(self->last);
     Py_VISIT(self->kept);
     Py_VISIT(self->planned_for);
-    Py_VISIT(self->columns);
+    Py_VISIT(self->shown.columns);
+    Py_VISIT(self->shown.names);
     Py_VISIT(self->table_columns);
     int stopped = table_traverse(&self->table, visit, arg);
     return stopped ? stopped : visit_type(it, visit, arg);
@@ -379,6 +396,7 @@ static void connection_dealloc(PyObject *it)
     PyObject_GC_UnTrack(it);
     connection_clear(it);
     Py_CLEAR(((Connection *)it)->texts);
+    Py_CLEAR(((Connection *)it)->kept_columns);
     PyMem_Free(((Connection *)it)->plans);
     object_dealloc(it);
 }
@@ -474,6 +492,7 @@ static PyMethodDef connection_methods[] = {
     {"statement", connection_statement, METH_O, NULL},
     {"rest", connection_rest, METH_O, NULL},
     {"standing", connection_standing, METH_NOARGS, NULL},
+    {"mode", connection_mode, METH_NOARGS, NULL},
     {"close_side", connection_close_side, METH_O, NULL},
     {"finish", connection_finish, METH_NOARGS, NULL},
     {NULL, NULL, 0, NULL}};

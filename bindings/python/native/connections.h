@@ -11,19 +11,39 @@ typedef struct {
     OBJECT_HEAD
     mysql_session_event event;
     bool is_taken, is_planned, has_table, is_greeted;
+    /* Whether the library shows a row, and of how many cells. */
+    bool shows_row;
+    size_t row_width;
+    /* The number of the command that was told last. Of an execution or a fetch, up to the first
+     * column that comes, its statement. The statement that was prepared last, where it is known, and
+     * whether one is to be. */
+    uint16_t command;
+    bool is_of_statement, knows_last, awaits_prepared;
+    uint32_t statement, last_prepared;
     /* Both parts of the greeting's scramble, once it stands whole. */
     PyObject *scramble;
     PyObject *copied, *last, *kept;
     Py_ssize_t kept_at;
     Table table;
     PyObject *table_columns;
-    /* The columns of the rows that stand, and how their cells become values by `planned_for`. */
+    /* How the cells of the rows that stand become values, by `planned_for`. */
     Plan *plans;
     size_t width, plan_room;
-    PyObject *planned_for, *columns;
-    /* Texts of statements that were executed, by their ids. */
-    PyObject *texts;
+    PyObject *planned_for;
+    /* The columns of these rows, once they are asked for. */
+    Shown shown;
+    /* By ids of statements: texts, and the columns that each statement last had with their names. */
+    PyObject *texts, *kept_columns;
 } Connection;
+
+/* A packet of this size goes on in the next one. */
+enum { LONGEST_PACKET = 0xFFFFFF };
+
+/* The size that a packet's header tells. */
+static inline size_t packet_size(const uint8_t *header)
+{
+    return header[0] | (size_t)header[1] << 8 | (size_t)header[2] << 16;
+}
 
 /* A connection's handles 0 and 1 are the bytes that were put of each side. */
 static inline mysql_session_connection *at(Connection *self)
@@ -38,6 +58,16 @@ PyObject *connection_fail(Connection *self, uint32_t code);
 
 /* What is known of rows and statements goes where an event changes it. */
 void connection_note(Connection *self, const mysql_session_event *e);
+/* The same where packets of a side were put, which have no events. */
+void connection_note_packets(Connection *self, uint32_t side, const uint8_t *at, size_t len);
+/* All that is known of statements goes. */
+void connection_forget(Connection *self);
+/* The text of a statement. A long one is copied once, and known by the statement's id until that
+ * stands for another. */
+PyObject *connection_text(Connection *self, uint32_t statement, const uint8_t *at, size_t len);
+/* Has the columns of the row that is shown at hand. They are copied once, those that a statement had
+ * before for all of its rows. */
+int connection_know_columns(Connection *self);
 PyObject *connection_event(Connection *self, const mysql_session_event *e);
 /* Keeps the scramble of a payload, where that is a greeting. */
 int connection_greet(Connection *self, const uint8_t *payload, size_t len);

@@ -22,14 +22,13 @@ void connection_drop_table(Connection *self)
     Py_CLEAR(self->table_columns);
 }
 
-/* Knows the columns of the row that is shown, and how its cells become values. */
-static int know_columns(Connection *self, Values *values)
+/* Knows how the cells of the row that is shown become values. */
+static int know_plans(Connection *self, Values *values)
 {
     if (self->is_planned && self->planned_for == (PyObject *)values)
         return 0;
     if (!self->is_planned) {
         size_t width = self->event.columns;
-        Py_CLEAR(self->columns);
         if (width > self->plan_room) {
             Plan *plans = PyMem_Realloc(self->plans, width * sizeof *plans);
             if (!plans) {
@@ -40,21 +39,16 @@ static int know_columns(Connection *self, Values *values)
             self->plan_room = width;
         }
         self->width = width;
-        self->columns = PyTuple_New((Py_ssize_t)width);
-        for (size_t i = 0; self->columns && i < width; i++) {
+        for (size_t i = 0; i < width; i++) {
             mysql_session_column column;
             memset(&column, 0, sizeof column);
             uint32_t code = mysql_session_connection_column(at(self), i, &column);
-            PyObject *made = code ? fail(self->state, code) : column_of(self->state, &column);
-            if (made) {
-                PyTuple_SetItem(self->columns, (Py_ssize_t)i, made);
-                plan_column(&column, &self->plans[i]);
-            } else {
-                Py_CLEAR(self->columns);
+            if (code) {
+                fail(self->state, code);
+                return -1;
             }
+            plan_column(&column, &self->plans[i]);
         }
-        if (!self->columns)
-            return -1;
     }
     PyObject *before = self->planned_for;
     Py_INCREF(values);
@@ -63,6 +57,23 @@ static int know_columns(Connection *self, Values *values)
     self->is_planned = true;
     Py_XDECREF(before);
     return 0;
+}
+
+/* Tells a cell of the row that is shown which is no value of its column's type. */
+static void tell_cell(Connection *self, size_t place, size_t number)
+{
+    PyObject *kind, *error, *traceback;
+    if (!is_row_error(&self->plans[place]))
+        return;
+    PyErr_Fetch(&kind, &error, &traceback);
+    if (connection_know_columns(self)) {
+        Py_XDECREF(kind);
+        Py_XDECREF(error);
+        Py_XDECREF(traceback);
+        return;
+    }
+    PyErr_Restore(kind, error, traceback);
+    tell_row_error(self->state, &self->plans[place], &self->shown, place, number, false);
 }
 
 static PyObject *value_row(Connection *self, size_t number)
@@ -79,7 +90,7 @@ static PyObject *value_row(Connection *self, size_t number)
             continue;
         }
         if (!code)
-            tell_row_error(self->state, &self->plans[i], self->columns, i, number, false);
+            tell_cell(self, i, number);
         Py_CLEAR(row);
     }
     return row;
@@ -120,7 +131,7 @@ static int rows_into(Connection *self, PyObject *list, Values *values)
             return is;
         if (number % 4096 == 4095 && PyErr_CheckSignals())
             return -1;
-        if (values && know_columns(self, values))
+        if (values && know_plans(self, values))
             return -1;
         PyObject *row = values ? value_row(self, number) : connection_cells(self, self->event.columns);
         int wrong = row ? PyList_Append(list, row) : -1;
@@ -160,16 +171,17 @@ static int grow_table(Connection *self, Values *values)
         }
         if (is <= 0)
             return is;
-        if ((number % 4096 == 4095 && PyErr_CheckSignals()) || know_columns(self, values))
+        if ((number % 4096 == 4095 && PyErr_CheckSignals()) || know_plans(self, values))
             return -1;
         if (!self->has_table) {
-            if (table_begin(self->state, &self->table, self->plans, self->width))
+            if (connection_know_columns(self) ||
+                table_begin(self->state, &self->table, self->plans, self->width))
                 return -1;
-            Py_INCREF(self->columns);
-            self->table_columns = self->columns;
+            Py_INCREF(self->shown.columns);
+            self->table_columns = self->shown.columns;
             self->has_table = true;
         }
-        if (table_widen(&self->table))
+        if (table_widen(&self->table, 0))
             return -1;
         for (size_t i = 0; i < self->width; i++) {
             uint32_t code = mysql_session_connection_value(at(self), 0, i, &value);
@@ -178,7 +190,7 @@ static int grow_table(Connection *self, Values *values)
                 return -1;
             }
             if (table_put(self->state, &self->table, self->plans, i, &value)) {
-                tell_row_error(self->state, &self->plans[i], self->columns, i, number, false);
+                tell_cell(self, i, number);
                 return -1;
             }
         }

@@ -7,8 +7,9 @@
 enum field {
     END, ERROR_CODE, SQL_STATE, TEXT, DATA, USER, DATABASE, PLUGIN, AFFECTED, LAST_ID, STATUS,
     WARNINGS, CAPABILITIES, MARIADB, CHARSET, NUMBER, STATEMENT, STATEMENT_TEXT, COLUMN_COUNT,
-    ROW_COUNT, PARAMS, FOLLOWS, FLAGS, POSITION, ATTRIBUTES, COLUMN, DEFAULT, CELL_VALUES,
-    EXECUTION_VALUES, BULK_ROWS, SCRAMBLE, COMMAND, COMMAND_FIELDS
+    ROW_COUNT, PARAMS, FOLLOWS, FLAGS, CURSOR, NAMELESS_FLAGS, POSITION, ATTRIBUTES, COLUMN, DEFAULT,
+    CELL_VALUES, EXECUTION_VALUES, BULK_ROWS, UNCLEAR, FIRST_UNCLEAR, UNCLEAR_CELLS, SCRAMBLE,
+    COMMAND, COMMAND_FIELDS
 };
 
 #define ERROR_FIELDS {ERROR_CODE, SQL_STATE, TEXT}
@@ -58,12 +59,14 @@ static const struct {
     {MYSQL_SESSION_EVENT_CHANGE_USER, {USER, DATABASE, PLUGIN, DATA, CHARSET, ATTRIBUTES}},
     {MYSQL_SESSION_EVENT_PREPARE, {TEXT}},
     {MYSQL_SESSION_EVENT_EXECUTE,
-     {STATEMENT, STATEMENT_TEXT, EXECUTION_VALUES, ATTRIBUTES, FLAGS}},
+     {STATEMENT, STATEMENT_TEXT, EXECUTION_VALUES, ATTRIBUTES, CURSOR, NAMELESS_FLAGS, NUMBER, DATA,
+      UNCLEAR, UNCLEAR_CELLS}},
     {MYSQL_SESSION_EVENT_LONG_DATA, {STATEMENT, NUMBER, DATA}},
     {MYSQL_SESSION_EVENT_CLOSE, {STATEMENT}},
     {MYSQL_SESSION_EVENT_RESET_STATEMENT, {STATEMENT}},
     {MYSQL_SESSION_EVENT_FETCH, {STATEMENT, ROW_COUNT}},
-    {MYSQL_SESSION_EVENT_BULK_EXECUTE, {STATEMENT, STATEMENT_TEXT, BULK_ROWS}},
+    {MYSQL_SESSION_EVENT_BULK_EXECUTE,
+     {STATEMENT, STATEMENT_TEXT, BULK_ROWS, DATA, FIRST_UNCLEAR, UNCLEAR_CELLS}},
     {MYSQL_SESSION_EVENT_OTHER, {DATA}},
 };
 
@@ -199,6 +202,73 @@ static PyObject *bulk_rows(Connection *self, size_t count, size_t width)
     return rows;
 }
 
+/* Whether servers read a value of an execution each their way: 1 or 0, else an error. */
+static int is_unclear(Connection *self, size_t row, size_t place)
+{
+    bool unclear = false;
+    const uint8_t *cells = NULL;
+    size_t len = 0;
+    uint32_t code = mysql_session_connection_unclear(at(self), row, place, &unclear, &cells, &len);
+    if (code)
+        fail(self->state, code);
+    return code ? -1 : unclear;
+}
+
+/* The places of an execution's unclear values; those of attributes are behind its parameters. */
+static PyObject *unclear_places(Connection *self, const mysql_session_event *e)
+{
+    PyObject *list = NULL;
+    for (size_t i = 0; i < e->params + e->attributes; i++) {
+        int is = is_unclear(self, 0, i);
+        PyObject *place = is > 0 ? PyLong_FromSize_t(i) : NULL;
+        if (place && !list)
+            list = PyList_New(0);
+        int wrong = is < 0 || (is && (!place || !list || PyList_Append(list, place)));
+        Py_XDECREF(place);
+        if (wrong) {
+            Py_XDECREF(list);
+            return NULL;
+        }
+    }
+    if (!list) {
+        Py_INCREF(self->state->none_given);
+        return self->state->none_given;
+    }
+    PyObject *places = PyList_AsTuple(list);
+    Py_DECREF(list);
+    return places;
+}
+
+/* The row and the place of a bulk execution's first unclear value, behind which each is unclear, or
+ * None. */
+static PyObject *first_unclear(Connection *self, const mysql_session_event *e)
+{
+    size_t low = 0, end = e->rows * e->params, high = end;
+    while (low < high) {
+        size_t middle = low + (high - low) / 2;
+        int is = is_unclear(self, middle / e->params, middle % e->params);
+        if (is < 0)
+            return NULL;
+        if (is)
+            high = middle;
+        else
+            low = middle + 1;
+    }
+    if (low == end)
+        Py_RETURN_NONE;
+    return Py_BuildValue("(nn)", (Py_ssize_t)(low / e->params), (Py_ssize_t)(low % e->params));
+}
+
+/* The bytes of an execution from its first unclear cell on. */
+static PyObject *unclear_cells(Connection *self)
+{
+    bool unclear = false;
+    const uint8_t *cells = NULL;
+    size_t len = 0;
+    uint32_t code = mysql_session_connection_unclear(at(self), 0, 0, &unclear, &cells, &len);
+    return code ? fail(self->state, code) : bytes_of(cells, len);
+}
+
 static PyObject *attributes(Connection *self, size_t count)
 {
     PyObject *found = PyTuple_New((Py_ssize_t)count);
@@ -227,54 +297,6 @@ static PyObject *shown_column(Connection *self)
     return code ? fail(self->state, code) : column_of(self->state, &column);
 }
 
-/* The text of an execution's statement. A long one is copied once, and known by the statement's id
- * until that may stand for another. */
-static PyObject *statement_text(Connection *self, const mysql_session_event *e)
-{
-    if (e->len < 256)
-        return bytes_of(e->text, e->len);
-    PyObject *id = PyLong_FromUnsignedLong(e->statement);
-    PyObject *text = id ? PyDict_GetItemWithError(self->texts, id) : NULL;
-    if (text && (size_t)PyBytes_Size(text) == e->len) {
-        Py_INCREF(text);
-    } else if (id && !PyErr_Occurred()) {
-        text = bytes_of(e->text, e->len);
-        if (text && PyDict_SetItem(self->texts, id, text))
-            Py_CLEAR(text);
-    }
-    Py_XDECREF(id);
-    return text;
-}
-
-static void forget_text(Connection *self, uint32_t statement)
-{
-    PyObject *id = PyLong_FromUnsignedLong(statement);
-    if (!id)
-        PyDict_Clear(self->texts);
-    else if (PyDict_GetItemWithError(self->texts, id) && PyDict_DelItem(self->texts, id))
-        PyDict_Clear(self->texts);
-    Py_XDECREF(id);
-    PyErr_Clear();
-}
-
-/* What is known of rows and statements goes where an event changes it. */
-void connection_note(Connection *self, const mysql_session_event *e)
-{
-    if (e->kind == MYSQL_SESSION_EVENT_ROW)
-        return;
-    self->is_planned = false;
-    switch (e->kind) {
-    case MYSQL_SESSION_EVENT_PREPARED:
-    case MYSQL_SESSION_EVENT_CLOSE:
-        forget_text(self, e->statement);
-        forget_text(self, UINT32_MAX);
-        break;
-    case MYSQL_SESSION_EVENT_ACCEPTED:
-    case MYSQL_SESSION_EVENT_CHANGE_USER:
-    case MYSQL_SESSION_EVENT_RESET_CONNECTION: PyDict_Clear(self->texts); break;
-    }
-}
-
 static PyObject *command_fields(Connection *self, const mysql_session_event *e);
 
 static PyObject *field_of(Connection *self, const mysql_session_event *e, enum field field)
@@ -296,12 +318,14 @@ static PyObject *field_of(Connection *self, const mysql_session_event *e, enum f
     case CHARSET: return PyLong_FromLong(e->charset);
     case NUMBER: return PyLong_FromUnsignedLong(e->number);
     case STATEMENT: return PyLong_FromUnsignedLong(e->statement);
-    case STATEMENT_TEXT: return statement_text(self, e);
+    case STATEMENT_TEXT: return connection_text(self, e->statement, e->text, e->len);
     case COLUMN_COUNT: return PyLong_FromSize_t(e->columns);
     case ROW_COUNT: return PyLong_FromSize_t(e->rows);
     case PARAMS: return PyLong_FromSize_t(e->params);
     case FOLLOWS: return PyBool_FromLong(e->follows);
     case FLAGS: return PyLong_FromUnsignedLong(e->flags);
+    case CURSOR: return PyLong_FromUnsignedLong(e->flags & 7);
+    case NAMELESS_FLAGS: return PyLong_FromUnsignedLong(e->flags & ~(uint32_t)7);
     case POSITION: return PyLong_FromUnsignedLongLong(e->position);
     case ATTRIBUTES: return attributes(self, e->attributes);
     case COLUMN: return shown_column(self);
@@ -312,6 +336,9 @@ static PyObject *field_of(Connection *self, const mysql_session_event *e, enum f
     case CELL_VALUES: return connection_cells(self, e->columns);
     case EXECUTION_VALUES: return execution_row(self, 0, e->params);
     case BULK_ROWS: return bulk_rows(self, e->rows, e->params);
+    case UNCLEAR: return unclear_places(self, e);
+    case FIRST_UNCLEAR: return first_unclear(self, e);
+    case UNCLEAR_CELLS: return unclear_cells(self);
     case SCRAMBLE:
         if (!self->scramble)
             return bytes_of(NULL, 0);
@@ -384,15 +411,23 @@ int connection_greet(Connection *self, const uint8_t *payload, size_t len)
     return 0;
 }
 
-/* The event of a greeting doesn't show the scramble, so it is read of the payload that is due. */
+/* The event of a greeting doesn't show the scramble, so it is read of the payload that is due: once,
+ * as that stands whole. */
 static int look_at_greeting(Connection *self)
 {
     const uint8_t *rest = NULL;
-    size_t len = 0;
-    if (mysql_session_connection_rest(at(self), MYSQL_SESSION_SERVER, &rest, &len) || len < 4)
+    size_t len = 0, end = 0, size = LONGEST_PACKET;
+    if (mysql_session_connection_rest(at(self), MYSQL_SESSION_SERVER, &rest, &len))
         return 0;
-    size_t payload = rest[0] | (size_t)rest[1] << 8 | (size_t)rest[2] << 16;
-    return payload <= len - 4 ? connection_greet(self, rest + 4, payload) : 0;
+    for (; size == LONGEST_PACKET; end += 4 + size) {
+        if (len - end < 4 || (size = packet_size(rest + end)) > len - end - 4)
+            return 0;
+    }
+    /* A greeting of several packets is that of no server: its scramble isn't read. */
+    if (size == end - 4 && connection_greet(self, rest + 4, size))
+        return -1;
+    self->is_greeted = true;
+    return 0;
 }
 
 /* Has the next event shown: 1 where there is one, 0 where there is none, else an error. */
@@ -402,6 +437,7 @@ int connection_show(Connection *self)
         return 1;
     if (!self->is_greeted && look_at_greeting(self))
         return -1;
+    self->shows_row = false;
     uint32_t code = mysql_session_connection_next(at(self), &self->event);
     if (code) {
         connection_fail(self, code);

@@ -180,8 +180,19 @@ int values_in(State *state, PyObject *it, Values **values);
 PyObject *cell_of(State *state, uint8_t type, const mysql_session_value *value);
 /* A cell as a value of its column's type. */
 PyObject *value_of(State *state, const Plan *plan, const mysql_session_value *value);
-/* In place of an error that says that a cell is no such value: a RowError. */
-void tell_row_error(State *state, const Plan *plan, PyObject *columns, size_t place, size_t row,
+/* A tuple of columns, and a list of their names as errors tell them, None where none has told it.
+ * Each is made once, however often a peer has them told. */
+typedef struct {
+    PyObject *columns, *names;
+} Shown;
+
+/* Takes columns over, in the place of those before; they may be NULL by an error. */
+int shown_set(Shown *shown, PyObject *columns);
+void shown_clear(Shown *shown);
+/* Whether an error says that a cell is no value of its column's type. */
+bool is_row_error(const Plan *plan);
+/* In its place: a RowError. */
+void tell_row_error(State *state, const Plan *plan, const Shown *shown, size_t place, size_t row,
                     bool is_null);
 PyObject *column_of(State *state, const mysql_session_column *column);
 PyObject *values_new(PyObject *module, PyObject *converters);
@@ -204,8 +215,8 @@ typedef struct {
 } Table;
 
 int table_begin(State *state, Table *table, const Plan *plans, size_t width);
-/* Makes room for one more row. */
-int table_widen(Table *table);
+/* Makes room for one more row, and at first for so many. */
+int table_widen(Table *table, size_t rows);
 /* Puts a cell of the row that comes next; the row counts by `count++` alone. */
 int table_put(State *state, Table *table, const Plan *plans, size_t place,
               const mysql_session_value *value);

@@ -16,7 +16,7 @@ typedef struct {
     PyObject *waiting, *last;
     /* The columns of the rows that went on behind the last listing, and those rows' plans. */
     bool goes_on, tail;
-    PyObject *columns;
+    Shown shown;
     Plan *plans;
     size_t width, plan_room;
 } Reply;
@@ -114,11 +114,11 @@ static PyObject *shown_states(Reply *self, size_t number, size_t count)
 /* Has the columns of a result at hand: those that are known where its rows go on. */
 static int know_columns(Reply *self, size_t number, size_t width)
 {
-    if (number == 0 && self->goes_on && self->columns && self->width == width)
+    if (number == 0 && self->goes_on && self->shown.columns && self->width == width)
         return 0;
     self->goes_on = false;
     self->width = 0;
-    Py_CLEAR(self->columns);
+    shown_clear(&self->shown);
     if (width > self->plan_room) {
         Plan *plans = PyMem_Realloc(self->plans, width * sizeof *plans);
         if (!plans) {
@@ -128,8 +128,7 @@ static int know_columns(Reply *self, size_t number, size_t width)
         self->plans = plans;
         self->plan_room = width;
     }
-    self->columns = shown_columns(self, number, width, false, self->plans);
-    if (!self->columns)
+    if (shown_set(&self->shown, shown_columns(self, number, width, false, self->plans)))
         return -1;
     self->width = width;
     return 0;
@@ -150,7 +149,7 @@ static PyObject *reply_row(Reply *self, size_t number, size_t row, enum form for
             continue;
         }
         if (!code && form != CELLS)
-            tell_row_error(self->state, &self->plans[i], self->columns, i, count,
+            tell_row_error(self->state, &self->plans[i], &self->shown, i, count,
                            value.kind == MYSQL_SESSION_NULL);
         Py_CLEAR(tuple);
     }
@@ -182,13 +181,13 @@ static PyObject *reply_table(Reply *self, size_t number, size_t count)
         return NULL;
     bool wrong = false;
     for (size_t row = 0; !wrong && row < count; row++) {
-        wrong = (row % 4096 == 4095 && PyErr_CheckSignals()) || table_widen(&table);
+        wrong = (row % 4096 == 4095 && PyErr_CheckSignals()) || table_widen(&table, count);
         for (size_t i = 0; !wrong && i < self->width; i++) {
             uint32_t code = mysql_session_reply_cell(reply_handle(self), number, row, i, &value);
             if (code)
                 fail(self->state, code);
             else if (table_put(self->state, &table, self->plans, i, &value))
-                tell_row_error(self->state, &self->plans[i], self->columns, i, row,
+                tell_row_error(self->state, &self->plans[i], &self->shown, i, row,
                                value.kind == MYSQL_SESSION_NULL);
             else
                 continue;
@@ -208,7 +207,7 @@ static PyObject *shown_rows(Reply *self, size_t number, const mysql_session_resu
     if (know_columns(self, number, r->columns))
         return NULL;
     plan(state, values, self->plans, self->width);
-    PyObject *columns = self->columns;
+    PyObject *columns = self->shown.columns;
     Py_INCREF(columns);
     PyObject *rows = form == COLUMNS ? reply_table(self, number, r->rows)
                                      : reply_rows(self, number, r->rows, form);
@@ -399,7 +398,7 @@ static int reply_clear(PyObject *it)
     Reply *self = (Reply *)it;
     Py_CLEAR(self->waiting);
     Py_CLEAR(self->last);
-    Py_CLEAR(self->columns);
+    shown_clear(&self->shown);
     self->goes_on = false;
     self->width = 0;
     return 0;
@@ -419,7 +418,8 @@ static int reply_traverse(PyObject *it, visitproc visit, void *arg)
     Py_VISIT(self->module);
     Py_VISIT(self->waiting);
     Py_VISIT(self->last);
-    Py_VISIT(self->columns);
+    Py_VISIT(self->shown.columns);
+    Py_VISIT(self->shown.names);
     return visit_type(it, visit, arg);
 }
 

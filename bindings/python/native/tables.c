@@ -37,11 +37,12 @@ int table_begin(State *state, Table *table, const Plan *plans, size_t width)
     return 0;
 }
 
-int table_widen(Table *table)
+int table_widen(Table *table, size_t rows)
 {
     if (table->count < table->room)
         return 0;
-    size_t room = table->room ? 2 * table->room : 256;
+    /* Of many columns a few rows are a lot. */
+    size_t room = table->room ? 2 * table->room : rows ? rows : 4;
     for (size_t i = 0; i < table->width; i++) {
         Array *array = &table->arrays[i];
         if ((array->form && PyByteArray_Resize(array->store, (Py_ssize_t)(8 * room))) ||

@@ -498,19 +498,64 @@ static bool is_no_value(void)
     return PyErr_ExceptionMatches(PyExc_ValueError) || PyErr_ExceptionMatches(PyExc_ArithmeticError);
 }
 
-void tell_row_error(State *state, const Plan *plan, PyObject *columns, size_t place, size_t row,
+bool is_row_error(const Plan *plan)
+{
+    return !plan->converter && is_no_value();
+}
+
+/* The name of a column, by which an error tells it. */
+static PyObject *name_of(const Shown *shown, Py_ssize_t place)
+{
+    PyObject *name = shown->names ? PyList_GetItem(shown->names, place) : NULL;
+    if (!name || name != Py_None) {
+        Py_XINCREF(name);
+        return name;
+    }
+    PyObject *column = PyTuple_GetItem(shown->columns, place);
+    PyObject *raw = column ? PyObject_GetAttrString(column, "name") : NULL;
+    name = raw ? PyUnicode_FromEncodedObject(raw, "utf-8", "surrogateescape") : NULL;
+    Py_XDECREF(raw);
+    if (name) {
+        Py_INCREF(name);
+        PyList_SetItem(shown->names, place, name);
+    }
+    return name;
+}
+
+void tell_row_error(State *state, const Plan *plan, const Shown *shown, size_t place, size_t row,
                     bool is_null)
 {
-    if (plan->converter || !is_no_value())
+    if (!is_row_error(plan))
         return;
     PyErr_Clear();
-    PyObject *column = columns ? PyTuple_GetItem(columns, (Py_ssize_t)place) : NULL;
-    PyObject *raw = column ? PyObject_GetAttrString(column, "name") : NULL;
-    PyObject *name = raw ? PyUnicode_FromEncodedObject(raw, "utf-8", "surrogateescape") : NULL;
-    Py_XDECREF(raw);
+    PyObject *name = name_of(shown, (Py_ssize_t)place);
     if (name)
         row_error(state, name, row, is_null);
     Py_XDECREF(name);
+}
+
+int shown_set(Shown *shown, PyObject *columns)
+{
+    Py_ssize_t width = columns ? PyTuple_Size(columns) : 0;
+    PyObject *names = columns ? PyList_New(width) : NULL;
+    shown_clear(shown);
+    if (!names) {
+        Py_XDECREF(columns);
+        return -1;
+    }
+    for (Py_ssize_t i = 0; i < width; i++) {
+        Py_INCREF(Py_None);
+        PyList_SetItem(names, i, Py_None);
+    }
+    shown->columns = columns;
+    shown->names = names;
+    return 0;
+}
+
+void shown_clear(Shown *shown)
+{
+    Py_CLEAR(shown->columns);
+    Py_CLEAR(shown->names);
 }
 
 /* ---- Rows of cells, as values of types that are asked for ---------------------------------------- */

@@ -2,13 +2,15 @@
 //! for each login. It prints a line for each command, once the server's reply is whole.
 //!
 //! ```text
-//! audit_proxy LISTEN UPSTREAM [--json] [--on-fault pass|cut] [--pass-first] [--plain]
+//! audit_proxy LISTEN UPSTREAM [--json] [--secrets] [--on-fault pass|cut] [--pass-first] [--plain]
 //!             [--longest BYTES] [--held BYTES]
 //! ```
 //!
 //! - A line has the time, the connection's number, its user and database, and what was asked, with
 //!   the values of an execution. Then it has each result of the reply, and how long that took from
 //!   the command's last byte to the reply's. With `--json` it is an object of JSON.
+//! - Passwords in statements are masked, and so are the values of such a statement that was
+//!   prepared. With `--secrets` they are printed.
 //! - Bytes are passed on unchanged, and only once they were read. That is a whole packet, or a
 //!   command that a client sends ahead once the reply to the one before it is whole. With
 //!   `--pass-first` they are passed on as they come, and read then. Where there is no room for more
@@ -27,12 +29,15 @@ mod commands;
 mod common;
 #[path = "audit_proxy/lines.rs"]
 mod lines;
+#[path = "audit_proxy/masking.rs"]
+mod masking;
 #[path = "audit_proxy/passing.rs"]
 mod passing;
 #[path = "audit_proxy/texts.rs"]
 mod texts;
 
 use audit::{Audit, OnFault};
+use commands::Telling;
 use common::{write_packet, Failure, Unread, LIMIT};
 use lines::Format;
 use mysql_session::{capability, Greeting, Limits, PacketReader};
@@ -42,14 +47,18 @@ use std::io::{self, Write};
 use std::net::{TcpListener, TcpStream};
 use std::process::{exit, ExitCode};
 use std::thread;
+use std::time::Duration;
 
-const USAGE: &str = "usage: audit_proxy LISTEN UPSTREAM [--json] [--on-fault pass|cut] \
-                     [--pass-first] [--plain] [--longest BYTES] [--held BYTES]";
+const USAGE: &str = "usage: audit_proxy LISTEN UPSTREAM [--json] [--secrets] \
+                     [--on-fault pass|cut] [--pass-first] [--plain] [--longest BYTES] [--held BYTES]";
 
 /// What is taken out of the server's greeting by `--plain`.
 const HIDDEN: u32 = capability::CLIENT_COMPRESS
     | capability::CLIENT_SSL
     | capability::CLIENT_ZSTD_COMPRESSION_ALGORITHM;
+
+/// How long it waits where no client can be taken.
+const PAUSE: Duration = Duration::from_millis(20);
 
 /// The first byte of a server's error.
 const ERROR: u8 = 0xff;
@@ -59,6 +68,7 @@ struct Options {
     listen: String,
     upstream: String,
     format: Format,
+    secrets: bool,
     on_fault: OnFault,
     pass_first: bool,
     plain: bool,
@@ -73,6 +83,7 @@ impl Options {
             listen: words.next()?,
             upstream: words.next()?,
             format: Format::Text,
+            secrets: false,
             on_fault: OnFault::Pass,
             pass_first: false,
             plain: false,
@@ -82,6 +93,7 @@ impl Options {
         while let Some(word) = words.next() {
             match word.as_str() {
                 "--json" => options.format = Format::Json,
+                "--secrets" => options.secrets = true,
                 "--pass-first" => options.pass_first = true,
                 "--plain" => options.plain = true,
                 "--longest" => options.longest = words.next()?.parse().ok()?,
@@ -97,6 +109,15 @@ impl Options {
             }
         }
         Some(options)
+    }
+
+    fn telling(&self) -> Telling {
+        Telling {
+            format: self.format,
+            secrets: self.secrets,
+            escapes: true,
+            has_secrets: false,
+        }
     }
 
     fn limits(&self) -> Limits {
@@ -130,19 +151,40 @@ fn print_line(line: &str) {
     }
 }
 
-/// Serves each client that connects, in threads of its own.
+/// Serves each client that connects, in own threads. A client for which no thread can be had
+/// is closed, and the others go on.
 fn listen(options: &Options) -> io::Result<()> {
     let listener = TcpListener::bind(&options.listen)?;
     eprintln!("listening at {}", listener.local_addr()?);
-    for (number, client) in (1..).zip(listener.incoming()) {
-        let (client, options) = (client?, options.clone());
-        thread::spawn(move || {
+    for number in 1.. {
+        let (client, options) = (next_client(&listener), options.clone());
+        let serving = thread::Builder::new().spawn(move || {
             if let Err(failure) = serve(number, client, &options) {
                 eprintln!("connection {number}: {failure}");
             }
         });
+        if let Err(error) = serving {
+            eprintln!("connection {number}: it has no thread: {error}");
+        }
     }
     Ok(())
+}
+
+/// The next client. Where none can be had, as without a descriptor, that is told once. It is tried
+/// again until one is had.
+fn next_client(listener: &TcpListener) -> TcpStream {
+    let mut is_told = false;
+    loop {
+        match listener.accept() {
+            Ok((client, _)) => return client,
+            Err(error) if is_told => drop(error),
+            Err(error) => {
+                eprintln!("no client can be taken for now: {error}");
+                is_told = true;
+            }
+        }
+        thread::sleep(PAUSE);
+    }
 }
 
 /// Passes all on between a client and the server, and tells what they say.
@@ -150,12 +192,17 @@ fn serve(number: u64, client: TcpStream, options: &Options) -> Result<(), Failur
     let mut server = TcpStream::connect(&options.upstream)?;
     client.set_nodelay(true)?;
     server.set_nodelay(true)?;
-    let audit = Audit::new(number, options.format, options.limits(), options.on_fault)?;
+    let audit = Audit::new(
+        number,
+        options.telling(),
+        options.limits(),
+        options.on_fault,
+    )?;
     let came = match options.plain {
         true => plain_greeting(&mut server)?,
         false => Vec::new(),
     };
-    Passage::new(audit, options.pass_first).pass(&client, &server, came);
+    Passage::new(audit, options.pass_first).pass(&client, &server, came)?;
     Ok(())
 }
 

@@ -1,13 +1,14 @@
 //! A client that runs one query, and prints what the server answers:
 //!
 //! ```text
-//! blocking_client ADDRESS USER DATABASE QUERY [VALUE .. [-- VALUE ..] ..]
+//! blocking_client ADDRESS USER DATABASE [--text] QUERY [VALUE .. [-- VALUE ..] ..]
 //! ```
 //!
 //! A query without values is sent as a text. One with values is prepared, and executed with each
-//! set of them; `--` begins the next set. A value of digits is a whole number, `NULL` is NULL, and
-//! all else is a text. Of rows the cells are printed with tabs between them, below the names of
-//! their columns.
+//! set of them; `--` begins the next set. With `--text` each set is written into a text in place of
+//! that, for the session's SQL mode. A value of digits is a whole number, `NULL` is NULL, and all
+//! else is a text. Of rows the cells are printed with tabs between them, below the names of their
+//! columns.
 //!
 //! The user logs in by mysql_native_password or caching_sha2_password. The environment variable
 //! MYSQL_PASSWORD has the password; or MYSQL_PASSWORD_SHA1 its digest by SHA-1, as 40 hexadecimal
@@ -21,9 +22,9 @@ mod client;
 #[path = "blocking_client/passwords.rs"]
 mod passwords;
 
-use client::{text_of, Account, Client, Failure, LIMIT};
+use client::{Account, Client, Failure, LIMIT};
 use mysql_session::{
-    capability, command, executions, Capabilities, Event, OkPacket, ParameterSets, Value,
+    capability, command, executions, Capabilities, Event, FromValue, OkPacket, ParameterSets, Value,
 };
 use passwords::Secret;
 use std::env;
@@ -31,7 +32,7 @@ use std::io::{self, Write};
 use std::process::ExitCode;
 
 const USAGE: &str =
-    "usage: blocking_client ADDRESS USER DATABASE QUERY [VALUE .. [-- VALUE ..] ..]";
+    "usage: blocking_client ADDRESS USER DATABASE [--text] QUERY [VALUE .. [-- VALUE ..] ..]";
 
 /// What this client has. It is no MariaDB, whose own capabilities it doesn't need.
 const CAPABILITIES: Capabilities = Capabilities {
@@ -42,17 +43,24 @@ const CAPABILITIES: Capabilities = Capabilities {
         | capability::CLIENT_MULTI_RESULTS
         | capability::CLIENT_PS_MULTI_RESULTS
         | capability::CLIENT_PLUGIN_AUTH
-        | capability::CLIENT_DEPRECATE_EOF,
+        | capability::CLIENT_DEPRECATE_EOF
+        | capability::CLIENT_SESSION_TRACK,
     mariadb: 0,
 };
 
 fn main() -> ExitCode {
-    let words: Vec<String> = env::args().skip(1).collect();
+    let mut words: Vec<String> = env::args().skip(1).collect();
+    // It is behind the database, so that no value is taken for it.
+    let by_text = words.get(3).is_some_and(|word| word == "--text");
+    if by_text {
+        words.remove(3);
+    }
     let [address, user, database, query, values @ ..] = &words[..] else {
         eprintln!("{USAGE}");
         return ExitCode::from(2);
     };
-    match run(address, user, database, query.as_bytes(), values) {
+    let account = [user, database];
+    match run(address, account, query.as_bytes(), values, by_text) {
         Ok(true) => ExitCode::SUCCESS,
         Ok(false) => ExitCode::FAILURE,
         Err(failure) => {
@@ -65,10 +73,10 @@ fn main() -> ExitCode {
 /// Logs in, runs the query, and quits. The answer is whether the server answered no error.
 fn run(
     address: &str,
-    user: &str,
-    database: &str,
+    [user, database]: [&String; 2],
     query: &[u8],
     values: &[String],
+    by_text: bool,
 ) -> Result<bool, Failure> {
     let account = Account {
         user: user.as_bytes(),
@@ -81,6 +89,8 @@ fn run(
     let done = if values.is_empty() {
         client.query(query)?;
         print_reply(&mut client, &mut out)?
+    } else if by_text {
+        query_each(&mut client, query, &sets_of(values)?, &mut out)?
     } else {
         execute(&mut client, query, &sets_of(values)?, &mut out)?
     };
@@ -105,6 +115,22 @@ fn value_of(word: &str) -> Value<'_> {
         Ok(number) => number.into(),
         Err(_) => word.into(),
     }
+}
+
+/// Sends a text of each set. The answer is whether the server answered no error.
+fn query_each(
+    client: &mut Client,
+    query: &[u8],
+    sets: &ParameterSets,
+    out: &mut dyn Write,
+) -> Result<bool, Failure> {
+    let mut done = true;
+    for set in 0..sets.len() {
+        let text = client.text(query, sets, set)?;
+        client.query(&text)?;
+        done &= print_reply(client, out)?;
+    }
+    Ok(done)
 }
 
 /// Prepares a query, executes it with each set, and closes it. The answer is whether the server
@@ -137,7 +163,7 @@ fn statement_of(client: &mut Client, out: &mut dyn Write) -> Result<Option<u32>,
     while client.awaits_reply() {
         match client.next()? {
             Event::Prepared { statement, .. } => id = Some(statement),
-            Event::Error(error) | Event::Farewell(error) => writeln!(out, "{}", text_of(&error))?,
+            Event::Error(error) | Event::Farewell(error) => writeln!(out, "{error}")?,
             _ => (),
         }
     }
@@ -156,13 +182,13 @@ fn print_reply(client: &mut Client, out: &mut dyn Write) -> Result<bool, Failure
                     writeln!(out, "{}", names.join("\t"))?;
                 }
                 rows += 1;
-                let cells: Vec<String> = row.iter().map(cell_text).collect();
+                let cells: Vec<String> = row.into_iter().map(cell_text).collect();
                 writeln!(out, "{}", cells.join("\t"))?;
             }
             Event::RowsEnd(_) => writeln!(out, "{}", counted(rows))?,
             Event::Ok(packet) => writeln!(out, "{}", ok_text(&packet))?,
             Event::Error(error) | Event::Farewell(error) => {
-                writeln!(out, "{}", text_of(&error))?;
+                writeln!(out, "{error}")?;
                 done = false;
             }
             // No file is sent: no bytes end it.
@@ -191,23 +217,8 @@ fn ok_text(packet: &OkPacket<'_>) -> String {
 fn cell_text(value: Value<'_>) -> String {
     match value {
         Value::Null => "NULL".to_string(),
-        Value::Int(number) => number.to_string(),
-        Value::UInt(number) => number.to_string(),
         Value::Bytes(bytes) => readable(bytes),
-        Value::Float(number) => number.to_string(),
-        Value::Double(number) => number.to_string(),
-        Value::Date(it) => format!(
-            "{:04}-{:02}-{:02} {:02}:{:02}:{:02}.{:06}",
-            it.year, it.month, it.day, it.hour, it.minute, it.second, it.micros
-        ),
-        Value::Time(it) => format!(
-            "{}{:02}:{:02}:{:02}.{:06}",
-            if it.negative { "-" } else { "" },
-            u64::from(it.days) * 24 + u64::from(it.hours),
-            it.minutes,
-            it.seconds,
-            it.micros
-        ),
+        value => String::from_value(value).expect("a value but NULL and bytes has a text"),
     }
 }
 

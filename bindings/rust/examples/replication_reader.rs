@@ -9,17 +9,17 @@
 //! file on, or from a position in a file. Or it is read behind a position of MariaDB's global
 //! transaction identifiers, as `0-1-42`. It is read to its end, or until N events were printed.
 //!
-//! Variables are set by texts, whose literals are for the server's mode: OK packets tell whether
-//! its SQL mode has NO_BACKSLASH_ESCAPES. A MariaDB whose SQL mode has ANSI_QUOTES can't be read.
-//! Its status then has a bit without a name in the protocol, by which the library refuses the
-//! greeting and each OK packet.
+//! Variables are set by texts. Their literals are in hexadecimal, and the queries have no backslash:
+//! so the server reads them alike in each SQL mode. A MariaDB whose SQL mode has ANSI_QUOTES can't be
+//! read. Its status then has a bit without a name in the protocol, by which the library refuses each
+//! OK packet.
 
 mod common;
 
 use common::{write_packet, Failure, Unread, LIMIT};
 use mysql_session::{
-    capability, put_packet, send_in, BinlogDump, Bytes, Greeting, Login, Mode, PacketReader,
-    ParameterSets, RegisterReplica, ReplyKind, ReplyReader, ReplyResult, Road, Spelling, Value,
+    capability, send_in, BinlogDump, Bytes, Greeting, Login, Mode, PacketReader, ParameterSets,
+    RegisterReplica, ReplyKind, ReplyReader, ReplyResult, Road, Spelling, Value,
     BINLOG_DUMP_NON_BLOCK,
 };
 use std::env;
@@ -57,8 +57,6 @@ struct Connection {
     unread: Unread,
     /// What both sides have.
     capabilities: u32,
-    /// How the server reads a text, by its last OK packet.
-    mode: Mode,
 }
 
 fn main() -> ExitCode {
@@ -151,7 +149,6 @@ impl Connection {
             stream,
             unread,
             capabilities,
-            mode: Mode::default(),
         };
         connection.log_in(user)?;
         Ok(connection)
@@ -176,19 +173,9 @@ impl Connection {
         }
         check_no_error(&answer)?;
         match answer.first() {
-            Some(0) => self.note_login(&answer),
+            Some(0) => Ok(()),
             _ => Err("the server asks for more than an empty password".into()),
         }
-    }
-
-    /// Notes the mode that the OK packet of the login tells.
-    fn note_login(&mut self, answer: &[u8]) -> Result<(), Failure> {
-        let mut framed = Bytes::new()?;
-        put_packet(answer, &mut 1, LIMIT, &mut framed)?;
-        let mut reader = ReplyReader::new(ReplyKind::Query, self.capabilities, 1, LIMIT)?;
-        reader.feed(&framed)?;
-        self.mode = mode_told(&reader.take()?).unwrap_or(self.mode);
-        Ok(())
     }
 
     /// The payload of the next packet, which has this number.
@@ -197,13 +184,13 @@ impl Connection {
             .packet(&mut self.stream, &mut PacketReader::new(number, LIMIT)?)
     }
 
-    /// Sets a variable by a query with these values. They are literals in its text: so the mode is
-    /// the server's, and not the one that most servers have.
+    /// Sets a variable by a query with these values. They are literals in its text, in hexadecimal:
+    /// so any mode reads them.
     fn set(&mut self, query: &[u8], values: &[Value<'_>]) -> Result<(), Failure> {
         let mut sets = ParameterSets::new()?;
         sets.add(values)?;
         let mut command = Bytes::new()?;
-        let (mode, spelling) = (self.mode, Spelling::Quoted);
+        let (mode, spelling) = (Mode::default(), Spelling::Hexadecimal);
         send_in(
             &sets,
             query,
@@ -226,7 +213,6 @@ impl Connection {
             let count = self.stream.read(&mut piece)?;
             reader.feed(&piece[..count])?;
             let results = reader.take()?;
-            self.mode = mode_told(&results).unwrap_or(self.mode);
             if let Some(ReplyResult::Error(error)) = results.last() {
                 return Err(server_error(error.code, error.message));
             }
@@ -262,15 +248,6 @@ impl Connection {
         }
         Ok(events)
     }
-}
-
-/// The mode that the last OK packet tells, if there is one: any command may have changed it.
-fn mode_told(results: &[ReplyResult<'_>]) -> Option<Mode> {
-    let told = results.iter().rev().find_map(|result| match result {
-        ReplyResult::Ok(done) => Some(done.packet.status),
-        _ => None,
-    });
-    told.map(Mode::of)
 }
 
 /// The error that an error packet tells, whose message may stand behind a state.

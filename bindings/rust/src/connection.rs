@@ -4,7 +4,9 @@ use crate::bytes::Bytes;
 use crate::codes::{answer, certain, in_range, shown_code, At, Code, Error};
 use crate::events::Event;
 use crate::handle::check_interface;
+use crate::modes::Mode;
 use crate::raw;
+use crate::readable::debug_with_texts;
 use std::cell::UnsafeCell;
 use std::error;
 use std::fmt;
@@ -57,6 +59,9 @@ pub struct Limits {
     /// headers. What this leaves beside both is for what is kept of statements, columns and long
     /// data. Where nothing is left, no statement is prepared and no column is read:
     /// [`Code::CONNECTION_KEPT`].
+    ///
+    /// It counts payloads, not memory. `docs/COSTS.md` has how much memory was measured for each
+    /// byte that is counted, and for each byte of an event.
     pub held: usize,
 }
 
@@ -210,7 +215,7 @@ pub enum ConnectionEnd {
 }
 
 /// A prepared statement of a connection.
-#[derive(Clone, Copy, Debug, PartialEq, Eq, Hash)]
+#[derive(Clone, Copy, PartialEq, Eq, Hash)]
 pub struct Statement<'a> {
     /// The text by which it was prepared.
     pub text: &'a [u8],
@@ -218,11 +223,12 @@ pub struct Statement<'a> {
     pub parameters: u16,
 }
 
+debug_with_texts!(Statement: parameters; text);
+
 /// A connection's handle.
 ///
 /// Each call of the library takes the connection out of it and puts it back, also one that only
 /// looks at it. So a shared handle is one that changes, and it isn't `Sync`.
-#[derive(Debug)]
 pub(crate) struct ConnectionHandle(UnsafeCell<raw::Connection>);
 
 // SAFETY: the header: "it may be handed to another thread between two calls". All that the
@@ -286,7 +292,6 @@ impl Drop for ConnectionHandle {
 /// connection.next_event();
 /// drop(event);
 /// ```
-#[derive(Debug)]
 pub struct Connection {
     handle: ConnectionHandle,
     /// The event that was told last, or one of kind 0.
@@ -300,9 +305,17 @@ struct Shown(raw::Event);
 // SAFETY: the pointers are to what the connection holds, with which they are kept.
 unsafe impl Send for Shown {}
 
-impl fmt::Debug for Shown {
+/// Its phase, its turn, how much it holds, its fault, and the event that was told last.
+impl fmt::Debug for Connection {
     fn fmt(&self, formatter: &mut fmt::Formatter<'_>) -> fmt::Result {
-        self.0.kind.fmt(formatter)
+        formatter
+            .debug_struct("Connection")
+            .field("phase", &self.phase())
+            .field("turn", &self.turn())
+            .field("held", &self.held())
+            .field("fault", &self.fault())
+            .field("event", &self.event())
+            .finish_non_exhaustive()
     }
 }
 
@@ -635,6 +648,20 @@ impl Connection {
             protocol: standing.capabilities,
             mariadb: standing.mariadb_capabilities,
         }
+    }
+
+    /// The session's SQL mode, by what came of the server so far, where it is known.
+    ///
+    /// A login, a change of user and a reset of the connection tell it. Behind a statement it is
+    /// known only where the server tells each change. Have it do so, if it has
+    /// `CLIENT_SESSION_TRACK`, by `SET session_track_system_variables = 'sql_mode', sql_mode =
+    /// @@sql_mode`, whose answer tells the mode. Where it is None take
+    /// [`Spelling::Hexadecimal`](crate::Spelling::Hexadecimal), or execute.
+    ///
+    /// (MySQL Reference Manual, "Server SQL Modes", "Server Tracking of Client Session State".)
+    pub fn mode(&self) -> Option<Mode> {
+        // SAFETY: "Handles": by `ConnectionHandle::get`.
+        Mode::known(unsafe { raw::mysql_session_connection_mode(self.handle.get()) })
     }
 
     /// The fault that was found.

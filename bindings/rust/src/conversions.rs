@@ -1,6 +1,6 @@
 //! Values as types of Rust: a cell by itself, or a row as a tuple.
 
-use crate::texts::{date_in, duration_in, number_in, time_in};
+use crate::texts::{date_in, duration_in, float_text, number_in, time_in};
 use crate::values::{Date, Time, Value};
 use std::any::type_name;
 use std::error;
@@ -16,10 +16,11 @@ use std::time::Duration;
 /// |---|---|
 /// | `i8` to `i64`, `u8` to `u64`, `isize`, `usize` | whole numbers and their texts, in range |
 /// | `bool` | 0 and 1, and their texts |
-/// | `f32` | floats, and texts of a number |
-/// | `f64` | floats, doubles, and texts of a number |
+/// | `f32` | floats, whole numbers up to 2^24, and texts of a number |
+/// | `f64` | floats, doubles, whole numbers up to 2^53, and texts of a number |
 /// | `&[u8]`, `Vec<u8>`, `[u8; N]` | bytes, an array of its length |
-/// | `&str`, `String` | bytes that are UTF-8 |
+/// | `&str` | bytes that are UTF-8 |
+/// | `String` | bytes that are UTF-8, and the text of any value but NULL |
 /// | [`Date`] | dates, and texts as `2024-02-29` and `2024-02-29 12:30:01.5` |
 /// | [`Time`] | durations, and texts as `-838:59:59.5` |
 /// | [`Duration`] | those that aren't negative |
@@ -80,7 +81,15 @@ pub trait FromRow<'a>: Sized {
 }
 
 /// Why a row, or a cell of it, doesn't convert.
-#[derive(Clone, Copy, Debug, PartialEq, Eq, Hash)]
+///
+/// ```
+/// use mysql_session::RowError;
+///
+/// let (name, value, wanted) = ("price".to_string(), "NULL", "u8");
+/// let error = RowError::OtherType { column: 1, name, value, wanted };
+/// assert_eq!(error.to_string(), "column 1 (price): NULL doesn't convert to u8");
+/// ```
+#[derive(Clone, Debug, PartialEq, Eq, Hash)]
 pub enum RowError {
     /// There is no such column.
     NoColumn {
@@ -88,6 +97,11 @@ pub enum RowError {
         column: usize,
         /// How many the row has.
         columns: usize,
+    },
+    /// There is no column of such a name.
+    NoName {
+        /// The name that was asked for.
+        name: String,
     },
     /// The row has more or fewer cells than the type that it is to convert to.
     OtherWidth {
@@ -100,6 +114,8 @@ pub enum RowError {
     OtherType {
         /// The cell's column, from 0.
         column: usize,
+        /// The column's name, which the row puts in; empty where it has none.
+        name: String,
         /// What the value is: `NULL`, `a text`, ..
         value: &'static str,
         /// The type that it was to convert to, as [`type_name`] has it.
@@ -113,6 +129,7 @@ impl fmt::Display for RowError {
             RowError::NoColumn { column, columns } => {
                 write!(formatter, "there is no column {column} among {columns}")
             }
+            RowError::NoName { name } => write!(formatter, "there is no column {name:?}"),
             RowError::OtherWidth { columns, fields } => {
                 write!(
                     formatter,
@@ -121,20 +138,34 @@ impl fmt::Display for RowError {
             }
             RowError::OtherType {
                 column,
+                name,
                 value,
                 wanted,
             } => {
+                write!(formatter, "column {column}")?;
+                if !name.is_empty() {
+                    write!(formatter, " ({name})")?;
+                }
                 let wanted = without_paths(wanted);
-                write!(
-                    formatter,
-                    "column {column}: {value} doesn't convert to {wanted}"
-                )
+                write!(formatter, ": {value} doesn't convert to {wanted}")
             }
         }
     }
 }
 
 impl error::Error for RowError {}
+
+impl RowError {
+    /// The same with the name of the column, which this call tells.
+    fn named(mut self, of: impl FnOnce(usize) -> String) -> RowError {
+        if let RowError::OtherType { column, name, .. } = &mut self {
+            if name.is_empty() {
+                *name = of(*column);
+            }
+        }
+        self
+    }
+}
 
 /// The name of a type, without the modules in front of it and of those that it is made of.
 fn without_paths(name: &str) -> String {
@@ -144,31 +175,36 @@ fn without_paths(name: &str) -> String {
         .collect()
 }
 
-/// The value of a cell, converted.
+/// The value of a cell, converted. An error has the name of the column.
 pub(crate) fn cell_as<'a, T: FromValue<'a>>(
     cell: Option<Value<'a>>,
     column: usize,
     columns: usize,
+    name: impl FnOnce(usize) -> String,
 ) -> Result<T, RowError> {
-    converted(cell.ok_or(RowError::NoColumn { column, columns })?, column)
+    let cell = cell.ok_or(RowError::NoColumn { column, columns })?;
+    converted(cell, column).map_err(|error| error.named(name))
 }
 
-/// A row of so many cells, converted.
+/// A row of so many cells, converted. An error has the name of the column.
 pub(crate) fn row_as<'a, T: FromRow<'a>>(
     cell: impl Fn(usize) -> Option<Value<'a>>,
     columns: usize,
+    name: impl FnOnce(usize) -> String,
 ) -> Result<T, RowError> {
     if columns != T::WIDTH {
         let fields = T::WIDTH;
         return Err(RowError::OtherWidth { columns, fields });
     }
-    T::from_cells(|number| cell(number).expect("a number below the width has a cell"))
+    let cell = |number| cell(number).expect("a number below the width has a cell");
+    T::from_cells(cell).map_err(|error| error.named(name))
 }
 
 /// The value in a column, converted.
 fn converted<'a, T: FromValue<'a>>(value: Value<'a>, column: usize) -> Result<T, RowError> {
-    T::from_value(value).ok_or(RowError::OtherType {
+    T::from_value(value).ok_or_else(|| RowError::OtherType {
         column,
+        name: String::new(),
         value: kind_of(value),
         wanted: type_name::<T>(),
     })
@@ -218,10 +254,17 @@ impl<'a> FromValue<'a> for f32 {
     fn from_value(value: Value<'a>) -> Option<f32> {
         match value {
             Value::Float(number) => Some(number),
+            Value::Int(number) => exact(number.into(), 24).map(|number| number as f32),
+            Value::UInt(number) => exact(number.into(), 24).map(|number| number as f32),
             Value::Bytes(text) => number_in(text),
             _ => None,
         }
     }
+}
+
+/// A whole number of so many bits, or the next one above them: each float of these has it.
+fn exact(number: i128, bits: u32) -> Option<i128> {
+    (number.unsigned_abs() <= 1 << bits).then_some(number)
 }
 
 impl<'a> FromValue<'a> for f64 {
@@ -229,6 +272,8 @@ impl<'a> FromValue<'a> for f64 {
         match value {
             Value::Float(number) => Some(number.into()),
             Value::Double(number) => Some(number),
+            Value::Int(number) => exact(number.into(), 53).map(|number| number as f64),
+            Value::UInt(number) => exact(number.into(), 53).map(|number| number as f64),
             Value::Bytes(text) => number_in(text),
             _ => None,
         }
@@ -264,7 +309,16 @@ impl<'a> FromValue<'a> for &'a str {
 
 impl<'a> FromValue<'a> for String {
     fn from_value(value: Value<'a>) -> Option<String> {
-        <&str>::from_value(value).map(str::to_string)
+        match value {
+            Value::Null => None,
+            Value::Int(number) => Some(number.to_string()),
+            Value::UInt(number) => Some(number.to_string()),
+            Value::Bytes(_) => <&str>::from_value(value).map(str::to_string),
+            Value::Float(number) => Some(float_text(number)),
+            Value::Double(number) => Some(float_text(number)),
+            Value::Date(date) => Some(date.to_string()),
+            Value::Time(time) => Some(time.to_string()),
+        }
     }
 }
 

@@ -5,8 +5,10 @@
 use crate::codes::{certain, in_range};
 use crate::connection::ConnectionHandle;
 use crate::conversions::{cell_as, row_as, FromRow, FromValue, RowError};
+use crate::iter::{goes_over, Iter};
 use crate::raw;
-use crate::results::Column;
+use crate::readable::Readable;
+use crate::results::{name_of, place_of, Column};
 use crate::values::Value;
 use std::fmt;
 
@@ -16,6 +18,28 @@ fn value_of(handle: &ConnectionHandle, row: usize, place: usize) -> Option<raw::
     // SAFETY: "Handles": by `ConnectionHandle::get`; "Results go out": a local.
     let code = unsafe { raw::mysql_session_connection_value(handle.get(), row, place, &mut shown) };
     in_range(code).then_some(shown)
+}
+
+/// Whether servers read a value of the current event each their way, and the bytes of the command from
+/// the first such cell on.
+fn unclear_at(handle: &ConnectionHandle, row: usize, place: usize) -> (bool, &[u8]) {
+    let (mut unclear, mut cells) = (false, raw::Text::default());
+    // SAFETY: "Handles": by `ConnectionHandle::get`; "Results go out": locals.
+    let code = unsafe {
+        raw::mysql_session_connection_unclear(
+            handle.get(),
+            row,
+            place,
+            &mut unclear,
+            &mut cells.at,
+            &mut cells.len,
+        )
+    };
+    if !in_range(code) {
+        return (false, &[]);
+    }
+    // SAFETY: the bytes are "good until the next call on it" that takes its `&mut`.
+    (unclear, unsafe { cells.bytes() })
 }
 
 /// A column of the current event, by its number.
@@ -51,12 +75,26 @@ impl<'a> Values<'a> {
         value_of(self.handle, 0, place).map(|shown| unsafe { Value::of(shown) })
     }
 
+    /// Whether servers read the value of this number each their way, from 0; behind the values are
+    /// the attributes. None of a client library's is so: each server may execute another value.
+    pub fn is_unclear(&self, place: usize) -> bool {
+        unclear_at(self.handle, 0, place).0
+    }
+
+    /// The bytes of the command from the first such cell on; of long data alone there are none.
+    pub fn unclear_cells(&self) -> &'a [u8] {
+        unclear_at(self.handle, 0, 0).1
+    }
+
     /// The values.
-    pub fn iter(&self) -> impl DoubleEndedIterator<Item = Value<'a>> + ExactSizeIterator + 'a {
-        let values = *self;
-        (0..self.len).map(move |place| values.get(place).expect("each place has a value"))
+    pub fn iter(&self) -> Iter<Values<'a>, Value<'a>> {
+        Iter::new(*self, self.len, |values, place| {
+            values.get(place).expect("each place has a value")
+        })
     }
 }
+
+goes_over!(Values, Value<'a>);
 
 impl fmt::Debug for Values<'_> {
     fn fmt(&self, formatter: &mut fmt::Formatter<'_>) -> fmt::Result {
@@ -93,7 +131,29 @@ impl<'a> EventRow<'a> {
     /// # Errors
     /// [`RowError::NoColumn`]; [`RowError::OtherType`] where the value doesn't convert.
     pub fn get<T: FromValue<'a>>(&self, number: usize) -> Result<T, RowError> {
-        cell_as(self.cell(number), number, self.len)
+        cell_as(self.cell(number), number, self.len, |_| self.name(number))
+    }
+
+    /// The value in the first column of a name, as a type of Rust. Each call looks through the names.
+    ///
+    /// # Errors
+    /// [`RowError::NoName`]; [`RowError::OtherType`] where the value doesn't convert.
+    pub fn get_named<T: FromValue<'a>>(&self, name: impl AsRef<[u8]>) -> Result<T, RowError> {
+        self.get(place_of(self.columns(), name.as_ref())?)
+    }
+
+    /// The value in the cell of a number, as its column's type says. It is the same for a reply to a
+    /// query and to an execution. [`ColumnType::value`](crate::ColumnType::value) has the types.
+    pub fn value(&self, number: usize) -> Option<Value<'a>> {
+        let cell = self.cell(number)?;
+        Some(self.column(number)?.column_type.value(cell))
+    }
+
+    /// The values of all cells, as [`EventRow::value`] has them.
+    pub fn values(&self) -> Iter<EventRow<'a>, Value<'a>> {
+        Iter::new(*self, self.len, |row, number| {
+            row.value(number).expect("each cell has a value")
+        })
     }
 
     /// The whole row as a tuple, or another type that rows convert to.
@@ -102,7 +162,29 @@ impl<'a> EventRow<'a> {
     /// [`RowError::OtherWidth`], then [`RowError::OtherType`] of the first cell that doesn't
     /// convert.
     pub fn into_tuple<T: FromRow<'a>>(self) -> Result<T, RowError> {
-        row_as(|number| self.cell(number), self.len)
+        row_as(
+            |number| self.cell(number),
+            self.len,
+            |number| self.name(number),
+        )
+    }
+
+    /// The columns of the cells.
+    pub fn columns(&self) -> Iter<EventRow<'a>, Column<'a>> {
+        Iter::new(*self, self.len, |row, number| {
+            row.column(number).expect("each cell has a column")
+        })
+    }
+
+    /// The number of the first column of this name, from 0.
+    pub fn column_named(&self, name: impl AsRef<[u8]>) -> Option<usize> {
+        self.columns()
+            .position(|column| column.name == name.as_ref())
+    }
+
+    /// The name of a column, as an error tells it.
+    fn name(&self, number: usize) -> String {
+        name_of(self.column(number))
     }
 
     /// The column of a cell.
@@ -111,11 +193,14 @@ impl<'a> EventRow<'a> {
     }
 
     /// The cells.
-    pub fn iter(&self) -> impl DoubleEndedIterator<Item = Value<'a>> + ExactSizeIterator + 'a {
-        let row = *self;
-        (0..self.len).map(move |number| row.cell(number).expect("each cell has a value"))
+    pub fn iter(&self) -> Iter<EventRow<'a>, Value<'a>> {
+        Iter::new(*self, self.len, |row, number| {
+            row.cell(number).expect("each cell has a value")
+        })
     }
 }
+
+goes_over!(EventRow, Value<'a>);
 
 impl fmt::Debug for EventRow<'_> {
     fn fmt(&self, formatter: &mut fmt::Formatter<'_>) -> fmt::Result {
@@ -162,12 +247,22 @@ impl<'a> BulkRows<'a> {
         })
     }
 
+    /// The bytes of the command from the first cell on that servers read each their way.
+    pub fn unclear_cells(&self) -> &'a [u8] {
+        unclear_at(self.handle, 0, 0).1
+    }
+
     /// The rows.
-    pub fn iter(&self) -> impl DoubleEndedIterator<Item = BulkRow<'a>> + ExactSizeIterator + 'a {
-        let BulkRows { handle, width, .. } = *self;
-        (0..self.len).map(move |row| BulkRow { handle, row, width })
+    pub fn iter(&self) -> Iter<BulkRows<'a>, BulkRow<'a>> {
+        Iter::new(*self, self.len, |rows, row| BulkRow {
+            handle: rows.handle,
+            row,
+            width: rows.width,
+        })
     }
 }
+
+goes_over!(BulkRows, BulkRow<'a>);
 
 impl fmt::Debug for BulkRows<'_> {
     fn fmt(&self, formatter: &mut fmt::Formatter<'_>) -> fmt::Result {
@@ -205,12 +300,21 @@ impl<'a> BulkRow<'a> {
         })
     }
 
+    /// Whether servers read the value of this number each their way, from 0. None of a client
+    /// library's is so: each server may execute another value.
+    pub fn is_unclear(&self, place: usize) -> bool {
+        unclear_at(self.handle, self.row, place).0
+    }
+
     /// What the parameters hold.
-    pub fn iter(&self) -> impl DoubleEndedIterator<Item = BulkValue<'a>> + ExactSizeIterator + 'a {
-        let row = *self;
-        (0..self.width).map(move |place| row.get(place).expect("each place has a value"))
+    pub fn iter(&self) -> Iter<BulkRow<'a>, BulkValue<'a>> {
+        Iter::new(*self, self.width, |row, place| {
+            row.get(place).expect("each place has a value")
+        })
     }
 }
+
+goes_over!(BulkRow, BulkValue<'a>);
 
 impl fmt::Debug for BulkRow<'_> {
     fn fmt(&self, formatter: &mut fmt::Formatter<'_>) -> fmt::Result {
@@ -218,8 +322,8 @@ impl fmt::Debug for BulkRow<'_> {
     }
 }
 
-/// The attributes of a login, of a query or of an execution: names and values. Those of a login are
-/// bytes.
+/// The attributes of a login, of a query or of an execution: names and values, in their order. Two
+/// may have one name. The values of a login's are bytes.
 #[derive(Clone, Copy)]
 pub struct Attributes<'a> {
     pub(crate) handle: &'a ConnectionHandle,
@@ -237,14 +341,22 @@ impl<'a> Attributes<'a> {
         self.len == 0
     }
 
+    /// The value of the first attribute of a name.
+    pub fn named(&self, name: impl AsRef<[u8]>) -> Option<Value<'a>> {
+        let mut attributes = self.iter();
+        let found = attributes.find(|(found, _)| *found == name.as_ref());
+        found.map(|(_, value)| value)
+    }
+
     /// The attributes.
-    pub fn iter(
-        &self,
-    ) -> impl DoubleEndedIterator<Item = (&'a [u8], Value<'a>)> + ExactSizeIterator + 'a {
-        let handle = self.handle;
-        (0..self.len).map(move |number| attribute_of(handle, number))
+    pub fn iter(&self) -> Iter<Attributes<'a>, (&'a [u8], Value<'a>)> {
+        Iter::new(*self, self.len, |attributes, number| {
+            attribute_of(attributes.handle, number)
+        })
     }
 }
+
+goes_over!(Attributes, (&'a [u8], Value<'a>));
 
 /// The attribute of a number below that of the attributes.
 fn attribute_of(handle: &ConnectionHandle, number: usize) -> (&[u8], Value<'_>) {
@@ -265,6 +377,7 @@ fn attribute_of(handle: &ConnectionHandle, number: usize) -> (&[u8], Value<'_>) 
 
 impl fmt::Debug for Attributes<'_> {
     fn fmt(&self, formatter: &mut fmt::Formatter<'_>) -> fmt::Result {
-        formatter.debug_list().entries(self.iter()).finish()
+        let shown = self.iter().map(|(name, value)| (Readable(name), value));
+        formatter.debug_map().entries(shown).finish()
     }
 }

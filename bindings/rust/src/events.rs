@@ -6,9 +6,12 @@
 use crate::connection::{Capabilities, ConnectionHandle, Side};
 use crate::event_values::{column_of, Attributes, BulkRows, EventRow, Values};
 use crate::raw;
-use crate::readable::{debug_with_texts, Readable};
+use crate::readable::{debug_with_texts, Readable, Secret};
 use crate::results::{Column, ErrorPacket, OkPacket};
 use std::fmt;
+
+/// The first byte of a change of user, also of one that is laid out as none.
+const COM_CHANGE_USER: u8 = 0x11;
 
 /// What one payload of a connection says.
 #[derive(Clone, Copy)]
@@ -83,6 +86,12 @@ pub enum Event<'a> {
         attributes: Attributes<'a>,
         /// The cursor that is asked for, in bits.
         cursor: u32,
+        /// The bits of the flags that have no name, none of a client library's.
+        nameless_flags: u32,
+        /// The iteration count: 1 of each client library.
+        iterations: u32,
+        /// The bytes behind the last value, none of a client library's.
+        rest: &'a [u8],
     },
     /// A prepared statement is executed with many rows.
     BulkExecute {
@@ -92,6 +101,8 @@ pub enum Event<'a> {
         text: &'a [u8],
         /// What its parameters hold in each row.
         rows: BulkRows<'a>,
+        /// The bytes from the first row on that can't be read; servers execute the rows before them.
+        rest: &'a [u8],
     },
     /// A piece of a parameter.
     LongData {
@@ -210,7 +221,8 @@ debug_with_texts!(ServerGreeting: connection, capabilities, status, collation; v
 /// The front of a client's answer to a greeting.
 #[derive(Clone, Copy, Debug, PartialEq, Eq)]
 pub struct ClientRequest {
-    /// What the client has.
+    /// What the client has. MariaDB's own are 0 where it has
+    /// [`CLIENT_LONG_PASSWORD`](crate::capability::CLIENT_LONG_PASSWORD): a client of MySQL.
     pub capabilities: Capabilities,
     /// The number of its collation.
     pub collation: u16,
@@ -235,7 +247,7 @@ pub struct ClientLogin<'a> {
     pub attributes: Attributes<'a>,
 }
 
-debug_with_texts!(ClientLogin: request, attributes; user, database, plugin, response);
+debug_with_texts!(ClientLogin: request, attributes; user, database, plugin; response);
 
 /// A change of user.
 #[derive(Clone, Copy)]
@@ -254,7 +266,7 @@ pub struct ClientChange<'a> {
     pub attributes: Attributes<'a>,
 }
 
-debug_with_texts!(ClientChange: collation, attributes; user, database, plugin, response);
+debug_with_texts!(ClientChange: collation, attributes; user, database, plugin; response);
 
 /// A command without a variant of its own. What it doesn't have is 0 or empty.
 #[derive(Clone, Copy, PartialEq, Eq)]
@@ -377,7 +389,9 @@ impl Event<'_> {
     }
 }
 
-/// Texts are printed as such, where they are UTF-8.
+/// Texts are printed as such, where they are UTF-8. Of what a client or a plugin says in an
+/// authentication the length alone is printed. A password in a query's text, or among values, isn't
+/// known for one.
 impl fmt::Debug for Event<'_> {
     fn fmt(&self, formatter: &mut fmt::Formatter<'_>) -> fmt::Result {
         let name = self.name();
@@ -400,10 +414,13 @@ impl fmt::Debug for Event<'_> {
             Event::Command(it) => formatter.debug_tuple(name).field(it).finish(),
             Event::Column(it) => formatter.debug_tuple(name).field(it).finish(),
             Event::Row(it) => formatter.debug_tuple(name).field(it).finish(),
-            Event::AuthMore(data)
-            | Event::PluginData(data)
-            | Event::Answer(data)
-            | Event::InitDb(data)
+            Event::AuthMore(data) | Event::PluginData(data) | Event::Answer(data) => {
+                formatter.debug_tuple(name).field(&Secret(data)).finish()
+            }
+            Event::Other(data) if data.first() == Some(&COM_CHANGE_USER) => {
+                formatter.debug_tuple(name).field(&Secret(data)).finish()
+            }
+            Event::InitDb(data)
             | Event::Other(data)
             | Event::RawRow(data)
             | Event::FileRequest(data)
@@ -420,7 +437,7 @@ impl Event<'_> {
         match self {
             Event::AuthSwitch { plugin, data } | Event::NextFactor { plugin, data } => {
                 to.field("plugin", &Readable(plugin))
-                    .field("data", &Readable(data));
+                    .field("data", &Secret(data));
             }
             Event::Query { text, attributes } => {
                 to.field("text", &Readable(text))
@@ -435,21 +452,29 @@ impl Event<'_> {
                 values,
                 attributes,
                 cursor,
+                nameless_flags,
+                iterations,
+                rest,
             } => {
                 to.field("statement", statement)
                     .field("text", &Readable(text));
                 to.field("values", values)
                     .field("attributes", attributes)
                     .field("cursor", cursor);
+                to.field("nameless_flags", nameless_flags)
+                    .field("iterations", iterations)
+                    .field("rest", &Readable(rest));
             }
             Event::BulkExecute {
                 statement,
                 text,
                 rows,
+                rest,
             } => {
                 to.field("statement", statement)
                     .field("text", &Readable(text))
-                    .field("rows", rows);
+                    .field("rows", rows)
+                    .field("rest", &Readable(rest));
             }
             Event::LongData {
                 statement,
@@ -611,7 +636,10 @@ impl<'a> Part<'a, '_> {
                     len: shown.params,
                 },
                 attributes: self.attributes(),
-                cursor: shown.flags,
+                cursor: shown.flags & 7,
+                nameless_flags: shown.flags & !7,
+                iterations: shown.number,
+                rest: data,
             },
             0x118 => Event::LongData {
                 statement,
@@ -633,6 +661,7 @@ impl<'a> Part<'a, '_> {
                     len: shown.rows,
                     width: shown.params,
                 },
+                rest: data,
             },
             0x200 => Event::Other(data),
             // SAFETY: by this call's condition.

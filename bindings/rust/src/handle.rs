@@ -3,6 +3,7 @@
 use crate::codes::{answer, Code};
 use crate::raw;
 use std::cell::UnsafeCell;
+use std::fmt;
 use std::ptr::null_mut;
 
 /// A handle that stands for an object, which goes with it.
@@ -10,7 +11,6 @@ use std::ptr::null_mut;
 /// Each call of the library takes the object out of the handle and puts it back, also one that only
 /// looks at it. So a shared handle is one that changes. It is neither `Send` nor `Sync`, as the
 /// header wants it in the thread that made it.
-#[derive(Debug)]
 pub(crate) struct Handle(UnsafeCell<raw::Handle>);
 
 impl Handle {
@@ -29,6 +29,13 @@ impl Handle {
     /// other code writes to it, and there is no copy of it: what "Handles" wants.
     pub(crate) fn get(&self) -> *mut raw::Handle {
         self.0.get()
+    }
+}
+
+/// Nothing that a person reads.
+impl fmt::Debug for Handle {
+    fn fmt(&self, formatter: &mut fmt::Formatter<'_>) -> fmt::Result {
+        formatter.write_str("..")
     }
 }
 

@@ -4,6 +4,7 @@ use crate::bytes::Bytes;
 use crate::codes::{answer, Error};
 use crate::handle::check_interface;
 use crate::raw;
+use crate::readable::debug_with_texts;
 
 /// What a server greets a client with: the payload of its first packet.
 ///
@@ -29,7 +30,7 @@ use crate::raw;
 /// # Ok(())
 /// # }
 /// ```
-#[derive(Clone, Copy, Debug, Default, PartialEq, Eq, Hash)]
+#[derive(Clone, Copy, Default, PartialEq, Eq, Hash)]
 pub struct Greeting<'a> {
     /// The protocol's version, which is 10 in each greeting that is put.
     pub protocol: u8,
@@ -55,6 +56,9 @@ pub struct Greeting<'a> {
     /// The plugin that the server asks for.
     pub plugin: &'a [u8],
 }
+
+debug_with_texts!(Greeting: protocol, collation, status, connection, capabilities,
+    mariadb_capabilities; version, scramble_1, scramble_2, plugin);
 
 impl<'a> Greeting<'a> {
     /// Reads the payload of a server's first packet.
@@ -132,7 +136,7 @@ impl<'a> Greeting<'a> {
 /// # Ok(())
 /// # }
 /// ```
-#[derive(Clone, Copy, Debug, Default, PartialEq, Eq, Hash)]
+#[derive(Clone, Copy, Default, PartialEq, Eq, Hash)]
 pub struct Login<'a> {
     /// The number of the client's collation, which is 45 (utf8mb4_general_ci) in each login that is
     /// put.
@@ -153,6 +157,10 @@ pub struct Login<'a> {
     /// The plugin that scrambled the password, or none.
     pub plugin: &'a [u8],
 }
+
+debug_with_texts!(
+    Login: collation, capabilities, mariadb_capabilities; user, database, plugin; response
+);
 
 impl<'a> Login<'a> {
     /// Reads the payload of a client's answer.

@@ -7,7 +7,7 @@ use crate::raw;
 ///
 /// Two modes change where a string ends. What is made for a server in one of them may be something
 /// else in another. A value may end its literal there, and what follows the quote is read as SQL.
-/// So take the mode that the server tells, at the login and whenever it tells another.
+/// So take the mode of the session, which [`Connection::mode`](crate::Connection::mode) tells.
 ///
 /// (MySQL Reference Manual, "Server SQL Modes".)
 ///
@@ -17,7 +17,8 @@ use crate::raw;
 /// # fn main() -> Result<(), mysql_session::Error> {
 /// let mut sets = ParameterSets::new()?;
 /// sets.add(&["' OR 1=1 -- ".into()])?;
-/// let mode = Mode::of_sql_mode(b"STRICT_TRANS_TABLES,NO_BACKSLASH_ESCAPES");
+/// let told = Mode::of_sql_mode(b"STRICT_TRANS_TABLES,NO_BACKSLASH_ESCAPES");
+/// let mode = told.expect("both names are known");
 /// let mut out = Bytes::new()?;
 /// bind_text_in(&sets, 0, b"SELECT ?", mode, Spelling::Quoted, &mut out)?;
 /// assert_eq!(out.as_slice(), b"SELECT ''' OR 1=1 -- '");
@@ -37,9 +38,9 @@ impl Mode {
     /// it.
     ///
     /// MySQL tells NO_BACKSLASH_ESCAPES in its status and not ANSI_QUOTES, for which the bit is
-    /// MariaDB's. Where a MySQL server may be in ANSI_QUOTES, take the variable `sql_mode`, as
-    /// session tracking tells it, and [`Mode::of_sql_mode`]. A packet with MariaDB's bit, which has
-    /// no name in MySQL's protocol, is refused by [`Greeting::read`](crate::Greeting::read) and
+    /// MariaDB's. Behind a procedure that changed the mode a status may tell another one than the
+    /// server is in. Better go by [`Connection::mode`](crate::Connection::mode). A packet with
+    /// MariaDB's bit, which has no name in MySQL's protocol, is refused by
     /// [`ReplyReader`](crate::ReplyReader).
     ///
     /// (MySQL: Client/Server Protocol, "Status Flags"; MariaDB Server Documentation, "OK_Packet".)
@@ -58,18 +59,29 @@ impl Mode {
     }
 
     /// The mode that the value of the variable `sql_mode` tells: names between commas, their
-    /// letters in any case.
+    /// letters in any case, blanks around them not counted.
     ///
-    /// ANSI_QUOTES is also told by each name that contains it. These are ANSI, and DB2, MAXDB,
-    /// MSSQL, ORACLE and POSTGRESQL, which MariaDB and MySQL before 8.0 have. Other names say
+    /// ANSI_QUOTES is also told by each name that contains it. These are ANSI, and DB2, MAXDB, ORACLE
+    /// and POSTGRESQL, which MariaDB and MySQL before 8.0 have. Other names of both manuals say
     /// nothing of how a text is read.
+    ///
+    /// None where a name is in neither manual, or is MSSQL, in which `[` and `]` quote names: the
+    /// mode isn't known. Take [`Spelling::Hexadecimal`], or an execution.
     ///
     /// (MySQL Reference Manual, "Server SQL Modes", "Server Tracking of Client Session State";
     /// MariaDB Server Documentation, "SQL_MODE".)
-    pub fn of_sql_mode(value: &[u8]) -> Mode {
+    pub fn of_sql_mode(value: &[u8]) -> Option<Mode> {
         check_interface();
         // SAFETY: "Bytes go in": the value is a slice.
-        Mode::told(unsafe { raw::mysql_session_mode_of_sql_mode(value.as_ptr(), value.len()) })
+        Mode::known(unsafe { raw::mysql_session_mode_of_sql_mode(value.as_ptr(), value.len()) })
+    }
+
+    /// The mode that the library's flags tell, where it is known.
+    pub(crate) fn known(flags: u32) -> Option<Mode> {
+        match flags {
+            raw::UNKNOWN_MODE => None,
+            flags => Some(Mode::told(flags)),
+        }
     }
 
     /// The mode that the library's flags tell.
@@ -104,14 +116,17 @@ impl Mode {
 /// How byte strings are spelled where values are written as literals. Numbers and NULL are spelled
 /// as ever, and dates and durations stand in quotes.
 ///
-/// (MySQL Reference Manual, "String Literals", "Hexadecimal Literals".)
+/// (MySQL Reference Manual, "String Literals", "Hexadecimal Literals", "Character Set
+/// Introducers".)
 #[derive(Clone, Copy, Debug, Default, PartialEq, Eq, Hash)]
 pub enum Spelling {
     /// UTF-8 between single quotes, by the mode of the server, and other bytes as `0x` and digits.
+    /// Those are a number where a server wants one.
     #[default]
     Quoted,
-    /// `0x` and two digits for each byte, and `''` for no bytes: the same in each mode and each
-    /// character set.
+    /// `_utf8mb4 0x` and two digits for each byte of UTF-8, `_binary 0x` and digits for other bytes,
+    /// and `''` for no bytes. They are the same in each mode and each character set, and a text or a
+    /// string of bytes also where a number is wanted.
     Hexadecimal,
 }
 

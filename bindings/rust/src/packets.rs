@@ -4,6 +4,7 @@ use crate::bytes::Bytes;
 use crate::codes::{answer, certain, Error, Fault};
 use crate::handle::Handle;
 use crate::raw;
+use std::iter::FusedIterator;
 
 /// Cuts a stream into the payloads of its packets, in whatever pieces its bytes come.
 ///
@@ -67,6 +68,31 @@ impl PacketReader {
         Ok(if whole { Some(self.payload()) } else { None })
     }
 
+    /// The payloads of the packets that end in this piece, as copies. [`PacketReader::advance`] gives
+    /// them one by one without copying. Their numbers go on from one another.
+    ///
+    /// ```
+    /// use mysql_session::{Fault, PacketReader};
+    ///
+    /// # fn main() -> Result<(), Box<dyn std::error::Error>> {
+    /// let mut reader = PacketReader::new(0, 1 << 24)?;
+    /// let stream = b"\x01\0\0\0a\x02\0\0\x01bc\x01\0";
+    /// let payloads = reader.payloads(stream).collect::<Result<Vec<_>, Fault>>()?;
+    /// assert_eq!(payloads, [b"a".to_vec(), b"bc".to_vec()]);
+    /// # Ok(())
+    /// # }
+    /// ```
+    ///
+    /// # Errors
+    /// What [`PacketReader::advance`] answers, and nothing behind it.
+    pub fn payloads<'a>(&'a mut self, piece: &'a [u8]) -> Payloads<'a> {
+        Payloads {
+            reader: self,
+            rest: piece,
+            is_done: false,
+        }
+    }
+
     /// The payload that stands whole.
     fn payload(&mut self) -> &[u8] {
         let mut text = raw::Text::default();
@@ -90,6 +116,37 @@ impl PacketReader {
         })?)
     }
 }
+
+/// The payloads of a piece, as [`PacketReader::payloads`] gives them.
+#[derive(Debug)]
+pub struct Payloads<'a> {
+    reader: &'a mut PacketReader,
+    rest: &'a [u8],
+    /// Whether the piece was read to its end, or a fault was found.
+    is_done: bool,
+}
+
+impl<'a> Payloads<'a> {
+    /// What of the piece isn't read yet.
+    pub fn rest(&self) -> &'a [u8] {
+        self.rest
+    }
+}
+
+impl Iterator for Payloads<'_> {
+    type Item = Result<Vec<u8>, Fault>;
+
+    fn next(&mut self) -> Option<Self::Item> {
+        if self.is_done {
+            return None;
+        }
+        let payload = self.reader.advance(&mut self.rest);
+        self.is_done = !matches!(payload, Ok(Some(_)));
+        payload.map(|found| found.map(<[u8]>::to_vec)).transpose()
+    }
+}
+
+impl FusedIterator for Payloads<'_> {}
 
 /// Appends a payload to `out`, framed: behind a header of four bytes, with this number. One of
 /// 16777215 bytes or more takes more chunks. The number is the next packet's then.

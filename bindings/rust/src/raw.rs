@@ -9,12 +9,13 @@ use std::ptr::null;
 use std::slice;
 
 /// `MYSQL_SESSION_ABI`: the interface that is declared here.
-pub const ABI: u32 = 6;
+pub const ABI: u32 = 7;
 
 // `enum mysql_session_flag`.
 pub const NO_BACKSLASH_ESCAPES: u32 = 1;
 pub const ANSI_QUOTES: u32 = 2;
 pub const HEXADECIMAL: u32 = 4;
+pub const UNKNOWN_MODE: u32 = 8;
 
 /// `mysql_session_handle`.
 #[repr(C)]
@@ -632,6 +633,14 @@ extern "C" {
         place: usize,
         value: *mut Value,
     ) -> u32;
+    pub fn mysql_session_connection_unclear(
+        connection: *mut Connection,
+        row: usize,
+        place: usize,
+        unclear: *mut bool,
+        cells: *mut *const u8,
+        len: *mut usize,
+    ) -> u32;
     pub fn mysql_session_connection_attribute(
         connection: *mut Connection,
         number: usize,
@@ -653,6 +662,7 @@ extern "C" {
         connection: *mut Connection,
         standing: *mut Standing,
     ) -> u32;
+    pub fn mysql_session_connection_mode(connection: *mut Connection) -> u32;
     pub fn mysql_session_connection_statement(
         connection: *mut Connection,
         id: u32,

@@ -2,9 +2,11 @@
 
 use crate::codes::{certain, in_range, End, Error, Fault};
 use crate::handle::Handle;
-use crate::modes::Mode;
+use crate::iter::{goes_over, Iter};
+use crate::modes::{Mode, Spelling};
 use crate::raw;
 use crate::values::Content;
+use std::fmt;
 
 /// Reads a stream of commands about one query, in whatever pieces its bytes come.
 ///
@@ -41,9 +43,26 @@ use crate::values::Content;
 /// # let receiver = mysql_session::Receiver::new(b"SELECT ?", 1, 1 << 24).unwrap();
 /// std::thread::spawn(move || receiver.end());
 /// ```
-#[derive(Debug)]
 pub struct Receiver {
     handle: Handle,
+}
+
+impl<'a> IntoIterator for &'a Receiver {
+    type Item = Set<'a>;
+    type IntoIter = Iter<&'a Receiver, Set<'a>>;
+
+    fn into_iter(self) -> Self::IntoIter {
+        self.sets()
+    }
+}
+
+impl fmt::Debug for Receiver {
+    fn fmt(&self, formatter: &mut fmt::Formatter<'_>) -> fmt::Result {
+        formatter
+            .debug_struct("Receiver")
+            .field("sets", &self.sets())
+            .finish_non_exhaustive()
+    }
 }
 
 impl Receiver {
@@ -52,29 +71,30 @@ impl Receiver {
     /// The limit is the `max_allowed_packet` of the side that the stream goes to, at least 4. A
     /// payload has at most that many bytes.
     ///
-    /// Texts are read as a server in the default mode reads them: [`Receiver::new_in`] takes the
-    /// mode.
+    /// Texts are read as a server in the default mode reads them, without introducers:
+    /// [`Receiver::new_in`] takes the mode and the spelling.
     ///
     /// # Errors
     /// [`Code::LIMIT_TOO_SMALL`](crate::Code::LIMIT_TOO_SMALL),
     /// [`Code::MIXED`](crate::Code::MIXED), [`Code::MEMORY`](crate::Code::MEMORY).
     pub fn new(query: &[u8], statement: u32, limit: usize) -> Result<Receiver, Error> {
-        Receiver::new_in(query, statement, limit, Mode::default())
+        Receiver::new_in(query, statement, limit, Mode::default(), Spelling::Quoted)
     }
 
     /// A receiver of a stream of commands about this query, which were sent to a server in this
     /// mode. For one in another mode texts, and the query's placeholders, may be others than this
-    /// receiver reads.
+    /// receiver reads. By [`Spelling::Hexadecimal`] it reads literals behind `_utf8mb4` and `_binary`
+    /// too.
     ///
     /// # Errors
     /// Those of [`Receiver::new`].
     ///
     /// ```
-    /// use mysql_session::{Content, Mode, Receiver};
+    /// use mysql_session::{Content, Mode, Receiver, Spelling};
     ///
     /// # fn main() -> Result<(), mysql_session::Error> {
     /// let mode = Mode { no_backslash_escapes: true, ..Mode::default() };
-    /// let mut receiver = Receiver::new_in(b"SELECT ?", 1, 1 << 24, mode)?;
+    /// let mut receiver = Receiver::new_in(b"SELECT ?", 1, 1 << 24, mode, Spelling::Quoted)?;
     /// receiver.feed(b"\x0b\0\0\0\x03SELECT '\\'")?;
     /// let set = receiver.sets().next().expect("one set was read");
     /// assert_eq!(set.content(0), Some(Content::Bytes(b"\\")));
@@ -86,6 +106,7 @@ impl Receiver {
         statement: u32,
         limit: usize,
         mode: Mode,
+        spelling: Spelling,
     ) -> Result<Receiver, Error> {
         // SAFETY: "Handles": a handle that is being made; "Bytes go in": the query is a slice.
         let handle = Handle::made(|handle| unsafe {
@@ -95,7 +116,7 @@ impl Receiver {
                 query.len(),
                 statement,
                 limit,
-                mode.flags(),
+                mode.flags_with(spelling),
             )
         })?;
         Ok(Receiver { handle })
@@ -113,9 +134,11 @@ impl Receiver {
         })
     }
 
-    /// The sets that were read and not let go.
-    pub fn sets(&self) -> impl DoubleEndedIterator<Item = Set<'_>> + ExactSizeIterator + '_ {
-        sets_of(&self.handle)
+    /// The sets that were read and not let go. `for set in &receiver` goes over them too.
+    pub fn sets(&self) -> Iter<&Receiver, Set<'_>> {
+        Iter::new(self, sets_in(&self.handle), |receiver, number| {
+            Set::of(&receiver.handle, number)
+        })
     }
 
     /// Lets go of the sets that were read.
@@ -137,7 +160,6 @@ impl Receiver {
 }
 
 /// What a receiver says of its stream at the end.
-#[derive(Debug)]
 pub struct Audit {
     handle: Handle,
     end: End,
@@ -150,17 +172,38 @@ impl Audit {
     }
 
     /// The sets that were read and not let go before.
-    pub fn sets(&self) -> impl DoubleEndedIterator<Item = Set<'_>> + ExactSizeIterator + '_ {
-        sets_of(&self.handle)
+    pub fn sets(&self) -> Iter<&Audit, Set<'_>> {
+        Iter::new(self, sets_in(&self.handle), |audit, number| {
+            Set::of(&audit.handle, number)
+        })
     }
 }
 
-/// The sets of a receiver or of an audit.
-fn sets_of(handle: &Handle) -> impl DoubleEndedIterator<Item = Set<'_>> + ExactSizeIterator + '_ {
+impl<'a> IntoIterator for &'a Audit {
+    type Item = Set<'a>;
+    type IntoIter = Iter<&'a Audit, Set<'a>>;
+
+    fn into_iter(self) -> Self::IntoIter {
+        self.sets()
+    }
+}
+
+impl fmt::Debug for Audit {
+    fn fmt(&self, formatter: &mut fmt::Formatter<'_>) -> fmt::Result {
+        formatter
+            .debug_struct("Audit")
+            .field("end", &self.end)
+            .field("sets", &self.sets())
+            .finish()
+    }
+}
+
+/// How many sets a receiver or an audit has.
+fn sets_in(handle: &Handle) -> usize {
     let mut count = 0;
     // SAFETY: "Handles": by `Handle::get`; "Results go out": a local.
     certain(unsafe { raw::mysql_session_receiver_sets(handle.get(), &mut count) });
-    (0..count).map(move |number| Set::of(handle, number))
+    count
 }
 
 /// A set that was read: a content for each place of the query.
@@ -208,17 +251,18 @@ impl<'a> Set<'a> {
     }
 
     /// The contents, place by place.
-    pub fn iter(&self) -> impl DoubleEndedIterator<Item = Content<'a>> + ExactSizeIterator + 'a {
-        let set = *self;
-        (0..set.width).map(move |place| {
+    pub fn iter(&self) -> Iter<Set<'a>, Content<'a>> {
+        Iter::new(*self, self.width, |set, place| {
             set.content(place)
                 .expect("a place below the width has a content")
         })
     }
 }
 
-impl std::fmt::Debug for Set<'_> {
-    fn fmt(&self, formatter: &mut std::fmt::Formatter<'_>) -> std::fmt::Result {
+goes_over!(Set, Content<'a>);
+
+impl fmt::Debug for Set<'_> {
+    fn fmt(&self, formatter: &mut fmt::Formatter<'_>) -> fmt::Result {
         formatter.debug_list().entries(self.iter()).finish()
     }
 }

@@ -3,7 +3,7 @@
 use crate::bytes::Bytes;
 use crate::codes::{answer, At, Code, End, Error};
 use crate::handle::Handle;
-use crate::modes::Mode;
+use crate::modes::{Mode, Spelling};
 use crate::raw;
 
 /// Recodes a stream of commands about one query as it comes: as one prepare, and an execution for
@@ -33,14 +33,14 @@ impl Recoder {
     /// A recoder of a stream of commands about this query, whose statement was given this id. The
     /// limit is the `max_allowed_packet` of the receiving side, at least 4.
     ///
-    /// Texts are read as a server in the default mode reads them: [`Recoder::new_in`] takes the
-    /// mode.
+    /// Texts are read as a server in the default mode reads them, without introducers:
+    /// [`Recoder::new_in`] takes the mode and the spelling.
     ///
     /// # Errors
     /// [`Code::LIMIT_TOO_SMALL`], [`Code::MIXED`], [`Code::REFUSED_TOO_MANY_PLACES`],
     /// [`Code::REFUSED_PREPARE_TOO_LARGE`], [`Code::MEMORY`].
     pub fn new(query: &[u8], statement: u32, limit: usize) -> Result<Recoder, Error> {
-        Recoder::new_in(query, statement, limit, Mode::default())
+        Recoder::new_in(query, statement, limit, Mode::default(), Spelling::Quoted)
     }
 
     /// A recoder of a stream that was sent to a server in this mode, else as [`Recoder::new`] makes
@@ -54,6 +54,7 @@ impl Recoder {
         statement: u32,
         limit: usize,
         mode: Mode,
+        spelling: Spelling,
     ) -> Result<Recoder, Error> {
         // SAFETY: "Handles": a handle that is being made; "Bytes go in": the query is a slice.
         let handle = Handle::made(|handle| unsafe {
@@ -63,7 +64,7 @@ impl Recoder {
                 query.len(),
                 statement,
                 limit,
-                mode.flags(),
+                mode.flags_with(spelling),
             )
         })?;
         Ok(Recoder { handle })
@@ -124,7 +125,8 @@ impl Recoder {
 /// # }
 /// ```
 pub fn recode(query: &[u8], statement: u32, limit: usize, stream: &[u8]) -> Result<Bytes, Error> {
-    recode_in(query, statement, limit, Mode::default(), stream)
+    let (mode, spelling) = (Mode::default(), Spelling::Quoted);
+    recode_in(query, statement, limit, mode, spelling, stream)
 }
 
 /// Recodes a whole stream of commands about one query, which was sent to a server in this mode.
@@ -136,10 +138,11 @@ pub fn recode_in(
     statement: u32,
     limit: usize,
     mode: Mode,
+    spelling: Spelling,
     stream: &[u8],
 ) -> Result<Bytes, Error> {
     let mut out = Bytes::new()?;
-    let mut recoder = Recoder::new_in(query, statement, limit, mode)?;
+    let mut recoder = Recoder::new_in(query, statement, limit, mode, spelling)?;
     recoder.feed(stream, &mut out)?;
     recoder.end(&mut out)?;
     Ok(out)

@@ -3,13 +3,15 @@
 use crate::bytes::Bytes;
 use crate::codes::{answer, Error};
 use crate::raw;
+use crate::readable::{debug_with_texts, Readable};
+use std::fmt;
 
 /// BINLOG_DUMP_NON_BLOCK: the server ends the log by an EOF packet where it has no more events, in
 /// place of waiting for them.
 pub const BINLOG_DUMP_NON_BLOCK: u16 = 1;
 
 /// COM_REGISTER_SLAVE: a replica makes itself known.
-#[derive(Clone, Copy, Debug, Default, PartialEq, Eq, Hash)]
+#[derive(Clone, Copy, Default, PartialEq, Eq, Hash)]
 pub struct RegisterReplica<'a> {
     /// The replica's server id.
     pub server: u32,
@@ -21,6 +23,19 @@ pub struct RegisterReplica<'a> {
     pub password: &'a [u8],
     /// Its port, likewise.
     pub port: u16,
+}
+
+/// All but the password.
+impl fmt::Debug for RegisterReplica<'_> {
+    fn fmt(&self, formatter: &mut fmt::Formatter<'_>) -> fmt::Result {
+        formatter
+            .debug_struct("RegisterReplica")
+            .field("server", &self.server)
+            .field("host", &Readable(self.host))
+            .field("user", &Readable(self.user))
+            .field("port", &self.port)
+            .finish_non_exhaustive()
+    }
 }
 
 impl RegisterReplica<'_> {
@@ -65,7 +80,7 @@ impl RegisterReplica<'_> {
 /// # Ok(())
 /// # }
 /// ```
-#[derive(Clone, Copy, Debug, Default, PartialEq, Eq, Hash)]
+#[derive(Clone, Copy, Default, PartialEq, Eq, Hash)]
 pub struct BinlogDump<'a> {
     /// The replica's server id.
     pub server: u32,
@@ -76,6 +91,8 @@ pub struct BinlogDump<'a> {
     /// The file's name; none stands for the first file.
     pub file: &'a [u8],
 }
+
+debug_with_texts!(BinlogDump: server, position, flags; file);
 
 impl BinlogDump<'_> {
     /// Appends the command's payload to `out`, its first byte included.
@@ -99,7 +116,7 @@ impl BinlogDump<'_> {
 
 /// COM_BINLOG_DUMP_GTID: the same by MySQL's global transaction identifiers. (A MariaDB takes a
 /// position by `@slave_connect_state`, and [`BinlogDump`].)
-#[derive(Clone, Copy, Debug, Default, PartialEq, Eq, Hash)]
+#[derive(Clone, Copy, Default, PartialEq, Eq, Hash)]
 pub struct BinlogDumpGtid<'a> {
     /// The replica's server id.
     pub server: u32,
@@ -113,6 +130,8 @@ pub struct BinlogDumpGtid<'a> {
     /// `3e11fa47-71ca-11e1-9e33-c80aa9429562:1-5` with commas between them.
     pub gtids: &'a [u8],
 }
+
+debug_with_texts!(BinlogDumpGtid: server, position, flags; file, gtids);
 
 impl BinlogDumpGtid<'_> {
     /// Appends the command's payload to `out`, its first byte included.

@@ -7,9 +7,13 @@
 use crate::codes::{answer, certain, in_range, Code, Error};
 use crate::conversions::{cell_as, row_as, FromRow, FromValue, RowError};
 use crate::handle::Handle;
+use crate::iter::{goes_over, Iter};
 use crate::raw;
 use crate::readable::{debug_with_texts, Readable};
 use crate::values::Value;
+use std::borrow::Cow;
+use std::error;
+use std::fmt;
 use std::iter::FusedIterator;
 
 /// SERVER_MORE_RESULTS_EXISTS: the bit of a status by which another result follows.
@@ -32,7 +36,14 @@ pub struct OkPacket<'a> {
 
 debug_with_texts!(OkPacket: affected_rows, last_insert_id, status, warnings; info);
 
-/// An error of the server.
+/// An error of the server. Its text is as the server's own clients print it:
+///
+/// ```
+/// use mysql_session::ErrorPacket;
+///
+/// let error = ErrorPacket { code: 1064, state: Some(*b"42000"), message: b"a bad query" };
+/// assert_eq!(error.to_string(), "error 1064 (42000): a bad query");
+/// ```
 #[derive(Clone, Copy, Default, PartialEq, Eq, Hash)]
 pub struct ErrorPacket<'a> {
     /// The error's number.
@@ -43,8 +54,20 @@ pub struct ErrorPacket<'a> {
     pub message: &'a [u8],
 }
 
-impl std::fmt::Debug for ErrorPacket<'_> {
-    fn fmt(&self, formatter: &mut std::fmt::Formatter<'_>) -> std::fmt::Result {
+impl fmt::Display for ErrorPacket<'_> {
+    fn fmt(&self, formatter: &mut fmt::Formatter<'_>) -> fmt::Result {
+        write!(formatter, "error {}", self.code)?;
+        if let Some(state) = &self.state {
+            write!(formatter, " ({})", state.escape_ascii())?;
+        }
+        write!(formatter, ": {}", String::from_utf8_lossy(self.message))
+    }
+}
+
+impl error::Error for ErrorPacket<'_> {}
+
+impl fmt::Debug for ErrorPacket<'_> {
+    fn fmt(&self, formatter: &mut fmt::Formatter<'_>) -> fmt::Result {
         let state = self.state.as_ref().map(|state| Readable(state));
         formatter
             .debug_struct("ErrorPacket")
@@ -70,8 +93,8 @@ pub enum ReplyResult<'a> {
     File(&'a [u8]),
 }
 
-impl std::fmt::Debug for ReplyResult<'_> {
-    fn fmt(&self, formatter: &mut std::fmt::Formatter<'_>) -> std::fmt::Result {
+impl fmt::Debug for ReplyResult<'_> {
+    fn fmt(&self, formatter: &mut fmt::Formatter<'_>) -> fmt::Result {
         match self {
             ReplyResult::Ok(done) => formatter.debug_tuple("Ok").field(done).finish(),
             ReplyResult::Rows(rows) => formatter.debug_tuple("Rows").field(rows).finish(),
@@ -177,8 +200,8 @@ struct Number<'a> {
     number: usize,
 }
 
-impl std::fmt::Debug for Number<'_> {
-    fn fmt(&self, formatter: &mut std::fmt::Formatter<'_>) -> std::fmt::Result {
+impl fmt::Debug for Number<'_> {
+    fn fmt(&self, formatter: &mut fmt::Formatter<'_>) -> fmt::Result {
         self.number.fmt(formatter)
     }
 }
@@ -323,27 +346,29 @@ impl<'a> Rows<'a> {
     }
 
     /// The rows.
-    pub fn iter(&self) -> impl DoubleEndedIterator<Item = Row<'a>> + ExactSizeIterator + 'a {
-        let Rows {
-            of, columns, rows, ..
-        } = *self;
-        (0..rows).map(move |number| Row {
-            of,
-            columns,
+    pub fn iter(&self) -> Iter<Rows<'a>, Row<'a>> {
+        Iter::new(*self, self.rows, |rows, number| Row {
+            of: rows.of,
+            columns: rows.columns,
             number,
         })
     }
 
     /// The columns.
-    pub fn columns(&self) -> impl DoubleEndedIterator<Item = Column<'a>> + ExactSizeIterator + 'a {
-        columns_of(self.of, self.columns)
+    pub fn columns(&self) -> Iter<Rows<'a>, Column<'a>> {
+        Iter::new(*self, self.columns, |rows, column| {
+            shown_column(rows.of, column, raw::mysql_session_reply_column)
+        })
     }
 
     /// The number of the first column of this name, from 0.
-    pub fn column_named(&self, name: &[u8]) -> Option<usize> {
-        self.columns().position(|column| column.name == name)
+    pub fn column_named(&self, name: impl AsRef<[u8]>) -> Option<usize> {
+        self.columns()
+            .position(|column| column.name == name.as_ref())
     }
 }
+
+goes_over!(Rows, Row<'a>);
 
 /// A row of a result set.
 #[derive(Clone, Copy)]
@@ -383,7 +408,51 @@ impl<'a> Row<'a> {
     /// # Errors
     /// [`RowError::NoColumn`]; [`RowError::OtherType`] where the value doesn't convert.
     pub fn get<T: FromValue<'a>>(&self, column: usize) -> Result<T, RowError> {
-        cell_as(self.cell(column), column, self.columns)
+        cell_as(self.cell(column), column, self.columns, |_| {
+            self.name(column)
+        })
+    }
+
+    /// The value in the first column of a name, as a type of Rust. Each call looks through the names:
+    /// of many rows take the number once, by [`Rows::column_named`].
+    ///
+    /// # Errors
+    /// [`RowError::NoName`]; [`RowError::OtherType`] where the value doesn't convert.
+    pub fn get_named<T: FromValue<'a>>(&self, name: impl AsRef<[u8]>) -> Result<T, RowError> {
+        self.get(place_of(self.columns(), name.as_ref())?)
+    }
+
+    /// The value in a cell, as its column's type says. It is the same for a reply to a query and to an
+    /// execution. [`ColumnType::value`] has the types.
+    pub fn value(&self, column: usize) -> Option<Value<'a>> {
+        let cell = self.cell(column)?;
+        Some(self.column(column)?.column_type.value(cell))
+    }
+
+    /// The values of all cells, as [`Row::value`] has them.
+    pub fn values(&self) -> Iter<Row<'a>, Value<'a>> {
+        Iter::new(*self, self.columns, |row, column| {
+            row.value(column)
+                .expect("a column below the number of columns has a cell")
+        })
+    }
+
+    /// The column of a cell.
+    pub fn column(&self, column: usize) -> Option<Column<'a>> {
+        let show = raw::mysql_session_reply_column;
+        (column < self.columns).then(|| shown_column(self.of, column, show))
+    }
+
+    /// The columns of the cells.
+    pub fn columns(&self) -> Iter<Row<'a>, Column<'a>> {
+        Iter::new(*self, self.columns, |row, column| {
+            shown_column(row.of, column, raw::mysql_session_reply_column)
+        })
+    }
+
+    /// The name of a column, as an error tells it.
+    fn name(&self, column: usize) -> String {
+        name_of(self.column(column))
     }
 
     /// The whole row as a tuple, or another type that rows convert to.
@@ -421,21 +490,42 @@ impl<'a> Row<'a> {
     /// [`RowError::OtherWidth`], then [`RowError::OtherType`] of the first cell that doesn't
     /// convert.
     pub fn into_tuple<T: FromRow<'a>>(self) -> Result<T, RowError> {
-        row_as(|column| self.cell(column), self.columns)
+        row_as(
+            |column| self.cell(column),
+            self.columns,
+            |column| self.name(column),
+        )
     }
 
     /// The cells, column by column.
-    pub fn iter(&self) -> impl DoubleEndedIterator<Item = Value<'a>> + ExactSizeIterator + 'a {
-        let row = *self;
-        (0..row.columns).map(move |column| {
+    pub fn iter(&self) -> Iter<Row<'a>, Value<'a>> {
+        Iter::new(*self, self.columns, |row, column| {
             row.cell(column)
                 .expect("a column below the number of columns has a cell")
         })
     }
 }
 
-impl std::fmt::Debug for Row<'_> {
-    fn fmt(&self, formatter: &mut std::fmt::Formatter<'_>) -> std::fmt::Result {
+goes_over!(Row, Value<'a>);
+
+/// The name of a column, as an error tells it.
+pub(crate) fn name_of(column: Option<Column<'_>>) -> String {
+    column.map_or_else(String::new, |column| column.name_text().into_owned())
+}
+
+/// The number of the first column of a name.
+pub(crate) fn place_of<'a>(
+    mut columns: impl Iterator<Item = Column<'a>>,
+    name: &[u8],
+) -> Result<usize, RowError> {
+    let found = columns.position(|column| column.name == name);
+    found.ok_or_else(|| RowError::NoName {
+        name: String::from_utf8_lossy(name).into_owned(),
+    })
+}
+
+impl fmt::Debug for Row<'_> {
+    fn fmt(&self, formatter: &mut fmt::Formatter<'_>) -> fmt::Result {
         formatter.debug_list().entries(self.iter()).finish()
     }
 }
@@ -454,14 +544,17 @@ pub struct Prepared<'a> {
 
 impl<'a> Prepared<'a> {
     /// The parameters.
-    pub fn params(&self) -> impl DoubleEndedIterator<Item = Column<'a>> + ExactSizeIterator + 'a {
-        let of = self.of;
-        (0..self.params).map(move |param| shown_column(of, param, raw::mysql_session_reply_param))
+    pub fn params(&self) -> Iter<Prepared<'a>, Column<'a>> {
+        Iter::new(*self, self.params, |prepared, param| {
+            shown_column(prepared.of, param, raw::mysql_session_reply_param)
+        })
     }
 
     /// The columns of the rows that the statement gives.
-    pub fn columns(&self) -> impl DoubleEndedIterator<Item = Column<'a>> + ExactSizeIterator + 'a {
-        columns_of(self.of, self.columns)
+    pub fn columns(&self) -> Iter<Prepared<'a>, Column<'a>> {
+        Iter::new(*self, self.columns, |prepared, column| {
+            shown_column(prepared.of, column, raw::mysql_session_reply_column)
+        })
     }
 }
 
@@ -499,14 +592,6 @@ pub struct Column<'a> {
 
 debug_with_texts!(Column: column_type; schema, table, org_table, name, org_name);
 
-/// The columns of a result.
-fn columns_of(
-    of: Number<'_>,
-    count: usize,
-) -> impl DoubleEndedIterator<Item = Column<'_>> + ExactSizeIterator + '_ {
-    (0..count).map(move |column| shown_column(of, column, raw::mysql_session_reply_column))
-}
-
 /// A call of the library that shows a column: by handle, result and column.
 type ShowsColumn = unsafe extern "C" fn(*mut raw::Handle, usize, usize, *mut raw::Column) -> u32;
 
@@ -520,6 +605,11 @@ fn shown_column(of: Number<'_>, column: usize, show: ShowsColumn) -> Column<'_> 
 }
 
 impl<'a> Column<'a> {
+    /// The name as a text: bytes that aren't UTF-8 are replaced.
+    pub fn name_text(&self) -> Cow<'a, str> {
+        String::from_utf8_lossy(self.name)
+    }
+
     /// What the library showed.
     ///
     /// # Safety

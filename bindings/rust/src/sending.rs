@@ -97,7 +97,7 @@ pub fn send(
 /// assert_eq!(&out[5..], b"SELECT 'it''s'");
 /// out.clear();
 /// send_in(&sets, b"SELECT ?", Road::Text, 1, 1 << 24, mode, Spelling::Hexadecimal, &mut out)?;
-/// assert_eq!(&out[5..], b"SELECT 0x69742773");
+/// assert_eq!(&out[5..], b"SELECT _utf8mb4 0x69742773");
 /// # Ok(())
 /// # }
 /// ```

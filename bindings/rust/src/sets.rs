@@ -4,6 +4,7 @@ use crate::codes::{answer, certain, Code, Error};
 use crate::handle::Handle;
 use crate::raw;
 use crate::values::{Date, Time, Value};
+use std::fmt;
 
 /// Parameter sets of a query, to be sent: a value for each question mark, set by set.
 ///
@@ -23,7 +24,6 @@ use crate::values::{Date, Time, Value};
 /// # Ok(())
 /// # }
 /// ```
-#[derive(Debug)]
 pub struct ParameterSets {
     handle: Handle,
     /// The values of a set that is added, and their bytes: kept for the next one.
@@ -126,6 +126,15 @@ impl ParameterSets {
     /// The handle's address for a call that only looks at the sets.
     pub(crate) fn looking(&self) -> *mut raw::Handle {
         self.handle.get()
+    }
+}
+
+impl fmt::Debug for ParameterSets {
+    fn fmt(&self, formatter: &mut fmt::Formatter<'_>) -> fmt::Result {
+        formatter
+            .debug_struct("ParameterSets")
+            .field("len", &self.len())
+            .finish_non_exhaustive()
     }
 }
 

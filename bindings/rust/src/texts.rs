@@ -3,6 +3,7 @@
 //! MySQL Reference Manual, "Date and Time Literals", "The TIME Type".
 
 use crate::values::{Date, Time};
+use std::fmt::{Display, LowerExp};
 use std::str::{from_utf8, FromStr};
 use std::time::Duration;
 
@@ -11,6 +12,16 @@ use std::time::Duration;
 pub(crate) fn number_in<T: FromStr>(text: &[u8]) -> Option<T> {
     let has_digit = text.iter().any(u8::is_ascii_digit);
     has_digit.then(|| from_utf8(text).ok()?.parse().ok())?
+}
+
+/// The text of a float: the shortest that is read as the same one. As a server's it has an exponent
+/// below 1e-15 and from 1e15 on.
+pub(crate) fn float_text<T: LowerExp + Display + Copy + Into<f64>>(number: T) -> String {
+    let size = number.into().abs();
+    match (1e-15..1e15).contains(&size) || size == 0.0 {
+        true => number.to_string(),
+        false => format!("{number:e}"),
+    }
 }
 
 /// The date that a text is: year, month and day, and behind a blank the time of day.

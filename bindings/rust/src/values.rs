@@ -48,7 +48,16 @@ impl<'a> Content<'a> {
     }
 }
 
-/// A date, with its time of day. No field is checked.
+/// A date, with its time of day. No field is checked. Its text is that of a literal, with the time of
+/// day where there is one:
+///
+/// ```
+/// use mysql_session::Date;
+///
+/// let day = Date { year: 2024, month: 2, day: 29, ..Date::default() };
+/// assert_eq!(day.to_string(), "2024-02-29");
+/// assert_eq!(Date { hour: 8, micros: 20, ..day }.to_string(), "2024-02-29 08:00:00.000020");
+/// ```
 #[derive(Clone, Copy, Debug, Default, PartialEq, Eq, Hash)]
 pub struct Date {
     /// The year.
@@ -67,7 +76,36 @@ pub struct Date {
     pub micros: u32,
 }
 
-/// A duration. No field is checked.
+impl fmt::Display for Date {
+    fn fmt(&self, formatter: &mut fmt::Formatter<'_>) -> fmt::Result {
+        let Date {
+            year, month, day, ..
+        } = self;
+        write!(formatter, "{year:04}-{month:02}-{day:02}")?;
+        let (hour, minute, second) = (self.hour, self.minute, self.second);
+        if (hour, minute, second, self.micros) != (0, 0, 0, 0) {
+            write!(formatter, " {hour:02}:{minute:02}:{second:02}")?;
+        }
+        write_micros(self.micros, formatter)
+    }
+}
+
+/// Writes the microseconds behind a time, where there are any.
+fn write_micros(micros: u32, formatter: &mut fmt::Formatter<'_>) -> fmt::Result {
+    match micros {
+        0 => Ok(()),
+        _ => write!(formatter, ".{micros:06}"),
+    }
+}
+
+/// A duration. No field is checked. Its text is that of a literal:
+///
+/// ```
+/// use mysql_session::Time;
+///
+/// let time = Time { negative: true, days: 34, hours: 22, micros: 500_000, ..Time::default() };
+/// assert_eq!(time.to_string(), "-838:00:00.500000");
+/// ```
 #[derive(Clone, Copy, Debug, Default, PartialEq, Eq, Hash)]
 pub struct Time {
     /// Whether it is below zero.
@@ -84,10 +122,23 @@ pub struct Time {
     pub micros: u32,
 }
 
+impl fmt::Display for Time {
+    fn fmt(&self, formatter: &mut fmt::Formatter<'_>) -> fmt::Result {
+        let hours = u64::from(self.days) * 24 + u64::from(self.hours);
+        let (sign, minutes, seconds) = (
+            if self.negative { "-" } else { "" },
+            self.minutes,
+            self.seconds,
+        );
+        write!(formatter, "{sign}{hours:02}:{minutes:02}:{seconds:02}")?;
+        write_micros(self.micros, formatter)
+    }
+}
+
 /// A value: a parameter that is sent, or what a cell of a row holds.
 ///
-/// Whole numbers of the widths up to 32 bits, `i64` and `bool` become [`Value::Int`], a `u64`
-/// [`Value::UInt`]. A text or bytes become [`Value::Bytes`], and `None` becomes [`Value::Null`].
+/// Whole numbers of the widths up to 32 bits, `i64`, `isize` and `bool` become [`Value::Int`], a `u64`
+/// or `usize` [`Value::UInt`]. A text or bytes become [`Value::Bytes`], and `None` becomes [`Value::Null`].
 #[derive(Clone, Copy, PartialEq)]
 pub enum Value<'a> {
     /// NULL.
@@ -241,6 +292,18 @@ macro_rules! from_number {
 }
 
 from_number!(i8, i16, i32, i64, u8, u16, u32, bool);
+
+impl From<isize> for Value<'_> {
+    fn from(number: isize) -> Self {
+        Value::Int(number as i64)
+    }
+}
+
+impl From<usize> for Value<'_> {
+    fn from(number: usize) -> Self {
+        Value::UInt(number as u64)
+    }
+}
 
 impl From<u64> for Value<'_> {
     fn from(number: u64) -> Self {

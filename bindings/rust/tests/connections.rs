@@ -2,7 +2,8 @@
 //! bytes come.
 
 use mysql_session::{
-    Code, Connection, ConnectionEnd, ConnectionFault, Event, Limits, Phase, Reason, Side, Value,
+    Capabilities, Code, Connection, ConnectionEnd, ConnectionFault, Event, Limits, Phase, Reason,
+    Side, Value,
 };
 use std::fs;
 use std::path::{Path, PathBuf};
@@ -273,6 +274,44 @@ fn a_login_and_a_greeting_are_shown() {
     assert!(matches!(connection.event(), Some(Event::Login(_))));
     connection.close(Side::Client);
     assert!(connection.event().is_none());
+}
+
+/// A recorded login with these bits of capabilities as well, and with these bytes for MariaDB's own.
+/// The answer has what it offers, what is in force behind it, and what `Debug` prints.
+fn login_with(bits: u8, own: [u8; 4]) -> (Capabilities, Capabilities, String) {
+    let it = recording("php-execute");
+    let mut client = it.client.clone();
+    // Behind a header of four bytes: capabilities, the longest packet, a collation, 19 bytes.
+    client[4] = client[4] & !1 | bits;
+    client[32..36].copy_from_slice(&own);
+    let mut connection = Connection::new(LIMITS).expect("memory isn't short");
+    connection
+        .feed(Side::Server, &it.server)
+        .expect("there is room");
+    connection.next_event().expect("it has no fault");
+    connection.feed(Side::Client, &client).expect("it has room");
+    let Some(event @ Event::Login(login)) = connection.next_event().expect("it has no fault")
+    else {
+        panic!("a client logs in");
+    };
+    assert!(!login.response.is_empty());
+    let (offered, shown) = (login.request.capabilities, format!("{event:?}"));
+    (offered, connection.capabilities(), shown)
+}
+
+#[test]
+fn a_login_of_mysql_has_no_capabilities_of_mariadb() {
+    let (offered, agreed, _) = login_with(1, [0x3f, 0, 0, 0]);
+    assert_eq!((offered.protocol & 1, offered.mariadb), (1, 0));
+    assert_eq!(agreed.mariadb, 0);
+    let (offered, _, _) = login_with(0, [0x3f, 0, 0, 0]);
+    assert_eq!((offered.protocol & 1, offered.mariadb), (0, 0x3f));
+}
+
+#[test]
+fn the_answer_of_a_login_is_printed_as_its_length() {
+    let (_, _, shown) = login_with(1, [0; 4]);
+    assert!(shown.contains("response: <20 bytes>"), "{shown}");
 }
 
 #[test]

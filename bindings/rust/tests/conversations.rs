@@ -1,7 +1,7 @@
 //! Conversations, which are rows of payloads and of the events that they are. The head of each file
 //! says how they are written.
 
-use mysql_session::{Bytes, Capabilities, Connection, ConnectionFault, Error, Limits, Side};
+use mysql_session::{Bytes, Capabilities, Connection, ConnectionFault, Error, Limits, Mode, Side};
 use std::collections::HashMap;
 use std::fs;
 use std::path::{Path, PathBuf};
@@ -24,6 +24,7 @@ struct Wanted {
 enum Kind {
     Feed(Side, Vec<u8>),
     Held(usize),
+    Mode(Option<Mode>),
     Turn(Option<Side>),
     Close(Side),
     End(String),
@@ -52,6 +53,14 @@ fn side_of(word: &str) -> Option<Side> {
         "server" => Some(Side::Server),
         _ => None,
     }
+}
+
+/// The mode that a word names, where it is known.
+fn mode_of(word: &str) -> Option<Mode> {
+    (word != "unknown").then_some(Mode {
+        no_backslash_escapes: matches!(word, "NO_BACKSLASH_ESCAPES" | "both"),
+        ansi_quotes: matches!(word, "ANSI_QUOTES" | "both"),
+    })
 }
 
 type Names = HashMap<String, Vec<u8>>;
@@ -146,6 +155,7 @@ impl Conversation {
                 return;
             }
             "held" => Kind::Held(number(1)),
+            "mode" => Kind::Mode(mode_of(fields[1])),
             "turn" => Kind::Turn(side_of(fields[1])),
             "close" => Kind::Close(side_of(fields[1]).expect("it names a side")),
             "end" => Kind::End(format!("end {}", fields[1])),
@@ -314,6 +324,7 @@ fn read_steps(it: &Conversation, most: usize) {
                 failed |= take_lines(&mut connection, &mut lines).is_err();
             }
             Kind::Held(held) => assert_eq!(connection.held(), *held, "{place}"),
+            Kind::Mode(mode) => assert_eq!(connection.mode(), *mode, "{place}"),
             Kind::Turn(turn) => assert_eq!(connection.turn(), *turn, "{place}"),
             Kind::End(end) => assert_eq!(finish(&mut connection, &mut lines), *end, "{place}"),
             Kind::Feed(..) => (),

@@ -257,7 +257,7 @@ fn flags_and_the_interface_are_those_of_the_header() {
         .filter_map(|constant| constant.split_once(": u32 = "))
         .map(|(name, number)| (name.to_string(), number.to_string()))
         .collect();
-    assert_eq!(wanted.len(), 4);
+    assert_eq!(wanted.len(), 5);
     assert_eq!(wanted, found);
 }
 

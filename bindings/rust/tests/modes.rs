@@ -80,7 +80,7 @@ fn texts_are_those_of_the_mode() -> Result<(), Error> {
     }
     for mode in MODES {
         let text = |value| text_of(b"SELECT ?", value, mode, Spelling::Hexadecimal);
-        assert_eq!(text(value)?, "SELECT 0x275C", "{mode:?}");
+        assert_eq!(text(value)?, "SELECT _utf8mb4 0x275C", "{mode:?}");
         assert_eq!(text("".into())?, "SELECT ''", "{mode:?}");
         assert_eq!(text(Value::Null)?, "SELECT NULL", "{mode:?}");
         assert_eq!(text((-7).into())?, "SELECT -7", "{mode:?}");
@@ -120,7 +120,7 @@ fn placeholders_are_those_of_the_mode() -> Result<(), Error> {
 fn a_backslash_alone_is_a_text_of_one_mode() -> Result<(), Error> {
     let stream = query_packet(br"SELECT '\'");
     for mode in MODES {
-        let mut receiver = Receiver::new_in(b"SELECT ?", 1, LIMIT, mode)?;
+        let mut receiver = Receiver::new_in(b"SELECT ?", 1, LIMIT, mode, Spelling::Quoted)?;
         let fed = receiver.feed(&stream).map_err(|fault| fault.code());
         let sets: Vec<_> = receiver.sets().map(|set| set.content(0)).collect();
         if mode.no_backslash_escapes {
@@ -153,7 +153,7 @@ fn what_is_sent_in_a_mode_is_received_in_it() -> Result<(), Error> {
                 .flat_map(|road| values.map(|value| (road, value)))
             {
                 let stream = sent(value.into(), road, mode, spelling)?;
-                let mut receiver = Receiver::new_in(b"SELECT ?", 1, LIMIT, mode)?;
+                let mut receiver = Receiver::new_in(b"SELECT ?", 1, LIMIT, mode, spelling)?;
                 for byte in stream.iter() {
                     receiver.feed(&[*byte])?;
                 }
@@ -173,7 +173,7 @@ fn a_value_ends_its_literal_in_the_other_mode() -> Result<(), Error> {
         (NO_ESCAPES, DEFAULT, "\\' OR 1=1 -- "),
     ] {
         let stream = sent(value.into(), Road::Text, mode, Spelling::Quoted)?;
-        let mut receiver = Receiver::new_in(b"SELECT ?", 1, LIMIT, other)?;
+        let mut receiver = Receiver::new_in(b"SELECT ?", 1, LIMIT, other, Spelling::Quoted)?;
         let fault = receiver.feed(&stream).unwrap_err();
         assert_eq!(fault.code(), Code::FAULT_TEXT_MISMATCH, "{mode:?}");
     }
@@ -187,7 +187,7 @@ fn hexadecimal_is_the_same_in_each_mode() -> Result<(), Error> {
     for mode in MODES {
         let same = sent(value, Road::Text, mode, Spelling::Hexadecimal)?;
         assert_eq!(stream.as_slice(), same.as_slice(), "{mode:?}");
-        let mut receiver = Receiver::new_in(b"SELECT ?", 1, LIMIT, mode)?;
+        let mut receiver = Receiver::new_in(b"SELECT ?", 1, LIMIT, mode, Spelling::Hexadecimal)?;
         receiver.feed(&stream)?;
         assert_eq!(receiver.sets().len(), 1, "{mode:?}");
     }
@@ -199,9 +199,9 @@ fn recoders_read_by_the_mode() -> Result<(), Error> {
     let execution = sent("'\\".into(), Road::Execute, DEFAULT, Spelling::Quoted)?;
     for mode in MODES {
         let stream = sent("'\\".into(), Road::Text, mode, Spelling::Quoted)?;
-        let recoded = recode_in(b"SELECT ?", 1, LIMIT, mode, &stream)?;
+        let recoded = recode_in(b"SELECT ?", 1, LIMIT, mode, Spelling::Quoted, &stream)?;
         assert_eq!(recoded.as_slice(), execution.as_slice(), "{mode:?}");
-        let mut recoder = Recoder::new_in(b"SELECT ?", 1, LIMIT, mode)?;
+        let mut recoder = Recoder::new_in(b"SELECT ?", 1, LIMIT, mode, Spelling::Quoted)?;
         let mut out = Bytes::new()?;
         for byte in stream.iter() {
             recoder.feed(&[*byte], &mut out)?;
@@ -210,7 +210,7 @@ fn recoders_read_by_the_mode() -> Result<(), Error> {
         assert_eq!(out.as_slice(), execution.as_slice(), "{mode:?}");
     }
     let stream = query_packet(br"SELECT '\'");
-    let error = recode_in(b"SELECT ?", 1, LIMIT, DEFAULT, &stream).unwrap_err();
+    let error = recode_in(b"SELECT ?", 1, LIMIT, DEFAULT, Spelling::Quoted, &stream).unwrap_err();
     assert_eq!(error.code(), Code::FAULT_TEXT_MISMATCH);
     Ok(())
 }
@@ -240,7 +240,7 @@ fn calls_without_a_mode_mean_the_default() -> Result<(), Error> {
         receiver.feed(&one)?;
         assert_eq!(receiver.sets().len(), 1, "{road:?}");
         let recoded = recode(b"SELECT ?", 1, LIMIT, &one)?;
-        let same = recode_in(b"SELECT ?", 1, LIMIT, DEFAULT, &one)?;
+        let same = recode_in(b"SELECT ?", 1, LIMIT, DEFAULT, Spelling::Quoted, &one)?;
         assert_eq!(recoded.as_slice(), same.as_slice(), "{road:?}");
     }
     let mut out = Bytes::new()?;
@@ -250,7 +250,7 @@ fn calls_without_a_mode_mean_the_default() -> Result<(), Error> {
     value_text(&sets, 0, 0, &mut out)?;
     value_text_in(&sets, 0, 0, NO_ESCAPES, Spelling::Quoted, &mut out)?;
     value_text_in(&sets, 0, 0, BOTH, Spelling::Hexadecimal, &mut out)?;
-    assert_eq!(out.as_slice(), br"'\'\\''''\'0x275C");
+    assert_eq!(out.as_slice(), br"'\'\\''''\'_utf8mb4 0x275C");
     Ok(())
 }
 
@@ -274,22 +274,23 @@ fn a_status_tells_its_mode() {
 #[test]
 fn a_variable_tells_its_mode() {
     for (value, mode) in [
-        ("", DEFAULT),
-        ("STRICT_TRANS_TABLES,NO_ENGINE_SUBSTITUTION", DEFAULT),
-        ("NO_BACKSLASH_ESCAPES", NO_ESCAPES),
-        ("STRICT_ALL_TABLES,no_backslash_escapes", NO_ESCAPES),
-        ("ANSI_QUOTES,NO_BACKSLASH_ESCAPES", BOTH),
+        ("", Some(DEFAULT)),
+        ("STRICT_TRANS_TABLES,NO_ENGINE_SUBSTITUTION", Some(DEFAULT)),
+        ("NO_BACKSLASH_ESCAPES", Some(NO_ESCAPES)),
+        ("STRICT_ALL_TABLES,no_backslash_escapes", Some(NO_ESCAPES)),
+        ("ANSI_QUOTES,NO_BACKSLASH_ESCAPES", Some(BOTH)),
         (
             "REAL_AS_FLOAT,PIPES_AS_CONCAT,ANSI_QUOTES,IGNORE_SPACE,ANSI",
-            ANSI_QUOTES,
+            Some(ANSI_QUOTES),
         ),
-        ("Ansi", ANSI_QUOTES),
-        ("DB2", ANSI_QUOTES),
-        ("MAXDB", ANSI_QUOTES),
-        ("MSSQL", ANSI_QUOTES),
-        ("ORACLE", ANSI_QUOTES),
-        ("POSTGRESQL", ANSI_QUOTES),
-        ("ANSI_QUOTES_NOT,XNO_BACKSLASH_ESCAPES", DEFAULT),
+        ("Ansi", Some(ANSI_QUOTES)),
+        ("DB2", Some(ANSI_QUOTES)),
+        ("MAXDB", Some(ANSI_QUOTES)),
+        ("MSSQL", None),
+        ("ORACLE", Some(ANSI_QUOTES)),
+        ("POSTGRESQL", Some(ANSI_QUOTES)),
+        (" Ansi_Quotes ,", Some(ANSI_QUOTES)),
+        ("ANSI_QUOTES,XNO_BACKSLASH_ESCAPES", None),
     ] {
         assert_eq!(Mode::of_sql_mode(value.as_bytes()), mode, "{value}");
     }

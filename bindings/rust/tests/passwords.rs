@@ -1,6 +1,7 @@
 //! The hash of the examples that log in.
 
 #[path = "../examples/blocking_client/passwords.rs"]
+#[allow(dead_code)] // (the words of the environment are the example's alone)
 mod passwords;
 
 use passwords::{answer, answer_by_sha256, digest_of, sha1, sha256, Secret};

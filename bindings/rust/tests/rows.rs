@@ -82,12 +82,22 @@ fn floats_are_numbers() {
         (Value::Bytes(b"inf"), None),
         (Value::Bytes(b"NaN"), None),
         (Value::Bytes(b""), None),
-        (Value::Int(7), None),
+        (Value::Date(Date::default()), None),
+        (Value::Null, None),
+        (Value::Int(-7), Some(-7.0)),
+        // Up to 2^53 no whole number is rounded.
+        (Value::UInt(1 << 53), Some(9_007_199_254_740_992.0)),
+        (Value::Int(-(1 << 53)), Some(-9_007_199_254_740_992.0)),
+        (Value::Int((1 << 53) + 1), None),
+        (Value::UInt(u64::MAX), None),
+        (Value::Int(i64::MIN), None),
     ]);
     convert::<f32>(&[
         (Value::Float(0.1), Some(0.1)),
         (Value::Double(0.5), None),
         (Value::Bytes(b"0.1"), Some(0.1)),
+        (Value::Int(1 << 24), Some(16_777_216.0)),
+        (Value::UInt((1 << 24) + 1), None),
     ]);
 }
 
@@ -104,6 +114,46 @@ fn bytes_and_texts_are_themselves() {
     assert_eq!(<[u8; 3]>::from_value(bytes), None);
     assert_eq!(<&[u8]>::from_value(Value::Int(1)), None);
     assert_eq!(Value::from_value(bytes), Some(bytes));
+}
+
+#[test]
+fn a_string_is_the_text_of_any_value() {
+    let day = Date {
+        year: 2024,
+        month: 2,
+        day: 29,
+        ..Date::default()
+    };
+    let moment = Date { micros: 5, ..day };
+    let time = Time {
+        negative: true,
+        days: 34,
+        hours: 22,
+        seconds: 9,
+        ..Time::default()
+    };
+    let rows = [
+        (Value::Int(-7), "-7"),
+        (Value::UInt(u64::MAX), "18446744073709551615"),
+        (Value::Float(0.1), "0.1"),
+        (Value::Double(-2.0), "-2"),
+        (Value::Double(0.0), "0"),
+        (Value::Double(1e300), "1e300"),
+        (Value::Double(-2.5e-20), "-2.5e-20"),
+        (Value::Date(day), "2024-02-29"),
+        (Value::Date(moment), "2024-02-29 00:00:00.000005"),
+        (Value::Date(Date::default()), "0000-00-00"),
+        (Value::Time(time), "-838:00:09"),
+        (Value::Time(Time::default()), "00:00:00"),
+    ];
+    for (value, wanted) in rows {
+        assert_eq!(String::from_value(value).as_deref(), Some(wanted));
+    }
+    assert_eq!(String::from_value(Value::Null), None);
+    // What is written is read as the same value.
+    assert_eq!(text("2024-02-29 00:00:00.000005"), Some(moment));
+    assert_eq!(text("-838:00:09"), Some(time));
+    assert_eq!(text("1e300"), Some(1e300f64));
 }
 
 #[test]
@@ -195,18 +245,23 @@ fn null_is_none_of_an_option_alone() {
     assert_eq!(Value::from_value(Value::Null), Some(Value::Null));
 }
 
+/// The names of the columns of such a reply.
+const NAMES: [&str; 12] = [
+    "id", "name", "note", "", "e", "f", "g", "h", "id", "j", "k", "l",
+];
+
 /// The reply to an execution that has one row of these values, in columns of these types.
 fn reply_of(cells: &[(u8, Value<'_>)]) -> Result<Vec<u8>, Error> {
     let mut writer = ReplyWriter::new(ReplyKind::Execute, 512, 1, 1 << 24)?;
     let mut out = Bytes::new()?;
-    for (kind, _) in cells {
+    for ((kind, _), name) in cells.iter().zip(NAMES) {
         let column = ColumnType {
             kind: *kind,
             charset: 45,
             length: 99,
             ..ColumnType::default()
         };
-        writer.column(b"cell", column)?;
+        writer.column(name.as_bytes(), column)?;
     }
     writer.rows(&mut out)?;
     let mut sets = ParameterSets::new()?;
@@ -273,20 +328,203 @@ fn a_row_that_does_not_convert_says_why() -> Result<(), Error> {
             error,
             RowError::OtherType {
                 column: 1,
+                name: "name".to_string(),
                 value: "a text",
                 wanted: "u8"
             }
         );
-        assert_eq!(error.to_string(), "column 1: a text doesn't convert to u8");
+        let text = "column 1 (name): a text doesn't convert to u8";
+        assert_eq!(error.to_string(), text);
         let error: Box<dyn std::error::Error> = row.get::<u8>(2).expect_err("NULL").into();
-        assert_eq!(error.to_string(), "column 2: NULL doesn't convert to u8");
+        let text = "column 2 (note): NULL doesn't convert to u8";
+        assert_eq!(error.to_string(), text);
         let error = row.get::<Option<Date>>(1).expect_err("a text");
-        let text = "column 1: a text doesn't convert to Option<Date>";
+        let text = "column 1 (name): a text doesn't convert to Option<Date>";
         assert_eq!(error.to_string(), text);
         let error = row.get::<[u8; 3]>(0).expect_err("a number");
-        let text = "column 0: a whole number doesn't convert to [u8; 3]";
+        let text = "column 0 (id): a whole number doesn't convert to [u8; 3]";
         assert_eq!(error.to_string(), text);
+    })?;
+    // A column without a name is told by its number.
+    let cells = [CELLS[0], CELLS[1], CELLS[2], CELLS[2]];
+    with_row(&cells, |row| {
+        let error = row.get::<u8>(3).expect_err("NULL");
+        assert_eq!(error.to_string(), "column 3: NULL doesn't convert to u8");
     })
+}
+
+#[test]
+fn a_cell_is_found_by_its_name() -> Result<(), Error> {
+    let cells: Vec<_> = (0..12).map(|number| (8, Value::Int(number))).collect();
+    with_row(&cells, |row| {
+        assert_eq!(row.get_named("l"), Ok(11));
+        assert_eq!(row.get_named(b"note"), Ok("2".to_string()));
+        // Of two columns with a name it is the first one's.
+        assert_eq!(row.get_named("id"), Ok(0));
+        let error = row.get_named::<u8>("Id").expect_err("another name");
+        let name = "Id".to_string();
+        assert_eq!(error, RowError::NoName { name });
+        assert_eq!(error.to_string(), "there is no column \"Id\"");
+        let error = row.get_named::<Date>("name").expect_err("a number");
+        let text = "column 1 (name): a whole number doesn't convert to Date";
+        assert_eq!(error.to_string(), text);
+        let names: Vec<_> = row.columns().map(|column| column.name_text()).collect();
+        assert_eq!(names, NAMES);
+        assert_eq!(row.column(12), None);
+    })
+}
+
+/// The reply to a command that has one row of these cells: their types, their flags, their values.
+fn typed_reply(kind: ReplyKind, cells: &[(u8, u16, Value<'_>)]) -> Result<Vec<u8>, Error> {
+    let mut writer = ReplyWriter::new(kind, 512, 1, 1 << 24)?;
+    let (mut sets, mut out) = (ParameterSets::new()?, Bytes::new()?);
+    for (kind, flags, value) in cells {
+        let column = ColumnType {
+            kind: *kind,
+            flags: *flags,
+            charset: 45,
+            length: 99,
+            ..ColumnType::default()
+        };
+        writer.column(b"cell", column)?;
+        sets.push(*value)?;
+    }
+    sets.end_set()?;
+    writer.rows(&mut out)?;
+    writer.row(&sets, 0, &mut out)?;
+    writer.end_rows(0, 0, false, &mut out)?;
+    Ok(out.to_vec())
+}
+
+/// Hands the one row of such a reply on.
+fn with_typed_row(
+    kind: ReplyKind,
+    cells: &[(u8, u16, Value<'_>)],
+    look: impl FnOnce(Row<'_>),
+) -> Result<(), Error> {
+    let mut reader = ReplyReader::new(kind, 512, 1, 1 << 24)?;
+    reader.feed(&typed_reply(kind, cells)?)?;
+    let results = reader.take()?;
+    let [ReplyResult::Rows(rows)] = &results[..] else {
+        panic!("{results:?}");
+    };
+    look(rows.row(0).expect("there is a row"));
+    Ok(())
+}
+
+#[test]
+fn texts_have_the_types_of_their_columns() -> Result<(), Error> {
+    use mysql_session::column_flag::UNSIGNED_FLAG;
+    use mysql_session::column_type as of;
+    let day = Date {
+        year: 2024,
+        month: 2,
+        day: 29,
+        ..Date::default()
+    };
+    let noon = Date { hour: 12, ..day };
+    let time = Time {
+        hours: 8,
+        minutes: 5,
+        ..Time::default()
+    };
+    let rows = [
+        (of::TINY, 0, "-128", Value::Int(-128)),
+        (of::SHORT, UNSIGNED_FLAG, "65535", Value::Int(65535)),
+        (of::INT24, 0, "7", Value::Int(7)),
+        (of::LONG, 0, "-2147483648", Value::Int(-2147483648)),
+        (of::LONGLONG, 0, "-7", Value::Int(-7)),
+        (
+            of::LONGLONG,
+            UNSIGNED_FLAG,
+            "18446744073709551615",
+            Value::UInt(u64::MAX),
+        ),
+        (of::YEAR, UNSIGNED_FLAG, "2024", Value::Int(2024)),
+        (of::FLOAT, 0, "0.1", Value::Float(0.1)),
+        (of::DOUBLE, 0, "-1e-300", Value::Double(-1e-300)),
+        (of::DATE, 0, "2024-02-29", Value::Date(day)),
+        (of::DATETIME, 0, "2024-02-29 12:00:00", Value::Date(noon)),
+        (of::TIMESTAMP, 0, "2024-02-29 12:00:00", Value::Date(noon)),
+        (of::DATE, 0, "0000-00-00", Value::Date(Date::default())),
+        (of::TIME, 0, "08:05:00", Value::Time(time)),
+        (of::NEWDECIMAL, 0, "2.50", Value::Bytes(b"2.50")),
+        (of::VAR_STRING, 0, "7", Value::Bytes(b"7")),
+        (of::JSON, 0, "7", Value::Bytes(b"7")),
+        // What isn't of the type stays as it is.
+        (of::LONG, 0, "tea", Value::Bytes(b"tea")),
+        (of::LONG, 0, "7.5", Value::Bytes(b"7.5")),
+        (of::DATE, 0, "29.2.", Value::Bytes(b"29.2.")),
+        (of::DOUBLE, 0, "inf", Value::Bytes(b"inf")),
+    ];
+    let cells = rows.map(|(kind, flags, text, _)| (kind, flags, text.into()));
+    let wanted = rows.map(|(_, _, _, value)| value);
+    with_typed_row(ReplyKind::Query, &cells, |row| {
+        assert_eq!(row.values().collect::<Vec<_>>(), wanted);
+        assert_eq!(row.value(rows.len()), None);
+        assert_eq!(row.cell(0), Some(Value::Bytes(b"-128")));
+    })?;
+    // NULL and values of an execution stay.
+    let double = ColumnType {
+        kind: of::DOUBLE,
+        ..ColumnType::default()
+    };
+    for value in [Value::Null, Value::Int(7), Value::Double(0.5)] {
+        assert_eq!(double.value(value), value);
+    }
+    Ok(())
+}
+
+#[test]
+fn both_kinds_of_replies_have_the_same_values() -> Result<(), Error> {
+    use mysql_session::column_flag::UNSIGNED_FLAG;
+    use mysql_session::column_type as of;
+    let day = Date {
+        year: 2024,
+        month: 2,
+        day: 29,
+        ..Date::default()
+    };
+    let time = Time {
+        negative: true,
+        days: 34,
+        hours: 22,
+        micros: 5,
+        ..Time::default()
+    };
+    let cells = [
+        (of::TINY, 0, Value::Int(-7)),
+        (of::TINY, UNSIGNED_FLAG, Value::UInt(255)),
+        (of::SHORT, UNSIGNED_FLAG, Value::UInt(7)),
+        (of::INT24, UNSIGNED_FLAG, Value::UInt(7)),
+        (of::LONG, UNSIGNED_FLAG, Value::UInt(7)),
+        (of::LONG, 0, Value::Int(7)),
+        (of::LONGLONG, 0, Value::Int(i64::MIN)),
+        (of::LONGLONG, UNSIGNED_FLAG, Value::UInt(7)),
+        (of::LONGLONG, UNSIGNED_FLAG, Value::UInt(u64::MAX)),
+        (of::YEAR, UNSIGNED_FLAG, Value::UInt(2024)),
+        (of::DATE, 0, Value::Date(day)),
+        (of::DATETIME, 0, Value::Date(Date { hour: 8, ..day })),
+        (of::TIMESTAMP, 0, Value::Date(Date { micros: 5, ..day })),
+        (of::DATE, 0, Value::Date(Date::default())),
+        (of::TIME, 0, Value::Time(time)),
+        (of::TIME, 0, Value::Time(Time::default())),
+        (of::NEWDECIMAL, 0, Value::Bytes(b"2.50")),
+        (of::VAR_STRING, 0, Value::Bytes(b"7")),
+        (of::LONG, 0, Value::Null),
+    ];
+    let mut values: [Vec<String>; 2] = Default::default();
+    for (kind, values) in [ReplyKind::Query, ReplyKind::Execute]
+        .iter()
+        .zip(&mut values)
+    {
+        with_typed_row(*kind, &cells, |row| {
+            values.extend(row.values().map(|value| format!("{value:?}")));
+        })?;
+    }
+    let [by_query, by_execution] = values;
+    assert_eq!(by_query, by_execution);
+    Ok(())
 }
 
 #[test]

@@ -9,11 +9,12 @@ use mysql_session::{
     ProgressReport, Query, Receiver, ReceiverError, RecodeError, Recoder, Refusal, Reply, ReplyEnd,
     ReplyFault, ReplyKind, ReplyReader, ReplyRefusal, ReplyResult, ReplyWriter, Road, Row,
     RowConversionError, RowError, RowExt, RowFormat, RowLender, RowReader, RowRef, RowRefExt,
-    SendToError, ServerError, SetError, SingleValue, SingleValueRef, Spelling, SqlState,
-    StatusFlags, StmtPacket, StoredRows, StreamFault, ToValue, ToValueError, Value, ValueRef,
-    from_cell, from_cell_ref, from_row, from_row_opt, from_row_ref, from_value, from_value_opt,
-    is_safe_to_quote, packet_to_chunks, read_reply, receive, receive_in, recode, recode_in, send,
-    send_contents, send_contents_in, send_values, write_reply,
+    SendToError, ServerError, SessionMode, SetError, SingleValue, SingleValueRef, Spelling,
+    SqlState, StatusFlags, StmtPacket, StoredRows, StreamFault, ToValue, ToValueError, Tracking,
+    Value, ValueRef, from_cell, from_cell_ref, from_row, from_row_opt, from_row_ref, from_value,
+    from_value_opt, is_safe_to_quote, mode_begun, mode_behind_ok, packet_to_chunks, read_reply,
+    receive, receive_in, recode, recode_in, send, send_contents, send_contents_in, send_values,
+    write_reply,
 };
 
 mod laws {
@@ -83,8 +84,8 @@ mod laws {
     mod values {
         use mysql_session::laws::values::{
             all_fields_fit, cells_have_lengths, cells_read_back, content_of_a_spelling, fields_fit,
-            filled_text_is_read, one_reading, pieces_of_a_query, sql_text_is_a_literal,
-            texts_are_decided, tokens_of_a_text,
+            filled_text_is_read, literals_bring_no_pair, literals_stay_in_comments, one_reading,
+            pieces_of_a_query, sql_text_is_a_literal, texts_are_decided, tokens_of_a_text,
         };
     }
 

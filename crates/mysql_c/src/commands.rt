@@ -1,7 +1,7 @@
 //! Commands: bytes that were written, modes, receivers, parameter sets, sending, texts and recoders.
 
 ghost use Rattle.mysql_c_commands.specs.Adding.{AddsSetIn};
-ghost use Rattle.mysql_c_commands.specs.Modes.{InMode, flagged};
+ghost use Rattle.mysql_c_commands.specs.Modes.{InMode, flagged, unknown_mode};
 ghost use Rattle.mysql_c_commands.specs.Receivers.{EndsAs, IsFedBy, LetsGo, MakesReceiver, OfReceiver, content_at};
 ghost use Rattle.mysql_c_commands.specs.Receivers.{missing_code, reading_code, sets_held};
 ghost use Rattle.mysql_c_commands.specs.Recoding.{MakesRecoder, RecoderEnds, RecodesFrom};
@@ -15,8 +15,9 @@ ghost use Rattle.mysql_c_handles.specs.Sets.{IsSets, OfSets};
 ghost use Rattle.mysql_values.specs.Modes.{is_safe_to_quote as is_safe, mode_of_sql_mode as told_by_variable};
 ghost use Rattle.mysql_values.specs.Modes.{mode_of_status as told_by_status};
 ghost use Rattle.mysql_values.specs.Spelling.TheVariants.{Quoted};
-ghost use Rattle.mysql_values.specs.Sql.{read_in};
-ghost use Rattle.std.specs.Prelude.{MatchOption, Some, [], false, length, slice_get, true, ◌≡◌, ◌≢◌};
+ghost use Rattle.mysql_values.specs.Sql.{read_by};
+ghost use Rattle.std.specs.Option.{option_map};
+ghost use Rattle.std.specs.Prelude.{MatchOption, None, Some, [], false, length, slice_get, true, ◌≡◌, ◌≢◌};
 ghost use Rattle.mysql_cells.specs.declared.value.Value.TheVariants as value;
 
 use mysql_c_commands::{
@@ -68,9 +69,12 @@ pub extern "C" fn mysql_session_mode_of_status(status: u16) -> u32
 }
 
 /// The flags that tell the mode of a server by the value of its variable `sql_mode`.
+///
+/// They are 8 where the mode isn't known.
 #[unsafe(no_mangle)]
 pub extern "C" fn mysql_session_mode_of_sql_mode(value: &[u8]) -> u32
-    ensures { flagged result ≡ Some (told_by_variable value.now, Quoted) }
+    ensures told { flagged result ≡ option_map (λ mode. (mode, Quoted)) (told_by_variable value.now) }
+    ensures unknown { told_by_variable value.now ≡ None → result ≡ unknown_mode }
 {
     mode_of_sql_mode(value)
 }
@@ -87,7 +91,7 @@ pub extern "C" fn mysql_session_is_safe_to_quote(collation: u16) -> u32
 /// Makes the handle stand for a receiver of a stream of commands about this query.
 ///
 /// `id` is that of the query's statement. The flags tell the mode of the server that the stream was
-/// sent to; of how they spell byte strings it takes no notice.
+/// sent to, and how its texts spell byte strings.
 #[unsafe(no_mangle)]
 pub extern "C" fn mysql_session_receiver_new(
     alloc: Global,
@@ -98,7 +102,8 @@ pub extern "C" fn mysql_session_receiver_new(
     flags: u32,
 ) -> u32
     ensures { InMode flags result handle.old.object handle.new.object
-        (λ mode _. MakesReceiver (read_in mode query.now) id limit handle.old.object result handle.new.object) }
+        (λ mode spelling. MakesReceiver (read_by mode spelling query.now) id limit handle.old.object
+        result handle.new.object) }
 {
     receiver_new(alloc, handle, query, id, limit, flags)
 }
@@ -366,7 +371,7 @@ pub extern "C" fn mysql_session_bind_text(
 ) -> u32
     ensures kept { sets.new.object ≡ sets.old.object }
     ensures bound { InMode flags result out.old.object out.new.object
-        (λ mode spelling. BindsTextFrom (read_in mode query.now) spelling sets.old.object set
+        (λ mode spelling. BindsTextFrom (read_by mode spelling query.now) sets.old.object set
         out.old.object result place.new out.new.object) }
 {
     bind_text(alloc, sets, set, query, flags, out, place)
@@ -396,7 +401,7 @@ pub extern "C" fn mysql_session_value_text(
 /// Makes the handle stand for a recoder of a stream of commands about this query.
 ///
 /// `id` is that of the query's statement. The flags tell the mode of the server that the stream was
-/// sent to; of how they spell byte strings it takes no notice.
+/// sent to, and how its texts spell byte strings.
 #[unsafe(no_mangle)]
 pub extern "C" fn mysql_session_recoder_new(
     alloc: Global,
@@ -407,15 +412,17 @@ pub extern "C" fn mysql_session_recoder_new(
     flags: u32,
 ) -> u32
     ensures { InMode flags result handle.old.object handle.new.object
-        (λ mode _. MakesRecoder (read_in mode query.now) id limit handle.old.object result handle.new.object) }
+        (λ mode spelling. MakesRecoder (read_by mode spelling query.now) id limit handle.old.object
+        result handle.new.object) }
 {
     recoder_new(alloc, handle, query, id, limit, flags)
 }
 
 /// Feeds a recoder with the next piece of its stream, and appends the executions it makes.
 ///
-/// They are those of the sets that are whole with the piece, before the first of all the prepare,
-/// and go to the bytes of another handle. Where it is refused it shows where, and the bytes stay.
+/// They are those of the sets that are whole with the piece. The prepare stands before the first of
+/// all. They go to the bytes of another handle. Where it is refused it shows where, and the bytes
+/// stay.
 #[unsafe(no_mangle)]
 pub extern "C" fn mysql_session_recoder_feed(
     alloc: Global,

@@ -1,6 +1,8 @@
 //! Whole connections, as exports.
 
-ghost use Rattle.std.specs.Prelude.{◌≡◌, ◌≢◌, MatchOption};
+ghost use Rattle.std.specs.Prelude.{◌≡◌, ◌≢◌, MatchOption, None};
+ghost use Rattle.std.specs.Option.{option_map};
+ghost use Rattle.mysql_c_commands.specs.Modes.{flagged, unknown_mode};
 ghost use Rattle.mysql_c_connection.specs.Codes.{code_number, side_numbered};
 ghost use Rattle.mysql_c_connection.specs.Columns.{column_held};
 ghost use Rattle.mysql_connection_rules.specs.Streams.{from_login};
@@ -8,11 +10,14 @@ ghost use Rattle.mysql_c_connection.specs.Opened.{Closes, Finishes, IsFed, IsNew
 ghost use Rattle.mysql_c_connection.specs.Opened.{OfOpen, OfSide};
 ghost use Rattle.mysql_c_connection.specs.Putting.{ArePutIn, IsPutIn, OfSideAndBytes};
 ghost use Rattle.mysql_c_connection.specs.Opened.{Tells};
-ghost use Rattle.mysql_c_connection.specs.Standing.{RestOf, StandingIn, StatementIn};
+ghost use Rattle.mysql_c_connection.specs.Standing.{RestOf, StandingIn, StatementIn, mode_in};
+ghost use Rattle.mysql_c_connection.specs.Unclear.{ShowsUnclear, read_event};
 ghost use Rattle.mysql_c_connection.specs.Values.{ShowsBulk, ShowsNamed, attribute_held, unheld_code, value_held};
 ghost use Rattle.mysql_c_connection.specs.declared.object.Object.TheVariants.{Empty};
 ghost use Rattle.mysql_c_replies.specs.Shown.{ShowsColumn};
+ghost use Rattle.mysql_values.specs.Spelling.TheVariants.{Quoted};
 
+use mysql_c_commands::mode_flags;
 use mysql_c_connection::{Handle, ShownConnectionEnd, ShownStanding};
 use mysql_c_connection_events::ShownEvent;
 use mysql_c_handles::Handle as BytesHandle;
@@ -164,6 +169,28 @@ pub extern "C" fn mysql_session_connection_value(
     mysql_c_connection::connection_value(alloc, handle, row, place, shown)
 }
 
+/// Tells whether servers read a value of the event that was told last each their way.
+///
+/// It is one of an execution or of a row of a bulk execution; attributes are counted behind the
+/// parameters. The bytes are those of the command from the first such cell on.
+#[unsafe(no_mangle)]
+pub extern "C" fn mysql_session_connection_unclear(
+    alloc: Global,
+    handle: &mut Handle,
+    row: usize,
+    place: usize,
+    unclear: &mut bool,
+    cells: &mut *const u8,
+    len: &mut usize,
+) -> u32
+    ensures kept { handle.new.object ≡ handle.old.object }
+    ensures shown { MatchOption (read_event handle.old.object)
+        (result ≡ code_number (unheld_code handle.old.object))
+        (λ event. (result ≡ 0) × ShowsUnclear event row place unclear.new len.new) }
+{
+    mysql_c_connection::connection_unclear(alloc, handle, row, place, unclear, cells, len)
+}
+
 /// Shows an attribute of the event that was told last, by its number.
 ///
 /// It is one of a login, a change of user, a query or an execution.
@@ -227,6 +254,18 @@ pub extern "C" fn mysql_session_connection_standing(
     ensures shown { StandingIn handle.old.object result shown.new }
 {
     mysql_c_connection::connection_standing(alloc, handle, shown)
+}
+
+/// The flags that tell the mode of a connection's session.
+///
+/// They are 8 where it isn't known, and for a handle that stands for nothing.
+#[unsafe(no_mangle)]
+pub extern "C" fn mysql_session_connection_mode(alloc: Global, handle: &mut Handle) -> u32
+    ensures kept { handle.new.object ≡ handle.old.object }
+    ensures told { flagged result ≡ option_map (λ mode. (mode, Quoted)) (mode_in handle.old.object) }
+    ensures unknown { mode_in handle.old.object ≡ None → result ≡ unknown_mode }
+{
+    mode_flags(mysql_c_connection::connection_mode(alloc, handle))
 }
 
 /// Shows the prepared statement that an id of a command stands for: its text, and how many

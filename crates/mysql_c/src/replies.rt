@@ -104,8 +104,8 @@ pub extern "C" fn mysql_session_reply_result(
 
 /// Shows a change of the session's state that an OK packet tells: its type and its bytes.
 ///
-/// The change is named by the number of its result and the position where it begins, which is 0 for
-/// the first change, and is moved on to the next one.
+/// The change is named by the number of its result and the position where it begins. The position
+/// is 0 for the first change, and is moved on to the next one.
 #[unsafe(no_mangle)]
 pub extern "C" fn mysql_session_reply_state(
     alloc: Global,

@@ -22,6 +22,10 @@ flagged flags =
       if has_flag flags 4 then Hexadecimal else Quoted,
     ) else None
 
+-- what is told of a mode that isn't known, in place of its flags: these tell no mode
+abbrev pub unknown_mode : ℕ
+unknown_mode = 8
+
 -- What is said in the mode and the spelling that flags tell. Where these tell none the number says
 -- so, and the object stays.
 abbrev pub InMode : ℕ → ℕ → Object → Object → (Mode → Spelling → Type 0) → Type 0

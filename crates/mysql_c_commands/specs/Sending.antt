@@ -1,6 +1,6 @@
 -- What sending says of the objects that two handles stand for, and of what C is shown.
 use Rattle.std.specs.Prelude.{◌≡◌, ◌≢◌, ◌<◌, ◌≤◌, ◌⊎◌, ◌==◌, ℕ, List, Option, Some, None, MatchOption, if◌then◌else◌}
-use Rattle.mysql_values.specs.Sql.{Sql, read_in}
+use Rattle.mysql_values.specs.Sql.{Sql, read_by}
 use Rattle.mysql_values.specs.declared.params.Params.{Params}
 use Rattle.mysql_command_rules.specs.declared.refusal.Refusal.{Refusal}
 use Rattle.mysql_command_rules.specs.declared.refusal.Refusal.TheVariants as refusals
@@ -8,7 +8,6 @@ use Rattle.mysql_command_rules.specs.declared.road.Road.{Road}
 use Rattle.mysql_command_rules.specs.declared.road.Road.TheVariants.{Text, Execute, Bulk}
 use Rattle.mysql_command_rules.specs.Sending.{RefusesGiven}
 use Rattle.mysql_command_rules.specs.Sets.{all_given}
-use Rattle.mysql_command_rules.specs.SpelledRoad.{SpelledRoad, spelled}
 use Rattle.mysql_session.specs.Delivery.{Delivers}
 use Rattle.mysql_c_handles.specs.declared.code.Code.{Code}
 use Rattle.mysql_c_handles.specs.declared.code.Code.TheVariants as code
@@ -55,7 +54,7 @@ abbrev pub ShowsRefusal : Refusal → ℕ → ShownPlace → Type 0
 ShowsRefusal refusal number place = (number ≡ code_number (refusal_code refusal)) × (place ≡ refusal_place refusal)
 
 -- a refusal of the sets is shown
-pub record IsRefused (road : SpelledRoad) (query : Sql) (sets : List Params) (id limit number : ℕ)
+pub record IsRefused (road : Road) (query : Sql) (sets : List Params) (id limit number : ℕ)
     (place : ShownPlace) : Type 0 where
   pub refusal : Refusal
   pub refuses : RefusesGiven road query (all_given sets) id limit refusal
@@ -68,7 +67,7 @@ IsWhy road flags query sets id limit number place =
     MatchOption (road_numbered road) (number ≡ code_number code.NoSuchRoad)
     (λ r. MatchOption (flagged flags) (number ≡ code_number code.NoSuchMode)
     (λ told. ((number ≡ code_number code.LimitTooSmall) × (limit < 4)) ⊎
-    ((4 ≤ limit) × IsRefused (spelled told.1 r) (read_in told.0 query) sets id limit number place)))
+    ((4 ≤ limit) × IsRefused r (read_by told.0 told.1 query) sets id limit number place)))
 
 -- Sets are delivered to a server in the mode that the flags tell, appended to the old bytes; or the
 -- bytes stay, and the number and the place say why.
@@ -76,7 +75,7 @@ pub record Sends (road flags : ℕ) (query : List ℕ) (sets : List Params) (id 
     (number : ℕ) (place : ShownPlace) (new : List ℕ) : Type 0 where
   pub delivered : number ≡ 0 →
       MatchOption (road_numbered road) ⊥ (λ r. MatchOption (flagged flags) ⊥ (λ told. (4 ≤ limit) ×
-      Delivers (spelled told.1 r) (read_in told.0 query) (all_given sets) id limit old new))
+      Delivers r (read_by told.0 told.1 query) (all_given sets) id limit old new))
   pub kept : number ≢ 0 → new ≡ old
   pub why : number ≢ 0 → IsWhy road flags query sets id limit number place
 

@@ -50,23 +50,23 @@ pub record IsUnbound (query : Sql) (params : Params) (set number : ℕ) (place :
 
 -- The text of the set of this number, which reads as the set's meaning, is appended to the old
 -- bytes; or the bytes stay, and the number and the place say why.
-pub record BindsText (query : Sql) (spelling : Spelling) (params : Params) (set : ℕ) (old : List ℕ)
+pub record BindsText (query : Sql) (params : Params) (set : ℕ) (old : List ℕ)
     (number : ℕ) (place : ShownPlace) (new : List ℕ) : Type 0 where
-  pub bound : number ≡ 0 → Binds query spelling params old new
+  pub bound : number ≡ 0 → Binds query params old new
   pub kept : number ≢ 0 → new ≡ old
   pub why : number ≢ 0 → IsUnbound query params set number place
 
 -- the text of a set is appended to the bytes that a handle stands for, or these stay
-abbrev pub BindsTextTo : Sql → Spelling → Params → ℕ → Object → ℕ → ShownPlace → Object → Type 0
-BindsTextTo query spelling params set (object.Bytes old) number place new =
-    IsBytes new (λ bytes. BindsText query spelling params set old.items number place bytes)
-BindsTextTo query spelling params set held number place new = Stays held number new
+abbrev pub BindsTextTo : Sql → Params → ℕ → Object → ℕ → ShownPlace → Object → Type 0
+BindsTextTo query params set (object.Bytes old) number place new =
+    IsBytes new (λ bytes. BindsText query params set old.items number place bytes)
+BindsTextTo query params set held number place new = Stays held number new
 
 -- the text of a set that the other handle's object holds is appended, or the bytes stay
-abbrev pub BindsTextFrom : Sql → Spelling → Object → ℕ → Object → ℕ → ShownPlace → Object → Type 0
-BindsTextFrom query spelling held set old number place new =
+abbrev pub BindsTextFrom : Sql → Object → ℕ → Object → ℕ → ShownPlace → Object → Type 0
+BindsTextFrom query held set old number place new =
     MatchOption (set_held held set) ((number ≡ code_number (unheld_code held)) ×
-    (new ≡ old)) (λ params. BindsTextTo query spelling params set old number place new)
+    (new ≡ old)) (λ params. BindsTextTo query params set old number place new)
 
 -- The literal of a value for a mode is appended to the old bytes, and is one of the value's
 -- content; or the bytes stay: a float has none, or memory was refused.

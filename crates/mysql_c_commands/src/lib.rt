@@ -13,7 +13,7 @@ mod sets;
 mod shown;
 mod texts;
 
-pub use modes::{is_safe_to_quote, mode_of_sql_mode, mode_of_status};
+pub use modes::{is_safe_to_quote, mode_flags, mode_of_sql_mode, mode_of_status};
 pub use parameter::Parameter;
 pub use receiver::{
     receiver_clear, receiver_content, receiver_end, receiver_feed, receiver_new, receiver_sets,

@@ -1,12 +1,16 @@
 //! The flags by which C tells the mode of a server and how byte strings are spelled.
 
-ghost use Rattle.std.specs.Prelude.{◌≡◌, Some, false, true};
+ghost use Rattle.std.specs.Option.{option_map};
+ghost use Rattle.std.specs.Prelude.{◌≡◌, None, Some, false, true};
 ghost use Rattle.mysql_values.specs.Modes.{is_safe_to_quote as is_safe, mode_of_sql_mode as told_by_variable};
 ghost use Rattle.mysql_values.specs.Modes.{mode_of_status as told_by_status};
-ghost use Rattle.mysql_c_commands.specs.Modes.{flagged};
+ghost use Rattle.mysql_c_commands.specs.Modes.{flagged, unknown_mode};
 
 use mysql_session::StatusFlags;
 use mysql_values::{Mode, Spelling};
+
+/// The flags of a mode that isn't known.
+const UNKNOWN_MODE: u32 = 8;
 
 /// The mode and the spelling that flags tell.
 ///
@@ -43,7 +47,8 @@ fn flags_of(mode: Mode) -> u32
 
 /// The flags that tell the mode of a server by its status, as its OK packets have it.
 ///
-/// MySQL's status doesn't tell ANSI_QUOTES: [`mode_of_sql_mode`] does.
+/// MySQL's status doesn't tell ANSI_QUOTES: [`mode_of_sql_mode`] does. Behind a procedure that changed
+/// the mode a status may tell another one than the server is in.
 ///
 /// Promise: the mode that the flags tell is the status's (`mode_of_status`).
 ///
@@ -57,13 +62,31 @@ pub fn mode_of_status(status: u16) -> u32
 
 /// The flags that tell the mode of a server by the value of its variable `sql_mode`.
 ///
-/// Promise: the mode that the flags tell is the value's (`mode_of_sql_mode`).
+/// Where one of its names isn't known they are 8, which no call takes: each answers that there is no
+/// such mode.
+///
+/// Promise: the mode that the flags tell is the value's, and they are 8 where it has none
+/// (`mode_of_sql_mode`).
 ///
 /// (MySQL Reference Manual, "Server SQL Modes"; MariaDB Server Documentation, "SQL_MODE".)
 pub fn mode_of_sql_mode(value: &[u8]) -> u32
-    ensures { flagged result ≡ Some (told_by_variable value.now, Spelling.Quoted) }
+    ensures told { flagged result ≡ option_map (λ mode. (mode, Spelling.Quoted)) (told_by_variable value.now) }
+    ensures unknown { told_by_variable value.now ≡ None → result ≡ unknown_mode }
 {
-    flags_of(Mode::of_sql_mode(value))
+    mode_flags(Mode::of_sql_mode(value))
+}
+
+/// The flags that tell a mode, and 8 where it isn't known.
+///
+/// Promise: the flags tell exactly the mode (`flagged`).
+pub fn mode_flags(mode: Option<Mode>) -> u32
+    ensures told { flagged result ≡ option_map (λ mode. (mode, Spelling.Quoted)) mode }
+    ensures unknown { mode ≡ None → result ≡ unknown_mode }
+{
+    match mode {
+        Some(mode) => flags_of(mode),
+        None => UNKNOWN_MODE,
+    }
 }
 
 /// 1 where literals in quotes are safe in a text that a server reads in this collation, else 0.

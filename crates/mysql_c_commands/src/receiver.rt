@@ -3,7 +3,7 @@
 ghost use Rattle.std.specs.Prelude.{◌≡◌, ◌≢◌, ◌≤◌, ◌<◌, ◌⊎◌, false, true, Err, IfErr, IfOk, MatchOption, MatchResult};
 ghost use Rattle.std.specs.Prelude.{OnErr, OnOk, length, slice_get};
 ghost use Rattle.mysql_values.specs.Queries.{HasMixed};
-ghost use Rattle.mysql_values.specs.Sql.{read_in};
+ghost use Rattle.mysql_values.specs.Sql.{read_by};
 ghost use Rattle.mysql_receive.specs.Views.{sets_of};
 ghost use Rattle.mysql_c_handles.specs.Codes.{code_number, fault_code};
 ghost use Rattle.mysql_c_handles.specs.declared.code.Code.TheVariants as code;
@@ -17,23 +17,30 @@ use crate::modes::mode_of;
 use crate::shown::{ShownContent, show, shown_end};
 use mysql_c_handles::{Code, Handle, Object, ShownEnd};
 use mysql_receive::{Content, Receiver, ReceiverError};
-use mysql_values::Mode;
+use mysql_values::{Mode, Spelling};
 use std::alloc::Global;
 use std::mem::replace;
 
 /// A new receiver.
-fn made(alloc: Global, query: &[u8], id: u32, limit: usize, mode: Mode) -> Result<Object, Code>
-    ensures made { IfOk result (λ object. IsReceiver object (IsNew (read_in mode query.now) id limit)) }
-    ensures one_kind { OnOk result (HasMixed (read_in mode query.now) false) }
+fn made(
+    alloc: Global,
+    query: &[u8],
+    id: u32,
+    limit: usize,
+    mode: Mode,
+    spelling: Spelling,
+) -> Result<Object, Code>
+    ensures made { IfOk result (λ object. IsReceiver object (IsNew (read_by mode spelling query.now) id limit)) }
+    ensures one_kind { OnOk result (HasMixed (read_by mode spelling query.now) false) }
     ensures small { limit < 4 → result ≡ Err code.LimitTooSmall }
     ensures cause { IfErr result (λ e. (e ≡ code.Memory) ⊎
         ((e ≡ code.LimitTooSmall) × (limit < 4)) ⊎
-        ((e ≡ code.Mixed) × HasMixed (read_in mode query.now) true)) }
+        ((e ≡ code.Mixed) × HasMixed (read_by mode spelling query.now) true)) }
 {
     if limit < 4 {
         return Err(Code::LimitTooSmall);
     }
-    match Receiver::new_in(alloc, query, id, limit, mode) {
+    match Receiver::new_in(alloc, query, id, limit, mode, spelling) {
         Ok(receiver) => Ok(Object::Receiver(receiver)),
         Err(ReceiverError::Mixed) => Err(Code::Mixed),
         Err(ReceiverError::Memory) => Err(Code::Memory),
@@ -174,10 +181,11 @@ fn clear_sets(object: &mut Object) -> Code
 /// Makes the handle stand for a receiver of a stream of commands about this query.
 ///
 /// `id` is that of the query's statement. The flags tell the mode of the server that the stream was
-/// sent to; of how they spell byte strings it takes no notice.
+/// sent to, and how its texts spell byte strings. In hexadecimal, literals behind an introducer are
+/// read too.
 ///
-/// Promise: the receiver is about the query in this mode, or nothing has changed and the code is a
-/// cause (`MakesReceiver`).
+/// Promise: the receiver is about the query in this mode and spelling, or nothing has changed and the
+/// code is a cause (`MakesReceiver`).
 pub fn receiver_new(
     alloc: Global,
     handle: &mut Handle,
@@ -187,12 +195,13 @@ pub fn receiver_new(
     flags: u32,
 ) -> u32
     ensures { InMode flags result handle.old.object handle.new.object
-        (λ mode _. MakesReceiver (read_in mode query.now) id limit handle.old.object result handle.new.object) }
+        (λ mode spelling. MakesReceiver (read_by mode spelling query.now) id limit handle.old.object
+        result handle.new.object) }
 {
-    let Some((mode, _)) = mode_of(flags) else {
+    let Some((mode, spelling)) = mode_of(flags) else {
         return Code::NoSuchMode.number();
     };
-    match made(alloc, query, id, limit, mode) {
+    match made(alloc, query, id, limit, mode, spelling) {
         Ok(object) => match handle.set(alloc, object) {
             Ok(()) => Code::Done.number(),
             Err(_) => Code::Memory.number(),

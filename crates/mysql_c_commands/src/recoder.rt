@@ -1,7 +1,7 @@
 //! Recoders: streams of commands as executions, as their bytes come.
 
 ghost use Rattle.std.specs.Prelude.{◌≡◌, ◌≢◌, ◌<◌, Err, IfErr, IfOk};
-ghost use Rattle.mysql_values.specs.Sql.{read_in};
+ghost use Rattle.mysql_values.specs.Sql.{read_by};
 ghost use Rattle.mysql_recoding.specs.AsItComes.{IsNewRecoder, recoder_state};
 ghost use Rattle.mysql_c_handles.specs.declared.code.Code.TheVariants as code;
 ghost use Rattle.mysql_c_handles.specs.declared.object.Object.TheVariants as object;
@@ -15,7 +15,7 @@ use crate::modes::mode_of;
 use crate::shown::{ShownStop, kind_of_end};
 use mysql_c_handles::{Code, Handle, Object, number_of_fault};
 use mysql_recoding::{RecodeError, Recoder};
-use mysql_values::Mode;
+use mysql_values::{Mode, Spelling};
 use std::alloc::Global;
 use std::mem::replace;
 
@@ -77,17 +77,24 @@ fn show_stop(error: RecodeError, stop: &mut ShownStop) -> Code
 }
 
 /// A new recoder.
-fn made(alloc: Global, query: &[u8], id: u32, limit: usize, mode: Mode) -> Result<Object, Code>
+fn made(
+    alloc: Global,
+    query: &[u8],
+    id: u32,
+    limit: usize,
+    mode: Mode,
+    spelling: Spelling,
+) -> Result<Object, Code>
     ensures made { IfOk result (λ object. IsRecoder object
-        (λ r. IsNewRecoder (read_in mode query.now) id limit (recoder_state r))) }
+        (λ r. IsNewRecoder (read_by mode spelling query.now) id limit (recoder_state r))) }
     ensures small { limit < 4 → result ≡ Err code.LimitTooSmall }
     ensures cause { IfErr result (λ e.
-        IsWhyNoRecoder (read_in mode query.now) id limit (code_number e) × (code_number e ≢ 0)) }
+        IsWhyNoRecoder (read_by mode spelling query.now) id limit (code_number e) × (code_number e ≢ 0)) }
 {
     if limit < 4 {
         return Err(Code::LimitTooSmall);
     }
-    match Recoder::new_in(alloc, query, id, limit, mode) {
+    match Recoder::new_in(alloc, query, id, limit, mode, spelling) {
         Ok(recoder) => Ok(Object::Recoder(recoder)),
         Err(error) => Err(code_of(error)),
     }
@@ -207,10 +214,11 @@ fn end_from(alloc: Global, held: &mut Object, out: &mut Handle, stop: &mut Shown
 /// Makes the handle stand for a recoder of a stream of commands about this query.
 ///
 /// `id` is that of the query's statement. The flags tell the mode of the server that the stream was
-/// sent to; of how they spell byte strings it takes no notice.
+/// sent to, and how its texts spell byte strings. In hexadecimal, literals behind an introducer are
+/// read too.
 ///
-/// Promise: the recoder is about the query in this mode, or nothing has changed and the code is a
-/// cause (`MakesRecoder`).
+/// Promise: the recoder is about the query in this mode and spelling, or nothing has changed and the
+/// code is a cause (`MakesRecoder`).
 pub fn recoder_new(
     alloc: Global,
     handle: &mut Handle,
@@ -220,12 +228,13 @@ pub fn recoder_new(
     flags: u32,
 ) -> u32
     ensures { InMode flags result handle.old.object handle.new.object
-        (λ mode _. MakesRecoder (read_in mode query.now) id limit handle.old.object result handle.new.object) }
+        (λ mode spelling. MakesRecoder (read_by mode spelling query.now) id limit handle.old.object
+        result handle.new.object) }
 {
-    let Some((mode, _)) = mode_of(flags) else {
+    let Some((mode, spelling)) = mode_of(flags) else {
         return Code::NoSuchMode.number();
     };
-    match made(alloc, query, id, limit, mode) {
+    match made(alloc, query, id, limit, mode, spelling) {
         Ok(object) => match handle.set(alloc, object) {
             Ok(()) => Code::Done.number(),
             Err(_) => Code::Memory.number(),
@@ -236,8 +245,9 @@ pub fn recoder_new(
 
 /// Feeds a recoder with the next piece of its stream, and appends the executions it makes.
 ///
-/// They are those of the sets that are whole with the piece, before the first of all the prepare,
-/// and go to the bytes of another handle. Where it is refused it shows where, and the bytes stay.
+/// They are those of the sets that are whole with the piece. The prepare stands before the first of
+/// all. They go to the bytes of another handle. Where it is refused it shows where, and the bytes
+/// stay.
 ///
 /// Promise: what is appended is what `Recoder::feed` appends, or the bytes stay (`RecodesFrom`).
 pub fn recoder_feed(

@@ -1,10 +1,9 @@
 //! Parameter sets sent.
 
 ghost use Rattle.std.specs.Prelude.{◌≡◌, ◌≢◌, ◌≤◌, IfErr, OnErr, OnOk};
-ghost use Rattle.mysql_values.specs.Sql.{read_in};
+ghost use Rattle.mysql_values.specs.Sql.{read_by};
 ghost use Rattle.mysql_command_rules.specs.Sending.{RefusesGiven};
 ghost use Rattle.mysql_command_rules.specs.Sets.{all_given};
-ghost use Rattle.mysql_command_rules.specs.SpelledRoad.{spelled};
 ghost use Rattle.mysql_session.specs.Delivery.{Delivers};
 ghost use Rattle.mysql_c_handles.specs.Codes.{code_number};
 ghost use Rattle.mysql_c_commands.specs.Sending.{AppendsTo, Sends, SendsFrom, ShowsRefusal, refusal_code};
@@ -98,10 +97,10 @@ fn sent_in(
 ) -> Result<(), Refusal>
     requires { 4 ≤ limit }
     ensures refused { IfErr result
-        (RefusesGiven (spelled spelling road) (read_in mode query.now) (all_given sets.now) id limit) }
+        (RefusesGiven road (read_by mode spelling query.now) (all_given sets.now) id limit) }
     ensures kept { OnErr result (out.new.items ≡ out.old.items) }
     ensures delivered { OnOk result
-        (Delivers (spelled spelling road) (read_in mode query.now) (all_given sets.now) id limit
+        (Delivers road (read_by mode spelling query.now) (all_given sets.now) id limit
         out.old.items out.new.items) }
 {
     let query = Query::new_in(alloc, query, id, mode, spelling)?;
@@ -221,8 +220,8 @@ fn append_sets(
 /// server and, by text, how byte strings are spelled. Where the sets aren't sent it shows the set
 /// and the place that are refused, and the bytes stay.
 ///
-/// Promise: what is appended delivers the sets to a server in this mode, or nothing is appended, and
-/// the code and the place are those of the first cause (`SendsFrom`).
+/// Promise: what is appended delivers the sets to a server in this mode. Or nothing is appended,
+/// and the code and the place are those of the first cause (`SendsFrom`).
 pub fn send(
     alloc: Global,
     sets: &mut Handle,

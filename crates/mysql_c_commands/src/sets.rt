@@ -277,7 +277,7 @@ pub fn sets_end_set(alloc: Global, handle: &mut Handle) -> u32
 /// `bytes`. The values of the next set stay.
 ///
 /// Promise: each parameter gives the value that its kind and its bytes describe, behind those
-/// before it, or nothing has changed and the code is that of the first that describes none
+/// before it. Or nothing has changed, and the code is that of the first that describes none
 /// (`AddsSetIn`).
 pub fn sets_add(alloc: Global, handle: &mut Handle, parameters: &[Parameter], bytes: &[u8]) -> u32
     ensures { OfSets handle.old.object result handle.new.object

@@ -2,7 +2,7 @@
 
 ghost use Rattle.std.specs.Prelude.{◌≡◌, ◌≢◌};
 ghost use Rattle.mysql_c_handles.specs.Codes.{code_number};
-ghost use Rattle.mysql_values.specs.Sql.{read_in};
+ghost use Rattle.mysql_values.specs.Sql.{read_by};
 ghost use Rattle.mysql_c_commands.specs.Modes.{InMode};
 ghost use Rattle.mysql_c_commands.specs.Texts.{BindsText, BindsTextFrom, BindsTextTo, PutsLiteral, PutsLiteralFrom};
 ghost use Rattle.mysql_c_commands.specs.Texts.{PutsLiteralTo, ShowsBindError, bind_code, bind_place};
@@ -61,7 +61,7 @@ fn bound(
     out: &mut Vec<u8>,
     place: &mut ShownPlace,
 ) -> Code
-    ensures { BindsText (read_in mode query.now) spelling params.now set out.old.items (code_number result)
+    ensures { BindsText (read_by mode spelling query.now) params.now set out.old.items (code_number result)
         place.new out.new.items }
 {
     match bind_text_in(alloc, query, params, mode, spelling, out) {
@@ -81,7 +81,7 @@ fn bind_to(
     object: &mut Object,
     place: &mut ShownPlace,
 ) -> Code
-    ensures { BindsTextTo (read_in mode query.now) spelling params.now set object.old (code_number result)
+    ensures { BindsTextTo (read_by mode spelling query.now) params.now set object.old (code_number result)
         place.new object.new }
 {
     match object {
@@ -102,7 +102,7 @@ fn bind_onto(
     out: &mut Handle,
     place: &mut ShownPlace,
 ) -> Code
-    ensures { BindsTextTo (read_in mode query.now) spelling params.now set out.old.object (code_number result)
+    ensures { BindsTextTo (read_by mode spelling query.now) params.now set out.old.object (code_number result)
         place.new out.new.object }
 {
     let Some(mut object) = out.take(alloc) else {
@@ -133,7 +133,7 @@ fn bind_from(
     out: &mut Handle,
     place: &mut ShownPlace,
 ) -> Code
-    ensures { BindsTextFrom (read_in mode query.now) spelling held.now set out.old.object (code_number result)
+    ensures { BindsTextFrom (read_by mode spelling query.now) held.now set out.old.object (code_number result)
         place.new out.new.object }
 {
     match held.set_at(set) {
@@ -218,7 +218,7 @@ pub fn bind_text(
 ) -> u32
     ensures kept { sets.new.object ≡ sets.old.object }
     ensures bound { InMode flags result out.old.object out.new.object
-        (λ mode spelling. BindsTextFrom (read_in mode query.now) spelling sets.old.object set
+        (λ mode spelling. BindsTextFrom (read_by mode spelling query.now) sets.old.object set
         out.old.object result place.new out.new.object) }
 {
     let Some((mode, spelling)) = mode_of(flags) else {

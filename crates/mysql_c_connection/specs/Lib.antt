@@ -6,3 +6,4 @@ pub mod Putting
 pub mod Owned
 pub mod Standing
 pub mod Values
+pub mod Unclear

@@ -9,6 +9,7 @@ use Rattle.mysql_connection_state.specs.Views.{plain_phase}
 use Rattle.mysql_connection_state.specs.declared.phase.Phase.{Phase}
 use Rattle.mysql_connection_state.specs.declared.phase.Phase.TheVariants as phase
 use Rattle.mysql_connection_statements.specs.Statements.{Statement}
+use Rattle.mysql_queries.specs.declared.mode.Mode.{Mode}
 use Rattle.mysql_c_connection.specs.declared.code.ConnectionCode.TheVariants as code
 use Rattle.mysql_c_connection.specs.declared.object.Object.{Object}
 use Rattle.mysql_c_connection.specs.declared.object.Object.TheVariants as object
@@ -58,6 +59,11 @@ pub record ShowsStanding (m : Machine) (shown : ShownStanding) : Type 0 where
 abbrev pub StandingIn : Object → ℕ → ShownStanding → Type 0
 StandingIn object.Empty number shown = number ≡ code_number code.EmptyHandle
 StandingIn (object.Open c) number shown = (number ≡ 0) × ShowsStanding c.connection shown
+
+-- the mode of the session, where it is known
+abbrev pub mode_in : Object → Option Mode
+mode_in object.Empty = None
+mode_in (object.Open c) = c.connection.world.standing.mode.mode
 
 -- what is shown of a statement: its text's length, and how many parameters it has
 abbrev pub ShowsStatement : Option Statement → (number len params : ℕ) → Type 0

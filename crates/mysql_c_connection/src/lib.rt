@@ -13,6 +13,7 @@ mod putting;
 mod shown;
 mod standing;
 mod text;
+mod unclear;
 mod values;
 
 pub use calls::{
@@ -25,6 +26,7 @@ pub use handle::Handle;
 pub use object::{Object, OpenConnection};
 pub use putting::{connection_after_login, connection_put, connection_put_packets};
 pub use shown::{ShownConnectionEnd, ShownStanding};
-pub use standing::{connection_rest, connection_standing, connection_statement};
+pub use standing::{connection_mode, connection_rest, connection_standing, connection_statement};
 pub use text::connection_code_text;
+pub use unclear::connection_unclear;
 pub use values::{connection_attribute, connection_value};

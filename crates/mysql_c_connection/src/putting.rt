@@ -187,8 +187,8 @@ fn put_packets_in(
 
 /// Puts the payloads of packets of a side, one after another, as long as they are due.
 ///
-/// Promise: they are put as the machine puts them, and it is told how many bytes of the packets were
-/// taken, also where one is refused; the event that was told last stays (`ArePut`).
+/// Promise: they are put as the machine puts them. It is told how many bytes of the packets were
+/// taken, also where one is refused. The event that was told last stays (`ArePut`).
 pub fn connection_put_packets(
     alloc: Global,
     handle: &mut Handle,

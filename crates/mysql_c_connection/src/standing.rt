@@ -3,7 +3,7 @@
 ghost use Rattle.std.specs.Prelude.{◌≡◌};
 ghost use Rattle.mysql_c_connection.specs.Codes.{code_number, side_numbered};
 ghost use Rattle.mysql_c_connection.specs.Standing.{RestIn, RestOf, ShowsStanding, StandingIn, StatementIn};
-ghost use Rattle.mysql_c_connection.specs.Standing.{over_number, phase_number, turn_number};
+ghost use Rattle.mysql_c_connection.specs.Standing.{mode_in, over_number, phase_number, turn_number};
 
 use crate::code::{ConnectionCode, number_of_fault, number_of_reason, number_of_side, side_of};
 use crate::handle::Handle;
@@ -13,6 +13,7 @@ use mysql_c_handles::start_of;
 use mysql_connection_machine::Connection;
 use mysql_connection_rules::Side;
 use mysql_connection_state::Phase;
+use mysql_queries::Mode;
 use std::alloc::Global;
 
 /// The number of whose turn it is: 2 where it is nobody's.
@@ -101,6 +102,29 @@ pub fn connection_standing(alloc: Global, handle: &mut Handle, shown: &mut Shown
     let code = standing_of(&object, shown);
     handle.put(object);
     code.number()
+}
+
+/// The mode of the connection that an object is, where it is known.
+fn mode_of(object: &Object) -> Option<Mode>
+    ensures { result ≡ mode_in object.now }
+{
+    match object {
+        Object::Open(open) => open.connection.session_mode().mode,
+        Object::Empty => None,
+    }
+}
+
+/// The mode of a connection's session, where it is known.
+pub fn connection_mode(alloc: Global, handle: &mut Handle) -> Option<Mode>
+    ensures kept { handle.new.object ≡ handle.old.object }
+    ensures mode { result ≡ mode_in handle.old.object }
+{
+    let Some(object) = handle.take(alloc) else {
+        return None;
+    };
+    let mode = mode_of(&object);
+    handle.put(object);
+    mode
 }
 
 /// Shows the statement of this id of the connection that an object is.

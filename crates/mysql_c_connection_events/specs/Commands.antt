@@ -1,6 +1,6 @@
 -- What C sees of commands: a kind is 256 and the command's number.
 -- MySQL: Client/Server Protocol, "Command Phase".
-use Rattle.std.specs.Prelude.{ℕ, ◌^◌, ◌-◌, List, [], ◌∷◌, length}
+use Rattle.std.specs.Prelude.{ℕ, ◌^◌, ◌+◌, ◌-◌, List, [], ◌∷◌, length}
 use Rattle.mysql_buf.specs.Writing.{front}
 use Rattle.mysql_commands.specs.Commands as said
 use Rattle.mysql_commands.specs.Commands.{Command}
@@ -18,13 +18,16 @@ use Rattle.mysql_c_connection_events.specs.declared.shown.ShownEvent.{ShownEvent
 abbrev pub query_shown : ℕ → List ℕ → ShownEvent → ShownEvent
 query_shown attributes sql shown = record (text_shown 0x103 0 sql shown) { attributes = attributes }
 
--- an execution of a statement of this text
+-- an execution of a statement of this text: its flags are the cursor's and those without a name, its
+-- number is the iteration count, its data what stands behind the last value
 abbrev pub execution_shown : Execution → List ℕ → ShownEvent → ShownEvent
 execution_shown e text shown = record (text_shown 0x117 0 text shown) {
   statement = e.statement;
-  flags = e.cursor.0;
+  flags = e.cursor.0 + e.nameless_flags;
+  number = e.iterations;
   params = length e.parameters;
   attributes = length e.attributes;
+  data_len = length e.rest;
 }
 
 -- how many values stand in each row: in the first one, if there is one
@@ -32,12 +35,13 @@ abbrev pub width_of : List (List BulkValue) → ℕ
 width_of [] = 0
 width_of (row ∷ rows) = length row
 
--- a bulk execution of a statement of this text
+-- a bulk execution of a statement of this text: its data are what stands behind the last row
 abbrev pub bulk_shown : BulkExecution → List ℕ → ShownEvent → ShownEvent
 bulk_shown e text shown = record (text_shown 0x1fa 0 text shown) {
   statement = e.statement;
   rows = length e.rows;
   params = width_of e.rows;
+  data_len = length e.rest;
 }
 
 -- a piece of a parameter; its number is the parameter's place

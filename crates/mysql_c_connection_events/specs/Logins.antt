@@ -4,6 +4,7 @@ use Rattle.std.specs.Prelude.{ℕ, List, [], Option, Some, None, length}
 use Rattle.mysql_auth.specs.Plugins.{Plugin, plugin_name}
 use Rattle.mysql_authentication.specs.Events as said
 use Rattle.mysql_connect_attributes.specs.Attributes.{Attribute}
+use Rattle.mysql_handshake.specs.Capabilities.{offered}
 use Rattle.mysql_handshake.specs.Handshakes.{HandshakeFields}
 use Rattle.mysql_handshake_response.specs.Responses.{ResponseFields}
 use Rattle.mysql_handshake_response.specs.SslRequests.{SslRequestFields}
@@ -31,13 +32,14 @@ abbrev pub greeting_shown : said.Greeting → ShownEvent → ShownEvent
 greeting_shown (said.Rejected error) shown = error_shown 1 error shown
 greeting_shown (said.Greeted packet) shown = handshake_shown packet shown
 
--- the front of a client's answer to it; its number is the longest packet that the client takes
+-- The front of a client's answer to it. Its number is the longest packet that the client takes. A
+-- client of MySQL, which has none of MariaDB's own capabilities, shows none.
 abbrev pub request_shown : ℕ → SslRequestFields → ShownEvent → ShownEvent
 request_shown kind p shown = record (nothing_shown shown) {
   kind = kind;
   side = 0;
   capabilities = p.capabilities;
-  mariadb_capabilities = p.mariadb_capabilities;
+  mariadb_capabilities = (offered p.capabilities p.mariadb_capabilities).mariadb.0;
   number = p.max_packet_size;
   charset = p.character_set;
 }

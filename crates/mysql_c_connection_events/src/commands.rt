@@ -31,9 +31,12 @@ fn telling_execution(execution: &Execution, text: &[u8]) -> ShownEvent
 {
     let mut shown = with_text(0x117, 0, text);
     shown.statement = execution.statement;
-    shown.flags = execution.cursor.0 as u32;
+    shown.flags = execution.cursor.0 as u32 + execution.nameless_flags as u32;
+    shown.number = execution.iterations;
     shown.params = execution.parameters.len();
     shown.attributes = execution.attributes.len();
+    shown.data = start_of(execution.rest.as_slice());
+    shown.data_len = execution.rest.as_slice().len();
     shown
 }
 
@@ -47,6 +50,8 @@ fn telling_bulk(execution: &BulkExecution, text: &[u8]) -> ShownEvent
     if let Some(row) = execution.rows.get(0) {
         shown.params = row.len();
     }
+    shown.data = start_of(execution.rest.as_slice());
+    shown.data_len = execution.rest.as_slice().len();
     shown
 }
 

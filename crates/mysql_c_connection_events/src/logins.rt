@@ -52,7 +52,7 @@ fn telling_request(kind: u32, request: &SslRequest) -> ShownEvent
 {
     let mut shown = blank(kind, 0);
     shown.capabilities = request.capabilities().0;
-    shown.mariadb_capabilities = request.mariadb_capabilities().0;
+    shown.mariadb_capabilities = request.offered().mariadb.0;
     shown.number = request.max_packet_size();
     shown.charset = request.character_set() as u16;
     shown

@@ -5,7 +5,7 @@ use Rattle.std.specs.Prelude.{Some, None, if◌then◌else◌}
 use Rattle.mysql_connect_attributes.specs.Parts.{marked, or_empty}
 use Rattle.mysql_auth.specs.Plugins.{Plugin, plugin_name, plugin_named, without_zero}
 use Rattle.mysql_handshake.specs.Capabilities.{connect_attrs, connect_with_db, plugin_auth}
-use Rattle.mysql_handshake.specs.Capabilities.{plugin_auth_lenenc_client_data, secure_connection}
+use Rattle.mysql_handshake.specs.Capabilities.{offered, plugin_auth_lenenc_client_data, secure_connection}
 use Rattle.mysql_handshake_response.specs.Responses.{ResponseFields, counted_scramble, response, response_at}
 use Rattle.mysql_field_constants.specs.Flags.{contains}
 use Rattle.mysql_c_handles.specs.Codes.{code_number}
@@ -19,11 +19,13 @@ abbrev pub plugin_shown : Option Plugin → List ℕ
 plugin_shown None = []
 plugin_shown (Some plugin) = plugin_name plugin
 
--- the numbers of a login, and the lengths of its texts
+-- The numbers of a login, and the lengths of its texts. A client of MySQL shows none of MariaDB's own
+-- capabilities.
 pub record ShowsLogin (packet : ResponseFields) (shown : ShownLogin) : Type 0 where
   pub collation : shown.collation ≡ packet.request.character_set
   pub capabilities : shown.capabilities ≡ packet.request.capabilities
-  pub mariadb_capabilities : shown.mariadb_capabilities ≡ packet.request.mariadb_capabilities
+  pub mariadb_capabilities : shown.mariadb_capabilities
+      ≡ (offered packet.request.capabilities packet.request.mariadb_capabilities).mariadb.0
   pub user : shown.user.len ≡ length packet.user
   pub response : shown.response.len ≡ length (counted_scramble packet.request.capabilities packet.scramble)
   pub database : shown.database.len ≡ length (or_empty packet.database)

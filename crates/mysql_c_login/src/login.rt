@@ -46,7 +46,7 @@ fn show_login(packet: &HandshakeResponse<'_>, login: &mut ShownLogin)
 {
     login.collation = packet.collation();
     login.capabilities = packet.capabilities().0;
-    login.mariadb_capabilities = packet.mariadb_ext_capabilities().0;
+    login.mariadb_capabilities = packet.request().offered().mariadb.0;
     login.user = shown(packet.user());
     login.response = shown(packet.scramble_buf());
     login.database = shown(or_no_bytes(packet.db_name()));

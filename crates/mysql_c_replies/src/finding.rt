@@ -259,11 +259,11 @@ pub fn reply_result(
 
 /// Shows a change of the session's state that an OK packet tells: its type and its bytes.
 ///
-/// The change is named by the number of its result and the position where it begins, which is 0 for
-/// the first change, and is moved on to the next one; behind the last, and where the bytes there
-/// are no change, it stays.
+/// The change is named by the number of its result and the position where it begins. The position
+/// is 0 for the first change, and is moved on to the next one. Behind the last, and where the bytes
+/// there are no change, it stays.
 ///
-/// Promise: one change is shown and the position moved behind it: from 0 on they are those that are
+/// Promise: one change is shown and the position moved behind it. From 0 on they are those that are
 /// read all at once, in their order (`ShowsChangeIn`).
 pub fn reply_state(
     alloc: Global,

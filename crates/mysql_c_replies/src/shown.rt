@@ -28,7 +28,7 @@ use std::alloc::Global;
 /// A result: its kind, and what that kind has.
 ///
 /// The kinds are 0 OK, 1 rows, 2 a prepared statement, 3 an error, 4 a request for a file. The text
-/// is what an OK packet tells, an error's message or a file's name; `ended` is false of rows alone,
+/// is what an OK packet tells, an error's message or a file's name. `ended` is false of rows alone,
 /// where the packet that ends them didn't come.
 #[repr(C)]
 #[derive(Clone, Copy)]
@@ -53,8 +53,8 @@ pub struct ShownResult {
 
 /// A value: its kind, and what that kind has.
 ///
-/// The kinds are 0 NULL, 1 a number with a sign, 2 one without, 3 bytes, 4 a float by its bits, 5 a
-/// double by its bits, 6 a date, 7 a duration.
+/// The kinds are 0 NULL, 1 a number with a sign, 2 one without, 3 bytes. 4 is a float by its bits,
+/// 5 a double by its bits, 6 a date, 7 a duration.
 #[repr(C)]
 #[derive(Clone, Copy)]
 pub struct ShownValue {

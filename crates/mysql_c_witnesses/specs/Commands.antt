@@ -13,7 +13,7 @@ use Rattle.mysql_c_commands.specs.declared.shown.ShownPlace.{ShownPlace}
 use Rattle.mysql_c_handles.specs.Sets.{OfSets}
 use Rattle.mysql_c_handles.specs.declared.object.Object.{Object}
 use Rattle.mysql_c_handles.specs.declared.object.Object.TheVariants as object
-use Rattle.mysql_cells.specs.declared.spelling.Spelling.TheVariants.{Quoted}
+use Rattle.mysql_queries.specs.declared.spelling.Spelling.TheVariants.{Quoted}
 use Rattle.mysql_cells.specs.declared.value.Value.{Value}
 use Rattle.mysql_cells.specs.declared.value.Value.TheVariants as value
 use Rattle.mysql_queries.specs.declared.content.Content.TheVariants.{Number}

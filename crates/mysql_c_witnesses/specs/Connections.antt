@@ -35,6 +35,7 @@ RowsHaveTheirOwnValues = parameter_in (BulkExecute (record {
   unit_results = false;
   types = None;
   rows = (Default ∷ []) ∷ (Ignore ∷ []) ∷ [];
+  rest = [];
 })) 1 0 ≡ Some Ignore
 
 -- The end of a connection that failed tells the fault. Excluded: 0.

@@ -1,7 +1,7 @@
 //! The audit of a connection: what both sides say becomes lines. There is one for each command
 //! whose reply is whole, for each login, and for the connection's end.
 
-use crate::commands::asked;
+use crate::commands::{asked, Telling};
 use crate::lines::{Answer, Format, Heading, Outcome, Told};
 use crate::print_line;
 use mysql_session::{
@@ -41,13 +41,13 @@ pub struct Audit {
 impl Audit {
     pub fn new(
         number: u64,
-        format: Format,
+        telling: Telling,
         limits: Limits,
         on_fault: OnFault,
     ) -> Result<Audit, Error> {
         Ok(Audit {
             connection: Connection::new(limits)?,
-            teller: Teller::new(number, format),
+            teller: Teller::new(number, telling),
             on_fault,
             follows: Follows::Reads,
             ended: Vec::new(),
@@ -122,6 +122,9 @@ impl Audit {
     /// Tells the events that stand whole.
     fn read(&mut self) {
         loop {
+            // The mode in which the server reads the text that may come next.
+            let mode = self.connection.mode().unwrap_or_default();
+            self.teller.telling.escapes = !mode.no_backslash_escapes;
             match self.connection.next_event() {
                 Ok(Some(event)) => self.teller.take(&event),
                 Ok(None) => break,
@@ -177,6 +180,7 @@ struct Running {
 struct Teller {
     number: u64,
     format: Format,
+    telling: Telling,
     user: Vec<u8>,
     database: Vec<u8>,
     /// The server's number of the connection.
@@ -187,10 +191,11 @@ struct Teller {
 }
 
 impl Teller {
-    fn new(number: u64, format: Format) -> Teller {
+    fn new(number: u64, telling: Telling) -> Teller {
         Teller {
             number,
-            format,
+            format: telling.format,
+            telling,
             user: Vec::new(),
             database: Vec::new(),
             thread: 0,
@@ -219,8 +224,11 @@ impl Teller {
             }
             Event::Rejected(error) => self.tell_error("refused", error),
             Event::Farewell(error) => self.tell_error("farewell", error),
-            event => match asked(self.format, event) {
-                Some(told) => self.begin(told),
+            event => match asked(self.telling, event) {
+                Some(told) => {
+                    self.telling.has_secrets |= told.is_secret && told.kind == "prepare";
+                    self.begin(told);
+                }
                 None => self.take_reply(event),
             },
         }
@@ -291,6 +299,9 @@ impl Teller {
         {
             self.user = user.unwrap_or_else(|| mem::take(&mut self.user));
             self.database = database;
+        }
+        if running.told.is_secret {
+            running.outcomes.iter_mut().for_each(Outcome::hide_message);
         }
         let answer = Answer {
             outcomes: &running.outcomes,

@@ -1,37 +1,128 @@
 //! What clients ask for, as it is told.
 
 use crate::lines::{Format, Told};
+use crate::masking::masked;
 use mysql_session::{Attributes, BulkRow, Event, OtherCommand};
+
+/// What is told for a secret that isn't part of a text.
+pub const HIDDEN: &[u8] = b"*****";
+
+const COM_CHANGE_USER: u8 = 0x11;
+const COM_STMT_EXECUTE: u8 = 0x17;
+const COM_STMT_SEND_LONG_DATA: u8 = 0x18;
+const COM_STMT_BULK_EXECUTE: u8 = 0xfa;
+
+/// How it is told what clients ask for.
+#[derive(Clone, Copy)]
+pub struct Telling {
+    pub format: Format,
+    /// Whether passwords are told, too.
+    pub secrets: bool,
+    /// Whether a backslash escapes in a string of the session.
+    pub escapes: bool,
+    /// Whether a statement was prepared whose values are secrets.
+    pub has_secrets: bool,
+}
+
+impl Telling {
+    /// A command about a statement's text, as it may be told.
+    fn about(self, kind: &'static str, text: &[u8]) -> Told {
+        let told = Told::new(kind);
+        if self.secrets {
+            return told.with_text(self.format.text(text));
+        }
+        let masked = masked(text, self.escapes);
+        let mut told = told.with_text(self.format.text(&masked.text));
+        told.is_secret = masked.is_secret;
+        told
+    }
+
+    /// A payload that is laid out as no command. It may be an answer of an authentication, or have
+    /// secret values, of which the length alone is told.
+    fn unknown(self, payload: &[u8]) -> Told {
+        let is_hidden = match payload.first() {
+            Some(&COM_CHANGE_USER) => true,
+            Some(&(COM_STMT_EXECUTE | COM_STMT_SEND_LONG_DATA | COM_STMT_BULK_EXECUTE)) => {
+                self.has_secrets
+            }
+            _ => false,
+        };
+        if is_hidden && !self.secrets {
+            return Told::new("unknown").with("bytes", payload.len());
+        }
+        self.about("unknown", payload)
+    }
+}
 
 /// What a client asks for. None, if the event is something else, or asks for nothing: what long
 /// data bring is told with their execution.
-pub fn asked(format: Format, event: &Event) -> Option<Told> {
+pub fn asked(telling: Telling, event: &Event) -> Option<Told> {
+    let format = telling.format;
     let told = match event {
         Event::CutOffLogin(_) => Told::new("login"),
         Event::Query { text, attributes } => {
-            let told = Told::new("query").with_text(format.text(text));
-            with_attributes(told, format, attributes)
+            let told = telling.about("query", text);
+            with_attributes(told, format, attributes, |_| false)
         }
-        Event::Prepare { text } => Told::new("prepare").with_text(format.text(text)),
+        Event::Prepare { text } => telling.about("prepare", text),
         Event::Execute {
             statement,
             text,
             values,
             attributes,
+            nameless_flags,
+            iterations,
+            rest,
             ..
         } => {
-            let values = format.list(values.iter().map(|value| format.value(value)));
-            let told = about("execute", *statement, format.text(text), values);
-            with_attributes(told, format, attributes)
+            let told = telling.about("execute", text).with("statement", statement);
+            let is_secret = told.is_secret;
+            let list = format.list((0..).zip(values.iter()).map(|(place, value)| {
+                if is_secret {
+                    format.value(HIDDEN.into())
+                } else if values.is_unclear(place) {
+                    format.unclear()
+                } else {
+                    format.value(value)
+                }
+            }));
+            let mut told = told.with_values(list);
+            if *nameless_flags != 0 {
+                told = told.with("flags", nameless_flags);
+            }
+            if *iterations != 1 {
+                told = told.with("iterations", iterations);
+            }
+            let told = with_attributes(told, format, attributes, |number| {
+                values.is_unclear(values.len() + number)
+            });
+            let told = with_rest(told, format, rest);
+            with_unclear(told, format, values.unclear_cells())
         }
         Event::BulkExecute {
             statement,
             text,
             rows,
+            rest,
         } => {
-            let row = |row: BulkRow| format.list(row.iter().map(|value| format.bulk_value(value)));
+            let told = telling
+                .about("bulk execute", text)
+                .with("statement", statement);
+            let is_secret = told.is_secret;
+            let row = |row: BulkRow| {
+                format.list((0..).zip(row.iter()).map(|(place, value)| {
+                    if is_secret {
+                        format.value(HIDDEN.into())
+                    } else if row.is_unclear(place) {
+                        format.unclear()
+                    } else {
+                        format.bulk_value(value)
+                    }
+                }))
+            };
             let values = format.list(rows.iter().map(row));
-            about("bulk execute", *statement, format.text(text), values)
+            let told = with_rest(told.with_values(values), format, rest);
+            with_unclear(told, format, rows.unclear_cells())
         }
         Event::Fetch { statement, rows } => Told::new("fetch")
             .with("statement", statement)
@@ -40,26 +131,48 @@ pub fn asked(format: Format, event: &Event) -> Option<Told> {
         Event::Ping => Told::new("ping"),
         Event::ResetConnection => Told::new("reset connection"),
         Event::Command(command) => other(format, command),
-        Event::Other(payload) => Told::new("unknown").with_text(format.text(payload)),
+        Event::Other(payload) => telling.unknown(payload),
         _ => return None,
     };
     Some(told)
 }
 
-/// An execution of a statement, by the text that was prepared.
-fn about(kind: &'static str, statement: u32, text: String, values: String) -> Told {
-    Told::new(kind)
-        .with("statement", statement)
-        .with_text(text)
-        .with_values(values)
+/// Cells that servers read each their way, from the first one on.
+fn with_unclear(told: Told, format: Format, cells: &[u8]) -> Told {
+    with_bytes(told, format, "unclear", cells)
 }
 
-fn with_attributes(told: Told, format: Format, attributes: &Attributes) -> Told {
+/// Bytes of an execution that are left over.
+fn with_rest(told: Told, format: Format, rest: &[u8]) -> Told {
+    with_bytes(told, format, "rest", rest)
+}
+
+/// Bytes of an execution, where it has some.
+fn with_bytes(told: Told, format: Format, name: &'static str, bytes: &[u8]) -> Told {
+    match (bytes, told.is_secret) {
+        ([], _) => told,
+        (_, true) => told.with(name, format.text(HIDDEN)),
+        _ => told.with(name, format.text(bytes)),
+    }
+}
+
+/// Attributes, of which some are read by servers each their way.
+fn with_attributes(
+    told: Told,
+    format: Format,
+    attributes: &Attributes,
+    is_unclear: impl Fn(usize) -> bool,
+) -> Told {
     if attributes.is_empty() {
         return told;
     }
-    let pairs = attributes.iter().map(|(name, value)| {
-        format.list([format.value(name.into()), format.value(value)].into_iter())
+    let pairs = (0..).zip(attributes.iter()).map(|(number, (name, value))| {
+        let value = if is_unclear(number) {
+            format.unclear()
+        } else {
+            format.value(value)
+        };
+        format.list([format.value(name.into()), value].into_iter())
     });
     told.with("attributes", format.list(pairs))
 }

@@ -4,6 +4,7 @@
 //! no text moves a terminal's cursor, and bytes that aren't UTF-8 by their digits. In JSON a text
 //! that isn't UTF-8 is an object with its digits: `{"hex":"ff00"}`.
 
+use crate::commands::HIDDEN;
 use crate::texts::{date_digits, json_text, now, quoted, readable, time_digits};
 use mysql_session::{BulkValue, ErrorPacket, Event, OkPacket, Value};
 use std::fmt::Write;
@@ -23,6 +24,8 @@ pub struct Told {
     pub fields: Vec<(&'static str, String)>,
     pub text: Option<String>,
     pub values: Option<String>,
+    /// Whether it has a secret that isn't told. Nor is what the server says of it then.
+    pub is_secret: bool,
 }
 
 /// A result in a server's reply.
@@ -71,6 +74,7 @@ impl Told {
             fields: Vec::new(),
             text: None,
             values: None,
+            is_secret: false,
         }
     }
 
@@ -120,6 +124,13 @@ impl Outcome {
             affected: ok.affected_rows,
             insert_id: ok.last_insert_id,
             warnings: ok.warnings,
+        }
+    }
+
+    /// Hides the message of an error, which may have a part of the text or of a value.
+    pub fn hide_message(&mut self) {
+        if let Outcome::Error { message, .. } = self {
+            *message = HIDDEN.to_vec();
         }
     }
 
@@ -173,6 +184,14 @@ impl Format {
             (BulkValue::Ignore, Format::Text) => "IGNORE".to_string(),
             (BulkValue::Default, Format::Json) => r#"{"indicator":"default"}"#.to_string(),
             (BulkValue::Ignore, Format::Json) => r#"{"indicator":"ignore"}"#.to_string(),
+        }
+    }
+
+    /// A value that servers read each their way.
+    pub fn unclear(self) -> String {
+        match self {
+            Format::Text => "?".to_string(),
+            Format::Json => r#"{"unclear":true}"#.to_string(),
         }
     }
 

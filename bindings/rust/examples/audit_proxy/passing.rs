@@ -35,12 +35,18 @@ impl Passage {
 
     /// Passes all on in both directions, until both have ended. Of the server some bytes may have
     /// come already.
-    pub fn pass(self, client: &TcpStream, server: &TcpStream, came: Vec<u8>) {
+    ///
+    /// # Errors
+    /// No thread can be had for the second direction. Nothing was passed on then.
+    pub fn pass(self, client: &TcpStream, server: &TcpStream, came: Vec<u8>) -> io::Result<()> {
         thread::scope(|scope| {
-            scope.spawn(|| self.pass_side(Side::Server, came, server, client));
+            thread::Builder::new()
+                .spawn_scoped(scope, || self.pass_side(Side::Server, came, server, client))?;
             self.pass_side(Side::Client, Vec::new(), client, server);
-        });
+            io::Result::Ok(())
+        })?;
         self.audit().end();
+        Ok(())
     }
 
     fn audit(&self) -> MutexGuard<'_, Audit> {

@@ -2,8 +2,8 @@
 
 use crate::passwords::Secret;
 use mysql_session::{
-    capability, command, Bytes, Capabilities, Connection, ErrorPacket, Event, Greeting, Limits,
-    Login, Side,
+    bind_text_in, capability, command, Bytes, Capabilities, Connection, Event, Greeting, Limits,
+    Login, Mode, ParameterSets, Side, Spelling,
 };
 use std::error::Error;
 use std::io::{self, Read, Write};
@@ -23,6 +23,11 @@ const NATIVE: &[u8] = b"mysql_native_password";
 
 /// What a server of caching_sha2_password says where it wants the password itself.
 const FULL: &[u8] = b"\x04";
+
+/// What is tracked already, and the SQL mode with it. The answer tells the mode, which is set to
+/// itself. The text is the same in each mode.
+const TRACK_MODE: &[u8] = b"SET session_track_system_variables = CONCAT_WS(',', 'sql_mode', \
+    NULLIF(@@session_track_system_variables, '')), sql_mode = @@sql_mode";
 
 /// What takes a connection to where it isn't read.
 const HIDDEN: u32 = capability::CLIENT_COMPRESS
@@ -63,7 +68,48 @@ impl Client {
         };
         client.stream.set_nodelay(true)?;
         client.log_in(account)?;
+        client.track_mode()?;
         Ok(client)
+    }
+
+    /// Asks the server for its SQL mode, and to tell each change of it, if it can. A status isn't
+    /// enough: behind a procedure that set the mode a MariaDB tells by it a mode that it isn't in.
+    fn track_mode(&mut self) -> Result<(), Failure> {
+        if self.connection.capabilities().protocol & capability::CLIENT_SESSION_TRACK == 0 {
+            return Ok(());
+        }
+        self.query(TRACK_MODE)?;
+        while self.awaits_reply() {
+            self.next()?;
+        }
+        Ok(())
+    }
+
+    /// A query with the values of a set in it, written for the session's mode, for which the server
+    /// is asked if it isn't known. If the server doesn't tell, they are in hexadecimal, which each
+    /// mode reads alike.
+    ///
+    /// By the mode a backslash in the query ends a string or not. If the mode isn't known no text
+    /// of such a query is made: it has to be executed.
+    pub fn text(
+        &mut self,
+        query: &[u8],
+        sets: &ParameterSets,
+        set: usize,
+    ) -> Result<Bytes, Failure> {
+        if self.connection.mode().is_none() {
+            self.track_mode()?;
+        }
+        let (mode, spelling) = match self.connection.mode() {
+            Some(mode) => (mode, Spelling::Quoted),
+            None if query.contains(&b'\\') => {
+                return Err("the mode isn't known, and the query has a backslash".into())
+            }
+            None => (Mode::default(), Spelling::Hexadecimal),
+        };
+        let mut text = Bytes::new()?;
+        bind_text_in(sets, set, query, mode, spelling, &mut text)?;
+        Ok(text)
     }
 
     /// Whether the server is due, which replies.
@@ -140,7 +186,7 @@ impl Client {
     fn log_in(&mut self, account: &Account<'_>) -> Result<(), Failure> {
         let payload = self.greeting()?;
         if let Event::Rejected(error) = self.next()? {
-            return Err(text_of(&error).into());
+            return Err(error.to_string().into());
         }
         let greeting = Greeting::read(&payload)?;
         let nonce = [greeting.scramble_1, greeting.scramble_2].concat();
@@ -171,7 +217,7 @@ impl Client {
         loop {
             let response = match self.next()? {
                 Event::Accepted(_) => return Ok(()),
-                Event::Denied(error) => return Err(text_of(&error).into()),
+                Event::Denied(error) => return Err(error.to_string().into()),
                 Event::AuthSwitch { plugin, data } => {
                     // A nonce ends with a zero.
                     let nonce = data.strip_suffix(b"\0").unwrap_or(data);
@@ -214,13 +260,4 @@ fn response(account: &Account<'_>, plugin: &[u8], nonce: &[u8]) -> Option<Vec<u8
         Some(password) => password.answer(plugin, nonce),
         None => Some(Vec::new()),
     }
-}
-
-/// An error of the server's, as its own clients print it.
-pub fn text_of(error: &ErrorPacket<'_>) -> String {
-    let state = error.state.map_or(String::new(), |state| {
-        format!(" ({})", String::from_utf8_lossy(&state))
-    });
-    let message = String::from_utf8_lossy(error.message);
-    format!("error {}{state}: {message}", error.code)
 }

@@ -1,5 +1,5 @@
 use Rattle.std.proofs.Common.{inr, refl, subst, sym, ℕ}
-use Rattle.mysql_values.specs.Sql.{read_in}
+use Rattle.mysql_values.specs.Sql.{read_by}
 use Rattle.mysql_c_commands.specs.Recoding.{IsWhyNoRecoder}
 use Rattle.mysql_c_commands.proofs.recoder.recoder_new.Goals as goal
 
@@ -11,5 +11,5 @@ returns-in-Err c =
       made = λ zero. absurd (c.in-Err.ensures.cause.1 (cc));
       kept = λ other. refl;
       small = λ low. let is = c.in-Err.ensures.small low in cc;
-      cause = inr (subst (λ (n : ℕ). IsWhyNoRecoder (read_in c.in-Some.mode c.args.query.now) c.args.id c.args.limit n) (sym number) c.in-Err.ensures.cause.0);
+      cause = inr (subst (λ (n : ℕ). IsWhyNoRecoder (read_by c.in-Some.mode c.in-Some.spelling c.args.query.now) c.args.id c.args.limit n) (sym number) c.in-Err.ensures.cause.0);
     })
