@@ -25,8 +25,8 @@ use std::borrow::{CowSlice, CowStr};
 /// What a server sends to a plugin beside its first data.
 /// (MySQL: Client/Server Protocol, "Protocol::AuthMoreData".)
 ///
-/// Promise: its bytes are a function of its data; any bytes are read exactly as its layout says,
-/// and what was written is read back where nothing follows (`headed`, `headed_at`).
+/// Promise: its bytes are a function of its data. Any bytes are read exactly as its layout says.
+/// What was written is read back where nothing follows (`headed`, `headed_at`).
 #[derive(Debug, PartialEq, Eq, Drop)]
 pub struct AuthMoreData<'a> {
     data: CowSlice<'a, u8>,
@@ -136,8 +136,8 @@ impl<'de> MyDeserialize<'de> for AuthMoreData<'de> {
 /// The server's public key, by which a password is hidden.
 /// (MySQL: Client/Server Protocol, "Caching SHA-2 Authentication".)
 ///
-/// Promise: its bytes are a function of its key; any bytes are read exactly as its layout says, and
-/// what was written is read back where nothing follows (`headed`, `headed_at`).
+/// Promise: its bytes are a function of its key. Any bytes are read exactly as its layout says.
+/// What was written is read back where nothing follows (`headed`, `headed_at`).
 #[derive(Debug, PartialEq, Eq, Drop)]
 pub struct PublicKeyResponse<'a> {
     rsa_key: CowSlice<'a, u8>,

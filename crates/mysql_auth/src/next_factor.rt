@@ -25,8 +25,8 @@ use std::borrow::CowSlice;
 /// both sides have `MULTI_FACTOR_AUTHENTICATION`.
 /// (MySQL: Client/Server Protocol, "Protocol::AuthNextFactor".)
 ///
-/// Promise: its bytes are a function of its fields, any bytes are read exactly as its layout says,
-/// with the first refusal from the left, and what was written is read back where nothing follows, the
+/// Promise: its bytes are a function of its fields. Any bytes are read exactly as its layout says,
+/// with the first refusal from the left. What was written is read back where nothing follows, the
 /// name before its first zero (`next_factor`, `next_factor_at`, `switch_kept`).
 #[derive(Debug, PartialEq, Eq, Drop)]
 pub struct AuthNextFactor<'a> {

@@ -5,7 +5,7 @@ ghost use Rattle.mysql_auth.specs.Plugins.{parsec_salt};
 
 /// The number of iterations and the salt that a server's packet names.
 ///
-/// The packet has 20 bytes, of which the first is `P` and the second a factor of at most 20; the
+/// The packet has 20 bytes: the first is `P`, and the second is a factor of at most 20. The
 /// iterations are 1024 times two to the factor. None of other bytes. (MariaDB: "Authentication
 /// Plugin - PARSEC".)
 ///

@@ -93,8 +93,8 @@ impl<'de> MyDeserialize<'de> for OldAuthSwitchRequest {
 /// A server's request to go on with another plugin.
 /// (MySQL: Client/Server Protocol, "Protocol::AuthSwitchRequest".)
 ///
-/// Promise: its bytes are a function of its fields, any bytes are read exactly as its layout says,
-/// with the first refusal from the left, and what was written is read back where nothing follows, the
+/// Promise: its bytes are a function of its fields. Any bytes are read exactly as its layout says,
+/// with the first refusal from the left. What was written is read back where nothing follows, the
 /// name before its first zero (`switch`, `switch_at`, `switch_kept`).
 #[derive(Debug, PartialEq, Eq, Drop)]
 pub struct AuthSwitchRequest<'a> {

@@ -15,8 +15,8 @@ use bytes::BufMut;
 use std::alloc::AllocError;
 
 /// What every buffer writes besides [`BufMut`]'s numbers. A call appends all its bytes, or is
-/// refused for want of memory and leaves the buffer's bytes as they were; none is refused where
-/// the buffer has room.
+/// refused for want of memory and leaves the buffer's bytes as they were. None is refused where the
+/// buffer has room.
 /// (MySQL: Client/Server Protocol, "Protocol Basics: Integer Types" and "String Types".)
 ///
 /// Promise: each call appends exactly its bytes, or refuses only where room is missing and leaves

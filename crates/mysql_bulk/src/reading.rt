@@ -58,9 +58,10 @@ impl Readable for StmtBulkExecuteParamValue {
     }
 }
 
-/// Reads a value by its column's type and flags: a cell behind the indicator 0, and NULL without a
-/// cell behind 1 (NULL), 2 (DEFAULT) and 3 (IGNORE). Refused by UnexpectedEof where it is cut off,
-/// UnknownValue for another indicator, UnsupportedType for a cell of a type that has none, Memory.
+/// Reads a value by its column's type and flags. A cell follows the indicator 0. After 1 (NULL), 2
+/// (DEFAULT) and 3 (IGNORE) the value is NULL, without a cell. Refused by UnexpectedEof where it is
+/// cut off, UnknownValue for another indicator, UnsupportedType for a cell of a type that has none,
+/// Memory.
 ///
 /// MariaDB: Client/Server Protocol, "COM_STMT_BULK_EXECUTE".
 #[tactic(auto, unfolding(crate::specs::Reading::param_value_at))]

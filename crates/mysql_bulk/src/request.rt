@@ -44,12 +44,12 @@ pub(crate) fn sends(flags: StmtBulkExecuteFlags) -> bool
 impl ComStmtBulkExecuteRequest {
     /// The execution with these rows, by the types of their values.
     ///
-    /// The types are sent where the flags say so: a column has the type of its first value that
-    /// isn't NULL, without a sign also where a later value of that type has none, and NULL where
-    /// there is no such value.
+    /// The types are sent where the flags say so. A column has the type of its first value that
+    /// isn't NULL, and NULL where there is no such value. The type is without a sign also where a
+    /// later value of that type has none.
     ///
-    /// Promise: the types are those of each column's first value that isn't NULL, without a sign
-    /// also where a later value of that type has none; it never refuses `RowTooLarge`
+    /// Promise: the types are those of each column's first value that isn't NULL. A type is without
+    /// a sign also where a later value of that type has none. It never refuses `RowTooLarge`
     /// (`column_types_of`).
     ///
     /// # Errors

@@ -160,8 +160,9 @@ fn request_of(
 
 /// Reads a bulk execution and its first row, and leaves the rest. The context gives the type and
 /// flags of each column; types that are sent take their place. Refused by UnexpectedEof where it is
-/// cut off, BadConstant for another first byte, UnknownValue for flags, types or indicators without
-/// names, UnsupportedType for a cell of a type that has none, whichever stands first, then Memory.
+/// cut off, and by BadConstant for another first byte. Refused by UnknownValue for flags, types or
+/// indicators without names, and by UnsupportedType for a cell of a type that has none. Of these it
+/// is whichever stands first, then Memory.
 ///
 /// MariaDB: Client/Server Protocol, "COM_STMT_BULK_EXECUTE".
 impl<'de> MyDeserialize<'de> for ComStmtBulkExecuteRequest {

@@ -241,13 +241,13 @@ impl<'a> ComStmtBulkExecuteRequestBuilder<'a> {
 
     /// Adds a row.
     ///
-    /// Answers None where the row was taken, and the row where the rows held leave no room for it,
-    /// or where `usize::MAX` rows are held: build their request first, and then add it again. The
-    /// first row taken sets how many values each row has, over builds too.
+    /// Answers None where the row was taken. Answers the row where the rows held leave no room for
+    /// it, or where `usize::MAX` rows are held. Build their request then, and add the row again.
+    /// The first row taken sets how many values each row has, over builds too.
     ///
     /// Promise: the row is taken exactly where it has the arity, fewer than `usize::MAX` rows are
-    /// held and there is room, given back where rows are held and there is none, and else refused;
-    /// a refused call changes nothing (`Adds`, `GivesBack`).
+    /// held and there is room. Where rows are held and there is no room, it is given back; else it
+    /// is refused. A refused call changes nothing (`Adds`, `GivesBack`).
     ///
     /// # Errors
     /// - `MixedArity`.
@@ -323,7 +323,7 @@ impl<'a> ComStmtBulkExecuteRequestBuilder<'a> {
     /// Builds the request of the rows held, and lets them go.
     ///
     /// Promise: the request has the rows held, with the types of their columns where none was built
-    /// before; the builder then holds none, and after a refusal it is as it was (`request_of`,
+    /// before. The builder then holds none, and after a refusal it is as it was (`request_of`,
     /// `after_build`).
     ///
     /// # Errors

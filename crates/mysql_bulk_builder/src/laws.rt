@@ -77,7 +77,7 @@ pub fn types_in_force_serve()
 
 /// The requests that an iterator gives are those of the first parts of the tight cut.
 ///
-/// The cut is that of the rows held and given, at most `usize::MAX` together; where no row is left
+/// The cut is that of the rows held and given, at most `usize::MAX` together. Where no row is left
 /// the requests are those of all its parts.
 pub fn iterators_give_the_tight_cut()
     ensures { GivesFirst }

@@ -18,7 +18,7 @@ use mysql_values::Params;
 /// the one that it speaks of stay with the builder.
 ///
 /// Promise: the requests fit, and are those of the one cut in which each takes as many rows as
-/// there is room for: no cut that fits has fewer (`IsTightTyped`).
+/// there is room for. No cut that fits has fewer (`IsTightTyped`).
 #[derive(Debug, Drop)]
 pub struct BulkRequests<'b, 'a> {
     builder: &'b mut ComStmtBulkExecuteRequestBuilder<'a>,

@@ -204,8 +204,8 @@ fn row_sizes(
 
 /// Cuts rows into as few requests as there can be, each with types or without.
 ///
-/// Promise: the cut is the tight one, and it is refused, but for want of memory, exactly by the
-/// least row that fits no request of its own (`HasNoTypedCut`).
+/// Promise: the cut is the tight one. But for want of memory, it is refused exactly by the least
+/// row that fits no request of its own (`HasNoTypedCut`).
 pub fn bulk_cut(
     alloc: Global,
     rows: &[&[&Value]],

@@ -30,8 +30,8 @@ use std::borrow::CowStr;
 
 /// A column of a result set, or a parameter or a column of a prepared statement.
 ///
-/// Promise: `serialize` appends exactly the column's bytes; reading answers exactly what the layout
-/// gives of any bytes, or its refusal, which leaves all bytes (`column`, `column_at`).
+/// Promise: `serialize` appends exactly the column's bytes. Reading answers exactly what the layout
+/// gives of any bytes, or its refusal. A refusal leaves all bytes (`column`, `column_at`).
 ///
 /// MySQL: Client/Server Protocol, "Column Definition".
 #[derive(Debug, PartialEq, Eq, Drop)]
@@ -502,9 +502,9 @@ impl ReadsBack for Column {
     ghost reads_back = { λ _ p. column_at-back (column_view p) };
 }
 
-/// Reads a column, whose names are copied. Refused, from the left, by UnexpectedEof where it is cut
-/// off, by BadConstant for another catalog than `def` or another length of the fixed fields than
-/// 12, by UnknownValue for a type without a name, then by Memory.
+/// Reads a column, whose names are copied. Refused from the left by one of these, then by Memory.
+/// UnexpectedEof is for one that is cut off. BadConstant is for another catalog than `def` or
+/// another length of the fixed fields than 12. UnknownValue is for a type without a name.
 ///
 /// MySQL: Client/Server Protocol, "Column Definition".
 #[tactic(auto, unfolding(crate::specs::Columns::column_at))]

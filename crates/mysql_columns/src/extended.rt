@@ -33,12 +33,12 @@ const FORMAT: u8 = 1;
 /// A column, and the metadata that a MariaDB sends behind its names. They stand there where both
 /// sides have EXTENDED_METADATA; where they haven't, it is the column alone.
 ///
-/// The metadata are kept as their bytes. What they say is looked at by [`ExtendedColumn::type_name`]
-/// and [`ExtendedColumn::format`]; metadata that aren't laid out as values are no error, as long as
-/// their own length is right.
+/// The metadata are kept as their bytes. What they say is looked at by
+/// [`ExtendedColumn::type_name`] and [`ExtendedColumn::format`]. Metadata that aren't laid out as
+/// values are no error, as long as their own length is right.
 ///
-/// Promise: `serialize` appends exactly the packet's bytes; reading answers exactly what the layout
-/// gives of any bytes, or its refusal, which leaves all bytes (`extended_column`,
+/// Promise: `serialize` appends exactly the packet's bytes. Reading answers exactly what the layout
+/// gives of any bytes, or its refusal. A refusal leaves all bytes (`extended_column`,
 /// `extended_column_at`).
 ///
 /// MariaDB: Client/Server Protocol, "Result Set Packets", 'Column Definition Packet'.
@@ -345,8 +345,8 @@ impl<'de> MyDeserialize<'de> for ExtendedColumn {
 
 /// A column of an answer to COM_FIELD_LIST, with its default where it has one.
 ///
-/// Promise: `serialize` appends exactly the packet's bytes; reading answers exactly what the layout
-/// gives of any bytes, or its refusal, which leaves all bytes (`listed_column`,
+/// Promise: `serialize` appends exactly the packet's bytes. Reading answers exactly what the layout
+/// gives of any bytes, or its refusal. A refusal leaves all bytes (`listed_column`,
 /// `listed_column_at`).
 ///
 /// MySQL: Client/Server Protocol, "COM_FIELD_LIST" and "Column Definition".

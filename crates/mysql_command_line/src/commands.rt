@@ -7,7 +7,7 @@ use crate::reading::{Skips, read_input};
 use crate::stop::Stop;
 use crate::words::Statement;
 use mysql_session::{
-    Audit, End, Query, Receiver, RecodeError, Road, Spelling, StreamFault, send_contents_in,
+    Audit, End, Query, Receiver, RecodeError, Road, StreamFault, send_contents_in,
 };
 use std::alloc::Global;
 use std::io::{Read, Write};
@@ -16,7 +16,6 @@ use std::io::{Read, Write};
 pub(crate) fn encode<R: Read, W: Write>(
     alloc: Global,
     road: Road,
-    spelling: Spelling,
     statement: Statement<'_>,
     input: &mut R,
     output: &mut W,
@@ -27,6 +26,7 @@ pub(crate) fn encode<R: Read, W: Write>(
     let Statement {
         query,
         mode,
+        spelling,
         id,
         limit,
     } = statement;
@@ -54,10 +54,11 @@ fn audit_input<R: Read>(
     let Statement {
         query,
         mode,
+        spelling,
         id,
         limit,
     } = statement;
-    match Receiver::new_in(alloc, query, id, limit, mode) {
+    match Receiver::new_in(alloc, query, id, limit, mode, spelling) {
         Ok(mut receiver) => {
             read_input(alloc, input, &mut receiver)?;
             audit_of(receiver)
@@ -108,6 +109,7 @@ pub(crate) fn recode<R: Read, W: Write>(
     let Statement {
         query,
         mode,
+        spelling: _,
         id,
         limit,
     } = statement;

@@ -24,8 +24,8 @@ fn framed(limit: usize) -> usize {
     limit.saturating_add(chunks.saturating_mul(HEADER_LEN))
 }
 
-/// The limits of a connection whose payloads are no longer than this: beside the unread bytes of both
-/// sides as much is kept as four such payloads.
+/// The limits of a connection whose payloads are no longer than this. Beside the unread bytes of
+/// both sides as much is kept as four such payloads.
 fn limits_of(limit: usize) -> Limits {
     let unread = framed(limit).saturating_mul(2);
     Limits {

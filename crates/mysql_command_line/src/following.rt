@@ -40,12 +40,13 @@ pub(crate) fn follow<R: Read, W: Write>(
     let Statement {
         query,
         mode,
+        spelling,
         id,
         limit,
     } = statement;
     let mut following = Following {
         alloc,
-        receiver: Receiver::new_in(alloc, query, id, limit, mode)?,
+        receiver: Receiver::new_in(alloc, query, id, limit, mode, spelling)?,
         printed: 0,
         output,
     };

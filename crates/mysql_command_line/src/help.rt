@@ -13,6 +13,6 @@ pub(crate) const HELP: &str =
 ROAD is text, execute or bulk, ID the statement's id, LIMIT the most bytes of a packet, from 4.
 QUERY has question marks, or names as :a; sets are [[1, \"x\"], ..], or [{\"a\": 1}, ..] for :a.
 Before ROAD or ID: --mode no-backslash-escapes,ansi-quotes (the server's, one or both), and
-of encode --hex (byte strings of texts in hexadecimal, the same in each mode).
+--hex (byte strings of texts in hexadecimal, the same in each mode).
 Status: 0 done, 1 refused or a stream that isn't whole, 2 unknown words or input.
 ";

@@ -87,9 +87,7 @@ fn run_words<R: Read, W: Write>(
 ) -> Result<Status, Stop> {
     match task_of(words)? {
         Task::WorkedRun => worked_run(alloc, output),
-        Task::Encode(road, spelling, statement) => {
-            encode(alloc, road, spelling, statement, input, output)
-        }
+        Task::Encode(road, statement) => encode(alloc, road, statement, input, output),
         Task::Audit(statement) => audit(alloc, statement, input, output),
         Task::Follow(statement) => follow(alloc, statement, input, output),
         Task::Recode(statement) => recode(alloc, statement, input, output),
@@ -113,9 +111,9 @@ fn answer_stop<W: Write>(output: &mut W, stop: &Stop) -> Status {
 
 /// Runs the program over its words, its input and its output, and answers its exit status.
 ///
-/// Without words it sends the query `SELECT :a` with a = 1 by text, prints the stream in
-/// hexadecimal, reads it back byte by byte and prints the audit: a line for each set and one for
-/// the end.
+/// Without words it sends the query `SELECT :a` with a = 1 by text, and prints the stream in
+/// hexadecimal. It then reads it back byte by byte and prints the audit: a line for each set and
+/// one for the end.
 ///
 /// - `encode ROAD ID LIMIT QUERY` reads a list of parameter sets in JSON and prints the commands
 ///   that carry them by `text`, `execute` or `bulk`.
@@ -124,20 +122,20 @@ fn answer_stop<W: Write>(output: &mut W, stop: &Stop) -> Status {
 /// no further than to a fault.
 /// - `recode ID LIMIT QUERY` reads a stream of commands and prints the executions that carry the same sets.
 /// - `connection LIMIT` reads a transcript of a connection and prints a line for each payload, as
-/// soon as it stands, and reads no further than to a fault or an end.
+///   soon as it stands. It reads no further than to a fault or an end.
 /// - `help` prints these words in thirteen lines, and reads nothing.
 ///
 /// Behind a command `--mode NAMES` may stand, with `no-backslash-escapes` and `ansi-quotes` between
-/// commas: the modes of the server that reads the commands. Behind it, of `encode` alone, `--hex`
-/// may stand: texts have byte strings in hexadecimal.
+/// commas: the modes of the server that reads the commands. `--hex` may follow: texts have byte strings
+/// in hexadecimal.
 ///
 /// Other words print `usage`, and a limit that is no whole number from 4 to `usize::MAX` prints
 /// `bad limit`, before anything is read. Input that can't be read, or not by 1000000 reads, prints
 /// `bad input`, then a text that is no list of sets `bad json`. A refusal comes after these: it
 /// prints `refused:` and its name. `follow` refuses the query before it reads. It and `connection`
-/// have no greatest number of reads, and print `bad input` behind the lines of what came;
-/// `connection` so prints `bad transcript` where a record is none, or is cut off. After a write that
-/// fails nothing more is written.
+/// have no greatest number of reads, and print `bad input` behind the lines of what came.
+/// `connection` so prints `bad transcript` where a record is none, or is cut off. After a write
+/// that fails nothing more is written.
 pub fn run<R: Read, W: Write>(
     alloc: Global,
     words: &[String],

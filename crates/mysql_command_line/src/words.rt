@@ -8,11 +8,13 @@ ghost use Rattle.mysql_command_line.specs.declared.stop.Stop.TheVariants as stop
 use crate::stop::Stop;
 use mysql_session::{Mode, Road, Spelling};
 
-/// A query for a server in a mode, the id of its statement and the limit of its packets.
+/// A query for a server in a mode, and how byte strings are spelled in its texts. With it go its
+/// statement's id and the limit of its packets.
 #[derive(Clone, Copy)]
 pub(crate) struct Statement<'a> {
     pub(crate) query: &'a [u8],
     pub(crate) mode: Mode,
+    pub(crate) spelling: Spelling,
     pub(crate) id: u32,
     pub(crate) limit: usize,
     ghost holds_a_header: { 4 ≤ limit },
@@ -23,8 +25,8 @@ pub(crate) struct Statement<'a> {
 pub(crate) enum Task<'a> {
     /// One set sent by text, received and audited.
     WorkedRun,
-    /// Parameter sets in JSON as commands, by text with byte strings in this spelling.
-    Encode(Road, Spelling, Statement<'a>),
+    /// Parameter sets in JSON as commands.
+    Encode(Road, Statement<'a>),
     /// What a stream of commands says, line by line.
     Audit(Statement<'a>),
     /// What a stream of commands says, line by line, as the stream comes.
@@ -65,9 +67,10 @@ fn statement_of<'a>(
     limit: &str,
     query: &'a str,
     mode: Mode,
+    spelling: Spelling,
 ) -> Result<Statement<'a>, Stop>
     ensures statement { IfOk result (λ it. (it.query.now ≡ query.entry.now) × (it.mode ≡ mode) ×
-        (it.id ≡ digits_value 10 id.now) × (it.limit ≡ digits_value 10 limit.now)) }
+        (it.spelling ≡ spelling) × (it.id ≡ digits_value 10 id.now) × (it.limit ≡ digits_value 10 limit.now)) }
     ensures usage { IsErrOf result stop.Usage ↔ ¬ IsId id.now }
     ensures bad_limit { IsErrOf result stop.BadLimit ↔ IsId id.now × ¬ IsLimit limit.now }
 {
@@ -81,6 +84,7 @@ fn statement_of<'a>(
         Some(limit) if limit >= 4 => Ok(Statement {
             query: query.as_bytes(),
             mode,
+            spelling,
             id,
             limit,
         }),
@@ -139,8 +143,8 @@ fn encoding_of(words: &[String]) -> Result<Task<'_>, Stop> {
     match words {
         [road, id, limit, query] => {
             let road = road_of(road)?;
-            let statement = statement_of(id, limit, query, mode)?;
-            Ok(Task::Encode(road, spelling, statement))
+            let statement = statement_of(id, limit, query, mode, spelling)?;
+            Ok(Task::Encode(road, statement))
         }
         _ => Err(Stop::Usage),
     }
@@ -149,8 +153,9 @@ fn encoding_of(words: &[String]) -> Result<Task<'_>, Stop> {
 /// The statement that the words behind another command name.
 fn statement_in(words: &[String]) -> Result<Statement<'_>, Stop> {
     let (mode, words) = mode_first(words)?;
+    let (spelling, words) = spelling_first(words);
     match words {
-        [id, limit, query] => statement_of(id, limit, query, mode),
+        [id, limit, query] => statement_of(id, limit, query, mode, spelling),
         _ => Err(Stop::Usage),
     }
 }

@@ -45,8 +45,8 @@ impl BitmapBytes for &mut [u8] {
 /// Which columns are NULL: a bit for each, in the bytes `U`, as the side `T` writes them. Columns
 /// count from 0; their byte has to stand in the bitmap, and there are at most `usize::MAX - 9`.
 ///
-/// Promise: `is_null` answers a column's bit, `set` changes that bit alone, `read` takes exactly
-/// the bitmap's bytes, and `iter` gives the columns in order (`SetsBit`, `nulls_of`).
+/// Promise: `is_null` answers a column's bit, and `set` changes that bit alone. `read` takes
+/// exactly the bitmap's bytes, and `iter` gives the columns in order (`SetsBit`, `nulls_of`).
 ///
 /// MySQL: Client/Server Protocol, "Null-Bitmap".
 #[derive(Drop)]

@@ -123,7 +123,7 @@ pub trait ReadsBack: MySerialize + Readable {
 /// A value that is read from the front of a buffer.
 ///
 /// Promise: reading answers exactly what the type's function gives of the bytes, the value and the
-/// rest or the refusal, and a refusal leaves all bytes (`Answers`).
+/// rest or the refusal. A refusal leaves all bytes (`Answers`).
 pub trait MyDeserialize<'de>: Readable {
     /// Reads the value that stands first.
     ///

@@ -15,9 +15,10 @@ use std::alloc::{AllocFailed, Global};
 
 /// A type that a [`Row`] converts to.
 ///
-/// A tuple of one to twelve values is read from a row of as many columns, each value from the cell
-/// at its place, as [`FromValue`] says. A value by itself, as a number or a text
-/// ([`SingleValue`](crate::SingleValue)), is read from a row of one column, and a [`Row`] is any row.
+/// A tuple of one to twelve values is read from a row of as many columns. Each value is read from
+/// the cell at its place, as `FromValue` says. A value by itself, as a number or a text
+/// ([`SingleValue`](crate::SingleValue)), is read from a row of one column, and a [`Row`] is any
+/// row.
 ///
 /// An impl says by `converted` what each row converts to. One for a type of one's own takes a tuple
 /// apart, or reads cells by their columns' names with [`from_cell`]:
@@ -32,8 +33,8 @@ use std::alloc::{AllocFailed, Global};
 ///         }
 ///     }
 ///
-/// Promise: a tuple is answered exactly where the row has as many columns and each cell converts,
-/// and then has what each cell converts to (`of_columns`, `numbered_as`).
+/// Promise: a tuple is answered exactly where the row has as many columns and each cell converts.
+/// It then has what each cell converts to (`of_columns`, `numbered_as`).
 pub trait FromRow: Sized {
     // what this is, apart from where it lies
     ghost Shown: { Type 0 };

@@ -29,7 +29,7 @@ pub trait FromRowRef<'p>: Sized {
     /// Converts a row; None where it doesn't convert.
     ///
     /// Promise: the result is the one that the type's definition says, of callers' impls too, and
-    /// None exactly where there is none; no memory is asked for.
+    /// None exactly where there is none. No memory is asked for.
     fn from_row_ref(row: &RowRef<'_, 'p>) -> Option<Self>
         ensures { option_map shown result ≡ converted (row_ref_view row.now) };
 }

@@ -1,5 +1,5 @@
-//! Rows that become values of Rust: tuples, single values, and types of one's own, by [`FromRow`];
-//! and those of a row that is lent, where its cells lie, by [`FromRowRef`].
+//! Rows that become values of Rust: tuples, single values, and types of one's own, by `FromRow`.
+//! Those of a row that is lent, where its cells lie, do so by `FromRowRef`.
 //!
 //!     let (id, name) = from_row_ref::<(u32, &str)>(&row)?;
 #![tactic(auto)]

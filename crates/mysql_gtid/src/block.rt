@@ -286,8 +286,8 @@ impl<'de> MyDeserialize<'de> for Sid<'de> {
 /// Where one of them has a tag the block is tagged, and each set has its tag after its length, 0
 /// where it has none.
 ///
-/// Promise: it is written as exactly its bytes, read as exactly what stands there, and read back
-/// whatever follows where it has less than 2^32 bytes (`block_bytes`, `block_at`).
+/// Promise: it is written as exactly its bytes, and read as exactly what stands there. It is read
+/// back, whatever follows, where it has less than 2^32 bytes (`block_bytes`, `block_at`).
 ///
 /// MySQL: Client/Server Protocol, "COM_BINLOG_DUMP_GTID"; Source Code Documentation, "Gtid_set::encode".
 #[derive(Debug, PartialEq, Eq, Hash, Drop)]
@@ -460,7 +460,7 @@ fn sids_from<'de>(
 }
 
 /// Reads a block. Refused by UnexpectedEof where the bytes end before its sets do, and by
-/// UnknownValue for a text that is no tag, whichever stands first; a count larger than the bytes
+/// UnknownValue for a text that is no tag, whichever stands first. A count larger than the bytes
 /// sizes no allocation.
 ///
 /// MySQL: Client/Server Protocol, "COM_BINLOG_DUMP_GTID"; Source Code Documentation, "Gtid_set::encode".

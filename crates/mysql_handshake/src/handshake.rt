@@ -49,8 +49,8 @@ const SCRAMBLE_2_MAX_LEN: usize = 247;
 /// (MySQL: Client/Server Protocol, "Protocol::HandshakeV10"; MariaDB: "Connecting", 'Initial
 /// handshake packet'.)
 ///
-/// Promise: its bytes are a function of its fields, and any bytes are read exactly as its layout
-/// says, with the first refusal from the left; each direction stands by itself (`handshake`,
+/// Promise: its bytes are a function of its fields. Any bytes are read exactly as its layout says,
+/// with the first refusal from the left. Each direction stands by itself (`handshake`,
 /// `handshake_at`).
 #[derive(Debug, PartialEq, Eq, Drop)]
 pub struct HandshakePacket<'a> {
@@ -377,8 +377,9 @@ impl<'a> HandshakePacket<'a> {
         }
     }
 
-    /// Appends the packet as it is held. Where it was read that is what was read of it, though its
-    /// length be another than the one of its second scramble, or its plugin's name hold a zero.
+    /// Appends the packet as it is held. Where it was read that is what was read of it. That holds
+    /// also where its length is another than the one of its second scramble, or its plugin's name
+    /// holds a zero.
     /// (MySQL: Client/Server Protocol, "Protocol::HandshakeV10".)
     ///
     /// Promise: exactly its fields are appended, or nothing (`greeting`).
@@ -718,9 +719,9 @@ fn handshake_of<'a>(
     })
 }
 
-/// Refused by `UnexpectedEof` where the bytes end before the fixed fields do, by `UnknownValue`
-/// where a bit of the status has no name, and by `UnexpectedEof` where the second scramble is cut
-/// off.
+/// Refused by `UnexpectedEof` where the bytes end before the fixed fields do. Refused by
+/// `UnknownValue` where a bit of the status has no name. Refused by `UnexpectedEof` where the
+/// second scramble is cut off.
 impl<'de> MyDeserialize<'de> for HandshakePacket<'de> {
     // Protocol::HandshakeV10:
     //   int<1>       protocol version

@@ -25,7 +25,7 @@ pub struct InvalidOkPacketHeader;
 /// An OK or EOF packet that was read as one of the kind `T`.
 ///
 /// Promise: of any bytes and for every kind, those of other crates too, the answer is the header's
-/// byte and then the kind's body; no memory is asked for (`packet_at`).
+/// byte and then the kind's body. No memory is asked for (`packet_at`).
 #[derive(Drop)]
 #[derive_where(Debug, PartialEq, Eq)]
 pub struct OkPacketDeserializer<'de, T>(OkPacket<'de>, PhantomData<T>);

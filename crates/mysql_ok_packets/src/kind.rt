@@ -69,8 +69,8 @@ pub trait OkPacketKind {
 pub struct CommonOkPacket;
 
 /// Refused by `UnexpectedEof` where one of the two numbers, status and warnings together, the info
-/// or the session state is cut off, and by `UnknownValue` for a status bit without a name (bit 2),
-/// whichever stands first. MariaDB's bit 15, ANSI_QUOTES, is kept in the status.
+/// or the session state is cut off. Refused by `UnknownValue` for a status bit without a name (bit
+/// 2). It is whichever stands first. MariaDB's bit 15, ANSI_QUOTES, is kept in the status.
 ///
 /// MySQL: Client/Server Protocol, "OK_Packet" and "Status Flags".
 impl OkPacketKind for CommonOkPacket {

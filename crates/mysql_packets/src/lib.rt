@@ -1,6 +1,6 @@
-//! The face of packets: what a server answers (columns, rows, OK packets, errors, progress reports,
-//! requests for files, statement packets), and the commands of prepared statements, single and in
-//! bulk. Values and the wire are passed on with it.
+//! The public crate of packets. A server answers columns, rows, OK packets, errors, progress
+//! reports, requests for files, and statement packets. A client sends the commands of prepared
+//! statements, single and in bulk. Values and the wire are passed on with it.
 #![tactic(auto)]
 
 pub use mysql_bulk::BulkExecuteRequestError;

@@ -144,8 +144,8 @@ fn flat_request(alloc: Global) -> Result<ComStmtBulkExecuteRequest, AllocError> 
     ComStmtBulkExecuteRequest::from_flat(alloc, 1, TYPED, 1, count, &mut values)
 }
 
-/// Bytes that begin with a request over one column of long numbers, how many are left behind it, and
-/// its own ones or why they are refused.
+/// Bytes that begin with a request over one column of long numbers, and how many are left behind
+/// it. Beside them stand its own bytes, or why they are refused.
 type Received = (&'static [u8], usize, Result<&'static [u8], &'static str>);
 
 /// A request is read with its first row, and without types by those that are known.

@@ -1,11 +1,11 @@
-//! Tests of `mysql_packets` and the crates below it from outside: what only Rattle has of columns, OK
-//! and error packets, session states, rows and commands of prepared statements; and the builder of
-//! bulk requests. What such packets say in a reply, and which fronts of them are refused, stands in
-//! rows: bindings/testing/rows.
+//! Tests of `mysql_packets` and the crates below it from outside. They try what only Rattle has of
+//! columns, OK and error packets, session states, and rows. So they do with commands of prepared
+//! statements, and the builder of bulk requests. What such packets say in a reply, and which fronts
+//! of them are refused, stands in rows: bindings/testing/rows.
 //!
-//! A value that a test drops at its end is taken apart there, part by part, and a branch is proved
-//! once for each end; both are dear. So values go to generic functions that take them, and answers
-//! are compared there.
+//! A value that a test drops at its end is taken apart there, part by part. A branch is proved once
+//! for each end. Both are dear. So values go to generic functions that take them, and answers are
+//! compared there.
 #![tactic(auto)]
 
 #[cfg(test)]

@@ -64,8 +64,8 @@ fn assert_written_as<T: OkPacketKind>(
     assert_behind(assert, &out, first.is_ok(), second.is_ok(), bytes);
 }
 
-/// The client's capabilities, bytes, what the packet says that stands first in them, how many bytes
-/// are left behind it, and how it is written again.
+/// The client's capabilities, bytes, and what the packet says that stands first in them. Then come
+/// how many bytes are left behind it, and how it is written again.
 type Read = (CapabilityFlags, &'static [u8], Says, usize, &'static [u8]);
 
 /// Asserts what bytes are read as: whole, and behind the header alone.

@@ -57,8 +57,8 @@ pub fn assert_put(
     assert_behind(assert, &out, first, second, bytes);
 }
 
-/// Asserts the texts of a change, and the state that is made of it, none where there are no bytes;
-/// and that copies of it are equal.
+/// Asserts the texts of a change, and the state that is made of it, none where there are no bytes.
+/// It asserts too that copies of it are equal.
 fn assert_change(
     assert: &impl Assert,
     alloc: Global,

@@ -105,8 +105,8 @@ const WIDE_ROW: &[u8] =
     b"\x00\x00\x08\xff\xfe\xff\x01\x02\x03\x84\xff\xff\xff\xff\xff\xff\xff\xff\x00\x00\x80\x3f\x00\
     \x00\x00\x00\x00\x00\xf0\x3f\x02hi\x07\xe8\x07\x02\x1d\x0c\x22\x38\x08\x01\x01\x00\x00\x00\x02\x03\x04";
 
-/// Text rows of several lengths, with NULL, an empty text and an overlong length; binary rows, of which one
-/// is of NULLs alone; and rows without cells, which are counted too.
+/// Text rows of several lengths, with NULL, an empty text and an overlong length. Binary rows, of
+/// which one is of NULLs alone. Rows without cells, which are counted too.
 const CASES: [Case; 3] = [
     (
         &TEXTS,

@@ -25,8 +25,8 @@ use std::borrow::{CowSlice, CowStr};
 
 /// The request for the binary log from a position of a file; an empty name asks for the first file.
 ///
-/// Promise: its bytes are a function of its fields, and any bytes are read exactly as its layout
-/// says, with the first refusal from the left (`binlog_dump`, `binlog_dump_at`).
+/// Promise: its bytes are a function of its fields. Any bytes are read exactly as its layout says,
+/// with the first refusal from the left (`binlog_dump`, `binlog_dump_at`).
 ///
 /// MySQL: Client/Server Protocol, "COM_BINLOG_DUMP".
 #[derive(Debug, PartialEq, Eq, Hash, Drop)]

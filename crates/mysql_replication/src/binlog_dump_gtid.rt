@@ -34,8 +34,8 @@ use std::borrow::{CowSlice, CowStr};
 /// It has their sets, and a position of a file, of whose name at most 2^32 - 1 bytes are written.
 /// `BINLOG_THROUGH_GTID` is set exactly where there are sets.
 ///
-/// Promise: its bytes are a function of its fields, and any bytes are read exactly as its layout
-/// says, with the first refusal from the left (`binlog_dump_gtid`, `binlog_dump_gtid_at`).
+/// Promise: its bytes are a function of its fields. Any bytes are read exactly as its layout says,
+/// with the first refusal from the left (`binlog_dump_gtid`, `binlog_dump_gtid_at`).
 ///
 /// MySQL: Client/Server Protocol, "COM_BINLOG_DUMP_GTID".
 #[derive(Debug, PartialEq, Eq, Hash, Drop)]
@@ -367,10 +367,10 @@ fn fields_from<'de>(
 }
 
 /// Reads a request. Refused by UnexpectedEof where there are fewer than 7 bytes, then by
-/// BadConstant for another first byte, then by UnknownValue for flags without a name, then by
-/// UnexpectedEof where the name, the position, the block or its sets are cut off and by
-/// UnknownValue for a text that is no tag, whichever stands first. Bytes behind the sets of the
-/// block are ignored.
+/// BadConstant for another first byte. Then it is refused by UnknownValue for flags without a name.
+/// Then it is refused by UnexpectedEof where the name, the position, the block or its sets are cut
+/// off. Or it is refused by UnknownValue for a text that is no tag. Of these two it is whichever
+/// stands first. Bytes behind the sets of the block are ignored.
 ///
 /// MySQL: Client/Server Protocol, "COM_BINLOG_DUMP_GTID".
 #[tactic(auto, unfolding(crate::specs::Packets::binlog_dump_gtid_at))]

@@ -25,8 +25,8 @@ use std::borrow::{CowSlice, CowStr};
 
 /// What a replica says of itself before it asks for the binary log. Of each name at most 255 bytes are written.
 ///
-/// Promise: its bytes are a function of its fields, and any bytes are read exactly as its layout
-/// says, with the first refusal from the left (`register_slave`, `register_slave_at`).
+/// Promise: its bytes are a function of its fields. Any bytes are read exactly as its layout says,
+/// with the first refusal from the left (`register_slave`, `register_slave_at`).
 ///
 /// MySQL: Client/Server Protocol, "COM_REGISTER_SLAVE".
 #[derive(Debug, PartialEq, Eq, Hash, Drop)]
@@ -355,8 +355,8 @@ fn fields_from<'de>(
 }
 
 /// Reads what a replica says of itself. Refused by UnexpectedEof where there are fewer than 5
-/// bytes, then by BadConstant for another first byte, then by UnexpectedEof where a name or a
-/// number is cut off.
+/// bytes, then by BadConstant for another first byte. Then it is refused by UnexpectedEof where a
+/// name or a number is cut off.
 ///
 /// MySQL: Client/Server Protocol, "COM_REGISTER_SLAVE".
 #[tactic(auto, unfolding(crate::specs::Packets::register_slave_at))]

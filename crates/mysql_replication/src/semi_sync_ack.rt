@@ -24,8 +24,8 @@ use std::borrow::{CowSlice, CowStr};
 ///
 /// It has the event's position in the binary log, and the file's name.
 ///
-/// Promise: its bytes are a function of its fields, and any bytes are read exactly as its layout
-/// says, with the first refusal from the left (`semi_sync_ack`, `semi_sync_ack_at`).
+/// Promise: its bytes are a function of its fields. Any bytes are read exactly as its layout says,
+/// with the first refusal from the left (`semi_sync_ack`, `semi_sync_ack_at`).
 ///
 /// MySQL: Internals Manual, "Semi-Sync ACK packet".
 #[derive(Drop)]

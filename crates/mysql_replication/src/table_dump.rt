@@ -21,8 +21,8 @@ use std::borrow::{CowSlice, CowStr};
 
 /// The request for a table: the names of its database and of the table. Of each at most 255 bytes are written.
 ///
-/// Promise: its bytes are a function of its fields, and any bytes are read exactly as its layout
-/// says, with the first refusal from the left (`table_dump`, `table_dump_at`).
+/// Promise: its bytes are a function of its fields. Any bytes are read exactly as its layout says,
+/// with the first refusal from the left (`table_dump`, `table_dump_at`).
 ///
 /// MySQL: Client/Server Protocol, "COM_TABLE_DUMP".
 #[derive(Debug, PartialEq, Eq, Hash, Drop)]

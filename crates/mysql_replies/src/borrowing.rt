@@ -109,16 +109,16 @@ impl ReplyReader {
     /// Its cells are read there, and nothing of it is kept. The bytes that were used are taken from
     /// the front of `rest`. Where the piece has no further row the answer is `None`, and all of it
     /// was read, as [`ReplyReader::feed`] reads it. All that isn't a row is listed as ever, and
-    /// [`ReplyReader::take_results`] hands it out: of a result set whose rows were borrowed the
-    /// packet that ended it, and its rows that [`ReplyReader::feed`] kept.
+    /// [`ReplyReader::take_results`] hands it out. Of a result set whose rows were borrowed that is
+    /// the packet that ended it, and its rows that [`ReplyReader::feed`] kept.
     ///
     ///     let mut rest = piece;
     ///     while let Some(row) = reader.next_row(&mut rest)? {
     ///         let id: Option<Result<u64, _>> = row.get_opt(0);
     ///     }
     ///
-    /// Memory is asked for at the first row of a result set, for a packet that is cut by the
-    /// pieces, and for what isn't a row.
+    /// Memory is asked for at the first row of a result set, and for a packet that is cut by the
+    /// pieces. So it is for what isn't a row.
     ///
     /// Promise: the row is the one that `feed` of the used bytes would list; none is kept, and none
     /// is passed over (`BorrowsNext`).

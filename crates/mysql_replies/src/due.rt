@@ -71,8 +71,9 @@ fn first_kind(kind: ReplyKind) -> EventKind
 
 /// The kind that a payload is read by.
 ///
-/// All but the first payload of a prepare's answer is read as a query's: an execution's differ by
-/// their rows, which aren't read so, and by a cursor, behind which a whole reply has its rows.
+/// All but the first payload of a prepare's answer is read as a query's. An execution's differ by
+/// their rows, which aren't read so. They differ by a cursor too, behind which a whole reply has
+/// its rows.
 fn kind_at(kind: ReplyKind, awaited: &Awaited) -> EventKind
     ensures { result ≡ puts.kind_at kind (awaited_view awaited.now) }
 {

@@ -62,8 +62,8 @@ pub fn taken_results_are_the_reply()
 
 /// A row that was borrowed where nothing else is listed is as one that was handed out.
 ///
-/// So over any feeds, takes and rows that were borrowed so, these rows, the results that were handed
-/// out and those at the end are, joined, the reply.
+/// So it is over any feeds, takes and rows that were borrowed so. These rows, the results that were
+/// handed out and those at the end are, joined, the reply.
 pub fn lent_rows_are_handed_out()
     ensures { BorrowedRowsAreHandedOut }
 {}
@@ -87,19 +87,20 @@ pub fn whole_bytes_are_framed_results()
 
 /// The answer to any payloads has each result and each row that is whole in them.
 ///
-/// These are the results, where each but the last says that another follows, and behind them the
-/// rows whose columns are whole, as far as they came. Progress reports may stand among the payloads.
+/// These are the results, where each but the last says that another follows. Behind them stand the
+/// rows whose columns are whole, as far as they came. Progress reports may stand among the
+/// payloads.
 pub fn answers_have_what_stands()
     ensures { EachAnswerHasWhatStands }
 {}
 
 /// The events of payloads, put together, are the answer that the payloads have.
 ///
-/// That is: its results and reports, and how it ends, whatever follows the payloads; where a payload
-/// behind them has no place, with the fault of the same name at that payload. So it is where no
-/// optional metadata and none of MariaDB's own capabilities is agreed on, no cursor is opened, and no
-/// status has MariaDB's bit; a request for a file ends the answer. Any payloads have events up to
-/// one that has no place.
+/// That is: its results and reports, and how it ends, whatever follows the payloads. Where a
+/// payload behind them has no place, it ends with the fault of the same name at that payload. This
+/// holds under these conditions. Neither optional metadata nor any of MariaDB's own capabilities is
+/// agreed on. No cursor is opened, and no status has MariaDB's bit. A request for a file ends the
+/// answer. Any payloads have events up to one that has no place.
 pub fn events_are_the_answer()
     ensures some { AllHaveEvents }
     ensures whole { EventsAreTheAnswer }

@@ -122,8 +122,8 @@ impl ReaderParts {
 
 /// Reads a server's reply from the bytes of a connection, in whatever pieces they come.
 ///
-/// What it holds, beside the results and the reports that it read and that were not handed out, is
-/// at most one packet within the limit. What [`ReplyReader::take_results`] and
+/// It holds at most one packet within the limit, beside the results and the reports that it read
+/// and that were not handed out. What [`ReplyReader::take_results`] and
 /// [`ReplyReader::take_progress`] hand out on the way and what [`ReplyReader::finish`] gives are,
 /// joined, the reply.
 ///
@@ -183,10 +183,10 @@ impl ReplyReader {
 
     /// Reads the next bytes.
     ///
-    /// Answers the fault of the first payload that has no place, or of the bytes after the payloads,
-    /// as soon as no further bytes could mend it; from then on it answers that fault and changes
-    /// nothing. Where memory ran out it answers `Memory` from then on, and what was read of the
-    /// payloads before stays: each of them has its place in a reply that goes on behind them.
+    /// Answers the fault of the first payload that has no place, or of the bytes behind, as soon as
+    /// no further bytes could mend it. From then on it answers that fault and changes nothing.
+    /// Where memory ran out it answers `Memory` from then on, and what was read of the payloads
+    /// before stays. Each of them has its place in a reply that goes on behind them.
     ///
     /// Promise: what is held decides, over all bytes to come, what was decided before over the piece
     /// and them (`HasFoundNoFault`, `RunsShort`).
@@ -210,14 +210,14 @@ impl ReplyReader {
 
     /// Hands out the results so far. Takes no memory.
     ///
-    /// They are those that stand whole, and of a result set that goes on its rows so far, if there
-    /// are any, as [`ReplyResult::Rows`] without a terminator. Its later rows are listed anew, under
-    /// the same columns: a result set that was handed out in parts is theirs joined, all but the last
+    /// They are those that stand whole. Of a result set that goes on there are its rows so far, if
+    /// any, as `ReplyResult::Rows` without a terminator. Its later rows are listed anew, under the
+    /// same columns. A result set that was handed out in parts is theirs joined, all but the last
     /// without a terminator. Where a fault was met, or memory ran out, all that is listed is handed
     /// out.
     ///
-    /// Promise: results that stand whole, and of the result set that goes on its rows so far, are
-    /// handed out, and nothing else changes (`results_in`, `without_results`).
+    /// Promise: results that stand whole are handed out, and of the result set that goes on its
+    /// rows so far. Nothing else changes (`results_in`, `without_results`).
     ///
     /// MySQL: Client/Server Protocol, "COM_QUERY Response" and "Text Resultset".
     pub fn take_results(&mut self) -> Vec<ReplyResult>
@@ -286,9 +286,9 @@ impl ReplyReader {
 
 /// The reply of these pieces' bytes, one after another.
 ///
-/// It is the answer of a [`ReplyReader`] that is fed them. Where memory ran out over a piece its end
-/// is `Fault(p, Memory)`, and it has the results and the reports of the first p payloads: at least
-/// of those that stand whole in the pieces before it.
+/// It is the answer of a [`ReplyReader`] that is fed them. Where memory ran out over a piece its
+/// end is `Fault(p, Memory)`, and it has the results and the reports of the first p payloads. These
+/// are at least those that stand whole in the pieces before it.
 ///
 /// `limit` is the most bytes of a payload: the `max_allowed_packet` of this side, at least 4.
 ///

@@ -28,7 +28,7 @@ pub enum ReplyResult {
     Ok(OkPacket<'static>),
     /// Rows under their columns, which they share, and the packet that ended them.
     ///
-    /// Without it they ended by an error, which is the next result, or haven't ended; those that
+    /// Without it they ended by an error, which is the next result, or haven't ended. Those that
     /// were handed out before their end go on in the next result.
     Rows {
         columns: RcSlice<Column>,

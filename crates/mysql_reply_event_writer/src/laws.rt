@@ -9,9 +9,9 @@ use mysql_rows::laws::{
 
 /// An event that was read may be put where it was read, and leads to the same again.
 ///
-/// What [`put_event`](crate::put_event) appends of it there is read as it, though the payload that it
-/// was read of had another form. Of a binary row with a negative time that is all zero this isn't so:
-/// its shortest form has no sign, and the row is refused.
+/// What [`put_event`](crate::put_event) appends of it there is read as it, though the payload that
+/// it was read of had another form. This isn't so of a binary row with a negative time that is all
+/// zero. Its shortest form has no sign, and the row is refused.
 ///
 /// MySQL: Client/Server Protocol, "COM_QUERY Response" and "Binary Protocol Value".
 pub fn read_events_are_put()

@@ -58,8 +58,8 @@ fn go_behind(reader: &mut EventReader, event: &ReplyEvent) -> Result<(), AllocEr
 /// It may then go on behind the event, by [`EventReader::pass`] or [`EventReader::pass_column`], as
 /// [`put_event`] lets it.
 ///
-/// Promise: what was written is read as it was, and an event is refused by `BadEvent` exactly where
-/// no payload of its own is read as it there (`WritesEvent`, `event_payload`).
+/// Promise: what was written is read as it was. An event is refused by `BadEvent` exactly where no
+/// payload of its own is read as it there (`WritesEvent`, `event_payload`).
 ///
 /// # Errors
 /// - Those of [`put_event`], in the same order.
@@ -99,16 +99,16 @@ pub fn write_event(
 /// Appends the payload of an event, not framed, where it is read as this event. The reader is then
 /// behind it.
 ///
-/// Promise: what was put is read again as it was, and an event is refused by `BadEvent` exactly where
+/// Promise: what was put is read again as it was. An event is refused by `BadEvent` exactly where
 /// no payload of its own is read as it there (`Puts`, `event_payload`).
 ///
 /// So a server that puts its events and a client that reads them have the same events.
 ///
 /// # Errors
 /// - `NotDue` where no payload of the server is due, or the reader has failed.
-/// - `BadEvent` where the event has no place there, or has no payload that is read as it: a count that
-///   is 0, an OK packet with an empty info in place of none, a row under other columns than those
-///   that stand or whose values aren't those that reading gives, and so on.
+/// - `BadEvent` where the event has no place there, or has no payload that is read as it. Such are
+///   a count that is 0, and an OK packet with an empty info in place of none. Such are a row under
+///   other columns than those that stand, and one whose values aren't those that reading gives.
 /// - `Memory`.
 ///
 /// The reader and `out` are as they were after an error.

@@ -176,7 +176,7 @@ impl Model for EventReader {
 impl EventReader {
     /// A reader of the reply to a command of this kind, with the capabilities in force.
     ///
-    /// `columns` are those that the statement last had, of its prepare or of its last result: rows
+    /// `columns` are those that the statement last had, of its prepare or of its last result. Rows
     /// of a fetch are read by them, and those of an execution whose columns don't follow.
     pub fn new(
         alloc: Global,
@@ -375,7 +375,7 @@ impl EventReader {
     /// error or a terminator does.
     ///
     /// Promise: where it is `true`, the row is the one that `read` would answer, and
-    /// [`EventReader::row_ref`] gives it; else nothing has changed but what `row_ref` gives
+    /// [`EventReader::row_ref`] gives it. Else nothing has changed but what `row_ref` gives
     /// (`TakesRow`).
     ///
     /// MySQL: Client/Server Protocol, "Text Resultset Row" and "Binary Protocol Resultset Row".

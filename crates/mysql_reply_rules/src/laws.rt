@@ -52,9 +52,9 @@ pub fn read_replies_are_their_own()
 
 /// What a whole reply was read as is written in one form.
 ///
-/// What is read of that is written in the same payloads, and two whole replies that are written in
-/// the same payloads, nothing speaking against either, were read equally, but for the sign of an
-/// all-zero time in a binary row.
+/// What is read of that is written in the same payloads. Two whole replies that are written in the
+/// same payloads, nothing speaking against either, were read equally. Only the sign of an all-zero
+/// time in a binary row may differ.
 pub fn read_replies_have_one_form()
     ensures again { ReadFormsAreWrittenAgain }
     ensures equal { EqualFormsWereReadEqually }

@@ -1,5 +1,5 @@
-//! The rules of replies that are written: the payloads of each result, what speaks against one,
-//! what reading makes of them, and what a front of a whole reply reads as.
+//! The rules of replies that are written: the payloads of each result, and what speaks against one.
+//! They say what reading makes of them, and what a prefix of a whole reply reads as.
 #![tactic(auto)]
 
 pub mod fronts;

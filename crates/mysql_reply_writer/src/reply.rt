@@ -25,15 +25,15 @@ use std::alloc::Global;
 /// status the writer sets or clears SERVER_MORE_RESULTS_EXISTS itself. Progress reports go only to a
 /// client that knows them, by the capability PROGRESS_OBSOLETE. After a refusal `out` is as it was.
 ///
-/// Promise: refused by the first cause in the order of the stream; else the framings of a reply are
-/// appended that reads as these results and reports, and so does each front (`refusal_of`,
+/// Promise: refused by the first cause in the order of the stream. Else the framings of a reply are
+/// appended that reads as these results and reports, and so does each prefix (`refusal_of`,
 /// `Replies`).
 ///
 /// # Errors
 /// - `NoResults` where there is no result;
 /// - else the first cause in the order of the stream, each payload's `PacketTooLarge` behind the
-///   other causes of what is written with it: of a progress report, a result that isn't rows, the
-///   columns of rows, a row, the end of rows;
+///   other causes of what is written with it. A payload is of a progress report, a result that
+///   isn't rows, the columns of rows, a row, or the end of rows;
 /// - `Memory`, which may stand in place of any answer.
 ///
 /// MySQL: Client/Server Protocol, "COM_QUERY Response", "Text Resultset", "Binary Protocol Resultset" and

@@ -12,9 +12,9 @@ use mysql_row_refs::ValueRef;
 ///
 /// It goes by the rules of [`FromValue`](mysql_convert::FromValue): `converted` of a type is what
 /// it is there. A whole number of at most 64 bits is read from `Int`, `UInt` and texts of an
-/// optional sign and digits, in its range; a `bool` from 0 and 1 in the same three; a `&str` from
-/// `Bytes` that are UTF-8, a `&[u8]` from `Bytes`, an array from `Bytes` of its length; an `Option`
-/// is None of `NULL`; and a [`ValueRef`] is any value.
+/// optional sign and digits, in its range. A `bool` is read from 0 and 1 in the same three. A
+/// `&str` is read from `Bytes` that are UTF-8, a `&[u8]` from `Bytes`, an array from `Bytes` of its
+/// length. An `Option` is None of `NULL`, and a [`ValueRef`] is any value.
 pub trait FromValueRef<'p>: Sized {
     // what this is, apart from where it lies
     ghost Shown: { Type 0 };

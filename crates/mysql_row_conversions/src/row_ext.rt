@@ -23,8 +23,8 @@ pub trait RowExt {
     /// None where there is no such column, or its value was taken. Where the value doesn't convert
     /// the error holds it.
     ///
-    /// Promise: None exactly where there is no such column or its value was taken, else what the
-    /// value converts to, or the very value; the row stays as it is.
+    /// Promise: None exactly where there is no such column or its value was taken. Else it is what
+    /// the value converts to, or the very value. The row stays as it is.
     ///
     /// # Errors
     /// - `AllocError` for want of memory.

@@ -32,7 +32,7 @@ pub fn limit_of_terminators(deprecates_eof: bool) -> usize
 ///
 /// Then it is no error, which begins with ff, and no terminator, which begins with fe. With
 /// `CLIENT_DEPRECATE_EOF`, as `deprecates_eof` tells, that is an OK packet, which is shorter than
-/// the longest payload, and else an EOF packet of less than 9 bytes.
+/// the longest payload. Else it is an EOF packet of less than 9 bytes.
 ///
 /// MySQL: Client/Server Protocol, "Text Resultset" and "Binary Protocol Resultset", "EOF_Packet"
 /// and "OK_Packet".

@@ -19,8 +19,8 @@ use std::rc::RcSlice;
 ///
 /// The last line needs `RowRefExt` in scope.
 ///
-/// Payloads come from a `PacketReader`, for instance: its `read_in_place` hands out those that
-/// stand whole in a piece of the stream, and its `read` joins the others in a buffer that is used
+/// Payloads come from a `PacketReader`, for instance. Its `read_in_place` hands out those that
+/// stand whole in a piece of the stream. Its `read` joins the others in a buffer that is used
 /// again. [`is_row`](crate::is_row) tells rows from the error or terminator that ends them.
 #[derive(Drop)]
 pub struct RowReader {

@@ -112,10 +112,10 @@ impl RowReader {
     /// first refusal, or `BytesLeft`; no byte is copied (`row_of`).
     ///
     /// # Errors
-    /// - `Unreadable` with the first refusal that reading meets: `UnexpectedEof` where the payload
-    ///   ends before its row does, `BadConstant` where another byte than 00 begins a binary row,
-    ///   `BadLength` where ff begins a text cell, `UnsupportedType` for a column's type without
-    ///   binary cells.
+    /// - `Unreadable` with the first refusal that reading meets. `UnexpectedEof` is where the
+    ///   payload ends before its row does, `BadConstant` where another byte than 00 begins a binary
+    ///   row. `BadLength` is where ff begins a text cell, `UnsupportedType` for a column's type
+    ///   without binary cells.
     /// - `BytesLeft` where bytes stand behind the last cell.
     ///
     /// MySQL: Client/Server Protocol, "Text Resultset Row" and "Binary Protocol Resultset Row".

@@ -11,7 +11,7 @@ use Rattle.mysql_queries.specs.Sql.{default_mode}
 use Rattle.mysql_cells.specs.AsSql.{FitsFields, PutsLiteral}
 use Rattle.mysql_cells.specs.Values.{clock_text, day_text, digits_in, in_quotes, is_zero_time, literal_of, micros_text}
 use Rattle.mysql_cells.specs.declared.as_sql.AsSqlError.{AsSqlError}
-use Rattle.mysql_cells.specs.declared.spelling.Spelling.TheVariants.{Quoted}
+use Rattle.mysql_queries.specs.declared.spelling.Spelling.TheVariants.{Quoted}
 use Rattle.mysql_cells.specs.declared.value.Value.{Value}
 use Rattle.mysql_cells.specs.declared.value.Value.TheVariants.{NULL, Bytes, Int, UInt, Float, Double, Date, Time}
 use Rattle.mysql_rows.specs.CellsWritten.{temporal_text}

@@ -85,9 +85,9 @@ fn put_held<C: Held>(
     }
 }
 
-/// Appends the cells, of which each one has to have a form, and sets the bits of those that are
-/// NULL in the bitmap of zeros that stands from a place on. Where each has to be its `own`, it is
-/// surely read as itself. After a refusal what stood before the bitmap stands in front.
+/// Appends the cells, of which each one has to have a form. Sets the bits of those that are NULL in
+/// the bitmap of zeros that stands from a place on. Where each has to be its `own`, it is surely
+/// read as itself. After a refusal what stood before the bitmap stands in front.
 ///
 /// It is compiled into both functions below, so that `own` is asked for in neither. They stand apart
 /// from those of rows, where what appends bytes would be called, and not compiled in.

@@ -145,8 +145,8 @@ impl Row {
     /// Appends the text row of the cells' values, as [`write_text_row`](crate::write_text_row)
     /// does.
     ///
-    /// Promise: exactly the row is appended, or it is refused by the least place whose cell has no
-    /// form there or was taken, and the buffer is as it was (`text_row`).
+    /// Promise: exactly the row is appended, or it is refused and the buffer is as it was. It is
+    /// refused by the least place whose cell has no form there or was taken (`text_row`).
     ///
     /// # Errors
     /// - `NoForm` with the least place whose value was taken or is a float.
@@ -167,8 +167,8 @@ impl Row {
     /// The row's own columns don't count; [`write_binary_row`](crate::write_binary_row) does the
     /// same with values.
     ///
-    /// Promise: exactly the row is appended, or it is refused by the least place whose cell has no
-    /// form there or was taken, and the buffer is as it was (`binary_row`).
+    /// Promise: exactly the row is appended, or it is refused and the buffer is as it was. It is
+    /// refused by the least place whose cell has no form there or was taken (`binary_row`).
     ///
     /// # Errors
     /// - `NoForm` with the least place whose value was taken or has no cell by its column.
@@ -192,8 +192,9 @@ impl Row {
     /// The columns are as many as the cells. Such a row need not be read back.
     ///
     /// `false` says nothing of the row: [`write_binary`](Row::write_binary) writes it then, or says
-    /// what speaks against it. So it is where a value was taken or has no cell by its column, and of
-    /// a number without a sign below 2^63, which is read as one with it, and a negative time.
+    /// what speaks against it. This happens where a value was taken or has no cell by its column.
+    /// It happens for a number without a sign below 2^63, which is read as one with it. It happens
+    /// for a negative time.
     ///
     /// Promise: where the answer is `true`, exactly the row is appended, and each value is what is
     /// read of its cell (`binary_row`, `as_binary`).

@@ -24,8 +24,8 @@ use std::rc::RcSlice;
 
 /// A row that was read by the protocol `P`, `Text` or `Binary`.
 ///
-/// In the binary protocol the side `S` wrote it: a bitmap of a server has two bits before that of
-/// the first column, and one of a client none.
+/// In the binary protocol the side `S` wrote it. A bitmap of a server has two bits before that of
+/// the first column, and one of a client has none.
 ///
 /// Promise: exactly the row is read that the definitions read from any bytes, or their refusal is
 /// answered and all bytes are left (`text_row_at`, `binary_row_at`).
@@ -219,10 +219,10 @@ impl<S: SerializationSide> Readable for RowDeserializer<S, Binary> {
     }
 }
 
-/// Reads a row: a byte of any value, the bitmap of the columns that are NULL, and the cells of the
-/// others by their columns' types and flags. Refuses UnexpectedEof where the first byte or the
-/// bitmap is cut off, then, at the first cell that fails, UnexpectedEof or UnsupportedType (a type
-/// without cells), and Memory; all bytes are then left.
+/// Reads a row. It has a byte of any value and the bitmap of the columns that are NULL. The cells
+/// of the others follow, by their columns' types and flags. Refuses UnexpectedEof where the first
+/// byte or the bitmap is cut off. Then it refuses, at the first cell that fails, UnexpectedEof or
+/// UnsupportedType (a type without cells), and Memory. All bytes are then left.
 ///
 /// MySQL: Client/Server Protocol, "Binary Protocol Resultset Row".
 impl<'de, S: SerializationSide> MyDeserialize<'de> for RowDeserializer<S, Binary> {

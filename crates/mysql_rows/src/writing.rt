@@ -91,11 +91,12 @@ pub(crate) fn write_own_binary<C: Held>(
 
 /// Appends the text row of these values.
 ///
-/// NULL is written as fb, else the value's text after its length: a number's digits, bytes and the
-/// texts of dates and times as they are. An all-zero time is written without its sign.
+/// NULL is written as fb. Each other value is written as its text after its length. The text of a
+/// number is its digits. Bytes and the texts of dates and times are written as they are. An
+/// all-zero time is written without its sign.
 ///
-/// Promise: exactly the row is appended, or it is refused by the least place whose value has no
-/// form there, and the buffer is as it was (`text_row`).
+/// Promise: exactly the row is appended, or it is refused and the buffer is as it was. It is
+/// refused by the least place whose value has no form there (`text_row`).
 ///
 /// # Errors
 /// - `NoForm` with the least place that holds a float, which has no text here.
@@ -114,10 +115,11 @@ pub fn write_text_row(values: &[Value], out: &mut Vec<u8>) -> Result<(), RowRefu
 ///
 /// It is a zero, the bitmap of those that are NULL, and the cells of the others by their columns'
 /// types and flags. A whole number is written in as many bytes as its column's type has, where it
-/// is in range there; floats, bytes, dates and times in columns of such types; NULL in each column.
+/// is in range there. Floats, bytes, dates and times are written in columns of such types. NULL is
+/// written in each column.
 ///
-/// Promise: exactly the row is appended, or it is refused by the least place whose value has no
-/// form there, and the buffer is as it was (`binary_row`).
+/// Promise: exactly the row is appended, or it is refused and the buffer is as it was. It is
+/// refused by the least place whose value has no form there (`binary_row`).
 ///
 /// # Errors
 /// - `NoForm` with the least place whose value has no cell by its column.

@@ -30,8 +30,8 @@ use std::fmt;
 
 /// An error packet, which holds an error or a progress report.
 ///
-/// Promise: it is an error or a report by the capabilities that both sides agreed on, and any bytes
-/// are read exactly as its layout says (`err_packet`, `err_packet_at`).
+/// Promise: it is an error or a report by the capabilities that both sides agreed on. Any bytes are
+/// read exactly as its layout says (`err_packet`, `err_packet_at`).
 ///
 /// MySQL: Client/Server Protocol, "ERR_Packet".
 #[derive(Debug, PartialEq, Drop)]

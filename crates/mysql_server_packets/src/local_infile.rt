@@ -23,8 +23,8 @@ use std::borrow::{CowSlice, CowStr};
 
 /// The server's request for a file of the client.
 ///
-/// Promise: its bytes are a function of its fields, and any bytes are read exactly as its layout
-/// says, with the first refusal from the left (`local_infile`, `local_infile_at`).
+/// Promise: its bytes are a function of its fields. Any bytes are read exactly as its layout says,
+/// with the first refusal from the left (`local_infile`, `local_infile_at`).
 ///
 /// MySQL: Client/Server Protocol, "LOCAL INFILE Request".
 #[derive(Debug, PartialEq, Eq, Drop)]

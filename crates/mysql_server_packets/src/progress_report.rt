@@ -28,9 +28,9 @@ use std::fmt;
 
 /// A progress report: how far a long command has come. Its own bytes begin behind the code of its packet.
 ///
-/// Promise: its bytes are a function of its fields, and any bytes are read exactly as its layout
-/// says, with the first refusal from the left; its shown text has percents with two decimals,
-/// further ones cut off (`progress_body`, `progress_body_at`).
+/// Promise: its bytes are a function of its fields. Any bytes are read exactly as its layout says,
+/// with the first refusal from the left. Its shown text has percents with two decimals, further
+/// ones cut off (`progress_body`, `progress_body_at`).
 ///
 /// MariaDB: Client/Server Protocol, "ERR_Packet", 'Progress report'.
 #[derive(Debug, PartialEq, Eq, Drop)]

@@ -133,8 +133,8 @@ impl<'de> MyDeserialize<'de> for SqlState {
 
 /// An error that the server reports. Its own bytes begin behind its code.
 ///
-/// Promise: it is written as its state, where it has one, and its message, and read by its code and
-/// whether the protocol has states; its shown text is stated (`server_error_at`).
+/// Promise: it is written as its state, where it has one, and its message. It is read by its code
+/// and whether the protocol has states. Its shown text is stated (`server_error_at`).
 ///
 /// MySQL: Client/Server Protocol, "ERR_Packet".
 #[derive(Debug, PartialEq, Drop)]
@@ -300,9 +300,9 @@ fn state_of(
     }
 }
 
-/// Reads an error of this code: where the server speaks the protocol of version 4.1, `#` and five
-/// bytes of state; the message is all that is left. Refused by UnexpectedEof below six bytes of
-/// state, then by BadConstant for another first byte.
+/// Reads an error of this code. Where the server speaks the protocol of version 4.1, `#` and five
+/// bytes of state come first. The message is all that is left. Refused by UnexpectedEof below six
+/// bytes of state, then by BadConstant for another first byte.
 ///
 /// MySQL: Client/Server Protocol, "ERR_Packet".
 #[tactic(auto, unfolding(crate::specs::Packets::server_error_at))]

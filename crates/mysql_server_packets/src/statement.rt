@@ -21,8 +21,8 @@ use std::alloc::{AllocError, Global};
 
 /// A prepared statement: the first packet of the answer to COM_STMT_PREPARE.
 ///
-/// Promise: its bytes are a function of its fields, and any bytes are read exactly as its layout
-/// says, with the first refusal from the left (`prepare_ok`, `prepare_ok_at`).
+/// Promise: its bytes are a function of its fields. Any bytes are read exactly as its layout says,
+/// with the first refusal from the left (`prepare_ok`, `prepare_ok_at`).
 ///
 /// MySQL: Client/Server Protocol, "COM_STMT_PREPARE Response".
 #[derive(Clone, Copy, Debug, PartialEq, Eq, Hash)]

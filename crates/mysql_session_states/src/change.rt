@@ -155,8 +155,8 @@ fn put_variables(all: &[SystemVariable], buf: &mut Vec<u8>) -> Result<(), AllocE
     put_all(all, buf)
 }
 
-/// Whether changes are tracked, as the text `1` or `0` after its length; variables one after
-/// another; each other member as its own type writes it.
+/// Whether changes are tracked is written as the text `1` or `0` after its length. Variables are
+/// written one after another. Each other member is written as its own type writes it.
 #[tactic(auto, unfolding(crate::specs::SessionStates::change))]
 impl<'a> MySerialize for SessionStateChange<'a> {
     ghost written = { λ c. change (change_view c) };

@@ -169,7 +169,7 @@ impl<'a> ReadsBack for SessionStateInfo<'a> {
 }
 
 /// Refused by `UnexpectedEof` where there is no byte, then by `UnknownValue` for a type without a
-/// name, then by `UnexpectedEof` where the data are cut off.
+/// name. Then it is refused by `UnexpectedEof` where the data are cut off.
 ///
 /// MySQL: Client/Server Protocol, "OK_Packet", 'Session State Information'.
 #[tactic(auto, unfolding(crate::specs::SessionStates::state_at))]

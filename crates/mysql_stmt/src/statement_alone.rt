@@ -19,8 +19,8 @@ use std::alloc::{AllocError, Global};
 ///
 /// Its names are [`ComStmtClose`] and [`ComStmtReset`].
 ///
-/// Promise: its bytes are a function of its fields, and any bytes are read exactly as its layout
-/// says; what was written is read back, whatever follows (`alone`, `alone_at`).
+/// Promise: its bytes are a function of its fields. Any bytes are read exactly as its layout says.
+/// What was written is read back, whatever follows (`alone`, `alone_at`).
 #[derive(Clone, Copy, Debug, PartialEq, Eq)]
 pub struct StatementAlone<const NUMBER: u8> {
     /// The statement's id.

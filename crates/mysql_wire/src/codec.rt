@@ -204,15 +204,16 @@ impl PacketCodec {
     /// there.
     ///
     /// Its bytes are taken from the front of `src`. `dst` has to be empty where a packet begins,
-    /// and else as the last call left it; after `true` the caller takes the payload and empties it.
+    /// and else as the last call left it. After `true` the caller takes the payload and empties
+    /// `dst`.
     ///
-    /// `src` is any buffer that is read from the front: one that grows as bytes come, a piece of
-    /// the stream, or what was left of one piece followed by the next. After `false` fewer than 4
-    /// bytes are left in it, the front of a header, and the next call has to be given them before
-    /// what comes next.
+    /// `src` is any buffer that is read from the front. It is one that grows as bytes come, or a
+    /// piece of the stream. Or it is what was left of one piece followed by the next. After `false`
+    /// fewer than 4 bytes are left in `src`, the front of a header. The next call has to be given
+    /// them before what comes next.
     ///
     /// Promise: from any source, however it is cut, exactly the payloads whose framings follow each
-    /// other are handed out, then the fault of what follows (`Decodes`).
+    /// other are handed out. Then comes the fault of what follows (`Decodes`).
     ///
     /// # Errors
     /// - `PacketTooLarge` once a chunk's header stands with which the packet would pass the limit.

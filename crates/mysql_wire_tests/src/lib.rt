@@ -1,10 +1,11 @@
-//! Tests of the lower layers from outside, as far as no row of data says it: constants, numbers and
-//! texts in buffers and streams, representations of fields, and the calls by which packets are cut
-//! and made. What packets a stream has stands in bindings/testing/rows/values/packets.txt, and
-//! numbers and texts that packets have in the rows of these: bindings/testing/rows/packets.
+//! Tests of the lower layers from outside, as far as no row of data says it. They try constants,
+//! numbers and texts in buffers and streams, and representations of fields. So they do the calls by
+//! which packets are cut and made. What packets a stream has stands in
+//! bindings/testing/rows/values/packets.txt, and numbers and texts that packets have in the rows of
+//! these: bindings/testing/rows/packets.
 //!
 //! At most one allocation of a run is refused. So a call that answers that memory was refused is
-//! looked at for what has to stand then, and made once more; then it has to answer.
+//! looked at for what has to stand then. It is made once more, and then has to answer.
 //!
 //! A function costs the prover seconds whatever it asserts, a row of a table nothing. So there are
 //! few functions, and their tests go over tables.

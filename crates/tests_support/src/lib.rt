@@ -1,8 +1,8 @@
 //! Words that the crates of tests share.
 //!
-//! A library must not end the process, and so what a test finds is handed to an [`Assert`], which
-//! each crate of tests has: there `holds` asserts. A branch in a test is dear to prove, the more so
-//! while values that have to be dropped are alive; so the branches stand here, in functions that
+//! A library must not end the process, and so what a test finds is handed to an `Assert`. Each
+//! crate of tests has one, in which `holds` asserts. A branch in a test is dear to prove, the more
+//! so while values that have to be dropped are alive. So the branches stand here, in functions that
 //! take what was found.
 //!
 //! At most one allocation of a run is refused. So a call that answers that memory was refused is

@@ -87,10 +87,12 @@ fn drain(
 /// they are cut. Their chunks are numbered on from the codec's number, as in a reply; the codec has to
 /// stand between packets, and to have refused nothing.
 ///
-/// The answer has the payloads that stand whole, up to the first fault: `PacketTooLarge` or
-/// `PacketsOutOfSync` as the stream's bytes have it; without one nothing or the front of a packet
-/// follows them. Where memory was refused the fault is `Memory`, and the payloads are the stream's first ones.
-/// (MySQL: Client/Server Protocol, "Protocol Basics: MySQL Packets", "Sending More Than 16Mb" and "Sequence ID".)
+/// The answer has the payloads that stand whole, up to the first fault. The fault is
+/// `PacketTooLarge` or `PacketsOutOfSync` as the stream's bytes have it. Without one nothing or the
+/// front of a packet follows the payloads. Where memory was refused the fault is `Memory`, and the
+/// payloads are the stream's first ones.
+/// (MySQL: Client/Server Protocol, "Protocol Basics: MySQL Packets", "Sending More Than 16Mb" and
+/// "Sequence ID".)
 ///
 /// Promise: the payloads and the fault are those of the one split of the pieces' bytes
 /// (`IsAnswer`).

@@ -122,8 +122,8 @@ pub(super) fn move_within(
     true
 }
 
-/// Moves the bytes of one packet from `src` to the end of `dst`, which has `filled` of them, as far
-/// as they came, and answers whether it is whole.
+/// Moves the bytes of one packet from `src` to the end of `dst`, as far as they came. `dst` has
+/// `filled` of them. The answer is whether the packet is whole.
 pub(super) fn take_packet<B: Buf, D: BufMut>(
     number: &mut u8,
     begun: &mut Option<BegunChunk>,

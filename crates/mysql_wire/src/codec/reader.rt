@@ -221,8 +221,8 @@ impl PacketReader {
     }
 
     /// Takes a piece that ends within a chunk's header or within the chunk, and answers whether it
-    /// did. After `true` the piece is used up, and no payload stands whole in the bytes that came;
-    /// after `false` nothing changed, and [`PacketReader::advance`], which takes any piece, reads
+    /// did. After `true` the piece is used up, and no payload stands whole in the bytes that came.
+    /// After `false` nothing changed, and [`PacketReader::advance`], which takes any piece, reads
     /// on. It is the quick way where few bytes come at a time.
     ///
     /// Promise: a piece is taken as `advance` takes it, or nothing changes; when it is left isn't
@@ -282,8 +282,8 @@ impl PacketReader {
     /// [`PacketReader::payload`] has the payload until more is read, and the number goes on. After
     /// `false` the piece is used up, and no payload stands whole in the bytes that came.
     ///
-    /// Promise: in pieces of any size the answers are those of one codec over all bytes that came,
-    /// and what is held after each call is stated whole (`ReadsOn`, `RefusesOn`).
+    /// Promise: in pieces of any size the answers are those of one codec over all bytes that came.
+    /// What is held after each call is stated whole (`ReadsOn`, `RefusesOn`).
     ///
     /// # Errors
     /// - `PacketTooLarge` once a chunk's header stands with which the packet would pass the limit.
@@ -333,9 +333,9 @@ impl PacketReader {
     ///
     ///     while let Some(payload) = reader.read_in_place(&mut rest) { .. }
     ///
-    /// Promise: the payload is the one that `advance` would hand out, without a copy; None only
-    /// where no such chunk stands there, bytes of a packet came before, or the reader has refused
-    /// (`LacksFrontChunk`).
+    /// Promise: the payload is the one that `advance` would hand out, without a copy. It is None
+    /// only where no such chunk stands there, bytes of a packet came before, or the reader has
+    /// refused (`LacksFrontChunk`).
     ///
     /// (MySQL: Client/Server Protocol, "Protocol Basics: MySQL Packets" and "Sequence ID".)
     pub fn read_in_place<'a>(&mut self, piece: &mut &'a [u8]) -> Option<&'a [u8]>
@@ -365,8 +365,8 @@ impl PacketReader {
     ///
     /// [`PacketReader::advance`] finds it.
     ///
-    /// Promise: the payload is the one that `advance` hands out, and each takes bytes of the piece,
-    /// so that a loop over a piece ends (`Reads`).
+    /// Promise: the payload is the one that `advance` hands out. Each takes bytes of the piece, so
+    /// that a loop over a piece ends (`Reads`).
     ///
     /// # Errors
     /// - Those of [`PacketReader::advance`].
@@ -450,7 +450,7 @@ impl PacketReader {
     /// the packet stands whole. The answer is whether it was in time; else nothing changes.
     ///
     /// A reader of a login or of the last words of a server looks at the number that comes
-    /// ([`PacketReader::header_due`]), and then says whether it is the one due. (MySQL:
+    /// ([`PacketReader::header_due`]). Then it says whether that number is the one due. (MySQL:
     /// Client/Server Protocol, "Sequence ID".)
     pub fn set_seq_id(&mut self, number: u8) -> bool
         ensures set { OnTrue result ((length self.old.bytes < full_chunk) ×
