@@ -3,9 +3,10 @@ knows its options.
 
     python3 bindings/testing/commands.py
 
-A command is a line of an indented or fenced block, behind `$` or not, whose program is a file of this
+A command is a line of an indented or fenced block, behind `$` or not. Its program is a file of this
 repository, by itself or behind `python3`. It isn't run: an option is known where it stands in the
-program's text. And each file that begins with `#!` can be run. The last line is `N passed, M failed`.
+program's text. And each file that begins with `#!` can be run. The last line is `N passed, M
+failed`.
 """
 
 import glob
@@ -27,7 +28,7 @@ def documents():
 
 
 def blocks_of(text):
-    """Returns the lines of indented and fenced blocks of a document, each with its number; a line
+    """Returns the lines of indented and fenced blocks of a document, each with its number. A line
     that a backslash joins to the one before it begins no command."""
     fenced, is_joined = False, False
     for number, line in enumerate(text.split("\n"), 1):

@@ -2,8 +2,8 @@
 
     conversation_rows.py MADE FILE ..
 
-Writes the conversations of files as MADE, for programs that read no texts: a line for each step and
-event, and behind that of bytes so many of them. The head of each file of
+Writes the conversations of files as MADE, for programs that read no texts. There is a line for each
+step and event, and behind that of bytes so many of them. The head of each file of
 crates/connection_conformance/data says in which form conversations are, and rows.py how rows are.
 """
 
@@ -17,6 +17,8 @@ from streams import packets_of
 DEFAULT_LIMITS = (16777216, 16777216, 134217728)
 CLIENT, SERVER = 0, 1
 SIDES = {"client": CLIENT, "server": SERVER}
+# The library's flags of modes.
+MODES = {"plain": 0, "NO_BACKSLASH_ESCAPES": 1, "ANSI_QUOTES": 2, "both": 3, "unknown": 8}
 
 
 class Wanted(NamedTuple):
@@ -71,6 +73,8 @@ class Conversation:
             self.steps[-1].wanted.append(Wanted(place, None, texts[0]))
         elif kind == "held":
             self.steps.append(Step(place, "held", number=int(texts[0])))
+        elif kind == "mode":
+            self.steps.append(Step(place, "mode", number=MODES[texts[0]]))
         elif kind == "turn":
             side = None if texts[0] == "nobody" else SIDES[texts[0]]
             self.steps.append(Step(place, "turn", side))

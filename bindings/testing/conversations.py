@@ -2,12 +2,12 @@
 
     conversations.py [--strange N] [FILE ..]
 
-Without a FILE it reads those of crates/connection_conformance/data, NAME.conversations: payloads of
-both sides, and of each what event it is; the head of a file says in which form, and rows.py how
-rows are written. A conversation is read step by step, whole in several orders, byte by byte and in
-fronts, and put again by a client and a server. Behind them bytes that no peer sends are read, which
-has to give events or a fault: fronts of payloads, payloads with a changed byte and random ones, N
-times.
+Without a FILE it reads those of crates/connection_conformance/data, NAME.conversations. They have
+payloads of both sides, and of each what event it is. The head of a file says in which form, and
+rows.py how rows are written. A conversation is read step by step, whole in several orders, byte by
+byte and in fronts. It is put again by a client and a server. Behind them bytes that no peer sends
+are read, which has to give events or a fault. They are fronts of payloads, payloads with a changed
+byte and random ones, N times.
 """
 
 import os
@@ -21,7 +21,7 @@ sys.path.insert(0, os.path.join(os.path.dirname(os.path.dirname(os.path.abspath(
 sys.dont_write_bytecode = True
 
 import mysql_session as ms
-from conversation_rows import DEFAULT_LIMITS, SIDES, Conversation, Wanted, read_rows
+from conversation_rows import DEFAULT_LIMITS, MODES, SIDES, Conversation, Wanted, read_rows
 from mysql_session import Side
 from rows import Failure, Report, compare, refusal, words_for
 from streams import payloads_of
@@ -45,6 +45,15 @@ def connection_of(of: Conversation) -> ms.Connection:
 
 
 # ---- Reading ----------------------------------------------------------------------------------
+
+
+def mode_of(connection: ms.Connection) -> int:
+    """The flags of a connection's mode, as rows have them."""
+    mode = connection.mode
+    if mode is None:
+        return MODES["unknown"]
+    return (MODES["NO_BACKSLASH_ESCAPES"] * mode.no_backslash_escapes
+            + MODES["ANSI_QUOTES"] * mode.ansi_quotes)
 
 
 def next_line(connection: ms.Connection) -> Optional[str]:
@@ -137,6 +146,8 @@ def read_steps(of: Conversation, most: int = 1 << 62) -> None:
                 found = it.take()
             elif step.kind == "held":
                 it.compare(it.connection.held, step.number, step.place)
+            elif step.kind == "mode":
+                it.compare(mode_of(it.connection), step.number, step.place)
             elif step.kind == "turn":
                 it.compare(it.connection.turn, step.side, step.place)
             it.compare_lines(found, step.wanted, step.place)
@@ -191,6 +202,7 @@ def put_again(of: Conversation) -> int:
             for line in [speaker.connection.line()], listener.feed(side, put):
                 client.compare_lines(line, [want], want.place)
             client.compare(client.connection.turn, server.connection.turn, want.place)
+            client.compare(client.connection.mode, server.connection.mode, want.place)
             count += 1
         put_fault(of, ends, payloads)
     return count

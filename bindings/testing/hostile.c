@@ -154,6 +154,13 @@ static void ask_values(mysql_session_connection *connection, told *of,
             add_value(of, &value);
         }
     }
+    bool unclear;
+    const uint8_t *cells;
+    size_t len;
+    must(mysql_session_connection_unclear(connection, below(9) * SIZE_MAX / 8,
+                                          SIZE_MAX - below(2), &unclear, &cells, &len),
+         "unclear");
+    add(of, cells, len);
     if (mysql_session_connection_value(connection, rows, 0, &value) == MYSQL_SESSION_OK ||
         mysql_session_connection_value(connection, below(9) * SIZE_MAX / 8, SIZE_MAX - below(2),
                                        &value) == MYSQL_SESSION_OK)

@@ -5,7 +5,7 @@ import os
 import re
 import zipfile
 
-from .support import (BINDINGS, C99, Failure, compare, has, python_environment, run,
+from .support import (BINDINGS, C99, Failure, archive_in, compare, has, python_environment, run,
                       rust_environment)
 
 HEADER = os.path.join(BINDINGS, "c", "mysql_session.h")
@@ -52,6 +52,31 @@ def shared_object(library):
     compare(sorted(exports), sorted(declared_calls()))
 
 
+def bound(library):
+    """The shared object and the extension bind all names as they are loaded, and their tables can't
+    be written behind that."""
+    for name in ("libmysql_session.so", "_native.abi3.so"):
+        file = os.path.join(library, name)
+        said = run(["readelf", "--wide", "--dynamic", "--segments", file])
+        for wanted in (r"\(FLAGS\).*\bBIND_NOW\b|\(BIND_NOW\)", r"\(FLAGS_1\).*\bNOW\b",
+                       r"^ *GNU_RELRO "):
+            if not re.search(wanted, said, re.M):
+                raise Failure(f"{name} lacks what {wanted} finds:\n{said}")
+
+
+# What the library calls of the C library.
+CALLED = ["free", "malloc", "memcmp", "memcpy", "memmove", "memset", "realloc"]
+
+
+def archive(library):
+    """Other objects see the calls of the header in the archive, and no other name. What it lacks is
+    of the C library."""
+    said = run(["nm", "--extern-only", archive_in(library)])
+    names = re.findall(r"^[0-9a-f ]+ ([A-Za-z]) (\S+)$", said, re.M)
+    compare(sorted(name for kind, name in names if kind != "U"), sorted(declared_calls()))
+    compare(sorted(name for kind, name in names if kind == "U" and name not in CALLED), [])
+
+
 # The names that the extension calls of Python, each of the limited interface of 3.8. Later headers
 # declare some under the same macro that 3.8 lacks.
 LIMITED = """
@@ -72,8 +97,8 @@ LIMITED = """
     PyOS_string_to_double PyObject_Call PyObject_CallFunctionObjArgs PyObject_GC_UnTrack
     PyObject_GenericSetAttr PyObject_GetAttrString PyObject_GetIter PyObject_IsInstance
     PyObject_IsTrue PySequence_Concat PySequence_GetItem PySequence_Tuple PyThreadState_GetDict
-    PyTuple_GetItem PyTuple_New PyTuple_SetItem PyTuple_Size PyTuple_Type PyType_FromSpec
-    PyType_GenericAlloc PyType_GetFlags PyType_GetSlot PyType_IsSubtype PyType_Type
+    PyTuple_GetItem PyTuple_New PyTuple_Pack PyTuple_SetItem PyTuple_Size PyTuple_Type
+    PyType_FromSpec PyType_GenericAlloc PyType_GetFlags PyType_GetSlot PyType_IsSubtype PyType_Type
     PyUnicode_AsUTF8String PyUnicode_Decode PyUnicode_DecodeASCII PyUnicode_DecodeUTF8
     PyUnicode_FromEncodedObject PyUnicode_FromFormat PyUnicode_FromStringAndSize
     PyUnicode_InternFromString PyUnicode_InternInPlace Py_GetVersion _PyArg_ParseTuple_SizeT
@@ -193,6 +218,8 @@ def lacks_library(words, status, environment, folder):
 def test_build(report, library, room):
     """Tests what `bindings/build` made, and how it is taken."""
     report.run("libmysql_session.so", shared_object, library)
+    report.run("names bound as they are loaded", bound, library)
+    report.run("libmysql_session.a", archive, library)
     report.run("mysql_session.build", build_word, library)
     report.run("_native.abi3.so", extension, library)
     report.run("Python without headers or a compiler", without_headers, library, room)

@@ -92,11 +92,22 @@ def test_rust(report, library, room):
     """Runs the crate's tests and builds its examples."""
     how = {"cwd": os.path.join(BINDINGS, "rust"), "env": rust_environment(library, room)}
     report.run("cargo test", run, ["cargo", "test", "--offline"], **how)
+    strict = {**how, "env": {**how["env"], "RUSTDOCFLAGS": "-D warnings"}}
+    report.run("cargo doc", run, ["cargo", "doc", "--offline", "--no-deps"], **strict)
     if report.run("cargo build --examples", run, ["cargo", "build", "--offline", "--examples"],
                   **how):
         proxy = os.path.join(room, "target", "debug", "examples", "audit_proxy")
         words = ["python3", os.path.join(TESTING, "recorded.py"), proxy, RECORDINGS]
         report.run("recorded connections through the proxy", run, words)
+        report.run("examples/poll_loop", poll_loop,
+                   os.path.join(room, "target", "debug", "examples", "poll_loop"))
+
+
+def poll_loop(program):
+    """Runs the example of a loop, and compares what it prints with what its section says."""
+    with open(os.path.join(ROOT, "docs", "EXAMPLES_RUST.md"), encoding="utf-8") as it:
+        section = it.read().partition("\n## A poll loop\n")[2].partition("\n## ")[0]
+    compare(run([program]), re.search(r"^```text\n(.*?)^```$", section, re.M | re.S)[1])
 
 
 def three_machines(events, **how):
@@ -127,6 +138,12 @@ def test_python(report, library, room, events=None):
     for file in sorted(glob.glob(os.path.join(folder, "examples", "*.py"))):
         words = ["python3", file, "--help"]
         report.run(os.path.relpath(file, ROOT) + " --help", run, words, **how)
+
+
+def measure_costs(library):
+    """Measures what hostile inputs take, and tells how many rows there are."""
+    words = [os.path.join(TESTING, "costs"), "--quick", "--library", library]
+    print("  " + run(["python3", *words]).splitlines()[-1], flush=True)
 
 
 # ---- The README's programs --------------------------------------------------------------------

@@ -5,28 +5,23 @@
 
 In each mode, in quotes and in hexadecimal, random values are sent as texts, and the server has to
 have read each as it was. Where a text is for another mode, or another character set, the server
-reads a value as SQL, which shows why the mode is asked for. With a query only that is executed, in
+reads a value as SQL. That shows why the mode is asked for. With a query only that is executed, in
 ANSI_QUOTES, with the value 1.
 """
 
 import os
 import random
-import socket
 import sys
 
-sys.path.insert(0, os.path.join(os.path.dirname(os.path.dirname(os.path.abspath(__file__))),
-                                "python", "examples"))
+TESTING = os.path.dirname(os.path.abspath(__file__))
+sys.path[:0] = [TESTING, os.path.join(os.path.dirname(TESTING), "python")]
 
-from connection import Connection, commands
-from mysql_session import (Capability, Mode, Receiver, Road, Spelling, bind_text, is_safe_to_quote,
-                           literal, send)
+from by_hand import Client
+from mysql_session import Mode, Receiver, Road, Spelling, bind_text, is_safe_to_quote, literal, send
 
 VALUES = 10000  # in each mode and spelling
 AT_ONCE = 100
 LONGEST = 40
-
-QUIT = 0x01
-OK, NULL, ROWS_END, ERROR = 0x00, 0xFB, 0xFE, 0xFF
 
 MODES = {"": Mode(), "NO_BACKSLASH_ESCAPES": Mode(no_backslash_escapes=True),
          "ANSI_QUOTES": Mode(ansi_quotes=True),
@@ -40,65 +35,30 @@ PIECES = [b"'", b'"', b"`", b"\\", b"''", b'""', b"\\'", b'\\"', b"\\\\", b"\\\\
 
 
 class Server:
-    """A connection that sends queries.
-
-    The answers are read here, and not by the library: of a MariaDB in ANSI_QUOTES it refuses each
-    status, of which a bit has no name in the protocol.
-    """
+    """A connection that sends queries; its answers are read without the library."""
 
     def __init__(self, port, user, database):
-        self.status = 0
-        self._socket = socket.create_connection(("127.0.0.1", port))
-        self._connection = Connection(self._socket)
-        self._connection.log_in(user, database)
+        self.client = Client(port, user, database)
 
-    def rows(self, packets):
-        """Sends a text query that is framed, and returns the rows of its answer."""
-        self._connection.send_packets(packets)
-        first = self._connection.expect(1)
-        if first[0] == ERROR:
-            raise ValueError(f"the server answers {first[3:]} to {packets[5:]}")
-        if first[0] == OK:
-            # Few rows were changed, so that their number has one byte, as that of no insertion.
-            self.status = int.from_bytes(first[3:5], "little")
-            return []
-        for _ in range(first[0]):
-            self._connection.receive()
-        if not self._connection.capabilities & Capability.DEPRECATE_EOF:
-            self._connection.receive()
-        rows, payload = [], self._connection.receive()
-        while payload[0] != ROWS_END:
-            rows.append(cells_of(payload))
-            payload = self._connection.receive()
-        return rows
+    @property
+    def status(self):
+        """The status that was told last."""
+        return self.client.status
 
     def query(self, query):
         """Sends a query as it stands, and returns the rows of its answer."""
-        return self.rows((len(query) + 1).to_bytes(3, "little") + b"\0\x03" + query.encode())
+        [found] = self.client.query(query if isinstance(query, bytes) else query.encode())
+        return found.rows
 
-    def execute(self, query, mode):
+    def execute(self, query):
         """Prepares a query, executes it with the value 1, and ends the connection."""
-        prepare, execution = commands(send(query, [(1,)], Road.EXECUTE, mode=mode))
-        self._connection.send(prepare, 0)
-        statement = self._connection.expect(1)[1:5]
-        self._connection.send(execution[:1] + statement + execution[5:], 0)
-        self._connection.send(bytes([QUIT]), 0)
-        while self._socket.recv(1 << 16):
-            pass
+        self.client.execute(self.client.prepare(query.encode()), [1])
+        self.client.quit()
 
     def ask(self, query, values, mode, spelling=Spelling.QUOTED):
         """Sends a query with these values as a text, and returns the rows of its answer."""
-        return self.rows(send(query, [values], Road.TEXT, mode=mode, spelling=spelling))
-
-
-def cells_of(row):
-    """Returns the cells of a row, each of fewer than 251 bytes."""
-    cells, at = [], 0
-    while at < len(row):
-        length = 0 if row[at] == NULL else row[at]
-        cells.append(None if row[at] == NULL else row[at + 1:at + 1 + length])
-        at += 1 + length
-    return cells
+        packet = send(query, [values], Road.TEXT, mode=mode, spelling=spelling)
+        return self.query(packet[5:])
 
 
 def compare(found, wanted, *where):
@@ -140,7 +100,7 @@ def texts_are_read(server, mode):
     """Texts of which each shows one rule: what they are, and what the server answers."""
     quotes = "'''\\'" if mode.no_backslash_escapes else "'\\'\\\\'"
     rows = [("SELECT ?", "'\\", Spelling.QUOTED, f"SELECT {quotes}", [b"'\\"]),
-            ("SELECT ?", "'\\", Spelling.HEXADECIMAL, "SELECT 0x275C", [b"'\\"]),
+            ("SELECT ?", "'\\", Spelling.HEXADECIMAL, "SELECT _utf8mb4 0x275C", [b"'\\"]),
             ("SELECT ?", "", Spelling.HEXADECIMAL, "SELECT ''", [b""])]
     if mode.no_backslash_escapes:
         rows += [("SELECT '\\', ?", 1, Spelling.QUOTED, "SELECT '\\', 1", [b"\\", b"1"])]
@@ -185,7 +145,7 @@ def main():
     server = Server(int(port), user, database)
     for query in queries:
         server.query("SET sql_mode = 'ANSI_QUOTES'")
-        server.execute(query, Mode(ansi_quotes=True))
+        server.execute(query)
     if queries:
         return
     server.query("CREATE TABLE named (`a\\` INT)")

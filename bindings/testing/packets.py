@@ -2,7 +2,7 @@
 
     packets.py [FILE ..]
 
-Without a FILE it runs those of rows/packets. rows.py says how rows are written; the head of a file
+Without a FILE it runs those of rows/packets. rows.py says how rows are written. The head of a file
 names the pages that its rows are of.
 
     at greeting | SIDE BYTES | ..          how the rows behind it begin: with a new connection, or
@@ -29,12 +29,12 @@ names the pages that its rows are of.
 
 A LINE is what `Connection.line` gives, without the side; a text in double quotes and x(BYTES) stand
 for bytes there. FIELDS are words NAME=NUMBER, NAME=BYTES (without blanks). A RANGE is FIRST-LAST,
-or a length. Of values, numbers are whole ones, bytes texts in quotes and names, `-` is NULL, `N *
-VALUE` a value N times, d(year,month,day,hour,minute,second,microsecond) is a date, and
-t(sign,days,hours,minutes,seconds,microseconds) a duration.
+or a length. Of values, numbers are whole ones, and bytes are texts in quotes and names. `-` is
+NULL, and `N * VALUE` a value N times. d(year,month,day,hour,minute,second,microsecond) is a date,
+and t(sign,days,hours,minutes,seconds,microseconds) a duration.
 
-Each payload of a connection is put, which has to give its packets as they are framed; it is fed
-whole and byte by byte, where the same event has to come with its last byte and nothing before; and
+Each payload of a connection is put, which has to give its packets as they are framed. It is fed
+whole and byte by byte, where the same event has to come with its last byte and nothing before. And
 each of its fronts is put, framed as if it were whole.
 """
 

@@ -2,9 +2,10 @@
 
     python3 bindings/testing/program.py PROGRAM [--only PATTERN] [--refuse LIBRARY [--always]]
 
-PROGRAM is the executable mysql_session_program, proved or not. The rows stand in rows/program/*.txt;
---only takes those of files, or with titles, that have the pattern. rows.py says how rows are
-written, and how those that fail are told. A file has these lines beside comments and names:
+PROGRAM is the executable mysql_session_program, proved or not. The rows stand in
+rows/program/*.txt. --only takes those of files, or with titles, that have the pattern. rows.py says
+how rows are written, and how those that fail are told. A file has these lines beside comments and
+names:
 
     $ WORD WORD ..                        the program's words, as for a shell; {NAME} is a named one
     TITLE | INPUT | OUTPUT | STATUS       a row: what it shows, standard input, standard output
@@ -12,9 +13,9 @@ written, and how those that fail are told. A file has these lines beside comment
 
 Rows are run by each of the lines of words that stand together above them. Nothing may be printed on
 standard error. A row without HOW is run twice: over its input in one piece, and byte by byte, where
-a read has one byte; over the first alone where the input has more than 4096 bytes. Where commas stand in INPUT and OUTPUT, the program is given a piece and has to print
-its output before it is given the next; what stands behind the last comma comes by the input's end.
-HOW is one of
+a read has one byte. Where the input has more than 4096 bytes it is run over the first alone. Where
+commas stand in INPUT and OUTPUT, the program is given a piece and has to print its output before it
+is given the next. What stands behind the last comma comes by the input's end. HOW is one of
 
     by bytes                  byte by byte alone, however long the input is
     cut to M-N                the input ends behind so many bytes, by each number from M to N
@@ -24,10 +25,11 @@ HOW is one of
                               the status is 2 behind those; so it is at a full device and a closed pipe
     refuses long writes       the output refuses the first write as too long, and nothing follows it
 
-With --refuse each row without HOW is run with each of its requests for memory refused in turn, by
-LIBRARY, which is tools/refuse_memory.c: it has to print what it prints else, or `refused: Memory`
-behind some of its lines. With --always too all of them are refused at once, and it has to be the
-latter. The sanitizer of `rt try` hands out memory of its own, so this wants a proved program.
+With --refuse each row without HOW is run with each of its requests for memory refused in turn.
+LIBRARY does so, which is tools/refuse_memory.c. It has to print what it prints else, or `refused:
+Memory` behind some of its lines. With --always too all of them are refused at once, and it has to
+be the latter. The sanitizer of `rt try` hands out memory of its own, so this wants a proved
+program.
 """
 
 import argparse

@@ -1,11 +1,11 @@
 """Real clients through the auditing proxy: what it prints is compared with what they did.
 
 `bindings/test --server` calls `test_proxied`. Each client of `clients/` does the same by its own
-library: queries with their values in the text, prepared executions with values of each kind where
-it has them, a query that is refused, a row of more than a packet's chunk, a file, a kill of its own
-connection, and a login that is refused. What the proxy has to print is known from the client's
-program, and a second time from the server's general log, which has each command of each connection.
-A client that this machine doesn't have is named with its Debian package.
+library. It sends queries with their values in the text, and prepared executions with values of each
+kind where it has them. It has a query refused, a row of more than a packet's chunk, and a file. It
+kills its own connection, and has a login refused. What the proxy has to print is known from the
+client's program. It is known a second time from the server's general log, which has each command of
+each connection. A client that this machine doesn't have is named with its Debian package.
 """
 
 import concurrent.futures
@@ -19,6 +19,7 @@ import sys
 import time
 from typing import NamedTuple, Sequence
 
+from .by_hand import Client as ByHand, Closed
 from .support import BINDINGS, Failure, compare, has, run
 
 CLIENTS = os.path.join(BINDINGS, "testing", "clients")
@@ -275,7 +276,8 @@ class Audits:
                 self.kill_one("INFO LIKE 'SELECT SLEEP%'")
             with self.raw(port) as connection:
                 self.kill_one("COMMAND = 'Sleep' AND USER = 'tester'")
-                if connection.receive() is not None:
+                with contextlib.suppress(Closed):
+                    connection.receive()
                     raise Failure("the server says something to a connection that is killed")
             records = lines(2)
         slept = [it for it in records if it.get("text") == "SELECT SLEEP(50) AS audited"]
@@ -295,16 +297,9 @@ class Audits:
 
     @contextlib.contextmanager
     def raw(self, port):
-        """A connection by the examples' own, which has logged in."""
-        sys.path.insert(0, os.path.join(BINDINGS, "python", "examples"))
-        os.environ["MYSQL_SESSION_LIBRARY"] = self.tests.library
-        from connection import Connection
-        connection = Connection(socket.create_connection(("127.0.0.1", port)))
-        try:
-            connection.log_in("tester", "bindings")
-            yield connection
-        finally:
-            connection.close()
+        """A connection without the library, which has logged in."""
+        with ByHand(port, "tester", "bindings") as client:
+            yield client
 
     def compressed(self):
         """A client that compresses its packets."""
@@ -361,28 +356,23 @@ class Audits:
         """Many commands at once, more than there is room for: all are told, in their order."""
         texts = [f"SELECT {number}, '{'x' * 100}'" for number in range(PIPELINED)]
         payloads = [b"\x03" + text.encode() for text in texts]
-        packets = b"".join(len(it).to_bytes(3, "little") + b"\0" + it for it in payloads)
         for options in ([], ["--pass-first"]):
             with self.proxy("--longest", "4096", *options) as (port, lines):
                 with self.raw(port) as connection:
-                    self.send_and_count(connection, packets)
+                    self.send_and_count(connection, payloads)
                 records = lines(1)
             found = [(it["text"], it["results"]) for it in records if it["kind"] == "query"]
             compare(found, [(text, [{"rows": 1}]) for text in texts])
 
-    def send_and_count(self, connection, packets):
-        """Sends commands while their replies are read, which are counted."""
+    def send_and_count(self, connection, payloads):
+        """Sends commands while their replies are read, each of which has a row."""
         process = os.fork()
         if process == 0:
-            connection.send_packets(packets)
+            connection.send_all(payloads)
             os._exit(0)
-        rows = 0
-        while rows < PIPELINED:
-            # A count, columns, what ends them (or not), a row, and what ends rows.
-            payload = connection.expect(1)
-            rows += payload[:1] == b"\x02"
-            for number in range(2, 6 if connection.capabilities & 1 << 24 else 7):
-                connection.expect(number)
+        for _ in payloads:
+            [found] = connection.read_answers()
+            compare(len(found.rows), 1)
         os.waitpid(process, 0)
 
 

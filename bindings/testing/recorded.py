@@ -2,18 +2,21 @@
 
     recorded.py PROXY RECORDINGS
 
-PROXY is the proxy's executable, and the folder RECORDINGS has recorded connections: NAME.client and
-NAME.server, the bytes of both sides, and NAME.events, what each payload is. Here are both ends: a
-client and a server that send what was recorded. What each gets has to be what the other sent, and
-what the proxy prints, what the events say. With `--on-fault cut` a connection that can't be read
-further is ended.
+PROXY is the proxy's executable, and the folder RECORDINGS has recorded connections. NAME.client and
+NAME.server are the bytes of both sides, and NAME.events is what each payload is. Here are both
+ends: a client and a server that send what was recorded. What each gets has to be what the other
+sent, and what the proxy prints, what the events say. With `--on-fault cut` a connection that can't
+be read further is ended. Without descriptors or threads for more clients the proxy goes on. It
+prints no password but with `--secrets`.
 """
 
 import contextlib
 import json
+import os
 import pathlib
 import random
 import re
+import resource
 import socket
 import struct
 import subprocess
@@ -21,7 +24,14 @@ import sys
 import threading
 from typing import NamedTuple
 
+import with_passwords
+
 SECONDS = 60
+# How many descriptors the proxy may open where it is to have too few.
+DESCRIPTORS = 24
+
+# The first byte of a change of user, which may be laid out as none.
+CHANGE_USER = b"\x11"
 
 # Reasons why a connection isn't read any further.
 UNREAD = ("Over Secure", "Over Compressed", "Over Dump", "Over Clone", "Fault")
@@ -125,7 +135,8 @@ class Told(NamedTuple):
 class Teller:
     """What the proxy has to tell of events."""
 
-    def __init__(self):
+    def __init__(self, secrets):
+        self.secrets = secrets  # whether they are told
         self.told, self.rows, self.prepared, self.last, self.asked = [], None, {}, None, None
         # What user and database become by each command, where the server agrees.
         self.becomes = []
@@ -177,6 +188,8 @@ class Teller:
             byte = event.fields["byte"]
             first = b"" if byte == "-" else bytes([int(byte)])
             text = json_text(first + bytes.fromhex(event.fields["data"][1:]))
+            if first == CHANGE_USER and not self.secrets:
+                text = None
         self.asked = text
         return Told(kind, text or None if kind not in ("query", "prepare", "init db", "unknown")
                     else text, values, [])
@@ -218,9 +231,9 @@ class Teller:
             results.append(f"line {event.text('data')}")
 
 
-def told_by(lines):
+def told_by(lines, secrets):
     """Returns what the proxy has to tell of a connection's events."""
-    teller = Teller()
+    teller = Teller(secrets)
     for line in lines:
         if not line.startswith("end "):
             teller.take(Event(line))
@@ -283,12 +296,13 @@ class End(threading.Thread):
 class Proxy:
     """The proxy, before a server of our own."""
 
-    def __init__(self, executable, *options):
+    def __init__(self, executable, *options, **how):
         self.listener = socket.create_server(("127.0.0.1", 0))
         self.listener.settimeout(SECONDS)
         upstream = f"127.0.0.1:{self.listener.getsockname()[1]}"
         self.process = subprocess.Popen([executable, "127.0.0.1:0", upstream, "--json", *options],
-                                        stdout=subprocess.PIPE, stderr=subprocess.PIPE, text=True)
+                                        stdout=subprocess.PIPE, stderr=subprocess.PIPE, text=True,
+                                        **how)
         self.port = int(self.process.stderr.readline().rpartition(":")[2])
 
     def __enter__(self):
@@ -298,6 +312,12 @@ class Proxy:
         self.process.terminate()
         self.process.wait(SECONDS)
         self.listener.close()
+
+    def ask(self):
+        """Connects a client."""
+        stream = socket.create_connection(("127.0.0.1", self.port))
+        stream.settimeout(SECONDS)
+        return stream
 
     def connect(self, client, server, at):
         """Has both ends send these bytes. Returns what each got, and what the proxy printed."""
@@ -321,14 +341,15 @@ def check(wanted, found, what):
         raise ValueError(f"{what}: {found!r:.600}\nin place of {wanted!r:.600}")
 
 
-def check_recording(proxy, path, at, cuts):
+def check_recording(proxy, path, at, options):
     """Sends a recording through the proxy, and compares all that comes out."""
     client, server = (path.with_suffix(it).read_bytes() for it in (".client", ".server"))
     *lines, end = path.read_text().splitlines()
+    cuts = "cut" in options
     got, asked, records = proxy.connect(client, server, at)
     kinds = [it["kind"] for it in records]
     told = [told_in(it) for it in records if it["kind"] not in ("end", "unread", "cut")]
-    check(told_by(lines), told, f"{path.stem}, what is told")
+    check(told_by(lines, "--secrets" in options), told, f"{path.stem}, what is told")
     is_unread = end[4:].startswith(UNREAD)
     check(["cut" if cuts else "unread"] if is_unread else [],
           [it for it in kinds if it in ("cut", "unread")], f"{path.stem}, what isn't read")
@@ -356,17 +377,77 @@ def check_flood(proxy, path, at):
     check("end", records[-1]["kind"], "a little more, what is told")
 
 
+def check_secrets(executable, path, at):
+    """No password of a statement, of a value or of an error is printed, but with `--secrets`."""
+    client, server = with_passwords.conversation(
+        *(path.with_suffix(it).read_bytes() for it in (".client", ".server")))
+    for options, found in (([], []), (["--secrets"], list(with_passwords.PASSWORDS))):
+        with Proxy(executable, *options) as proxy:
+            got, asked, records = proxy.connect(client, server, at)
+        check((client, server), (asked, got), "bytes of passwords")
+        check(found, with_passwords.leaks(json.dumps(records)), "the passwords that are printed")
+        check("quit", records[-1]["text"], "the end of a connection with passwords")
+    check([], [it for it in records if it["kind"] == "unread"], "what isn't read of passwords")
+    with Proxy(executable) as proxy:
+        records = proxy.connect(client, server, at)[2]
+    masked = "ALTER USER ann IDENTIFIED BY '*****' '*****'"
+    check([masked, "*****"], [records[2]["text"], records[2]["results"][0]["message"]], "a mask")
+    check([["*****"]] * 2, [it["values"] for it in records if it["kind"] == "execute"], "values")
+    check("SELECT 'shown'", records[-2]["text"], "a text without a password")
+
+
+def limit_descriptors():
+    """Lets the process that is to be the proxy open few files."""
+    resource.setrlimit(resource.RLIMIT_NOFILE, (DESCRIPTORS, DESCRIPTORS))
+
+
+def check_descriptors(executable):
+    """More clients come than the proxy has descriptors for. It says so, and serves the next one once
+    they have gone."""
+    with Proxy(executable, "--pass-first", preexec_fn=limit_descriptors) as proxy:
+        flood = [proxy.ask() for _ in range(2 * DESCRIPTORS)]
+        while "no client can be taken" not in proxy.process.stderr.readline():
+            check(None, proxy.process.poll(), "the status of a proxy without descriptors")
+        for it in flood:
+            it.close()
+        with proxy.ask() as asking:
+            asking.sendall(b"?")
+            said = b""
+            while not said:
+                answering, _ = proxy.listener.accept()
+                with answering:
+                    answering.settimeout(SECONDS)
+                    said = answering.recv(1)
+        check(b"?", said, "what comes of the client behind the flood")
+
+
+def check_threads(executable):
+    """A client for which no thread can be had is closed, and the proxy goes on."""
+    with Proxy(executable, env={**os.environ, "RUST_MIN_STACK": str(1 << 47)}) as proxy:
+        for number in (1, 2):
+            with proxy.ask() as asking, contextlib.suppress(ConnectionResetError):
+                check(b"", asking.recv(1), "what a client without a thread gets")
+            check(f"connection {number}: it has no thread",
+                  proxy.process.stderr.readline()[:len("connection 1: it has no thread")],
+                  "what is said of a client without a thread")
+        check(None, proxy.process.poll(), "the status of a proxy without threads")
+
+
 def main():
     executable, recordings = sys.argv[1:]
     paths = sorted(pathlib.Path(recordings).glob("*.events"))
     count, at = 0, random.Random(1)
-    for options in ([], ["--pass-first"], ["--on-fault", "cut"], ["--longest", "200000"]):
+    for options in ([], ["--pass-first", "--secrets"], ["--on-fault", "cut", "--secrets"],
+                    ["--longest", "200000"]):
         with Proxy(executable, *options) as proxy:
             for path in paths:
-                count += check_recording(proxy, path, at, "cut" in options)
+                count += check_recording(proxy, path, at, options)
+    check_secrets(executable, pathlib.Path(recordings, "php-execute.events"), at)
     for options in ([], ["--pass-first"]):
         with Proxy(executable, "--longest", "20000", *options) as proxy:
             check_flood(proxy, pathlib.Path(recordings, "ansi_quotes.events"), at)
+    check_descriptors(executable)
+    check_threads(executable)
     print(f"{len(paths)} recordings, {count} commands and logins are told as their events say")
 
 

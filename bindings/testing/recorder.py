@@ -25,7 +25,7 @@ def pass_on(source, target, kept):
 
 
 class Recorder:
-    """Records the first connection to a port of its own, within a `with`: what the client and the
+    """Records the first connection to a port of its own, within a `with`. What the client and the
     server at the port `upstream` send are the files NAME.client and NAME.server."""
 
     def __init__(self, upstream, name):

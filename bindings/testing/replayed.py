@@ -49,6 +49,19 @@ class Tests:
         compare(self.client("SELECT 1 FROM DUAL WHERE FALSE"), "0 rows\n")
         compare(self.client("DO 1"), "OK, 0 rows affected\n")
 
+    def client_by_text_with_values(self):
+        """Texts are for the session's mode, also behind a trigger that set another one. The server
+        takes it back, and its status goes on telling it."""
+        self.sql("CREATE TABLE trapped (id INT AUTO_INCREMENT PRIMARY KEY, s VARCHAR(99)); "
+                 "CREATE TRIGGER sets_the_mode BEFORE INSERT ON trapped FOR EACH ROW "
+                 "SET sql_mode = 'NO_BACKSLASH_ESCAPES'")
+        values = ["it's", "\\'), (1) -- ", "'), (1) -- ", "\\"]
+        words = [it for value in values for it in ("--", value)][1:]
+        said = self.client("--text", "INSERT INTO trapped (s) VALUES (?)", *words)
+        compare(said, "".join(f"OK, 1 row affected, the last id is {it}\n" for it in range(1, 5)))
+        compare(self.sql("SELECT HEX(s) FROM trapped ORDER BY id"),
+                [[it.encode().hex().upper()] for it in values])
+
     def client_by_execution(self):
         """A query with values is executed with each set; its cells are values of their types."""
         self.sql("CREATE TABLE blocking (id INT AUTO_INCREMENT PRIMARY KEY, name VARCHAR(99), "
@@ -64,8 +77,7 @@ class Tests:
                 [["1", "69742773", "7", "2.50"], ["2", "", "-", "-1.00"],
                  ["3", "mat\u00e9 \u2618 ?".encode().hex().upper(), "9223372036854775807",
                   "0.01"]])
-        behind = ("0.5\t0.1\t2024-02-29 00:00:00.000000\t2024-02-29 12:30:01.000005\t"
-                  "-30:00:01.000000")
+        behind = "0.5\t0.1\t2024-02-29\t2024-02-29 12:30:01.000005\t-30:00:01"
         names = "id\tname\tamount\tprice\thalf\ttenth\tday\tmoment\tspan\n"
         said = self.client("SELECT * FROM blocking WHERE id > ? AND id < ?", "1", "3", "--", "3",
                            "9", "--", "0", "2")
@@ -173,11 +185,12 @@ class Tests:
         query = "SELECT * FROM replayed_rows WHERE id > ?"
         with self.record("rows") as recorder:
             self.client(query, "0", "--", "1", port=recorder.port)
-        same = "5 commands put, 0 replies differ, 0 left out, and the recording ends: Over Quit\n"
+        # The first asks the server to track the mode.
+        same = "6 commands put, 0 replies differ, 0 left out, and the recording ends: Over Quit\n"
         compare(self.replay(self.file("rows")), same)
         self.sql("INSERT INTO replayed_rows VALUES (1)")
         compare(self.replay(self.file("rows"), status=1),
-                f"command 2, Execute {query}:\n    recorded: 2 rows\n    here: 3 rows\n"
+                f"command 3, Execute {query}:\n    recorded: 2 rows\n    here: 3 rows\n"
                 + same.replace("0 replies", "1 replies"))
         self.sql("DROP TABLE replayed_rows")
         said = self.replay(self.file("rows"), status=1)
@@ -209,8 +222,8 @@ class Tests:
 
 
 def with_other_ids(stream, side):
-    """Returns a stream of MariaDB's own library with other ids of statements: in what the client
-    says about them, and in the server's replies to a prepare."""
+    """Returns a stream of MariaDB's own library with other ids of statements. They are in what the
+    client says about them, and in the server's replies to a prepare."""
     changed, at = b"", 0
     while at < len(stream):
         end = at + 4 + int.from_bytes(stream[at:at + 3], "little")
@@ -226,7 +239,8 @@ def with_other_ids(stream, side):
 def test_replayed(report, tests):
     """Runs the client and the replay in Rust against a server."""
     it = Tests(tests)
-    for test in (it.client_by_text, it.client_by_execution, it.client_of_long_values,
+    for test in (it.client_by_text, it.client_by_text_with_values, it.client_by_execution,
+                 it.client_of_long_values,
                  it.client_by_procedure, it.client_refused, it.client_killed,
                  it.client_with_password, it.replays_recordings, it.replays_other_ids,
                  it.replay_tells_what_differs, it.replay_sends_the_file,

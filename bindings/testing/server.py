@@ -1,4 +1,5 @@
-"""The examples of the bindings, and texts in each mode, against a MariaDB server of their own.
+"""The examples of the bindings, texts in each mode, random queries and odd commands, against a
+MariaDB server of their own.
 
 `bindings/test --server` calls `test_server`. Everything that is started here is stopped by its
 process id, whatever happens.
@@ -29,6 +30,11 @@ WAIT_SECONDS = 60
 # More than a batch holds, so that several requests are sent.
 ROWS = 12345
 RECORDINGS = os.path.join(ROOT, "crates", "connection_conformance", "data")
+# What random queries are about, and how their values are spelled; so many of each.
+PARTS = (("tokens", "quoted"), ("tokens", "hexadecimal"), ("comments", "quoted"),
+         ("comments", "hexadecimal"), ("kinds", "quoted"), ("kinds", "hexadecimal"),
+         ("told", "quoted"))
+RANDOM_QUERIES = 1000
 # Recorded connections that need no more than a server.
 WHOLE_RECORDINGS = ("c-direct", "perl-execute", "java-bulk", "ruby-text", "php-pdo-text",
                     "go-long-data", "load_data_by_execution", "types_in_force")
@@ -484,6 +490,45 @@ class Tests:
         """In each mode the server reads texts as what they carry."""
         compare(self.modes(self.port).count(": 10000 values, "), 8)
 
+    def random_queries(self, part, spelling):
+        """Random queries and values of a part: a text is answered as an execution is."""
+        words = ["--part", part, "--spelling", spelling, "--count", str(RANDOM_QUERIES)]
+        print("  " + run(["python3", os.path.join(BINDINGS, "testing", "places.py"), str(self.port),
+                          USER, DATABASE, *words], env=self.python).strip()
+              .replace("\n", "\n  "), flush=True)
+
+    def examples_in_ansi_quotes(self):
+        """At a server in ANSI_QUOTES the replay and the loader do what they do elsewhere."""
+        self.sql("CREATE TABLE quoting (name VARCHAR(99)); SET GLOBAL sql_mode = 'ANSI_QUOTES'")
+        try:
+            query, names = "INSERT INTO quoting VALUES (?)", ["it's", '"', "\\"]
+            stream = b"".join(text_query(query.replace("?", it)) for it in
+                              ("'it\\'s'", "'\"'", "'\\\\'"))
+            for road in ("text", "execute", "bulk"):
+                self.replay(stream, query, "--road", road, "--recorded-mode", "ANSI_QUOTES")
+            with open(self.file("quoting.csv"), "w", encoding="utf-8") as it:
+                it.write("name\nit's\n\"\"\"\"\n\\\n")
+            self.load("quoting", "quoting.csv")
+            compare(self.sql("SELECT HEX(name) FROM quoting"), [[hex_of(it)] for it in names * 4])
+        finally:
+            self.sql("SET GLOBAL sql_mode = DEFAULT")
+
+    def mode_behind_a_procedure(self):
+        """Behind a procedure that set the mode a text answers as an execution, with tracking and
+        without. By the status alone it would answer all rows."""
+        self.sql("CREATE TABLE secrets_of (id INT, s VARCHAR(99)); INSERT INTO secrets_of VALUES "
+                 "(1, 'one'), (2, 'two')")
+        said = run([sys.executable, os.path.join(BINDINGS, "testing", "trap.py"), str(self.port),
+                    USER, DATABASE], env=self.python)
+        compare(said, "".join(f"{name}, the procedure {what}: [] and []; by the status 2 rows\n"
+                              for name in ("tracked", "not tracked")
+                              for what in ("sets it", "has rows too")))
+
+    def odd_commands(self):
+        """What the server runs of odd commands is told, and is on its page."""
+        run(["python3", os.path.join(BINDINGS, "testing", "executions.py"), str(self.port), USER,
+             DATABASE, "--check", os.path.join(ROOT, "docs", "SERVERS.md")], env=self.python)
+
     def proxy_of_a_mode(self):
         """The proxy follows a session that changes to ANSI_QUOTES."""
         self.sql(r"CREATE TABLE quoted (`a\` INT)")
@@ -560,7 +605,7 @@ def pymysql_python():
 
 
 def test_server(report, room, library):
-    """Runs the five examples, and texts in each mode, against a server."""
+    """Runs the five examples, texts in each mode, random queries and odd commands."""
     with contextlib.ExitStack() as stack:
         port = report.run("a MariaDB server", lambda: stack.enter_context(mariadb(room)))
         if not port:
@@ -571,8 +616,13 @@ def test_server(report, room, library):
                      it.replays, it.replay_faults, it.replays_of_connections, it.replay_of_files,
                      it.replication, it.replication_by_gtid, it.test_server_clients,
                      it.test_server_table, it.test_server_statements, it.texts_in_modes,
-                     it.proxy_of_a_mode, it.examples_of_a_mode):
+                     it.proxy_of_a_mode, it.examples_of_a_mode, it.examples_in_ansi_quotes,
+                     it.mode_behind_a_procedure):
             report.run("server: " + test.__name__.replace("_", " "), test)
+        for part, spelling in PARTS:
+            report.run(f"server: random queries, {part}, {spelling}", it.random_queries, part,
+                       spelling)
+        report.run("server: odd commands", it.odd_commands)
         if has("tcpdump") and os.geteuid() == 0:
             report.run("server: captured by tcpdump", it.captured)
         else:

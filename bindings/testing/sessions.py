@@ -3,10 +3,10 @@ servers.
 
     sessions.py [FILE ..]
 
-Without a FILE it runs those of rows/sessions, and of replies those that crates/conformance reads too
-(crates/conformance/data/replies.txt), without their reports, for which C has no call. rows.py says
-how rows are written, and a file's head what its rows are. Bytes are read in one piece, byte by byte
-and, where they are few, in pieces of each size; a fault has to stay.
+Without a FILE it runs those of rows/sessions. Of replies it runs those that crates/conformance
+reads too (crates/conformance/data/replies.txt). They come without their reports, for which C has no
+call. Rows are written as rows.py says, and a file's head says what its rows are. Bytes are read in
+one piece, byte by byte and, where they are few, in pieces of each size; a fault has to stay.
 """
 
 import json
@@ -101,8 +101,8 @@ def sizes_of(data):
 
 
 def check_reading(read, stream, lines, front_ends):
-    """Compares what bytes say, by a call that reads them in pieces, with lines, the last of which may
-    be about their fronts; those end in one of two ways: within a packet, and behind one."""
+    """Compares what bytes say, by a call that reads them in pieces, with lines. The last line may
+    be about their fronts. Those end in one of two ways: within a packet, and behind one."""
     stages = {}
     if lines[-1].startswith("prefixes:"):
         stages = {int(it.partition(":")[0]): int(it.partition(":")[2])
@@ -142,8 +142,8 @@ def feed_staying(reader, data, size, taken=None):
 
 
 def read_twice(make, lines_of, data, size):
-    """Returns what bytes say, by a reader from which it is taken at the end; of one from which it is
-    taken before the first piece and behind each the same has to come."""
+    """Returns what bytes say, by a reader from which it is taken at the end. Of one from which it
+    is taken before the first piece and behind each the same has to come."""
     with make() as reader:
         feed_staying(reader, data, size)
         end = reader.end()
@@ -159,10 +159,10 @@ def read_twice(make, lines_of, data, size):
 # ---- Streams of commands ------------------------------------------------------------------------
 
 
-def check_audit(query, statement, limit, stream, lines, mode=Mode()):
+def check_audit(query, statement, limit, stream, lines, mode=Mode(), spelling=Spelling.QUOTED):
     """Compares what a stream says with lines, the last of which may be about its fronts."""
     def read(data, size):
-        return read_twice(lambda: ms.Receiver(query, statement, limit, mode=mode),
+        return read_twice(lambda: ms.Receiver(query, statement, limit, mode=mode, spelling=spelling),
                           lambda sets, end: set_lines(sets) + [end_line(end)], data, size)
 
     check_reading(read, stream, lines, ["end: unfinished packet", "end: whole"])
@@ -253,17 +253,18 @@ def run_text(modes, spellings, query, values, wanted, *lines):
             stream = ms.send(query, [values], Road.TEXT, mode=mode, spelling=spelling)
             compare(stream, framed([b"\x03" + text]))
             said = [it.written for it in lines]
-            check_audit(query, 1, LIMIT, stream, [*said, "end: whole"], mode)
+            check_audit(query, 1, LIMIT, stream, [*said, "end: whole"], mode, spelling)
             # By a prepared statement the same is carried.
             executed = ms.send(query, [values], Road.EXECUTE, mode=mode)
             check_audit(query, 1, LIMIT, executed, [*said, "end: whole"], mode)
 
 
-def run_read(modes, query, text, *lines):
-    """Reads a text in each of these modes."""
+def run_read(modes, spellings, query, text, *lines):
+    """Reads a text in each of these modes and spellings."""
     for mode in some_of(modes, MODES):
-        check_audit(query.data, 1, LIMIT, framed([b"\x03" + text.data]),
-                    [it.written for it in lines], mode)
+        for spelling in some_of(spellings, SPELLINGS):
+            check_audit(query.data, 1, LIMIT, framed([b"\x03" + text.data]),
+                        [it.written for it in lines], mode, spelling)
 
 
 def run_prepare(modes, query, wanted):
@@ -285,7 +286,7 @@ def run_status(statuses, mode):
 
 def run_sql_mode(value, mode):
     """Tells a server's mode by its variable."""
-    compare(Mode.of_sql_mode(value.data), MODES[mode.text])
+    compare(Mode.of_sql_mode(value.data), None if mode.text == "unknown" else MODES[mode.text])
 
 
 def run_collation(numbers, wanted):

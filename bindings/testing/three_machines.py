@@ -3,11 +3,11 @@
     three_machines.py RECORDINGS [--events N] [--seed N]
 
 Three connections stand for a client, a server and who listens to both. The client and the server
-put what a script says, and each reads what the other put, in random pieces; the auditor reads both
-streams in random pieces and any order. All three have to tell the same lines in the same order: of
-the client those that the client put, of the server those that the server put; and they have to
-stand alike behind each. A payload that is refused has to change nothing; where its packets come all
-the same, a fourth machine has to find the fault by which it was refused.
+put what a script says, and each reads what the other put, in random pieces. The auditor reads both
+streams in random pieces and any order. All three have to tell the same lines in the same order. Of
+the client they are those that the client put, and of the server those that the server put. And they
+have to stand alike behind each. A payload that is refused has to change nothing. Where its packets
+come all the same, a fourth machine has to find the fault by which it was refused.
 
 Each recorded connection of the folder RECORDINGS is read, and put again payload by payload: that
 gives the same bytes. A failure names the script's seed, by which --seed says it again.
@@ -133,7 +133,7 @@ class Three:
              (code, side, len(self.streams[side])))
 
     def say_all(self, payloads):
-        """Has the side that is due put payloads by one call, as packets; returns how many were put,
+        """Has the side that is due put payloads by one call, as packets. Returns how many were put,
         which of the first one says whether it was refused."""
         side = self.turn()
         end = self.ends[side]
@@ -231,8 +231,8 @@ class Three:
         same("how many events the auditor has read", self.audited, len(self.said))
 
     def say_last_words(self, payload):
-        """The client's stream ends where a payload of it is due, and the server says last words:
-        no payload can be put there, so that its packet is fed to all three."""
+        """The client's stream ends where a payload of it is due, and the server says last words. No
+        payload can be put there, so that its packet is fed to all three."""
         self.catch_up()
         phase, told = self.ends[CLIENT].phase, []
         first = 0 if phase == ms.Phase.COMMAND else (self.number + 1) % 256
@@ -371,8 +371,8 @@ class Script:
 
 
 def say_long():
-    """Has a query and a row said that are as long as one packet, and end with one that is empty;
-    returns how many events there were."""
+    """Has a query and a row said that are as long as one packet, and end with one that is empty.
+    Returns how many events there were."""
     limit, size = 1 << 26, 0xFFFFFF
     three = Three(lambda: ms.Connection.after_login(ms.Capability.PROTOCOL_41, client=limit,
                                                     server=limit, held=4 * limit), random.Random(1))

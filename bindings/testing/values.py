@@ -364,12 +364,12 @@ def check_literal(value, mode, text, *hexadecimal):
     for spelling, wanted in texts.items():
         found = literal(parameter_of(value), mode=mode, spelling=spelling)
         compare(found, wanted, spelling.name.lower())
-        compare(content_read(found, mode), content_of(value), "read back")
+        compare(content_read(found, mode, spelling), content_of(value), "read back")
 
 
-def content_read(text, mode):
+def content_read(text, mode, spelling):
     """The content of a literal, or the code of a fault."""
-    with Receiver("SELECT ?", mode=mode) as receiver:
+    with Receiver("SELECT ?", mode=mode, spelling=spelling) as receiver:
         code = code_of(receiver.feed, framed([b"\x03SELECT " + text]))
         if code:
             return code
@@ -377,11 +377,16 @@ def content_read(text, mode):
         return found
 
 
-def check_read(text, mode, wanted):
-    """`read | text | mode | value`, or `none` where the text is no literal."""
-    found = content_read(text.data, mode_of(mode))
-    none = wanted.text == "none"
-    compare(found, Code.FAULT_TEXT_MISMATCH if none else content_of(value_of(wanted)), "read")
+def check_read(text, mode, wanted, *hexadecimal):
+    """`read | text | mode | value`, or `none` where the text is no literal; and `.. | value` by
+    hexadecimal, where that is another one."""
+    answers = {Spelling.QUOTED: wanted}
+    answers[Spelling.HEXADECIMAL] = hexadecimal[0] if hexadecimal else wanted
+    for spelling, answer in answers.items():
+        found = content_read(text.data, mode_of(mode), spelling)
+        none = answer.text == "none"
+        compare(found, Code.FAULT_TEXT_MISMATCH if none else content_of(value_of(answer)),
+                f"read, {spelling.name.lower()}")
 
 
 def check_status(bits, mode):
@@ -391,7 +396,8 @@ def check_status(bits, mode):
 
 def check_sql_mode(value, mode):
     """`sql_mode | the variable's value | mode`."""
-    compare(Mode.of_sql_mode(value.data), mode_of(mode), "mode")
+    wanted = None if mode.text == "unknown" else mode_of(mode)
+    compare(Mode.of_sql_mode(value.data), wanted, "mode")
 
 
 def check_collations(answer, ids):
