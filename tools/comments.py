@@ -71,9 +71,16 @@ def blocks_of(doc):
         part.append(re.sub(r'^([-*#] )', '', line) if starts else line.strip())
 
 
+def kept_together(code):
+    """Code whose spaces that may not be broken are marked."""
+    code = code.group(0)
+    is_long = max(map(len, code.split(', '))) > WIDTH - 10
+    return code if is_long else re.sub(r'(?<!,) ', '\0', code)
+
+
 def filled(text, margin='', mark=''):
-    """A paragraph or an item of a list, filled; code isn't broken within its backquotes but behind commas."""
-    text = re.sub(r'`[^`]*`', lambda code: re.sub(r'(?<!,) ', '\0', code.group(0)), text)
+    """A paragraph or an item of a list, filled. Code is broken behind its commas alone, or anywhere if it's too long."""
+    text = re.sub(r'`[^`]*`', kept_together, text)
     return textwrap.fill(text, WIDTH, initial_indent=margin + mark, subsequent_indent=margin + ' ' * len(mark),
                          break_long_words=False, break_on_hyphens=False).replace('\0', ' ')
 

@@ -10,7 +10,7 @@ from sources import CRATES, ROOT, crate
 LAYERS = ['mysql_buf', 'mysql_wire', 'mysql_values', 'mysql_convert', 'mysql_packets', 'mysql_session', 'mysql_login',
           'mysql_connection',
           'mysql_c']
-MANUAL = re.compile(r' \(?(Follows the |)(MySQL|MariaDB)[ :].*$')
+MANUAL = re.compile(r' ?\(?(Follows the |)(MySQL|MariaDB)(:| Reference| Client/| Source).*$')
 DEFINITION = re.compile(
     r'^(?:(?:unfoldable|opaque|abbrev|data|record|pub|inductive|reducible) )+([^\s:({]+)', re.MULTILINE)
 
@@ -97,17 +97,25 @@ def calls_of(home):
                     yield f'{owner}::{part.name}', part, False
 
 
+def statement(blocks):
+    """A theorem's comment: its paragraphs, and the items of its lists with numbers."""
+    number = 0
+    for kind, text in blocks:
+        number = number + 1 if kind == 'item' else 0
+        if kind in ('item', 'text'):
+            yield f'({number}) {text}' if number else text
+
+
 def row(name, item, is_law, home):
     comment = Comment(item.doc)
     if comment.promise:
         said, names = named(comment.promise)
     elif is_law:
-        behind = [text for kind, text in comment.blocks if kind == 'text']
-        said = MANUAL.sub('', ' '.join([comment.first, *behind])).rstrip('.')
+        said = MANUAL.sub('', ' '.join([comment.first, *statement(comment.blocks)])).rstrip('.')
         said = said[:1].lower() + said[1:] if not said[1:2].isupper() else said
         terms = ' '.join(item.terms('ensures'))
         names = [one for one in dict.fromkeys(re.findall(r'[A-Z]\w+', terms)) if one in DEFINITIONS]
-        names = [one for one in names if len([path for path in DEFINITIONS[one] if home in path.parts]) == 1][:2]
+        names = [one for one in names if len([path for path in DEFINITIONS[one] if home in path.parts]) == 1]
     else:
         return None
     files = ', '.join(link(one, file_of(one, home), home) for one in names)

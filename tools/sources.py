@@ -23,7 +23,8 @@ class Item:
 
 
 ITEM = re.compile(r'pub (?:const |extern "C" )?(fn|struct|enum|trait|const|type) (\w+)')
-METHOD = re.compile(r'(?:pub |final )?(?:const )?fn (\w+)')
+METHOD = re.compile(r'(?:pub |final )?(?:const )?(fn) (\w+)')
+ASSOCIATED = re.compile(r'(?:pub )?(const|type) (\w+)')
 
 
 def indent_of(line):
@@ -113,9 +114,22 @@ def methods(lines, first, public, path):
     def wanted(line):
         if indent_of(line) != 4 or (public and not line.startswith('    pub ')):
             return None
-        return METHOD.match(line.strip())
+        return METHOD.match(line.strip()) or ASSOCIATED.match(line.strip())
     for at, found, doc in documented(lines, first + 1, last, wanted):
-        yield Item('fn', found.group(1), doc, *signature_at(lines, at), path)
+        yield Item(found.group(1), found.group(2), doc, *signature_at(lines, at), path)
+
+
+def implemented(line):
+    """The trait and the type of an impl's first line."""
+    text, depth = line.removeprefix('impl'), 0
+    if text.startswith('<'):
+        for at, letter in enumerate(text):
+            depth += (letter == '<') - (letter == '>')
+            if not depth:
+                text = text[at + 1:]
+                break
+    trait, _, owner = re.sub(r'( where .*)? \{$', '', text).strip().partition(' for ')
+    return trait, owner
 
 
 class Module:
@@ -123,7 +137,7 @@ class Module:
 
     def __init__(self, path):
         self.items, self.uses, self.modules, self.doc = {}, [], {}, []
-        self.impls, self.path = [], path
+        self.impls, self.trait_impls, self.path = [], [], path
         lines = path.read_text().split('\n')
         said = [line[3:] for line in lines if line.startswith('//!')]
         self.example = [line.rstrip() for line in said if line.startswith('     ')]
@@ -159,6 +173,10 @@ class Module:
         found = re.match(r'impl(?:<.*?>)? (\w+)(?:<.*>)?(?: where .*)? \{$', line)
         if found and ' for ' not in line:
             self.impls.append((found.group(1), list(methods(lines, at, True, self.path))))
+        elif line.startswith('impl') and line.endswith('{'):
+            trait, owner = implemented(line)
+            parts = [item for item in methods(lines, at, False, self.path) if item.kind != 'fn']
+            self.trait_impls += [(trait, owner, parts)] if parts else []
         elif line.startswith('bitflag_items!'):
             end = body_end(lines, at)
             name = re.match(r'\s+impl (\w+)', lines[at + 1]).group(1)
@@ -170,6 +188,11 @@ class Module:
         yield from self.impls
         for _, module in self.modules.values():
             yield from module.all_impls()
+
+    def all_trait_impls(self):
+        yield from self.trait_impls
+        for _, module in self.modules.values():
+            yield from module.all_trait_impls()
 
     def find(self, name):
         """The item of this name in the file or below it."""
