@@ -6,7 +6,6 @@ ghost use Rattle.mysql_bulk_builder.specs.Cut.{Row};
 ghost use Rattle.mysql_bulk_builder.specs.ValueTypes.{first_in_column, first_values, is_null};
 ghost use Rattle.mysql_bulk_builder.specs.RowLists.{row_in, rows_in};
 
-use crate::row_size::is_null;
 use mysql_cells::Value;
 use std::alloc::{AllocError, Global};
 
@@ -42,7 +41,7 @@ fn first_in_column<'a>(rows: &[&[&'a Value]], column: usize, null: &'a Value) ->
 {
     for row in rows {
         let value = value_in(*row, column);
-        if !is_null(value) {
+        if !value.is_null() {
             return value;
         }
     }
@@ -56,7 +55,7 @@ pub fn put_first_values<'a>(firsts: &mut [&'a Value], rows: &[&[&'a Value]])
         row_in firsts.new ≡ first_values (length firsts.old) (before ++ rows_in rows.now) }
 {
     for column in 0..firsts.len() {
-        if is_null(firsts[column]) {
+        if firsts[column].is_null() {
             firsts[column] = first_in_column(rows, column, firsts[column]);
         }
     }

@@ -7,7 +7,6 @@ ghost use Rattle.mysql_bulk_builder.specs.RowLists.{row_in, rows_in};
 ghost use Rattle.mysql_bulk_builder.specs.ValueTypes.{first_values, is_null, same_kind, sent_type};
 
 use crate::first_values::no_first_values;
-use crate::row_size::is_null;
 use mysql_cells::Value;
 use std::alloc::{AllocError, Global};
 
@@ -37,7 +36,7 @@ fn is_other(first: &Value, value: &Value) -> bool
         | (Value::UInt(_), Value::UInt(_))
         | (Value::Date(..), Value::Date(..))
         | (Value::Time(..), Value::Time(..)) => false,
-        _ => !(is_null(value) || is_null(first) || same_kind(first, value)),
+        _ => !(value.is_null() || first.is_null() || same_kind(first, value)),
     }
 }
 
@@ -55,7 +54,7 @@ pub fn place_of_other<'a>(firsts: &mut [&'a Value], row: &[&'a Value]) -> Option
         first_values (length firsts.old) (before ++ row_in row.now ∷ []) }
 {
     for (i, value) in row.iter().enumerate() {
-        if is_null(firsts[i]) {
+        if firsts[i].is_null() {
             firsts[i] = *value;
         } else if is_other(firsts[i], *value) {
             return Some(i);

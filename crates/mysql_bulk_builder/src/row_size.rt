@@ -1,21 +1,10 @@
 //! What rows take in a bulk request.
 
 ghost use Rattle.std.specs.Prelude.{◌≡◌, ◌+◌, ◌<◌, ◌≤◌, MatchOption};
-ghost use Rattle.mysql_bulk_builder.specs.ValueTypes.{is_null};
 ghost use Rattle.mysql_bulk_builder.specs.Cut.{row_size};
 ghost use Rattle.mysql_bulk_builder.specs.RowLists.{row_in};
 
 use mysql_cells::Value;
-
-/// Whether the value is NULL.
-pub(crate) fn is_null(value: &Value) -> bool
-    ensures { result ≡ is_null value.now }
-{
-    match value {
-        Value::NULL => true,
-        _ => false,
-    }
-}
 
 /// What a row takes in a request, where that is at most `room`.
 pub(crate) fn row_size_within(row: &[Value], room: usize) -> Option<usize>

@@ -11,7 +11,7 @@ ghost use Rattle.mysql_bulk_builder.specs.TypedCutLaws.{EachRowFitsTyped};
 ghost use Rattle.mysql_bulk_builder.specs.TypedRequests.{view_part, view_parts, HasNoTypedCut};
 ghost use Rattle.mysql_bulk_builder.specs.RowLists.{row_in, rows_in};
 
-use crate::row_size::{is_null, refs_size_within};
+use crate::row_size::refs_size_within;
 use mysql_cells::Value;
 use std::alloc::{AllocError, AllocFailed, Global};
 
@@ -73,7 +73,7 @@ fn is_known(row: &[&Value], seen: &[bool]) -> bool
     ensures { MatchBool result (IsKnown seen.now (row_in row.now)) (IsUnknown seen.now (row_in row.now)) }
 {
     for (i, value) in row.iter().enumerate() {
-        if !is_null(*value) && !seen[i] {
+        if !value.is_null() && !seen[i] {
             return false;
         }
     }
@@ -103,7 +103,7 @@ fn mark(seen: &mut [bool], row: &[&Value])
         (slice_index_or seen.old column false || has_value_at column (row_in row.now)) }
 {
     for (i, value) in row.iter().enumerate() {
-        if !is_null(*value) {
+        if !value.is_null() {
             seen[i] = true;
         }
     }

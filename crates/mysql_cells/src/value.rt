@@ -5,7 +5,7 @@
 //!     let date = Value::Date(2024, 12, 31, 23, 59, 59, 0);
 
 ghost use Rattle.std.specs.Prelude.{◌≡◌, IfOk, is_none};
-ghost use Rattle.mysql_cells.specs.Values.{content_of};
+ghost use Rattle.mysql_cells.specs.Values.{content_of, is_null as is_no_value};
 
 use mysql_queries::ByteString;
 use std::alloc::{AllocError, Global};
@@ -43,6 +43,14 @@ pub fn is_float(value: &Value) -> bool
 }
 
 impl Value {
+    /// Whether the value is NULL.
+    #[inline(always)]
+    pub fn is_null(&self) -> bool
+        ensures { result ≡ is_no_value self.now }
+    {
+        matches!(self, Value::NULL)
+    }
+
     /// A copy of the value, with bytes of its own.
     pub fn clone(&self, alloc: Global) -> Result<Value, AllocError>
         ensures { IfOk result (λ copy. copy ≡ self.now) }

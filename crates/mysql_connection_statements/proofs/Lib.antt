@@ -1,4 +1,5 @@
 pub mod Entries
 pub mod Changes
+pub mod Counting
 pub mod Sums
 pub mod Totals

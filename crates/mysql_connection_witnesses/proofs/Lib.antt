@@ -4,3 +4,4 @@ pub mod AboutPuts
 pub mod AboutReceiving
 pub mod AboutReplies
 pub mod AboutModes
+pub mod AboutStatements

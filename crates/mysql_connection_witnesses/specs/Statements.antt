@@ -2,6 +2,7 @@
 -- "COM_STMT_EXECUTE", "COM_STMT_SEND_LONG_DATA", "COM_STMT_CLOSE"; MariaDB: Client/Server Protocol,
 -- "COM_STMT_EXECUTE" (statement id).
 use Rattle.std.specs.Prelude.{◌≡◌, ℕ, false, [], ◌∷◌, Some, None}
+use Rattle.mysql_connection_statements.specs.Laws.{DataIsCounted}
 use Rattle.mysql_connection_statements.specs.Statements.{Statement, Statements, after_close, executed}
 use Rattle.mysql_connection_statements.specs.Statements.{pending_of, statement_size}
 use Rattle.mysql_executions.specs.declared.refused.Refused.TheVariants.{Execution}
@@ -20,7 +21,7 @@ statement_with parameters sent = record {
 
 -- a statement of one parameter, for which `a` waits
 abbrev pub waiting : InForce
-waiting = record { count = 1; types = []; long_data = Some (0x61 ∷ []) ∷ []; broken = false }
+waiting = record { count = 1; types = []; long_data = (0, 0x61 ∷ []) ∷ []; broken = false }
 
 -- Behind an execution nothing is kept of long data, which was taken. Excluded: a sum that still counts it.
 -- MySQL: Client/Server Protocol, "COM_STMT_SEND_LONG_DATA".
@@ -33,6 +34,14 @@ TakenDataCountsNothing = (sent : ℕ) → statement_size (executed [] (statement
 abbrev pub WaitingDataIsTakenBack : Type 0
 WaitingDataIsTakenBack = (sent : ℕ) → pending_of 1 Execution [] (statement_with waiting sent)
     ≡ Some (record { id = 1; refused = Execution; carried = 0; before = waiting; sent = sent })
+
+-- One byte of long data for the parameter 2 counts 12, and so much is kept at most. Excluded: a list with a
+-- slot for each parameter up to it, which few bytes make as long as they like.
+-- MySQL: Client/Server Protocol, "COM_STMT_SEND_LONG_DATA".
+abbrev pub LongDataIsNotPadded : Type 0
+LongDataIsNotPadded =
+    DataIsCounted ((2, 0x61 ∷ []) ∷ []) 12
+    × (DataIsCounted ((0, []) ∷ (1, []) ∷ (2, 0x61 ∷ []) ∷ []) 12 → ⊥)
 
 -- Once the statement that was prepared last is closed, none was prepared last; once another one is, it
 -- still is. Excluded: ffffffff as the id of a closed statement, and of none.

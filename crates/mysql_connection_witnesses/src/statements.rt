@@ -1,7 +1,7 @@
 //! Prepared statements of a connection, and what is kept of them.
 
 ghost use Rattle.std.specs.Prelude.{◌≡◌, OnErr};
-ghost use Rattle.mysql_connection_witnesses.specs.Statements.{ClosedStatementsAreNotTheLast};
+ghost use Rattle.mysql_connection_witnesses.specs.Statements.{ClosedStatementsAreNotTheLast, LongDataIsNotPadded};
 ghost use Rattle.mysql_connection_witnesses.specs.Statements.{TakenDataCountsNothing, WaitingDataIsTakenBack};
 
 use mysql_connection_statements::{Pending, Statements};
@@ -22,6 +22,13 @@ pub fn taken_data_counts_nothing()
 #[tactic(auto, unfolding(mysql_connection_statements::specs::Statements::has_nothing))]
 pub fn waiting_data_is_taken_back()
     ensures { WaitingDataIsTakenBack }
+{}
+
+/// What is kept of long data for a parameter is at most what is counted for it.
+///
+/// Excluded: a list with a slot for each parameter up to that one.
+pub fn long_data_is_not_padded()
+    ensures { LongDataIsNotPadded }
 {}
 
 /// A statement that was closed isn't the one that was prepared last.

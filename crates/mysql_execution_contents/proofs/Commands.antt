@@ -1,5 +1,5 @@
 -- Each command about a prepared statement that `receive` reads says the same contents, and the same is in force behind it.
-use Rattle.std.proofs.Common.{◌≡◌, ℕ, ◌+◌, ◌<◌, ◌≤◌, Bool, true, false, List, [], ◌∷◌, length, Option, Some, None, Ok, refl, sym, ap, subst, ◌∙◌, arith}
+use Rattle.std.proofs.Common.{◌≡◌, ℕ, ◌+◌, ◌<◌, Bool, true, false, List, [], ◌∷◌, length, Option, Some, None, Ok, refl, sym, ap, subst, ◌∙◌, arith}
 use Rattle.std.specs.Prelude.{map, nat_le, nat_lt, ◌==◌, ◌&&◌, ◌||◌, if◌then◌else◌}
 use Rattle.std.specs.List.{list_all, list_any}
 use Rattle.std.specs.Option.{option_map}
@@ -30,7 +30,7 @@ use Rattle.mysql_execution_contents.specs.Agreement.{Agree, BulksInForce, EachIs
 use Rattle.mysql_execution_contents.proofs.Binds.{bind_ok, found_is, must_then, ok_is}
 use Rattle.mysql_execution_contents.proofs.Values.{SameData}
 use Rattle.mysql_execution_contents.proofs.Heads.{id_is}
-use Rattle.mysql_execution_contents.proofs.InForce.{data_more, more_within, nothing_kept}
+use Rattle.mysql_execution_contents.proofs.InForce.{NonePast, data_more, more_within, nothing_kept}
 use Rattle.mysql_execution_contents.proofs.Executions.{bulk_is, execution_is}
 
 -- the command says these sets, and behind it the same is in force
@@ -48,7 +48,7 @@ module _ (statement : Statement) (state : StatementState) (s : InForce) (agree :
     count = agree.count;
     types = subst (λ b. SameTypes sent (if b then s.types else in_place_of types s.types) s.count) (sym agree.whole) same;
     long_data = subst (λ b. SameData (if b then s.long_data else []) waiting) (sym agree.whole) none;
-    places = subst (λ b. length (if b then s.long_data else []) ≤ s.count) (sym agree.whole) (omega arith);
+    places = subst (λ b. NonePast s.count (if b then s.long_data else [])) (sym agree.whole) (λ place past. refl);
     whole = agree.whole;
   }
 
@@ -88,7 +88,7 @@ module _ (named : IsTable column_type_number column_type_named) (c : Capabilitie
         count = agree.count;
         types = agree.types;
         long_data = subst (λ b. SameData (if b then more_data s.long_data place bytes else s.long_data) (received.more_data state.long_data place bytes)) (sym within) (data_more s.long_data state.long_data place bytes agree.long_data);
-        places = subst (λ b. length (if b then more_data s.long_data place bytes else s.long_data) ≤ s.count) (sym within) (more_within s.long_data place bytes s.count lt agree.places);
+        places = subst (λ b. NonePast s.count (if b then more_data s.long_data place bytes else s.long_data)) (sym within) (more_within s.long_data place bytes s.count lt agree.places);
         whole = ap (λ b. b || nat_le s.count place) agree.whole ∙ grind (arith, nat_tests);
       }
 
@@ -122,7 +122,7 @@ module _ (named : IsTable column_type_number column_type_named) (c : Capabilitie
     count = agree.count;
     types = agree.types;
     long_data = λ place. refl;
-    places = omega arith;
+    places = λ place past. refl;
     whole = refl;
   }
 

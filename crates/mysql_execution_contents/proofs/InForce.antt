@@ -1,12 +1,17 @@
 -- What is in force behind a command is the same on both sides where it was before it.
-use Rattle.std.proofs.Common.{◌≡◌, ◌≢◌, ℕ, zero, suc, ◌+◌, ◌<◌, ◌≤◌, Bool, true, false, List, [], ◌∷◌, ◌++◌, length, drop, Option, Some, None, Ok, refl, sym, ap, subst, ◌∙◌, arith, inl, inr}
-use Rattle.std.specs.Prelude.{map, ◌==◌, ◌||◌, if◌then◌else◌, is_some, unwrap_or}
+use Rattle.std.proofs.Common.{◌≡◌, ℕ, zero, suc, ◌+◌, ◌<◌, ◌≤◌, Bool, true, false, List, [], ◌∷◌, ◌++◌, length, drop, Option, Some, None, Ok, refl, sym, ap, subst, ◌∙◌, arith, inl, inr}
+use Rattle.std.specs.Prelude.{map, ◌==◌, ◌||◌, if◌then◌else◌, is_some, not, unwrap_or}
+use Rattle.std.specs.BTreeMap.{insert_entry}
+use Rattle.std.specs.Cmp.{unsigned_tied}
 use Rattle.std.specs.List.{list_any, range_with_len}
-use Rattle.std.specs.Option.{ok_or, option_and_then, option_or}
+use Rattle.std.specs.Option.{ok_or, option_or}
+use Rattle.std.specs.Ordering.{is_eq, match_ordering, nat_cmp}
+use Rattle.std.specs.declared.cmp.Ordering.{Ordering}
+use Rattle.std.specs.declared.cmp.Ordering.TheVariants.{Equal, Greater, Less}
 use Rattle.std.proofs.lemmas.Bool.{cases_lt}
 use Rattle.std.proofs.lemmas.Bool.Decides.{nat_tests}
+use Rattle.std.proofs.lemmas.Cmp.{nat_eq_equiv}
 use Rattle.std.proofs.lemmas.List.{append-nil, drop_all, length-map}
-use Rattle.std.proofs.lemmas.Option.{slice_get_past}
 use Rattle.mysql_executions.specs.After.{in_place_of, more_data}
 use Rattle.mysql_executions.specs.InForce.{InForce, data_for, types_that_count}
 use Rattle.mysql_executions.specs.InForce as executions
@@ -78,53 +83,73 @@ module _ (statement : Statement) (state : StatementState) (s : InForce) (agree :
 
 -- ---- long data
 
-more_here : (waiting : List (Option (List ℕ))) (place : ℕ) (bytes : List ℕ) → data_for (more_data waiting place bytes) place ≡ Some (unwrap_or (data_for waiting place) [] ++ bytes)
-unfolding more_data
-more_here [] zero bytes = refl
-more_here [] (suc place) bytes = more_here [] place bytes
-more_here (found ∷ waiting) zero bytes = refl
-more_here (found ∷ waiting) (suc place) bytes = more_here waiting place bytes
+turned : (a b : ℕ) → (a == b) ≡ (b == a)
+turned a b = nat_eq_equiv.symm a b
 
-more_elsewhere : (waiting : List (Option (List ℕ))) (place : ℕ) (bytes : List ℕ) (other : ℕ) → place ≢ other → data_for (more_data waiting place bytes) other ≡ data_for waiting other
-unfolding more_data
-more_elsewhere [] zero bytes zero differ = absurd (differ refl)
-more_elsewhere [] zero bytes (suc other) differ = refl
-more_elsewhere [] (suc place) bytes zero differ = refl
-more_elsewhere [] (suc place) bytes (suc other) differ = more_elsewhere [] place bytes other (λ e. differ (ap suc e))
-more_elsewhere (found ∷ waiting) zero bytes zero differ = absurd (differ refl)
-more_elsewhere (found ∷ waiting) zero bytes (suc other) differ = refl
-more_elsewhere (found ∷ waiting) (suc place) bytes zero differ = refl
-more_elsewhere (found ∷ waiting) (suc place) bytes (suc other) differ = more_elsewhere waiting place bytes other (λ e. differ (ap suc e))
+twice : {X : Type 0} (b : Bool) (x y z : X) → (if b then x else z) ≡ (if b then x else (if b then y else z))
+twice true x y z = refl
+twice false x y z = refl
 
-more_by : (waiting : List (Option (List ℕ))) (place : ℕ) (bytes : List ℕ) (other : ℕ) (here : Bool) → (place == other) ≡ here
+-- of two places that differ one at most is this one
+one_of : {X : Type 0} (here there : Bool) (place other key : ℕ) (x y z : X) → (place == other) ≡ here → (other == key) ≡ there → false ≡ (place == key)
+    → (if there then y else (if here then x else z)) ≡ (if here then x else (if there then y else z))
+one_of true true place other key x y z one two differ =
+    let same : place ≡ other = grind (arith, nat_tests) in
+    let too : other ≡ key = grind (arith, nat_tests) in
+    let both : (place == key) ≡ true = ap (λ p. p == key) same ∙ two in
+    absurd (let no : false ≡ true = differ ∙ both in cc)
+one_of true false place other key x y z one two differ = refl
+one_of false true place other key x y z one two differ = refl
+one_of false false place other key x y z one two differ = refl
+
+found_by : (o : Ordering) (place other : ℕ) (bytes : List ℕ) (e : ℕ × List ℕ) (es later : List (ℕ × List ℕ)) → is_eq o ≡ (place == e.0) → data_for later other ≡ (if place == other then Some bytes else data_for es other)
+    → data_for (match_ordering o ((place, bytes) ∷ e ∷ es) ((e.0, bytes) ∷ es) (e ∷ later)) other ≡ (if place == other then Some bytes else data_for (e ∷ es) other)
+found_by Less place other bytes e es later tie behind = ap (λ (b : Bool). if b then Some bytes else data_for (e ∷ es) other) (turned other place)
+found_by Equal place other bytes e es later tie behind =
+    let same : place ≡ e.0 = grind (arith, nat_tests) in
+    let test : (other == e.0) ≡ (place == other) = ap (λ p. other == p) (sym same) ∙ turned other place in
+    ap (λ (b : Bool). if b then Some bytes else data_for es other) test ∙ twice (place == other) (Some bytes) (Some e.1) (data_for es other)
+    ∙ ap (λ (b : Bool). if place == other then Some bytes else (if b then Some e.1 else data_for es other)) (sym test)
+found_by Greater place other bytes e es later tie behind =
+    ap (λ (found : Option (List ℕ)). if other == e.0 then Some e.1 else found) behind
+    ∙ one_of (place == other) (other == e.0) place other e.0 (Some bytes) (Some e.1) (data_for es other) refl refl tie
+
+-- what is found behind an insertion: at its place what was inserted
+pub found_inserted : (waiting : List (ℕ × List ℕ)) (place other : ℕ) (bytes : List ℕ) → data_for (insert_entry nat_cmp waiting place bytes) other ≡ (if place == other then Some bytes else data_for waiting other)
+found_inserted [] place other bytes = ap (λ (b : Bool). if b then Some bytes else None) (turned other place)
+found_inserted (e ∷ es) place other bytes = found_by (nat_cmp place e.0) place other bytes e es (insert_entry nat_cmp es place bytes) (unsigned_tied place e.0) (found_inserted es place other bytes)
+
+more_by : (waiting : List (ℕ × List ℕ)) (place : ℕ) (bytes : List ℕ) (other : ℕ) (here : Bool) → (place == other) ≡ here
     → data_for (more_data waiting place bytes) other ≡ (if here then Some (unwrap_or (data_for waiting other) [] ++ bytes) else data_for waiting other)
 more_by waiting place bytes other true is =
     let same : place ≡ other = grind (arith, nat_tests) in
-    subst (λ o. data_for (more_data waiting place bytes) o ≡ Some (unwrap_or (data_for waiting o) [] ++ bytes)) same (more_here waiting place bytes)
-more_by waiting place bytes other false is = more_elsewhere waiting place bytes other (λ e. grind (arith, nat_tests))
+    found_inserted waiting place other (unwrap_or (data_for waiting place) [] ++ bytes) ∙ ap (λ (b : Bool). if b then Some (unwrap_or (data_for waiting place) [] ++ bytes) else data_for waiting other) is
+    ∙ ap (λ p. Some (unwrap_or (data_for waiting p) [] ++ bytes)) same
+more_by waiting place bytes other false is =
+    found_inserted waiting place other (unwrap_or (data_for waiting place) [] ++ bytes) ∙ ap (λ (b : Bool). if b then Some (unwrap_or (data_for waiting place) [] ++ bytes) else data_for waiting other) is
 
 -- data for a place goes behind what waits for it, and no other place changes
-pub data_more : (waiting : List (Option (List ℕ))) (kept : ℕ → Option (List ℕ)) (place : ℕ) (bytes : List ℕ) → SameData waiting kept → SameData (more_data waiting place bytes) (received.more_data kept place bytes)
+pub data_more : (waiting : List (ℕ × List ℕ)) (kept : ℕ → Option (List ℕ)) (place : ℕ) (bytes : List ℕ) → SameData waiting kept → SameData (more_data waiting place bytes) (received.more_data kept place bytes)
 data_more waiting kept place bytes same other =
     more_by waiting place bytes other (place == other) refl ∙ ap (λ found. if place == other then Some (unwrap_or found [] ++ bytes) else found) (same other)
 
--- it waits for one of the statement's parameters
-pub more_within : (waiting : List (Option (List ℕ))) (place : ℕ) (bytes : List ℕ) (n : ℕ) → place < n → length waiting ≤ n → length (more_data waiting place bytes) ≤ n
-unfolding more_data
-more_within waiting place bytes zero lt le = absurd (omega arith)
-more_within [] zero bytes (suc n) lt le = omega arith
-more_within [] (suc place) bytes (suc n) lt le = omega (arith, more_within [] place bytes n (omega arith) (omega arith))
-more_within (found ∷ waiting) zero bytes (suc n) lt le = le
-more_within (found ∷ waiting) (suc place) bytes (suc n) lt le = omega (arith, more_within waiting place bytes n (omega arith) (omega arith))
+-- none waits for a place that the statement hasn't
+abbrev pub NonePast : ℕ → List (ℕ × List ℕ) → Type 0
+NonePast n waiting = (place : ℕ) → n ≤ place → data_for waiting place ≡ None
+
+pub more_within : (waiting : List (ℕ × List ℕ)) (place : ℕ) (bytes : List ℕ) (n : ℕ) → place < n → NonePast n waiting → NonePast n (more_data waiting place bytes)
+more_within waiting place bytes n lt within other past = more_by waiting place bytes other false (grind (arith, nat_tests)) ∙ within other past
 
 -- no data waits
-abbrev pub NoneWaits : List (Option (List ℕ)) → Type 0
+abbrev pub NoneWaits : List (ℕ × List ℕ) → Type 0
 NoneWaits waiting = (place : ℕ) → data_for waiting place ≡ None
 
-none_waits : (waiting : List (Option (List ℕ))) → NoneWaits waiting → list_any is_some waiting ≡ false
+none_waits : (waiting : List (ℕ × List ℕ)) → NoneWaits waiting → not (length waiting == 0) ≡ false
 none_waits [] none = refl
-none_waits (None ∷ waiting) none = none_waits waiting (λ place. none (suc place))
-none_waits (Some data_bytes ∷ waiting) none = absurd (let h = none zero in cc)
+none_waits (e ∷ waiting) none =
+    let own : (e.0 == e.0) ≡ true = grind (arith, nat_tests) in
+    let found : Some e.1 ≡ None = sym (ap (λ (b : Bool). if b then Some e.1 else data_for waiting e.0) own) ∙ none e.0 in
+    absurd cc
 
 or_false : (a b : Bool) → (a || b) ≡ false → (a ≡ false) × (b ≡ false)
 or_false true b e = absurd cc
@@ -143,15 +168,12 @@ none_from kept first (suc n) place none le lt =
       | inr here ↦ let same : first ≡ place = omega arith in subst (λ p. kept p ≡ None) same (is_none (kept first) both.0)
     ]
 
-none_past : (waiting : List (Option (List ℕ))) (place n : ℕ) → length waiting ≤ n → n ≤ place → data_for waiting place ≡ None
-none_past waiting place n few past = ap (λ found. option_and_then (λ x. x) found) (slice_get_past waiting place (omega arith))
-
 module _ (statement : Statement) (state : StatementState) (s : InForce) (agree : Agree statement state s) where
   -- where `receive` knows of no data that waits, none waits
   pub none_waiting : received.is_waiting statement state ≡ false → NoneWaits s.long_data
   none_waiting none place = elim (cases_lt place (place_count statement.query)) [
     | inl within ↦ agree.long_data place ∙ none_from state.long_data 0 (place_count statement.query) place none (omega arith) (omega arith)
-    | inr past ↦ none_past s.long_data place s.count agree.places (omega (arith, agree.count))
+    | inr past ↦ agree.places place (omega (arith, agree.count))
   ]
 
   pub not_waiting : received.is_waiting statement state ≡ false → executions.is_waiting s ≡ false

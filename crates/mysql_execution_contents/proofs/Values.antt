@@ -152,10 +152,10 @@ parameter_is None true t bytes p e = subst (ContentIs (Some (NULL, bytes))) (ok_
 parameter_is None false t bytes p e = content_is BadExecute t bytes p e
 
 -- what waits for each place is the same on both sides
-abbrev pub SameData : List (Option (List ℕ)) → (ℕ → Option (List ℕ)) → Type 0
+abbrev pub SameData : List (ℕ × List ℕ) → (ℕ → Option (List ℕ)) → Type 0
 SameData kept waiting = (place : ℕ) → data_for kept place ≡ waiting place
 
-module _ (kept : List (Option (List ℕ))) (waiting : ℕ → Option (List ℕ)) (same_data : SameData kept waiting) (nulls : List ℕ) where
+module _ (kept : List (ℕ × List ℕ)) (waiting : ℕ → Option (List ℕ)) (same_data : SameData kept waiting) (nulls : List ℕ) where
   abbrev parameter : ℕ → ParameterType → List ℕ → Option (Value × List ℕ)
   parameter at t b = parameter_at (data_for kept at) (is_null_at 0 nulls at) t b
 

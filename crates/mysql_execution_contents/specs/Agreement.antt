@@ -44,7 +44,7 @@ pub record Agree (statement : Statement) (state : StatementState) (s : InForce) 
   pub count : s.count ≡ place_count statement.query
   pub types : SameTypes state.types s.types s.count
   pub long_data : (place : ℕ) → data_for s.long_data place ≡ state.long_data place
-  pub places : length s.long_data ≤ s.count
+  pub places : (place : ℕ) → s.count ≤ place → data_for s.long_data place ≡ None
   pub whole : s.broken ≡ false
 
 -- WHAT COMMANDS SAY

@@ -40,7 +40,7 @@ flat_of_map f g (x ∷ xs) = ap (λ (l : List ℕ). f (g x) ++ l) (flat_of_map f
 
 -- ---- parameters
 
-module _ (waiting : List (Option (List ℕ))) (place : ℕ) (types : List ParameterType) (values : List Value) where
+module _ (waiting : List (ℕ × List ℕ)) (place : ℕ) (types : List ParameterType) (values : List Value) where
   -- what a place adds, and what is left
   pub parameters_go_on : (out new total : List ℕ) (t : ParameterType) (value : Value) (later : List ParameterType) (others : List Value) → types ≡ t ∷ later → values ≡ value ∷ others
       → new ≡ out ++ parameter_bytes (data_for waiting place) t value
@@ -97,12 +97,12 @@ module _ (waiting : List (Option (List ℕ))) (place : ℕ) (types : List Parame
       sym one ∙ so_far
 
 -- all values were looked at, and a type is left, or none
-pub fit_exceeds_at : (waiting : List (Option (List ℕ))) (place : ℕ) (types later : List ParameterType) (values : List Value) (total : Bool) (found : Option ParameterType) → is_some found ≡ true
+pub fit_exceeds_at : (waiting : List (ℕ × List ℕ)) (place : ℕ) (types later : List ParameterType) (values : List Value) (total : Bool) (found : Option ParameterType) → is_some found ≡ true
     → IfSome found (λ t. types ≡ t ∷ later) → values ≡ [] → are_parameters waiting place types values ≡ total → false ≡ total
 fit_exceeds_at waiting place types later values total (Some t) is some all so_far = fit_exceeds waiting place types values total t later some all so_far
 fit_exceeds_at waiting place types later values total None is some all so_far = absurd cc
 
-pub fit_ends_at : (waiting : List (Option (List ℕ))) (place : ℕ) (types : List ParameterType) (values : List Value) (total : Bool) (found : Option ParameterType) → is_some found ≡ false
+pub fit_ends_at : (waiting : List (ℕ × List ℕ)) (place : ℕ) (types : List ParameterType) (values : List Value) (total : Bool) (found : Option ParameterType) → is_some found ≡ false
     → IfNone found (types ≡ []) → values ≡ [] → are_parameters waiting place types values ≡ total → true ≡ total
 fit_ends_at waiting place types values total (Some t) is nothing all so_far = absurd cc
 fit_ends_at waiting place types values total None is nothing all so_far = fit_ends waiting place types values total nothing all so_far
@@ -116,7 +116,7 @@ some_of true e = refl
 some_of false e = absurd cc
 
 -- all values were looked at: they fit where no type is left
-pub fit_at_end : (waiting : List (Option (List ℕ))) (place : ℕ) (types later : List ParameterType) (values : List Value) (total none : Bool) (found : Option ParameterType) → is_some found ≡ not none
+pub fit_at_end : (waiting : List (ℕ × List ℕ)) (place : ℕ) (types later : List ParameterType) (values : List Value) (total none : Bool) (found : Option ParameterType) → is_some found ≡ not none
     → IfSome found (λ t. types ≡ t ∷ later) → IfNone found (types ≡ []) → values ≡ [] → are_parameters waiting place types values ≡ total → none ≡ total
 fit_at_end waiting place types later values total none (Some t) is some nothing all so_far = none_of none is ∙ fit_exceeds waiting place types values total t later some all so_far
 fit_at_end waiting place types later values total none None is some nothing all so_far = some_of none is ∙ fit_ends waiting place types values total nothing all so_far

@@ -88,13 +88,13 @@ module _ (written : ReadCellsAreWritten) where
       record { can = h.cell; same = h.same; left = h.left }
 
   -- parameters that were read
-  pub record AreParameters (waiting : List (Option (List ℕ))) (place : ℕ) (types : List ParameterType) (values : List Value) (rest : List ℕ) : Type 0 where
+  pub record AreParameters (waiting : List (ℕ × List ℕ)) (place : ℕ) (types : List ParameterType) (values : List Value) (rest : List ℕ) : Type 0 where
     pub can : are_parameters waiting place types values ≡ true
     pub same : map as_read values ≡ values
     pub count : length values ≡ length types
     pub left : AreBytes rest
 
-  pub parameters_left : (waiting : List (Option (List ℕ))) (nulls : List ℕ) (place : ℕ) (types : List ParameterType) (bytes rest : List ℕ) (values : List Value) → AreBytes bytes
+  pub parameters_left : (waiting : List (ℕ × List ℕ)) (nulls : List ℕ) (place : ℕ) (types : List ParameterType) (bytes rest : List ℕ) (values : List Value) → AreBytes bytes
       → each_at (λ place t b. parameter_at (data_for waiting place) (is_null_at 0 nulls place) t b) place types bytes ≡ Some (values, rest)
       → AreParameters waiting place types values rest
   unfolding each_at are_parameters

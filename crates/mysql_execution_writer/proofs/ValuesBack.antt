@@ -59,7 +59,7 @@ module _ (back : TypedCellsReadBack) where
   parameter_back None null t value rest fits bit can =
       ap (λ (b : Bool). value_at b t (unwrap_or (parameter_cell t value) [] ++ rest)) bit ∙ null_or_value_back t value rest fits can
 
-  pub parameters_back : (waiting : List (Option (List ℕ))) (nulls : List ℕ) (place : ℕ) (types : List ParameterType) (values : List Value) (rest : List ℕ)
+  pub parameters_back : (waiting : List (ℕ × List ℕ)) (nulls : List ℕ) (place : ℕ) (types : List ParameterType) (values : List Value) (rest : List ℕ)
       → AllByRecursion (λ value. FitsFields value) values → SayNulls nulls place values → are_parameters waiting place types values ≡ true
       → each_at (λ place t b. parameter_at (data_for waiting place) (is_null_at 0 nulls place) t b) place types (parameters_bytes waiting place types values ++ rest) ≡ Some (map as_read values, rest)
   unfolding each_at are_parameters parameters_bytes

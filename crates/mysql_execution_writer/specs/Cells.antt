@@ -73,7 +73,7 @@ is_parameter (Some sent) t value = is_text sent value
 is_parameter None t value = is_some (parameter_cell t value)
 
 -- the parameters from this place on
-unfoldable pub parameters_bytes : (waiting : List (Option (List ℕ))) → (place : ℕ) →
+unfoldable pub parameters_bytes : (waiting : List (ℕ × List ℕ)) → (place : ℕ) →
     List ParameterType → List Value → List ℕ
 parameters_bytes waiting place [] values = []
 parameters_bytes waiting place (t ∷ types) [] = []
@@ -81,7 +81,7 @@ parameters_bytes waiting place (t ∷ types) (value ∷ values) =
     parameter_bytes (data_for waiting place) t value ++ parameters_bytes waiting (place + 1) types values
 
 -- one for each type, and each can be written
-unfoldable pub are_parameters : (waiting : List (Option (List ℕ))) → (place : ℕ) →
+unfoldable pub are_parameters : (waiting : List (ℕ × List ℕ)) → (place : ℕ) →
     List ParameterType → List Value → Bool
 are_parameters waiting place [] [] = true
 are_parameters waiting place [] (value ∷ values) = false

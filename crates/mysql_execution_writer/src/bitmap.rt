@@ -2,7 +2,6 @@
 
 ghost use Rattle.std.specs.Prelude.{◌≡◌, ◌++◌, ◌∷◌, ◌+◌, ◌*◌, ◌-◌, ◌/◌, ◌<◌, ◌≤◌, ◌^◌, drop, if◌then◌else◌};
 ghost use Rattle.std.specs.Prelude.{length};
-ghost use Rattle.mysql_cells.specs.Values.{is_null as is_no_value};
 ghost use Rattle.mysql_stmt.specs.Executions.{null_bitmap, null_bits};
 ghost use Rattle.mysql_fields.specs.Wire.{Appends};
 ghost use Rattle.mysql_execution_writer.specs.Written.{binding_bytes, null_at, values_of};
@@ -12,23 +11,16 @@ use mysql_executions::Attribute;
 use mysql_fields::IntRepr;
 use std::alloc::AllocError;
 
-/// Whether a value is NULL.
-fn is_null(value: &Value) -> bool
-    ensures { result ≡ is_no_value value.now }
-{
-    matches!(value, Value::NULL)
-}
-
 /// Whether the value at a place is NULL, of parameters and of attributes behind them.
 fn is_null_at(parameters: &[Value], attributes: &[Attribute], place: usize) -> bool
     ensures { result ≡ null_at (parameters.now ++ values_of attributes.now) place }
 {
     if place < parameters.len() {
-        return is_null(&parameters[place]);
+        return parameters[place].is_null();
     }
     let behind = place - parameters.len();
     if behind < attributes.len() {
-        is_null(&attributes[behind].value)
+        attributes[behind].value.is_null()
     } else {
         false
     }
@@ -46,7 +38,7 @@ fn is_null_in(values: &[Value], place: usize) -> bool
     ensures { result ≡ null_at values.now place }
 {
     if place < values.len() {
-        is_null(&values[place])
+        values[place].is_null()
     } else {
         false
     }

@@ -1,6 +1,6 @@
 -- Cells that are looked at one after another.
 use Rattle.std.proofs.Common.{◌≡◌, ℕ, zero, suc, ◌+◌, ◌-◌, ◌<◌, ◌≤◌, Bool, true, false, List, [], ◌∷◌, ◌++◌, length, get_or, drop, Option, Some, None, refl, sym, subst, ap, ◌∙◌, append-nil, arith, drop-cons, length-append}
-use Rattle.std.specs.Prelude.{◌&&◌, ◌||◌, if◌then◌else◌, is_some, min, not, map}
+use Rattle.std.specs.Prelude.{◌&&◌, ◌||◌, if◌then◌else◌, ◌==◌, is_some, min, not, map}
 use Rattle.std.specs.List.{flat_map}
 use Rattle.std.specs.Global.{Vec}
 use Rattle.std.specs.Option.{option_and_then, option_map}
@@ -15,8 +15,9 @@ use Rattle.mysql_executions.specs.declared.unclear.Looked.TheVariants as looked
 use Rattle.mysql_executions.specs.Executions.{typed_value_at}
 use Rattle.mysql_executions.specs.InForce.{data_for}
 use Rattle.mysql_executions.specs.Types.{unnamed}
-use Rattle.mysql_executions.specs.Unclear.{bulk_cell, cells_from, cells_in_row, first_unclear, is_same_type, is_unclear_cell, unclear_data}
+use Rattle.mysql_executions.specs.Unclear.{bulk_cell, cells_from, cells_in_row, first_unclear, is_same_type, is_unclear_cell, marks_from, unclear_data}
 use Rattle.mysql_executions.specs.Views.{IsFound, found_by, rows_of}
+use Rattle.mysql_executions.proofs.Kept.{not_zero}
 
 -- ---- the cell at a place
 
@@ -24,10 +25,10 @@ abbrev pub Here : {X : Type 0} → List X → ℕ → X → Type 0
 Here xs place x = drop place xs ≡ x ∷ drop (suc place) xs
 
 -- the cell of a value of this type at a place
-abbrev pub cell_of : (waiting : List (Option (List ℕ))) → (nulls : List ℕ) → ℕ → ParameterType → Option ParameterType
+abbrev pub cell_of : (waiting : List (ℕ × List ℕ)) → (nulls : List ℕ) → ℕ → ParameterType → Option ParameterType
 cell_of waiting nulls place t = if is_some (data_for waiting place) || is_null_at 0 nulls place then None else Some t
 
-module _ (waiting : List (Option (List ℕ))) (nulls : List ℕ) where
+module _ (waiting : List (ℕ × List ℕ)) (nulls : List ℕ) where
   pub cell_here : (k : ℕ) (types : List ParameterType) (place : ℕ) (t : ParameterType) → Here types place t → Here (cells_from waiting nulls k types) place (cell_of waiting nulls (k + place) t)
   unfolding cells_from
   cell_here k [] zero t e = absurd cc
@@ -91,7 +92,7 @@ here_at xs place x e = let next : place + 1 ≡ suc place = omega arith in e ∙
 at_here : {X : Type 0} (xs : List X) (place : ℕ) (x : X) → Here xs place x → At xs place x
 at_here xs place x e = let next : suc place ≡ place + 1 = omega arith in e ∙ ap (λ (n : ℕ). x ∷ drop n xs) next
 
-pub at_cell : (waiting : List (Option (List ℕ))) (nulls : List ℕ) (types : List ParameterType) (place : ℕ) (t : ParameterType) (without : Bool) → At types place t
+pub at_cell : (waiting : List (ℕ × List ℕ)) (nulls : List ℕ) (types : List ParameterType) (place : ℕ) (t : ParameterType) (without : Bool) → At types place t
     → without ≡ (is_some (data_for waiting place) || is_null_at 0 nulls place) → At (cells_from waiting nulls 0 types) place (if without then None else Some t)
 at_cell waiting nulls types place t without e is =
     let start : 0 + place ≡ place = omega arith in
@@ -168,32 +169,48 @@ module _ (before place : ℕ) (cells : List (Option ParameterType)) (bytes left 
 abbrev pub data_mark : Option (List ℕ) → ParameterType → ParameterType → Bool
 data_mark sent t u = is_some sent && not (is_same_type t u)
 
-pub mark_here : (waiting : List (Option (List ℕ))) (earlier types : List ParameterType) (place : ℕ) (t u : ParameterType) → place < length waiting → Here earlier place t → Here types place u
-    → Here (unclear_data waiting earlier types) place (data_mark (data_for waiting place) t u)
-unfolding unclear_data
-mark_here [] earlier types place t u lt e f = absurd (omega (arith, lt))
-mark_here (sent ∷ waiting) [] types zero t u lt e f = absurd cc
-mark_here (sent ∷ waiting) [] types (suc place) t u lt e f = absurd cc
-mark_here (sent ∷ waiting) (x ∷ earlier) [] zero t u lt e f = absurd cc
-mark_here (sent ∷ waiting) (x ∷ earlier) [] (suc place) t u lt e f = absurd cc
-mark_here (sent ∷ waiting) (x ∷ earlier) (y ∷ types) zero t u lt e f =
-    let same : x ≡ t = cc in
-    let too : y ≡ u = cc in
-    ap (λ (x : ParameterType). data_mark sent x y ∷ unclear_data waiting earlier types) same ∙ ap (λ (y : ParameterType). data_mark sent t y ∷ unclear_data waiting earlier types) too
-mark_here (sent ∷ waiting) (x ∷ earlier) (y ∷ types) (suc place) t u lt e f = mark_here waiting earlier types place t u (omega (arith, lt)) e f
+module _ (waiting : List (ℕ × List ℕ)) where
+  mark_here : (k : ℕ) (earlier types : List ParameterType) (place : ℕ) (t u : ParameterType) → Here earlier place t → Here types place u
+      → Here (marks_from waiting k earlier types) place (data_mark (data_for waiting (k + place)) t u)
+  unfolding marks_from
+  mark_here k [] types zero t u e f = absurd cc
+  mark_here k [] types (suc place) t u e f = absurd cc
+  mark_here k (x ∷ earlier) [] zero t u e f = absurd cc
+  mark_here k (x ∷ earlier) [] (suc place) t u e f = absurd cc
+  mark_here k (x ∷ earlier) (y ∷ types) zero t u e f =
+      let same : x ≡ t = cc in
+      let too : y ≡ u = cc in
+      let here : k ≡ k + 0 = omega arith in
+      let later = marks_from waiting (k + 1) earlier types in
+      ap (λ (x : ParameterType). data_mark (data_for waiting k) x y ∷ later) same ∙ ap (λ (y : ParameterType). data_mark (data_for waiting k) t y ∷ later) too
+      ∙ ap (λ (p : ℕ). data_mark (data_for waiting p) t u ∷ later) here
+  mark_here k (x ∷ earlier) (y ∷ types) (suc place) t u e f =
+      let next : k + 1 + place ≡ k + suc place = omega arith in
+      mark_here (k + 1) earlier types place t u e f ∙ ap (λ (p : ℕ). data_mark (data_for waiting p) t u ∷ drop (suc place) (marks_from waiting (k + 1) earlier types)) next
 
-pub at_mark : (waiting : List (Option (List ℕ))) (earlier types : List ParameterType) (place : ℕ) (t u : ParameterType) (mark : Bool) → place < length waiting → At earlier place t → At types place u
-    → data_mark (data_for waiting place) t u ≡ mark → At (unclear_data waiting earlier types) place mark
-at_mark waiting earlier types place t u mark lt e f is =
-    at_here (unclear_data waiting earlier types) place mark
-    (mark_here waiting earlier types place t u lt (here_at earlier place t e) (here_at types place u f) ∙ ap (λ (b : Bool). b ∷ drop (suc place) (unclear_data waiting earlier types)) is)
+  pub at_mark : (earlier types : List ParameterType) (place : ℕ) (t u : ParameterType) (mark : Bool) → At earlier place t → At types place u → data_mark (data_for waiting place) t u ≡ mark
+      → At (marks_from waiting 0 earlier types) place mark
+  at_mark earlier types place t u mark e f is =
+      let start : 0 + place ≡ place = omega arith in
+      let marks = marks_from waiting 0 earlier types in
+      at_here marks place mark
+      (mark_here 0 earlier types place t u (here_at earlier place t e) (here_at types place u f) ∙ ap (λ (p : ℕ). data_mark (data_for waiting p) t u ∷ drop (suc place) marks) start
+      ∙ ap (λ (b : Bool). b ∷ drop (suc place) marks) is)
 
-pub length_marks : (waiting : List (Option (List ℕ))) (earlier types : List ParameterType) → length (unclear_data waiting earlier types) ≡ min (min (length waiting) (length earlier)) (length types)
-unfolding unclear_data
-length_marks [] earlier types = omega arith
-length_marks (sent ∷ waiting) [] types = omega arith
-length_marks (sent ∷ waiting) (x ∷ earlier) [] = omega arith
-length_marks (sent ∷ waiting) (x ∷ earlier) (y ∷ types) = omega (arith, length_marks waiting earlier types)
+  pub length_marks : (k : ℕ) (earlier types : List ParameterType) → length (marks_from waiting k earlier types) ≡ min (length earlier) (length types)
+  unfolding marks_from
+  length_marks k [] types = omega arith
+  length_marks k (x ∷ earlier) [] = omega arith
+  length_marks k (x ∷ earlier) (y ∷ types) = omega (arith, length_marks (k + 1) earlier types)
+
+-- where long data waits, the marks are those of all places
+pub marks_where_some : (waiting : List (ℕ × List ℕ)) (earlier types : List ParameterType) → not (length waiting == 0) ≡ true → marks_from waiting 0 earlier types ≡ unclear_data waiting earlier types
+marks_where_some [] earlier types some = absurd cc
+marks_where_some (sent ∷ waiting) earlier types some = refl
+
+pub no_marks : (waiting : List (ℕ × List ℕ)) (earlier types : List ParameterType) → not (length waiting == 0) ≡ false → [] ≡ unclear_data waiting earlier types
+no_marks [] earlier types none = refl
+no_marks (sent ∷ waiting) earlier types none = absurd (let no : true ≡ false = sym (ap not (not_zero (length waiting))) ∙ none in cc)
 
 -- ---- rows one after another
 

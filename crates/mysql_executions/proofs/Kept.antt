@@ -1,8 +1,19 @@
 -- What is kept of a statement's parameters: types in front, and long data.
-use Rattle.std.proofs.Common.{◌≡◌, ℕ, zero, suc, ◌+◌, ◌-◌, ◌<◌, ◌≤◌, Bool, true, false, cond, List, [], ◌∷◌, ◌++◌, length, get_or, set, drop, replicate, Option, Some, None, refl, sym, subst, ap, ◌∙◌, add-one, drop-cons, append_assoc, arith}
-use Rattle.std.specs.Prelude.{Result, Ok, Err, OnOk, if◌then◌else◌, is_ok, unwrap_or, not}
+use Rattle.std.proofs.Common.{◌≡◌, ℕ, zero, suc, ◌+◌, ◌<◌, ◌≤◌, Bool, true, false, cond, List, [], ◌∷◌, ◌++◌, length, get_or, drop, Option, Some, None, refl, sym, ap, ◌∙◌, add-one, drop-cons, arith}
+use Rattle.std.specs.Prelude.{◌==◌, ◌↔◌, IsTrue, OnErr, OnOk, Result, Ok, Err, nat_eq, not, unwrap_or}
+use Rattle.std.specs.BTreeMap.{insert_entry, is_at}
+use Rattle.std.specs.Cmp.{unsigned_tied}
 use Rattle.std.specs.List.{prefix_len}
+use Rattle.std.specs.List.Sorted.{IsStrictlySortedBy}
+use Rattle.std.specs.Map.{keys_of, lookup, set_value}
+use Rattle.std.specs.Ordering.{is_eq, match_ordering, nat_cmp}
+use Rattle.std.specs.declared.cmp.Ordering.{Ordering}
+use Rattle.std.specs.declared.cmp.Ordering.TheVariants.{Equal, Greater, Less}
+use Rattle.std.proofs.lemmas.Bool.Decides.{nat_tests}
+use Rattle.std.proofs.lemmas.Cmp.{nat_cmp_total}
 use Rattle.std.proofs.lemmas.List.{drop_all}
+use Rattle.std.proofs.lemmas.Map.Entries.{lookup_at_gap}
+use Rattle.std.proofs.lemmas.Map.Steps.{set_value_same}
 use Rattle.mysql_executions.specs.After.{more_data}
 
 module _ {X : Type 0} (p : X → Bool) (xs : List X) (i : ℕ) (d : X) (lt : i < length xs) where
@@ -31,59 +42,64 @@ pub not_false : (b : Bool) → b ≡ false → not b ≡ true
 not_false true e = absurd cc
 not_false false e = refl
 
--- what waits for a place that has some grows
-pub more_at : (waiting : List (Option (List ℕ))) (place : ℕ) (found : Option (List ℕ)) (bytes : List ℕ) → place < length waiting → found ≡ get_or waiting place found
-    → set waiting place (Some (unwrap_or found [] ++ bytes)) ≡ more_data waiting place bytes
-unfolding more_data
-more_at [] place found bytes lt is = absurd (omega (arith, lt))
-more_at (x ∷ waiting) zero found bytes lt is = ap (λ (o : Option (List ℕ)). Some (unwrap_or o [] ++ bytes) ∷ waiting) is
-more_at (x ∷ waiting) (suc place) found bytes lt is = ap (λ (l : List (Option (List ℕ))). x ∷ l) (more_at waiting place found bytes (omega (arith, lt)) is)
+-- ---- long data
 
-more_behind_none : (place : ℕ) (bytes : List ℕ) → replicate place None ++ Some bytes ∷ [] ≡ more_data [] place bytes
-unfolding more_data
-more_behind_none zero bytes = refl
-more_behind_none (suc place) bytes = ap (λ (l : List (Option (List ℕ))). None ∷ l) (more_behind_none place bytes)
+-- what is found by the order of places is found by places that are equal
+pub found_same : (place : ℕ) (es : List (ℕ × List ℕ)) → lookup (is_at (nat_cmp place)) es ≡ lookup (nat_eq place) es
+found_same place [] = refl
+found_same place (e ∷ es) = λ i. cond (unsigned_tied place e.0 i) (Some e.1) (found_same place es i)
 
--- held for a place behind all that have some
-pub more_behind : (waiting : List (Option (List ℕ))) (place : ℕ) (bytes : List ℕ) → length waiting ≤ place
-    → waiting ++ (replicate (place - length waiting) None ++ Some bytes ∷ []) ≡ more_data waiting place bytes
-unfolding more_data
-more_behind [] place bytes le = ap (λ n. replicate n None ++ Some bytes ∷ []) (omega arith) ∙ more_behind_none place bytes
-more_behind (x ∷ waiting) zero bytes le = absurd (omega (arith, le))
-more_behind (x ∷ waiting) (suc place) bytes le =
-    ap (λ n. x ∷ (waiting ++ (replicate n None ++ Some bytes ∷ []))) (omega arith) ∙ ap (λ (l : List (Option (List ℕ))). x ∷ l) (more_behind waiting place bytes (omega (arith, le)))
+first_by : (o : Ordering) (place : ℕ) (e : ℕ × List ℕ) (es : List (ℕ × List ℕ)) (bytes : List ℕ) → (o ≡ Less → e ∷ set_value (is_at (nat_cmp place)) es bytes ≡ (place, bytes) ∷ e ∷ es)
+    → (o ≡ Greater → set_value (is_at (nat_cmp place)) es bytes ≡ insert_entry nat_cmp es place bytes)
+    → cond (is_eq o) ((e.0, bytes) ∷ es) (e ∷ set_value (is_at (nat_cmp place)) es bytes) ≡ match_ordering o ((place, bytes) ∷ e ∷ es) ((e.0, bytes) ∷ es) (e ∷ insert_entry nat_cmp es place bytes)
+first_by Less place e es bytes before later = before refl
+first_by Equal place e es bytes before later = refl
+first_by Greater place e es bytes before later = ap (λ (l : List (ℕ × List ℕ)). e ∷ l) (later refl)
 
-abbrev pub none : Option (List ℕ)
-none = None
+-- what is put in the place of what waits stands where an insertion puts it
+pub put_is_insert : (es : List (ℕ × List ℕ)) (place : ℕ) (old bytes : List ℕ) → IsStrictlySortedBy nat_cmp (keys_of es) → Some old ≡ lookup (is_at (nat_cmp place)) es
+    → set_value (is_at (nat_cmp place)) es bytes ≡ insert_entry nat_cmp es place bytes
+unfolding IsStrictlySortedBy
+put_is_insert [] place old bytes sorted known = absurd cc
+put_is_insert (e ∷ es) place old bytes sorted known =
+    first_by (nat_cmp place e.0) place e es bytes
+    (λ less.
+    let none : Some old ≡ None = known ∙ lookup_at_gap nat_cmp_total place (e ∷ es) 0 sorted (λ j x lt is. absurd (omega (arith, lt)))
+    (λ x is. let same : e ≡ x = cc in ap (λ (y : ℕ × List ℕ). nat_cmp place y.0) (sym same) ∙ less) in
+    absurd cc)
+    (λ greater. put_is_insert es place old bytes sorted.1 (known ∙ ap (λ (o : Ordering). cond (is_eq o) (Some e.1) (lookup (is_at (nat_cmp place)) es)) greater))
 
-none_more : (n : ℕ) → replicate n none ++ none ∷ [] ≡ replicate (n + 1) none
-none_more zero = refl
-none_more (suc n) = ap (λ (l : List (Option (List ℕ))). none ∷ l) (none_more n) ∙ (let e : suc (n + 1) ≡ suc n + 1 = omega arith in ap (λ m. replicate m none) e)
+-- data that goes behind what waits
+pub more_behind : (es : List (ℕ × List ℕ)) (place : ℕ) (old bytes new : List ℕ) → IsStrictlySortedBy nat_cmp (keys_of es) → Some old ≡ lookup (is_at (nat_cmp place)) es → new ≡ old ++ bytes
+    → set_value (is_at (nat_cmp place)) es new ≡ more_data es place bytes
+more_behind es place old bytes new sorted known grew =
+    put_is_insert es place old new sorted known
+    ∙ ap (λ (b : List ℕ). insert_entry nat_cmp es place b) (grew ∙ ap (λ (o : Option (List ℕ)). unwrap_or o [] ++ bytes) (known ∙ found_same place es))
 
--- one place more for which nothing waits
-pub one_none_more : (before all : List (Option (List ℕ))) (n : ℕ) → all ≡ before ++ replicate n none → all ++ none ∷ [] ≡ before ++ replicate (n + 1) none
-one_none_more before all n e =
-    ap (λ (l : List (Option (List ℕ))). l ++ none ∷ []) e ∙ append_assoc before (replicate n none) (none ∷ []) ∙ ap (λ (l : List (Option (List ℕ))). before ++ l) (none_more n)
+-- data for which nothing waits
+pub more_alone : (es : List (ℕ × List ℕ)) (place : ℕ) (bytes new : List ℕ) → None ≡ lookup (is_at (nat_cmp place)) es → new ≡ bytes → insert_entry nat_cmp es place new ≡ more_data es place bytes
+more_alone es place bytes new none same =
+    ap (λ (b : List ℕ). insert_entry nat_cmp es place b) (same ∙ ap (λ (o : Option (List ℕ)). unwrap_or o [] ++ bytes) (none ∙ found_same place es))
 
-module _ (waiting : List (Option (List ℕ))) (place : ℕ) (taken slot : Option (List ℕ)) (bytes : List ℕ) (lt : place < length waiting) (here : slot ≡ get_or waiting place slot) (took : taken ≡ slot) where
-  slot_is : (found : Option (List ℕ)) → taken ≡ found → found ≡ get_or waiting place found
-  slot_is found is = subst (λ (o : Option (List ℕ)). o ≡ get_or waiting place o) (sym took ∙ is) here
+-- of data that can't grow what waits stays
+pub stays_behind : (es : List (ℕ × List ℕ)) (place : ℕ) (old new : List ℕ) → Some old ≡ lookup (is_at (nat_cmp place)) es → new ≡ old → set_value (is_at (nat_cmp place)) es new ≡ es
+stays_behind es place old new known same = ap (λ (b : List ℕ). set_value (is_at (nat_cmp place)) es b) same ∙ set_value_same (is_at (nat_cmp place)) es old (sym known)
 
-  -- what waited grew, where there was memory
-  pub append_some : {E : Type 0} (result : Result (Unit {0}) E) (found held grown new : List ℕ) → taken ≡ Some found → held ≡ found → grown ≡ (if is_ok result then held ++ bytes else held) → new ≡ grown
-      → OnOk result (set waiting place (Some new) ≡ more_data waiting place bytes)
-  append_some (Ok done) found held grown new is of grew made =
-      ap (λ (b : List ℕ). set waiting place (Some b)) (made ∙ grew ∙ ap (λ (b : List ℕ). b ++ bytes) of) ∙ more_at waiting place (Some found) bytes lt (slot_is (Some found) is)
-  append_some (Err e) found held grown new is of grew made = tt
+pub not_zero : (n : ℕ) → (suc n == 0) ≡ false
+not_zero n = grind (arith, nat_tests)
 
-  -- nothing waited
-  pub append_none : (new : List ℕ) → taken ≡ None → new ≡ bytes → set waiting place (Some new) ≡ more_data waiting place bytes
-  append_none new is made = ap (λ (b : List ℕ). set waiting place (Some b)) made ∙ more_at waiting place None bytes lt (slot_is None is)
+-- whether none waits, by how many there are
+pub none_by : (none : Bool) (n : ℕ) → (IsTrue none ↔ (n ≡ 0)) → none ≡ (n == 0)
+none_by true zero is = refl
+none_by true (suc n) is = absurd (let e : suc n ≡ 0 = is.0 refl in omega (arith, e))
+none_by false zero is = absurd (let e : false ≡ true = is.1 refl in cc)
+none_by false (suc n) is = sym (not_zero n)
 
--- data behind all, once places for which nothing waits were added
-pub more_added : (waiting all new : List (Option (List ℕ))) (place count : ℕ) (held bytes : List ℕ) → length waiting ≤ place → count ≡ place - length waiting → all ≡ waiting ++ replicate count none → held ≡ bytes
-    → new ≡ all ++ Some held ∷ [] → new ≡ more_data waiting place bytes
-more_added waiting all new place count held bytes le is so_far same put =
-    put ∙ ap (λ (l : List (Option (List ℕ))). l ++ Some held ∷ []) (so_far ∙ ap (λ n. waiting ++ replicate n none) is)
-    ∙ append_assoc waiting (replicate (place - length waiting) none) (Some held ∷ [])
-    ∙ ap (λ (b : List ℕ). waiting ++ (replicate (place - length waiting) none ++ Some b ∷ [])) same ∙ more_behind waiting place bytes le
+-- what holds where a call succeeded follows from what it says there
+pub on_ok : {T E P Q : Type 0} (r : Result T E) → (P → Q) → OnOk r P → OnOk r Q
+on_ok (Ok x) so h = so h
+on_ok (Err e) so h = tt
+
+pub on_err : {T E P Q : Type 0} (r : Result T E) → (P → Q) → OnErr r P → OnErr r Q
+on_err (Ok x) so h = tt
+on_err (Err e) so h = so h

@@ -2,9 +2,11 @@
 -- "COM_STMT_EXECUTE" (new_params_bind_flag), "COM_STMT_SEND_LONG_DATA", "COM_STMT_RESET"; MariaDB:
 -- "COM_STMT_BULK_EXECUTE". Of errors: MySQL Error Message Reference, ER_MALFORMED_PACKET (1835),
 -- ER_UNSUPPORTED_PS (1295).
-use Rattle.std.specs.Prelude.{ℕ, zero, suc, Bool, true, false, not, ◌==◌, ◌||◌, if◌then◌else◌, List, [], ◌∷◌, ◌++◌}
+use Rattle.std.specs.Prelude.{ℕ, Bool, true, false, not, ◌==◌, ◌||◌, if◌then◌else◌, List, [], ◌++◌}
 use Rattle.std.specs.Prelude.{length, take, drop, nat_le, nat_lt, Option, Some, None, unwrap_or}
+use Rattle.std.specs.BTreeMap.{insert_entry}
 use Rattle.std.specs.List.{prefix_len}
+use Rattle.std.specs.Ordering.{nat_cmp}
 use Rattle.mysql_const.specs.FlagSets.{contains}
 use Rattle.mysql_const.specs.declared.capabilities.Capabilities.{Capabilities}
 use Rattle.mysql_const.specs.declared.column_type.ColumnType.{ColumnType}
@@ -18,7 +20,7 @@ use Rattle.mysql_executions.specs.declared.types.BoundType.{BoundType}
 use Rattle.mysql_executions.specs.declared.types.ParameterType.{ParameterType}
 use Rattle.mysql_executions.specs.Bulks.{BulkHead, bulk_head, send_types_to_server}
 use Rattle.mysql_executions.specs.Executions.{ExecutionHead, execution_head}
-use Rattle.mysql_executions.specs.InForce.{InForce}
+use Rattle.mysql_executions.specs.InForce.{InForce, data_for}
 use Rattle.mysql_executions.specs.Types.{has_query_attributes, types_read}
 
 -- at a prepare: no types, and no long data that waits
@@ -62,11 +64,9 @@ after_execution types s = record {
 }
 
 -- long data goes behind what waits for its parameter
-unfoldable pub more_data : List (Option (List ℕ)) → (place : ℕ) → List ℕ → List (Option (List ℕ))
-more_data [] zero bytes = Some bytes ∷ []
-more_data [] (suc place) bytes = None ∷ more_data [] place bytes
-more_data (found ∷ waiting) zero bytes = Some (unwrap_or found [] ++ bytes) ∷ waiting
-more_data (found ∷ waiting) (suc place) bytes = found ∷ more_data waiting place bytes
+abbrev pub more_data : List (ℕ × List ℕ) → (place : ℕ) → List ℕ → List (ℕ × List ℕ)
+more_data waiting place bytes =
+    insert_entry nat_cmp waiting place (unwrap_or (data_for waiting place) [] ++ bytes)
 
 -- behind long data: of a parameter that the statement hasn't, it is broken
 abbrev pub after_long_data : (place : ℕ) → List ℕ → InForce → InForce

@@ -93,7 +93,7 @@ first_unclear before place (Some t ∷ cells) bytes =
 
 -- the cells of an execution's values from this place on: a parameter that is NULL, or for which long data
 -- waits, has none
-unfoldable pub cells_from : (waiting : List (Option (List ℕ))) → (nulls : List ℕ) → (place : ℕ) →
+unfoldable pub cells_from : (waiting : List (ℕ × List ℕ)) → (nulls : List ℕ) → (place : ℕ) →
     List ParameterType → List (Option ParameterType)
 cells_from waiting nulls place [] = []
 cells_from waiting nulls place (t ∷ types) =
@@ -106,14 +106,19 @@ is_same_type one other =
     (column_type_number one.column_type == column_type_number other.column_type)
     && (if one.unsigned then other.unsigned else not other.unsigned)
 
--- of each place for which long data may wait, whether some servers take it by the type that the place
--- had before, which is another one than counts
-unfoldable pub unclear_data : (waiting : List (Option (List ℕ))) → (earlier types : List ParameterType) → List Bool
+-- of each place from this one on that had a type, whether long data waits for it that some servers take
+-- by that type, where another one counts
+unfoldable pub marks_from : (waiting : List (ℕ × List ℕ)) → (place : ℕ) →
+    (earlier types : List ParameterType) → List Bool
+marks_from waiting place [] types = []
+marks_from waiting place (t ∷ earlier) [] = []
+marks_from waiting place (t ∷ earlier) (u ∷ types) =
+    (is_some (data_for waiting place) && not (is_same_type t u)) ∷ marks_from waiting (place + 1) earlier types
+
+-- the same of an execution's parameters, where long data waits for any
+abbrev pub unclear_data : (waiting : List (ℕ × List ℕ)) → (earlier types : List ParameterType) → List Bool
 unclear_data [] earlier types = []
-unclear_data (sent ∷ waiting) [] types = []
-unclear_data (sent ∷ waiting) (t ∷ earlier) [] = []
-unclear_data (sent ∷ waiting) (t ∷ earlier) (u ∷ types) =
-    (is_some sent && not (is_same_type t u)) ∷ unclear_data waiting earlier types
+unclear_data (sent ∷ waiting) earlier types = marks_from (sent ∷ waiting) 0 earlier types
 
 -- what of an execution is unclear: the first unclear cell, by how many values stand before it, with the
 -- bytes from it on; and of the first places whether their long data is

@@ -141,9 +141,11 @@ fn read_row<'a>(
     ensures { Gives (λ x. (x.0.items, x.1.now)) result
         (row_at (types_by (types_of own.now) in_force.now) bytes.now) }
 {
-    let mut values = Vec::new(alloc);
+    // Each value takes a byte or more.
+    let count = count_of(own, in_force);
+    let mut values = Vec::with_capacity(alloc, count.min(bytes.len()))?;
     let mut rest = bytes;
-    for place in 0..count_of(own, in_force) {
+    for place in 0..count {
         let kind = type_of(own, in_force, place);
         let (next, after) = read_bulk_value(alloc, kind, rest)?;
         values.push(next)?;

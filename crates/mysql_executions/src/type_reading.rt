@@ -90,7 +90,8 @@ pub fn read_types(
 ) -> Result<TypesRead<'_>, NotRead>
     ensures { IfRead result (λ types. types_read_of types ≡ types_read named count bytes.now) }
 {
-    let mut found = Vec::new(alloc);
+    // Each type takes two bytes or more.
+    let mut found = Vec::with_capacity(alloc, count.min(bytes.len() / 2))?;
     let mut rest = bytes;
     for _ in 0..count {
         match read_type(alloc, named, rest) {

@@ -16,7 +16,7 @@ ghost use Rattle.mysql_executions.specs.Unclear.{is_odd_sign as is_odd_sign_byte
 ghost use Rattle.mysql_executions.specs.Unclear.{is_unclear_at};
 ghost use Rattle.mysql_executions.specs.Unclear.{is_unclear_cell as is_unclear, is_unclear_type as is_unclear_number};
 ghost use Rattle.mysql_executions.specs.Unclear.{has_time_of_day as has_time, is_dated as is_dated_number};
-ghost use Rattle.mysql_executions.specs.Unclear.{unclear_data};
+ghost use Rattle.mysql_executions.specs.Unclear.{marks_from, unclear_data};
 ghost use Rattle.mysql_executions.specs.Views.{IsFound, cells_of, rows_of, types_by, types_of, unclear_of};
 
 use crate::bulk::BulkValue;
@@ -369,17 +369,33 @@ fn earlier_type(earlier: &[ParameterType], place: usize) -> ParameterType
 
 /// Whether some servers take the long data of a parameter by the type that it had before.
 fn is_unclear_data(s: &StatementParameters, own: &Option<Vec<BoundType>>, place: usize) -> bool
-    requires waits { place < length s.now.long_data }
     requires earlier { place < length s.now.types }
     requires typed { place < length (types_by (types_of own.now) s.now.types) }
-    ensures { drop place (unclear_data s.now.long_data s.now.types (types_by (types_of own.now) s.now.types)) ≡
-        result ∷ drop (place + 1) (unclear_data s.now.long_data s.now.types
+    ensures { drop place (marks_from s.now.long_data 0 s.now.types (types_by (types_of own.now) s.now.types)) ≡
+        result ∷ drop (place + 1) (marks_from s.now.long_data 0 s.now.types
         (types_by (types_of own.now) s.now.types)) }
 {
     let earlier = s.types();
     let before = earlier_type(earlier, place);
     let is_same = is_same_type(before, type_of(own, earlier, place));
     has_data(s, place) && !is_same
+}
+
+/// Finds of each parameter that had a type whether some servers take its long data by it.
+fn read_marks(
+    alloc: Global,
+    s: &StatementParameters,
+    own: &Option<Vec<BoundType>>,
+) -> Result<Vec<bool>, AllocError>
+    ensures { IfOk result (λ marks. marks.items ≡
+        marks_from s.now.long_data 0 s.now.types (types_by (types_of own.now) s.now.types)) }
+{
+    let mut marks = Vec::new(alloc);
+    let earlier = s.types();
+    for place in 0..earlier.len().min(count_of(own, earlier)) {
+        marks.push(is_unclear_data(s, own, place))?;
+    }
+    Ok(marks)
 }
 
 /// Finds of the first parameters whether some servers take their long data by the type from before.
@@ -391,16 +407,11 @@ fn read_unclear_data(
     ensures { IfOk result (λ marks. marks.items ≡
         unclear_data s.now.long_data s.now.types (types_by (types_of own.now) s.now.types)) }
 {
-    let mut marks = Vec::new(alloc);
-    let earlier = s.types();
-    for place in 0..s
-        .places_of_data()
-        .min(earlier.len())
-        .min(count_of(own, earlier))
-    {
-        marks.push(is_unclear_data(s, own, place))?;
+    if s.is_waiting() {
+        read_marks(alloc, s, own)
+    } else {
+        Ok(Vec::new(alloc))
     }
-    Ok(marks)
 }
 
 /// Finds what of an execution is unclear, whose values can be read; its cells begin with these bytes.

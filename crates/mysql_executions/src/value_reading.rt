@@ -111,9 +111,11 @@ pub fn read_parameters<'a>(
     ensures { Gives (λ x. (x.0.items, x.1.now)) result
         (parameters_at s.now.long_data nulls.now (types_by (types_of own.now) s.now.types) bytes.now) }
 {
-    let mut values = Vec::new(alloc);
+    // The bitmap has a bit for each value.
+    let count = count_of(own, s.types());
+    let mut values = Vec::with_capacity(alloc, count.min(nulls.len().saturating_mul(8)))?;
     let mut rest = bytes;
-    for place in 0..count_of(own, s.types()) {
+    for place in 0..count {
         let kind = type_of(own, s.types(), place);
         let null = is_null(nulls, place);
         let (next, after) = read_parameter(alloc, s, place, null, kind, rest)?;
@@ -147,7 +149,7 @@ pub fn read_attributes<'a>(
     requires { first < 65536 }
     ensures { Gives (λ x. (x.0.items, x.1.now)) result (attributes_at nulls.now first types.items bytes.now) }
 {
-    let mut attributes = Vec::new(alloc);
+    let mut attributes = Vec::with_capacity(alloc, types.len())?;
     let mut place = first;
     let mut rest = bytes;
     for bound_type in types {

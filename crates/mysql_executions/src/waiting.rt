@@ -1,73 +1,47 @@
 //! Long data that waits for parameters.
 
-ghost use Rattle.std.specs.Prelude.{◌≡◌, ◌<◌, ◌≤◌, OnErr, OnOk, length};
+ghost use Rattle.std.specs.Prelude.{◌≡◌, ◌==◌, ◌++◌, OnErr, OnOk, length};
 ghost use Rattle.mysql_executions.specs.After.{more_data};
 
 use mysql_queries::ByteString;
 use std::alloc::{AllocError, Global};
+use std::collections::BTreeMap;
+use std::mem;
 
-/// Appends to what waits for a parameter, for which or for a later one there was some.
-fn append_to(
-    alloc: Global,
-    waiting: &mut Vec<Option<ByteString>>,
-    place: usize,
-    bytes: &[u8],
-) -> Result<(), AllocError>
-    requires { place < length waiting.old.items }
-    ensures ok { OnOk result (waiting.new.items ≡ more_data waiting.old.items place bytes.now) }
-    ensures err { OnErr result (waiting.new.items ≡ waiting.old.items) }
+/// Whether no data waits.
+pub fn none_waits(waiting: &BTreeMap<usize, ByteString>) -> bool
+    ensures { result ≡ (length waiting.now.entries == 0) }
 {
-    let slot = &mut waiting[place];
-    match slot.take() {
-        Some(found) => {
-            let mut data = found.into_vec();
-            let done = data.extend_from_slice(bytes);
-            *slot = Some(ByteString::from_vec(data));
-            done
-        }
-        None => {
-            *slot = Some(ByteString::copy(alloc, bytes)?);
-            Ok(())
-        }
-    }
+    waiting.is_empty()
 }
 
-/// Keeps data for a parameter behind all for which there is some.
-fn append_behind(
-    alloc: Global,
-    waiting: &mut Vec<Option<ByteString>>,
-    place: usize,
-    bytes: &[u8],
-) -> Result<(), AllocError>
-    requires behind { length waiting.old.items ≤ place }
-    requires few { place < 65536 }
-    ensures ok { OnOk result (waiting.new.items ≡ more_data waiting.old.items place bytes.now) }
-    ensures err { OnErr result (waiting.new.items ≡ waiting.old.items) }
+/// Appends to bytes.
+fn append(alloc: Global, held: &mut ByteString, bytes: &[u8]) -> Result<(), AllocError>
+    ensures ok { OnOk result (held.new ≡ held.old ++ bytes.now) }
+    ensures err { OnErr result (held.new ≡ held.old) }
 {
-    let data = ByteString::copy(alloc, bytes)?;
-    let missing = place - waiting.len();
-    waiting.reserve(missing + 1)?;
-    for _ in 0..missing {
-        waiting.push_reserved(None);
-    }
-    waiting.push_reserved(Some(data));
-    Ok(())
+    let mut grown = mem::replace(held, ByteString::from_vec(Vec::new(alloc))).into_vec();
+    let done = grown.extend_from_slice(bytes);
+    *held = ByteString::from_vec(grown);
+    done
 }
 
 /// Keeps data for a parameter, behind what waits for it.
 pub fn add_data(
     alloc: Global,
-    waiting: &mut Vec<Option<ByteString>>,
+    waiting: &mut BTreeMap<usize, ByteString>,
     place: usize,
     bytes: &[u8],
 ) -> Result<(), AllocError>
-    requires { place < 65536 }
-    ensures ok { OnOk result (waiting.new.items ≡ more_data waiting.old.items place bytes.now) }
-    ensures err { OnErr result (waiting.new.items ≡ waiting.old.items) }
+    ensures ok { OnOk result (waiting.new.entries ≡ more_data waiting.old.entries place bytes.now) }
+    ensures err { OnErr result (waiting.new.entries ≡ waiting.old.entries) }
 {
-    if place < waiting.len() {
-        append_to(alloc, waiting, place, bytes)
-    } else {
-        append_behind(alloc, waiting, place, bytes)
+    match waiting.get_mut(&place) {
+        Some(held) => append(alloc, held, bytes),
+        None => {
+            let copied = ByteString::copy(alloc, bytes)?;
+            waiting.insert(place, copied)?;
+            Ok(())
+        }
     }
 }

@@ -12,12 +12,6 @@ use mysql_values::Value;
 use mysql_values::laws::fields_fit;
 use std::alloc::AllocError;
 
-fn is_null(value: &Value) -> bool
-    ensures { result ≡ is_null value.now }
-{
-    matches!(value, Value::NULL)
-}
-
 /// Whether a value is NULL, or of the kind of its column's first value and no float.
 fn is_alike(first: &Value, value: &Value) -> bool
     ensures kind { result ≡ true → (is_null value.now || is_null first.now || same_kind first.now value.now) ≡ true }
@@ -41,7 +35,7 @@ fn joins_column<'a>(value: &'a Value, column: usize, firsts: &mut [&'a Value]) -
     requires { column < length firsts.old }
     ensures { result ≡ true → JoinsColumn (row_in firsts.old) (row_in firsts.new) column value.entry.now }
 {
-    if !is_null(firsts[column]) {
+    if !firsts[column].is_null() {
         return is_alike(firsts[column], value);
     }
     if is_float(value) {

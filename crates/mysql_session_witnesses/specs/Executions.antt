@@ -50,7 +50,7 @@ text_type = record { column_type = MYSQL_TYPE_VAR_STRING; unsigned = false }
 
 -- a statement of one text, for which long data waits: `a`
 abbrev pub waiting : InForce
-waiting = record { count = 1; types = text_type ∷ []; long_data = Some (0x61 ∷ []) ∷ []; broken = false }
+waiting = record { count = 1; types = text_type ∷ []; long_data = (0, 0x61 ∷ []) ∷ []; broken = false }
 
 -- For a parameter whose long data waits an execution has no bytes, though it holds the same. Excluded: the text
 -- once more. MySQL: Client/Server Protocol, "COM_STMT_SEND_LONG_DATA".

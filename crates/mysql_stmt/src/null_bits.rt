@@ -1,20 +1,12 @@
 //! The bitmap of an execution.
 
 ghost use Rattle.std.specs.Prelude.{◌≡◌, ◌++◌, ◌≤◌, IfOk, OnOk, length, map, take};
-ghost use Rattle.mysql_cells.specs.Values.{is_null as is_no_value};
 ghost use Rattle.mysql_stmt.specs.Executions.{null_bitmap, null_bits};
 
 use crate::has_value::HasValue;
 use crate::in_room::make_room;
 use mysql_cells::Value;
 use std::alloc::{AllocError, Global};
-
-#[inline(always)]
-fn is_null(value: &Value) -> bool
-    ensures { result ≡ is_no_value value.now }
-{
-    matches!(value, Value::NULL)
-}
 
 // The byte of the first eight values.
 #[inline(always)]
@@ -24,7 +16,7 @@ fn null_byte<V: HasValue>(values: &[V]) -> u8
     let mut byte: u16 = 0;
     let mut bit: u16 = 1;
     for place in 0..values.len().min(8) {
-        if is_null(values[place].value()) {
+        if values[place].value().is_null() {
             byte += bit;
         }
         bit *= 2;

@@ -1,24 +1,15 @@
-use Rattle.std.proofs.Common.{◌≡◌, ◌≤◌, ◌+◌, Bool, List, [], ◌∷◌, ◌++◌, length, drop, sym, ap, ◌∙◌, append_assoc, append-nil, arith}
-use Rattle.std.proofs.lemmas.List.{drop_all}
-use Rattle.mysql_executions.specs.Unclear.{unclear_data}
+use Rattle.std.proofs.Common.{◌≡◌, Bool, List, sym, subst, ◌∙◌}
+use Rattle.std.specs.Prelude.{IfOk}
 use Rattle.mysql_executions.specs.Views.{types_by, types_of}
-use Rattle.mysql_executions.specs.declared.types.ParameterType.{ParameterType}
-use Rattle.mysql_executions.proofs.CellsInTurn.{length_marks}
+use Rattle.mysql_executions.proofs.CellsInTurn.{marks_where_some, no_marks}
 use Rattle.mysql_executions.proofs.unclear.read_unclear_data.Goals as goal
 
-pub loop-place-preserved : goal.loop-place-preserved
-loop-place-preserved c =
-    let all = unclear_data c.args.s.now.long_data c.args.s.now.types (types_by (types_of c.args.own.now) c.args.s.now.types) in
-    let marks = c.loop-place.marks.items in
-    let e : c.push.new.self.items ≡ marks ++ c.is_unclear_data.result ∷ [] = c.in_ok-push.ensures.items in
-    rw e (c.loop-place.invariant ∙ ap (λ (later : List Bool). marks ++ later) c.is_unclear_data.ensures ∙ sym (append_assoc marks (c.is_unclear_data.result ∷ []) (drop (c.loop-place.place + 1) all)))
-
-pub returns : goal.returns
-returns c =
+pub returns-then-is_waiting : goal.returns-then-is_waiting
+returns-then-is_waiting c =
     let types = types_by (types_of c.args.own.now) c.args.s.now.types in
-    let all = unclear_data c.args.s.now.long_data c.args.s.now.types types in
-    let marks = c.loop-place.marks.items in
-    let typed = ap (λ (in_force : List ParameterType). length (types_by (types_of c.args.own.now) in_force)) c.types-earlier.ensures in
-    let past : length all ≤ c.loop-place.place =
-    omega (arith, c.min-place-end.ensures, c.min.ensures, c.places_of_data.ensures, c.count_of.ensures, ap length c.types-earlier.ensures, typed, length_marks c.args.s.now.long_data c.args.s.now.types types) in
-    sym (c.loop-place.invariant ∙ ap (λ (later : List Bool). marks ++ later) (drop_all c.loop-place.place all past) ∙ append-nil marks)
+    subst (λ (all : List Bool). IfOk c.read_marks.result (λ marks. marks.items ≡ all)) (marks_where_some c.args.s.now.long_data c.args.s.now.types types (sym c.if-is_waiting.ensures)) c.read_marks.ensures
+
+pub returns-else-is_waiting : goal.returns-else-is_waiting
+returns-else-is_waiting c =
+    let types = types_by (types_of c.args.own.now) c.args.s.now.types in
+    c.new.ensures.items ∙ no_marks c.args.s.now.long_data c.args.s.now.types types (sym c.if-is_waiting.ensures)

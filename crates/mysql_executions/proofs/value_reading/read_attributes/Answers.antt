@@ -8,7 +8,7 @@ use Rattle.mysql_executions.proofs.value_reading.read_attributes.Goals as goal
 
 pub returns-in_err-next : goal.returns-in_err-next
 returns-in_err-next c =
-    let p = err_from_is_err_and c.from_residual.result c.from_residual.ensures.1 in
+    let p = err_from_is_err_and c.from_residual-in_err-next.result c.from_residual-in_err-next.ensures.1 in
     let read = attribute_at (is_null_at 0 c.args.nulls.now c.loop-bound_type.place) c.in-Some.bound_type c.loop-bound_type.rest.now in
     rw (p.1, p.2) (each_fails (λ at t b. attribute_at (is_null_at 0 c.args.nulls.now at) t b) c.loop-bound_type.attributes.items c.loop-bound_type.place c.loop-bound_type.bound_type-iterator.rest.items c.loop-bound_type.rest.now
     (attributes_at c.args.nulls.now c.args.first c.args.types.items c.args.bytes.now) c.in_err-next.field-0.0 c.in-Some.bound_type c.next.new.self.rest.items c.in-Some.ensures.steps.0

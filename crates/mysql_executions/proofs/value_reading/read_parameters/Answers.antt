@@ -19,7 +19,7 @@ here slice in_force own place t e h = subst (λ (l : List ParameterType). drop p
 
 pub returns-in_err-next : goal.returns-in_err-next
 returns-in_err-next c =
-    let p = err_from_is_err_and c.from_residual.result c.from_residual.ensures.1 in
+    let p = err_from_is_err_and c.from_residual-in_err-next.result c.from_residual-in_err-next.ensures.1 in
     let types = types_by (types_of c.args.own.now) c.args.s.now.types in
     rw (p.1, p.2) (each_fails (λ place t b. parameter_at (data_for c.args.s.now.long_data place) (is_null_at 0 c.args.nulls.now place) t b) c.loop-place.values.items c.loop-place.place (drop c.loop-place.place types) c.loop-place.rest.now (parameters_at c.args.s.now.long_data c.args.nulls.now types c.args.bytes.now)
     c.in_err-next.field-0.0 c.type_of-kind.result (drop (c.loop-place.place + 1) types) (here c.types-in-loop-place.result.now c.args.s.now.types c.args.own.now c.loop-place.place c.type_of-kind.result c.types-in-loop-place.ensures c.type_of-kind.ensures)
@@ -40,4 +40,4 @@ pub returns : goal.returns
 returns c =
     let types = types_by (types_of c.args.own.now) c.args.s.now.types in
     each_done (λ place t b. parameter_at (data_for c.args.s.now.long_data place) (is_null_at 0 c.args.nulls.now place) t b) c.loop-place.values.items c.loop-place.place (drop c.loop-place.place types) c.loop-place.rest.now (parameters_at c.args.s.now.long_data c.args.nulls.now types c.args.bytes.now)
-    (drop_all c.loop-place.place types (omega (arith, c.count_of-place-end.ensures, ap (λ l. length (types_by (types_of c.args.own.now) l)) c.types.ensures))) c.loop-place.invariant
+    (drop_all c.loop-place.place types (omega (arith, c.count_of-count.ensures, ap (λ l. length (types_by (types_of c.args.own.now) l)) c.types.ensures))) c.loop-place.invariant
