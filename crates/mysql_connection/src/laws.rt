@@ -11,7 +11,7 @@ pub use mysql_connection_peek::laws::payloads_are_in_turn;
 pub use mysql_connection_recoding::laws as recoding;
 pub use mysql_connection_rules::laws as runs;
 pub use mysql_connection_sent::laws::packets_are_spoken;
-pub use mysql_connection_statements::laws::stored_is_the_sum;
+pub use mysql_connection_statements::laws::{kept_lists_are_counted, stored_is_the_sum};
 pub use mysql_execution_contents::laws as contents;
 pub use mysql_execution_writer::laws as executions;
 pub use mysql_reply_event_writer::laws::read_events_are_put;

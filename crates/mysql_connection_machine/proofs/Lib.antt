@@ -1,9 +1,10 @@
+pub mod Coming
 pub mod Limits
 pub mod Phases
 pub mod PutEvents
 pub mod PutPackets
 pub mod PutPayloads
-pub mod Reading
+pub mod Said
 pub mod Waiting
 pub mod Words
 pub mod InPlace

@@ -55,7 +55,7 @@ event_due w side payload event after awaited its =
 
 -- ---- what was looked at
 
-led : (x : Step) (event : Event) → said_in x ≡ Ok event → (after : Standing) × (x ≡ Ok (event, after))
+pub led : (x : Step) (event : Event) → said_in x ≡ Ok event → (after : Standing) × (x ≡ Ok (event, after))
 led (Ok said) event e =
     let same : said.0 ≡ event = cc e in (said.1, ap (λ (y : Event). Ok (y, said.1)) same)
 led (Err fault) event e = absurd (cc e)

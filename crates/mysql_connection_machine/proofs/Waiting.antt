@@ -14,7 +14,7 @@ use Rattle.mysql_connection_rules.specs.Streams.{has_number, is_early}
 use Rattle.mysql_connection_rules.specs.Streams.{moved, of_server, room_to_keep, said_by, server_by}
 use Rattle.mysql_connection_rules.specs.Streams.{words, words_by}
 use Rattle.mysql_connection_machine.specs.Endings.{is_waiting, server_number}
-use Rattle.mysql_connection_machine.specs.Takes.{words_step}
+use Rattle.mysql_connection_peek.specs.Peeks.{words_step}
 use Rattle.mysql_connection_machine.proofs.Words.{words_said}
 
 led : (b : Bool) (w new : World) (side : Side) (event : Event) →

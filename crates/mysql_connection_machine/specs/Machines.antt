@@ -109,12 +109,12 @@ Feeds old side piece (Err Memory) new =
     RefusesPiece old side piece Memory × (new ≡ record old { row = None })
 Feeds old side piece (Err cause) new = RefusesPiece old side piece cause × (new ≡ old)
 
--- A fault was found: it is what comes next, but where memory ran out, of which nothing is known.
--- Nothing is taken of the streams.
+-- A fault was found: it is what comes next, but where memory ran out. Memory is asked for only where an event
+-- or another fault comes next. Nothing changes.
 pub record FindsFault (old : World) (fault : ConnectionFault) (new : World) : Type 0 where
+  pub comes : next old ≢ Waits
   pub next : fault.fault ≢ faults.Memory → next old ≡ Fails (failure_view fault)
-  pub limits : new.limits ≡ old.limits
-  pub unread : new.unread ≡ old.unread
+  pub same : new ≡ old
 
 -- What comes next of the world.
 abbrev pub Answers : World → Result (Option Event) ConnectionFault → World → Type 0
@@ -168,12 +168,12 @@ LentHasUnclear w lent.Row = Unit {0}
 
 -- LIMITS
 
--- A machine that has found no fault is within its limits.
+-- A machine is within its limits, behind a fault too.
 abbrev pub IsWithinLimits : Machine → Type 0
-IsWithinLimits m = m.failure ≡ None → WithinLimits m.world
+IsWithinLimits m = WithinLimits m.world
 
 -- It holds at most what they say, where this is the room of both sides at least.
 abbrev pub HoldsAtMost : Machine → Type 0
-HoldsAtMost m = m.failure ≡ None →
+HoldsAtMost m =
     room Client m.world.limits + room Server m.world.limits ≤ m.world.limits.held →
     held m.world ≤ m.world.limits.held

@@ -1,7 +1,7 @@
 -- What taking a payload of one stream answers.
 -- MySQL: Client/Server Protocol, "MySQL Packets" and "Sequence ID".
 use Rattle.std.specs.Prelude.{◌≡◌, ◌≢◌, ◌≤◌, ◌⊎◌, ℕ, Bool, true, false, List, drop, length, nat_le, take}
-use Rattle.std.specs.Prelude.{Option, Some, None, Result, Ok, Err, if◌then◌else◌}
+use Rattle.std.specs.Prelude.{Option, Some, None, Result, Ok, Err}
 use Rattle.std.specs.Cow.{cow_slice_items}
 use Rattle.std.specs.declared.borrow.CowSlice.{CowSlice}
 use Rattle.std.specs.declared.borrow.CowSlice.TheVariants as slice
@@ -14,9 +14,8 @@ use Rattle.mysql_connection_rules.specs.declared.side.Side.{Side}
 use Rattle.mysql_connection_rules.specs.Events as events
 use Rattle.mysql_connection_rules.specs.Standing.{Standing, kept}
 use Rattle.mysql_connection_rules.specs.Steps.{Step}
-use Rattle.mysql_connection_rules.specs.Streams.{Stream, begins_error, behind, numbered}
-use Rattle.mysql_connection_rules.specs.Streams.{room_to_keep}
-use Rattle.mysql_connection_state.specs.Reads.{farewell_step}
+use Rattle.mysql_connection_rules.specs.Streams.{Stream, behind, numbered, room_to_keep}
+use Rattle.mysql_connection_state.specs.Follows.{LeadsTo}
 use Rattle.mysql_connection_state.specs.Views.{ConnectionState, event_view}
 use Rattle.mysql_connection_state.specs.declared.event.Event.{Event}
 use Rattle.mysql_connection_machine.specs.Buffers.{Buffer}
@@ -35,12 +34,16 @@ IsNoPacket found fault =
     ((found ≡ TooLarge) × (fault ≡ faults.TooLarge)) ⊎
     ((number : ℕ) × (found ≡ OutOfSync number) × (fault ≡ faults.OutOfSync number))
 
+-- A whole packet stands first.
+abbrev pub IsWhole : Found → Type 0
+IsWhole found = (payload : List ℕ) × (number : ℕ) × (rest : List ℕ) × (found ≡ Whole payload number rest)
+
 -- A payload that is lent is this one.
 abbrev pub IsLentAs : {Z : Type 0} → List ℕ → CowSlice ℕ Z → Type 0
 IsLentAs bytes (slice.Borrowed payload) = payload.now ≡ bytes
 IsLentAs bytes (slice.Owned payload) = Unit {0}
 
--- The packet that stands first.
+-- The packet that stands first. Memory is asked for only where it is whole.
 abbrev pub FindsIn : ℕ → ℕ → List ℕ → Result (Option Packet) Fault → Type 0
 FindsIn limit number bytes (Ok None) = first_packet limit number bytes ≡ Short
 FindsIn limit number bytes (Ok (Some packet)) =
@@ -48,7 +51,8 @@ FindsIn limit number bytes (Ok (Some packet)) =
     Whole (cow_slice_items packet.payload) packet.next (drop packet.used bytes)) ×
     (packet.used ≤ length bytes)
 FindsIn limit number bytes (Err fault) =
-    fault ≢ faults.Memory → IsNoPacket (first_packet limit number bytes) fault
+    IsNoPacket (first_packet limit number bytes) fault ⊎
+    ((fault ≡ faults.Memory) × IsWhole (first_packet limit number bytes))
 
 -- A payload that is lent stands behind the header of its packet.
 abbrev pub IsLentFrom : List ℕ → Result (Option Packet) Fault → Type 0
@@ -61,12 +65,16 @@ IsLentFrom bytes result = Unit {0}
 abbrev pub has_room : Limits → Side → ℕ → Standing → Bool
 has_room limits side number s = nat_le (kept (numbered side number s)) (room_to_keep limits)
 
--- Behind a payload this number is due, where what is kept has room.
-abbrev pub Settles : Limits → Side → ℕ → Standing → Result (Unit {0}) Fault → Standing → Type 0
-Settles limits side number old (Ok done) new =
-    (has_room limits side number old ≡ true) × (new ≡ numbered side number old)
-Settles limits side number old (Err fault) new =
-    (has_room limits side number old ≡ false) × (fault ≡ faults.Held)
+-- The payload of an event was gone on behind, behind which this number is due, where what is kept has room; or
+-- nothing has changed, for want of room or of memory.
+abbrev pub GoesOnBy : Limits → Side → ℕ → ConnectionState → events.Event → List ℕ → Result (Unit {0}) Fault →
+    ConnectionState → Type 0
+GoesOnBy limits side number old event payload (Ok done) new =
+    (after : Standing) → LeadsTo old.standing event payload after →
+    (has_room limits side number after ≡ true) × (new.standing ≡ numbered side number after)
+GoesOnBy limits side number old event payload (Err fault) new =
+    (new ≡ old) × (fault ≢ faults.Memory → (fault ≡ faults.Held) ×
+    ((after : Standing) → LeadsTo old.standing event payload after → has_room limits side number after ≡ false))
 
 -- What the payload says leads no further: it can't be read, or more is kept than has room.
 abbrev pub IsNotSaid : Limits → Side → ℕ → Step → Fault → Type 0
@@ -95,14 +103,10 @@ SaysInPlaceBy limits side number step payload (Ok (Some event)) new =
 SaysInPlaceBy limits side number step payload (Err fault) new =
     SaysBy limits side number step (Err fault) new.standing
 
--- The server's last words: an error that answers nothing.
-abbrev pub words_step : Standing → List ℕ → Step
-words_step s payload =
-    if begins_error payload then farewell_step s payload else Err faults.Unasked
-
 -- ONE STREAM
 
--- The payload that stands first, by the packet that was found and by what payloads say.
+-- The payload that stands first, by the packet that was found and by what payloads say. Memory is asked for only
+-- where the packet is whole.
 abbrev pub TakesBy : Limits → Side → (List ℕ → Step) → Found → Standing → Stream →
     Result (Option Event) Fault → Standing → Stream → Type 0
 TakesBy limits side says found old stream (Ok None) new left =
@@ -113,10 +117,9 @@ TakesBy limits side says found old stream (Ok (Some event)) new left =
     (has_room limits side number s ≡ true) × (new ≡ numbered side number s) ×
     (left ≡ behind rest stream)
 TakesBy limits side says found old stream (Err fault) new left =
-    fault ≢ faults.Memory →
     IsNoPacket found fault ⊎
     ((payload : List ℕ) × (number : ℕ) × (rest : List ℕ) × (found ≡ Whole payload number rest) ×
-    IsNotSaid limits side number (says payload) fault)
+    (fault ≢ faults.Memory → IsNotSaid limits side number (says payload) fault))
 
 -- The same, where a row lies in its payload, which is lent.
 abbrev pub TakesLentBy : Limits → Side → (List ℕ → Step) → Found → Standing → Stream →

@@ -128,7 +128,7 @@ impl Connection {
     /// - `Closed` where the side's stream has ended.
     /// - `Held` where more of the side would wait unread than its longest payload takes with its
     ///   headers. A caller takes events first, or feeds the side whose turn it is.
-    /// - `Memory`.
+    /// - `Memory`, only where the piece would be taken else.
     ///
     /// MySQL: Client/Server Protocol, "MySQL Packets".
     pub fn feed(&mut self, side: Side, piece: &[u8]) -> Result<(), FeedRefusal>
@@ -169,10 +169,10 @@ impl Connection {
     /// # Errors
     /// - The fault of the packet that stands first, with its side and its place: `TooLarge`,
     ///   `OutOfSync`, those of the payload that is due, `Unasked`, `Held`.
-    /// - `Memory`.
+    /// - `Memory`, which is asked for only where the next packet is complete (`FindsFault`).
     ///
-    /// After an error it has failed: each call answers that error from then on, and what is unread
-    /// stays.
+    /// After an error it has failed: each call answers that error from then on. Nothing else has
+    /// changed: what stood before that payload is still told, and what is unread stays.
     ///
     /// MySQL: Client/Server Protocol, "Connection Phase", "Command Phase" and "Sequence ID".
     pub fn next_event(&mut self) -> Result<Option<Event>, ConnectionFault>
@@ -216,8 +216,8 @@ impl Connection {
     /// (`AnswersLent`). An execution's unclear values are those of `next_event` (`LentHasUnclear`).
     ///
     /// # Errors
-    /// - Those of [`Connection::next_event`], in the same order. After an error it has failed in the
-    ///   same way.
+    /// - Those of [`Connection::next_event`], in the same order. Memory is asked for only where the next
+    ///   packet is complete. After an error it has failed in the same way.
     ///
     /// MySQL: Client/Server Protocol, "Text Resultset Row" and "Binary Protocol Resultset Row"; C
     /// API, "mysql_use_result()".
@@ -507,10 +507,10 @@ impl Connection {
     }
 
     /// How many bytes are held: the unread ones of both sides, and what is kept. That is of
-    /// statements, columns and long data. At most `usize::MAX` is told.
+    /// statements, columns and long data. At most `usize::MAX` is told. A fault changes nothing of it.
     ///
-    /// Promise: no more than the limit, where this is the room of both sides at least
-    /// (`HoldsAtMost`).
+    /// Promise: no more than the limit, after a fault too, where this is the room of both sides at
+    /// least (`HoldsAtMost`).
     ///
     /// MySQL: Client/Server Protocol, "Prepared Statements".
     pub fn held(&self) -> usize
@@ -543,7 +543,7 @@ impl Connection {
         }
     }
 
-    /// What is due. After an error it is no longer known.
+    /// What is due. After an error it is what was due before the payload that has the fault.
     ///
     /// MySQL: Client/Server Protocol, "Connection Phase" and "Command Phase".
     pub fn phase(&self) -> Phase
@@ -552,7 +552,8 @@ impl Connection {
         self.reader.state().phase()
     }
 
-    /// The capabilities in force: those that both sides have.
+    /// The capabilities in force: those that both sides have. After an error they are those before the
+    /// payload that has the fault.
     ///
     /// MySQL: Client/Server Protocol, "Capabilities Flags".
     pub fn capabilities(&self) -> Capabilities
@@ -565,6 +566,7 @@ impl Connection {
     ///
     /// A login, a change of user and a reset of the connection tell it. Behind a statement it is known
     /// only where the server tells each change: `SET session_track_system_variables = 'sql_mode'`.
+    /// After an error it is what was known before the payload that has the fault.
     ///
     /// MySQL Reference Manual, "Server SQL Modes", "Server Tracking of Client Session State".
     pub fn session_mode(&self) -> SessionMode
@@ -575,6 +577,8 @@ impl Connection {
 
     /// The prepared statement that this id of a command stands for: 0xffffffff for that which was
     /// prepared last.
+    ///
+    /// After an error it is the same as before the payload that has the fault.
     ///
     /// Promise: exactly the statement by which such a command is read (`statement_meant`).
     ///

@@ -1,12 +1,10 @@
 //! How much of a connection is held.
 
-ghost use Rattle.std.specs.Prelude.{◌≡◌, ◌*◌, nat_le};
+ghost use Rattle.std.specs.Prelude.{◌≡◌, ◌*◌};
 ghost use Rattle.mysql_connection_packets.specs.FirstPacket.{most_chunks};
-ghost use Rattle.mysql_connection_rules.specs.Standing.{kept};
 ghost use Rattle.mysql_connection_rules.specs.Streams.{limit_of, room, room_to_keep};
 
 use mysql_connection_rules::{Limits, Side};
-use mysql_connection_state::State;
 use mysql_const::MAX_PAYLOAD_LEN;
 
 /// The longest payload of a side.
@@ -47,14 +45,4 @@ pub fn room_to_keep(limits: Limits) -> usize
     behind_client
         .saturating_sub(server)
         .saturating_sub(headers(server))
-}
-
-/// Whether what is kept is within its room.
-pub fn is_kept(limits: Limits, state: &State) -> bool
-    ensures { result ≡ nat_le (kept state.now.standing) (room_to_keep limits) }
-{
-    match state.kept() {
-        Some(size) => size <= room_to_keep(limits),
-        None => false,
-    }
 }

@@ -1,46 +1,50 @@
 //! What a payload says, where what is kept then has room.
 
-ghost use Rattle.std.specs.Prelude.{◌≡◌, IfOk, MatchResult};
+ghost use Rattle.std.specs.Prelude.{◌≡◌, ◌≤◌, IfOk, OnErr};
 ghost use Rattle.std.specs.Cow.{cow_slice_items};
-ghost use Rattle.mysql_connection_machine.specs.Takes.{SaysBy, SaysInPlaceBy, Settles};
-ghost use Rattle.mysql_connection_machine.specs.Takes.{words_step};
+ghost use Rattle.mysql_connection_machine.specs.Takes.{GoesOnBy, SaysBy, SaysInPlaceBy};
+ghost use Rattle.mysql_connection_peek.specs.Peeks.{words_step};
+ghost use Rattle.mysql_connection_rules.specs.Standing.{kept};
 ghost use Rattle.mysql_connection_rules.specs.Steps.{step};
-ghost use Rattle.mysql_connection_rules.specs.Streams.{begins_error};
+ghost use Rattle.mysql_connection_rules.specs.Streams.{room_to_keep};
 ghost use Rattle.mysql_connection_rules.specs.declared.side.Side.TheVariants.{Server};
-ghost use Rattle.mysql_connection_state.specs.Reads.{Reads};
-ghost use Rattle.mysql_connection_state.specs.Views.{EventHasUnclear};
+ghost use Rattle.mysql_connection_state.specs.Views.{EventHasUnclear, event_view};
 
-use crate::room::is_kept;
+use crate::room::room_to_keep;
+use mysql_connection_peek::laws::payloads_are_in_turn;
+use mysql_connection_peek::{peek_event, peek_farewell};
 use mysql_connection_rules::{Fault, Limits, Side};
-use mysql_connection_state::{Event, State};
+use mysql_connection_state::{Event, FollowRefusal, State};
+use std::alloc::Global;
 use std::borrow::CowSlice;
 
-// Behind a packet of a side this number is due.
-fn settle(limits: Limits, side: Side, next: u8, state: &mut State) -> Result<(), Fault>
-    ensures settles { Settles limits side next state.old.standing result state.new.standing }
-    ensures rows { state.new.rows ≡ state.old.rows }
+// Goes on behind the payload of an event, behind which this number is due. It does where what is kept
+// then has room, else nothing changes.
+fn go_on(
+    limits: Limits,
+    side: Side,
+    next: u8,
+    state: &mut State,
+    event: &Event,
+    payload: &[u8],
+) -> Result<(), Fault>
+    ensures { GoesOnBy limits side next state.old (event_view event.now) payload.now result
+        state.new }
 {
-    state.set_number(side, next);
-    if is_kept(limits, state) {
-        Ok(())
-    } else {
-        Err(Fault::Held)
+    match state.follow(event, payload, room_to_keep(limits) as u128) {
+        Ok(()) => {
+            state.set_number(side, next);
+            Ok(())
+        }
+        Err(FollowRefusal::Held) => Err(Fault::Held),
+        Err(FollowRefusal::Memory) => Err(Fault::Memory),
     }
 }
 
-// What was said, where what is kept then has room.
-fn if_settled<T: Drop>(said: T, settled: Result<(), Fault>) -> Result<T, Fault>
-    ensures { MatchResult settled (λ done. result ≡ Ok said) (λ fault. result ≡ Err fault) }
-{
-    match settled {
-        Ok(()) => Ok(said),
-        Err(fault) => Err(fault),
-    }
-}
-
-/// What the payload that is due says, behind which this number is due.
-#[tactic(auto, using(crate::proofs::Reading::read_fault))]
+/// What the payload that is due says, behind which this number is due. After an error the state is as
+/// it was.
 pub fn say_bytes(
+    alloc: Global,
     limits: Limits,
     side: Side,
     next: u8,
@@ -49,61 +53,61 @@ pub fn say_bytes(
 ) -> Result<Event, Fault>
     ensures says { SaysBy limits side next (step state.old.standing payload.now) result state.new.standing }
     ensures unclear { IfOk result (λ event. EventHasUnclear state.old.standing payload.now event) }
+    ensures err { OnErr result (state.new ≡ state.old) }
 {
-    let event = state.read(payload)?;
-    let settled = settle(limits, side, next, state);
-    if_settled(event, settled)
-}
-
-// Whether a payload is an error.
-fn begins_error(payload: &[u8]) -> bool
-    ensures { result ≡ begins_error payload.now }
-{
-    match payload {
-        [byte, ..] => *byte == 255,
-        _ => false,
+    payloads_are_in_turn();
+    let event = peek_event(alloc, state, payload)?;
+    match go_on(limits, side, next, state, &event, payload) {
+        Ok(()) => Ok(event),
+        Err(fault) => Err(fault),
     }
 }
 
-// What last words say.
-fn read_words(state: &mut State, payload: &[u8]) -> Result<Event, Fault>
-    ensures { Reads (words_step state.old.standing payload.now) result state.new.standing }
+// What the server's last words say. After an error the state is as it was.
+fn bid_bytes(
+    alloc: Global,
+    limits: Limits,
+    next: u8,
+    state: &mut State,
+    payload: &[u8],
+) -> Result<Event, Fault>
+    ensures says { SaysBy limits Server next (words_step state.old.standing payload.now) result
+        state.new.standing }
+    ensures err { OnErr result (state.new ≡ state.old) }
 {
-    if !begins_error(payload) {
-        return Err(Fault::Unasked);
+    let event = peek_farewell(alloc, payload)?;
+    match go_on(limits, Side::Server, next, state, &event, payload) {
+        Ok(()) => Ok(event),
+        Err(fault) => Err(fault),
     }
-    state.farewell(payload)
-}
-
-// What the server's last words say.
-#[tactic(auto, using(crate::proofs::Reading::read_fault))]
-fn bid_bytes(limits: Limits, next: u8, state: &mut State, payload: &[u8]) -> Result<Event, Fault>
-    ensures { SaysBy limits Server next (words_step state.old.standing payload.now) result state.new.standing }
-{
-    let event = read_words(state, payload)?;
-    let settled = settle(limits, Side::Server, next, state);
-    if_settled(event, settled)
 }
 
 /// The same, but a row is read where it lies.
-#[tactic(auto, using(crate::proofs::Reading::read_fault))]
 pub fn say_in_place(
+    alloc: Global,
     limits: Limits,
     side: Side,
     next: u8,
     state: &mut State,
     payload: &[u8],
 ) -> Result<Option<Event>, Fault>
-    ensures { SaysInPlaceBy limits side next (step state.old.standing payload.now) payload.now
+    requires { kept state.old.standing ≤ room_to_keep limits }
+    ensures says { SaysInPlaceBy limits side next (step state.old.standing payload.now) payload.now
         result state.new }
+    ensures err { OnErr result (state.new.standing ≡ state.old.standing) }
 {
-    let event = state.read_in_place(payload)?;
-    let settled = settle(limits, side, next, state);
-    if_settled(event, settled)
+    if state.lend_row(payload) {
+        state.set_number(side, next);
+        Ok(None)
+    } else {
+        let event = say_bytes(alloc, limits, side, next, state, payload)?;
+        Ok(Some(event))
+    }
 }
 
-/// The same of a payload that is lent or joined.
+/// What a payload says that is lent or joined.
 pub fn say(
+    alloc: Global,
     limits: Limits,
     side: Side,
     next: u8,
@@ -114,20 +118,23 @@ pub fn say(
         result state.new.standing }
     ensures unclear { IfOk result (λ event.
         EventHasUnclear state.old.standing (cow_slice_items payload.entry) event) }
+    ensures err { OnErr result (state.new ≡ state.old) }
 {
-    say_bytes(limits, side, next, state, payload.as_slice())
+    say_bytes(alloc, limits, side, next, state, payload.as_slice())
 }
 
 /// What the server's last words say, behind which this number is due.
 #[inline(never)]
 pub fn bid(
+    alloc: Global,
     limits: Limits,
     next: u8,
     state: &mut State,
     payload: CowSlice<'_, u8>,
 ) -> Result<Event, Fault>
-    ensures { SaysBy limits Server next (words_step state.old.standing (cow_slice_items payload.entry))
+    ensures says { SaysBy limits Server next (words_step state.old.standing (cow_slice_items payload.entry))
         result state.new.standing }
+    ensures err { OnErr result (state.new ≡ state.old) }
 {
-    bid_bytes(limits, next, state, payload.as_slice())
+    bid_bytes(alloc, limits, next, state, payload.as_slice())
 }

@@ -140,7 +140,7 @@ impl StreamsReader {
     }
 
     // Last words, behind the end of the client's stream.
-    #[tactic(auto, using(crate::proofs::Words::words_said))]
+    #[tactic(auto, using(crate::proofs::Coming::comes, crate::proofs::Words::words_said))]
     #[inline(never)]
     fn last_words(&mut self) -> Result<Option<Event>, ConnectionFault>
         requires turn { turn self.old.world.standing.phase ≡ Some Client }
@@ -165,6 +165,7 @@ impl StreamsReader {
     }
 
     // The next event where the client's payload is due.
+    #[tactic(auto, using(crate::proofs::Coming::comes))]
     fn next_of_client(&mut self) -> Result<Option<Event>, ConnectionFault>
         requires { turn self.old.world.standing.phase ≡ Some Client }
         ensures answers { Answers self.old.world result self.new.world }
@@ -190,7 +191,7 @@ impl StreamsReader {
     }
 
     // The next event where the server's payload is due.
-    #[tactic(auto, using(crate::proofs::Words::words_said))]
+    #[tactic(auto, using(crate::proofs::Coming::comes, crate::proofs::Words::words_said))]
     fn next_of_server(&mut self) -> Result<Option<Event>, ConnectionFault>
         requires { turn self.old.world.standing.phase ≡ Some Server }
         ensures answers { Answers self.old.world result self.new.world }
@@ -249,7 +250,9 @@ impl StreamsReader {
     }
 
     // The next payload of a reply; a row of it is lent.
+    #[tactic(auto, using(crate::proofs::Coming::comes))]
     fn lend_of_server(&mut self) -> Result<Option<LentEvent>, ConnectionFault>
+        requires within { kept self.old.world.standing ≤ room_to_keep self.old.world.limits }
         requires turn { turn self.old.world.standing.phase ≡ Some Server }
         requires answer { is_early self.old.world.standing self.old.world.unread.server.bytes ≡
             false }
@@ -309,6 +312,7 @@ impl StreamsReader {
     // taken there pays for none of it.
     #[inline(never)]
     fn lend_next(&mut self) -> Result<Option<LentEvent>, ConnectionFault>
+        requires { kept self.old.world.standing ≤ room_to_keep self.old.world.limits }
         ensures answers { AnswersLent self.old.world result self.new }
         ensures unclear { IfOk result (λ found. IfSome found (λ event.
             LentHasUnclear self.old.world event)) }

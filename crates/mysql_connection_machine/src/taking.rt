@@ -1,12 +1,13 @@
 //! The payload that stands first of a stream, taken from it.
 
-ghost use Rattle.std.specs.Prelude.{◌≡◌, IfOk, IfSome, OnErr};
+ghost use Rattle.std.specs.Prelude.{◌≡◌, ◌≤◌, IfOk, IfSome, OnErr};
 ghost use Rattle.mysql_connection_packets.specs.FirstPacket.{first_packet};
 ghost use Rattle.mysql_connection_machine.specs.Machines.{FoundHasUnclear};
 ghost use Rattle.mysql_connection_machine.specs.Takes.{FindsIn, IsLentFrom, TakesBy, TakesLentBy};
-ghost use Rattle.mysql_connection_machine.specs.Takes.{words_step};
+ghost use Rattle.mysql_connection_peek.specs.Peeks.{words_step};
+ghost use Rattle.mysql_connection_rules.specs.Standing.{kept};
 ghost use Rattle.mysql_connection_rules.specs.Steps.{step};
-ghost use Rattle.mysql_connection_rules.specs.Streams.{limit_of};
+ghost use Rattle.mysql_connection_rules.specs.Streams.{limit_of, room_to_keep};
 ghost use Rattle.mysql_connection_rules.specs.declared.side.Side.TheVariants.{Server};
 
 use crate::lent_event::LentEvent;
@@ -88,7 +89,8 @@ pub fn take_packet(
     ensures unclear { IfOk result (λ found. IfSome found (λ event. FoundHasUnclear
         (first_packet (limit_of side limits) state.old.standing.number stream.old.stream.bytes)
         state.old.standing event)) }
-    ensures err { OnErr result (stream.new.stream ≡ stream.old.stream) }
+    ensures err { OnErr result (state.new ≡ state.old) }
+    ensures stream { OnErr result (stream.new.stream ≡ stream.old.stream) }
 {
     let limit = limit_of(side, limits);
     let number = state.number();
@@ -103,7 +105,7 @@ pub fn take_packet(
     if !stream.can_advance(used) {
         return Err(Fault::Memory);
     }
-    match say(limits, side, next, state, payload) {
+    match say(alloc, limits, side, next, state, payload) {
         Ok(event) => {
             stream.advance(used);
             Ok(Some(event))
@@ -120,10 +122,12 @@ pub fn take_lent(
     state: &mut State,
     stream: &mut StreamBuffer,
 ) -> Result<Option<LentEvent>, Fault>
+    requires { kept state.old.standing ≤ room_to_keep limits }
     ensures taken { TakesLentBy limits side (step state.old.standing)
         (first_packet (limit_of side limits) state.old.standing.number stream.old.stream.bytes)
         state.old.standing stream.old.stream result state.new stream.new }
-    ensures err { OnErr result (stream.new.stream ≡ stream.old.stream) }
+    ensures err { OnErr result (state.new.standing ≡ state.old.standing) }
+    ensures stream { OnErr result (stream.new.stream ≡ stream.old.stream) }
 {
     let limit = limit_of(side, limits);
     let number = state.number();
@@ -140,7 +144,7 @@ pub fn take_lent(
     }
     match payload {
         CowSlice::Owned(joined) => {
-            match say_bytes(limits, side, next, state, joined.as_slice()) {
+            match say_bytes(alloc, limits, side, next, state, joined.as_slice()) {
                 Ok(event) => {
                     stream.advance(used);
                     Ok(Some(LentEvent::Event(event)))
@@ -149,7 +153,7 @@ pub fn take_lent(
             }
         }
         CowSlice::Borrowed(lent) => {
-            let said = match say_in_place(limits, side, next, state, lent) {
+            let said = match say_in_place(alloc, limits, side, next, state, lent) {
                 Ok(said) => said,
                 Err(fault) => return Err(fault),
             };
@@ -179,7 +183,8 @@ pub fn take_words(
     ensures taken { TakesBy limits Server (words_step state.old.standing)
         (first_packet limits.server number server.old.stream.bytes)
         state.old.standing server.old.stream result state.new.standing server.new.stream }
-    ensures err { OnErr result (server.new.stream ≡ server.old.stream) }
+    ensures err { OnErr result (state.new ≡ state.old) }
+    ensures stream { OnErr result (server.new.stream ≡ server.old.stream) }
 {
     let Some(packet) = find_packet(alloc, limits.server, number, server.as_slice())? else {
         return Ok(None);
@@ -192,7 +197,7 @@ pub fn take_words(
     if !server.can_advance(used) {
         return Err(Fault::Memory);
     }
-    match bid(limits, next, state, payload) {
+    match bid(alloc, limits, next, state, payload) {
         Ok(event) => {
             server.advance(used);
             Ok(Some(event))

@@ -1,19 +1,21 @@
 -- What the payload that is due says, by what callers are told of the phase.
 use Rattle.std.proofs.Common.{◌≡◌, ℕ, Bool, true, false, List, Some, Result, Ok, Err, refl, sym, ap, subst, ◌∙◌, length}
 use Rattle.std.specs.Prelude.{◌==◌, if◌then◌else◌}
-use Rattle.mysql_authentication.specs.Readings.{authentication_at, greeting_at, response_at}
+use Rattle.mysql_authentication.specs.Readings.{authentication_at, early_error_at, greeting_at, response_at}
 use Rattle.mysql_commands.specs.Commands.{command_at}
 use Rattle.mysql_connection_rules.specs.declared.exchange.Exchange.{Exchange}
 use Rattle.mysql_connection_rules.specs.declared.fault.Fault.{Fault}
 use Rattle.mysql_connection_rules.specs.declared.fault.Fault.TheVariants as faults
 use Rattle.mysql_connection_rules.specs.declared.reason.Reason.{Reason}
+use Rattle.mysql_connection_rules.specs.declared.reason.Reason.TheVariants as reasons
 use Rattle.mysql_connection_rules.specs.declared.side.Side.TheVariants.{Client, Server}
 use Rattle.mysql_connection_rules.specs.Events.{Event}
 use Rattle.mysql_connection_rules.specs.Events as events
 use Rattle.mysql_connection_rules.specs.Standing.{InReply, Phase, Standing}
 use Rattle.mysql_connection_rules.specs.Standing as phases
 use Rattle.mysql_connection_rules.specs.Steps.{Step, after_authentication, after_event, after_greeting, after_response, authentication_step, by_turn}
-use Rattle.mysql_connection_rules.specs.Steps.{context_of, greets_anew, in_phase, in_turn, of_login, of_reply, parameters_in_question, says, step, with_mode, turn_in_reply}
+use Rattle.mysql_connection_rules.specs.Steps.{context_of, greets_anew, in_phase, in_turn, of_login, of_reply, over, parameters_in_question, says, step, with_mode, turn_in_reply}
+use Rattle.mysql_connection_rules.specs.Streams.{begins_error}
 use Rattle.mysql_connection_state.specs.Follows.{ReadsReply, exchange_due}
 use Rattle.mysql_connection_state.specs.Reads.{Gives}
 use Rattle.mysql_connection_state.specs.Views.{event_view, plain_phase}
@@ -28,7 +30,8 @@ use Rattle.mysql_reply_events.specs.Table.{event_at, file_data_at}
 use Rattle.mysql_reply_events.specs.Views.{turn_of}
 use Rattle.mysql_reply_events.specs.declared.context.Context.{Context}
 use Rattle.mysql_reply_events.specs.declared.fault.ReplyFault.{ReplyFault}
-use Rattle.mysql_connection_peek.specs.Peeks.{IsPlain, said_in, said_in_exchange, said_in_reply, saying}
+use Rattle.mysql_server_packets.specs.Packets.{ServerError}
+use Rattle.mysql_connection_peek.specs.Peeks.{IsPlain, farewell_step, or_bad_error, said_in, said_in_exchange, said_in_reply, saying, words_step}
 
 -- what is said of what was read, wherever it leads
 said_so : {X : Type 0} (event : X → Event) (after : X → Standing) (read : Result X Fault) → said_in (says event after read) ≡ saying event read
@@ -218,6 +221,30 @@ pub reply_said : (s : Standing) (payload : List ℕ) (r : InReply) (reader : Rea
     → said_in (step s payload) ≡ said_in_reply (turn_of reader.so_far.awaited) reader payload
 unfolding step
 reply_said s payload r reader reads = mode_said s (in_turn s.phase s payload) ∙ at_reply s.phase r s reader payload reads.phase reads.context reads.so_far
+
+-- ---- last words
+
+words_given : (s : Standing) (begins : Bool) (read : Result ServerError Fault) → begins ≡ true
+    → said_in (if begins then says events.Farewell (λ error. over reasons.Farewell s) read else Err faults.Unasked) ≡ saying events.Farewell read
+words_given s true read e = said_so events.Farewell (λ error. over reasons.Farewell s) read
+words_given s false read e = absurd (cc e)
+
+pub farewell_said : (s : Standing) (payload : List ℕ) → begins_error payload ≡ true
+    → said_in (words_step s payload) ≡ saying events.Farewell (or_bad_error (early_error_at payload))
+farewell_said s payload e = words_given s (begins_error payload) (or_bad_error (early_error_at payload)) e
+
+-- a fault of what was read is what is said
+pub gives_fault : {X Y : Type 0} (view : X → Y) (event : Y → Event) (fault : Fault) (read : Result Y Fault) → Gives view (Err fault) read
+    → Gives event_view (let r : Result HeldEvent Fault = Err fault in r) (saying event read)
+gives_fault view event faults.Memory read h = tt
+gives_fault view event fault read h = ap (saying event) h
+
+unasked : (s : Standing) (begins : Bool) (step : Step) → begins ≡ false → said_in (if begins then step else Err faults.Unasked) ≡ Err faults.Unasked
+unasked s true step e = absurd (cc e)
+unasked s false step e = refl
+
+pub nothing_bidden : (s : Standing) (payload : List ℕ) → begins_error payload ≡ false → said_in (words_step s payload) ≡ Err faults.Unasked
+nothing_bidden s payload e = unasked s (begins_error payload) (farewell_step s payload) e
 
 -- ---- what is answered
 

@@ -2,9 +2,9 @@
 
 ghost use Rattle.std.specs.Prelude.{◌≡◌, None, Ok};
 ghost use Rattle.mysql_connection_rules.specs.Events as events;
-ghost use Rattle.mysql_connection_state.specs.Reads.{Gives, reply_fault};
+ghost use Rattle.mysql_connection_state.specs.Reads.{Gives};
 ghost use Rattle.mysql_connection_state.specs.Views.{event_view};
-ghost use Rattle.mysql_connection_peek.specs.Peeks.{said_in_reply};
+ghost use Rattle.mysql_connection_peek.specs.Peeks.{reply_fault, said_in_reply};
 ghost use Rattle.mysql_reply_events.specs.Views.{turn_of};
 ghost use Rattle.mysql_reply_events.specs.declared.awaited.Turn.TheVariants.{Server};
 

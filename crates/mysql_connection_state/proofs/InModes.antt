@@ -1,5 +1,5 @@
 -- With the mode that an event tells, a state reads and goes on as it does by its phase.
-use Rattle.std.proofs.Common.{◌≡◌, ◌<◌, ◌≤◌, ℕ, Bool, true, false, List, [], ◌∷◌, Option, Some, None, Result, Ok, Err, refl, sym, ap, subst, ◌∙◌}
+use Rattle.std.proofs.Common.{◌≡◌, ◌<◌, ◌≤◌, ℕ, Bool, true, false, List, [], ◌∷◌, Option, Some, None, Ok, Err, refl, sym, ap, subst, ◌∙◌}
 use Rattle.std.specs.Prelude.{if◌then◌else◌}
 use Rattle.mysql_authentication.specs.Readings.{early_error_at}
 use Rattle.std.specs.Option.{option_map}
@@ -15,42 +15,27 @@ use Rattle.mysql_session_modes.specs.declared.session_mode.SessionMode.{SessionM
 use Rattle.mysql_reply_events.specs.Events.Event.{RowEvent}
 use Rattle.mysql_rows.specs.Rows.{Row}
 use Rattle.mysql_server_packets.specs.Packets.{ServerError}
-use Rattle.mysql_connection_agreement.specs.Puts.{step_for, words_at, words_step}
-use Rattle.mysql_connection_rules.specs.declared.fault.Fault.{Fault}
+use Rattle.mysql_connection_agreement.specs.Puts.{words_at}
 use Rattle.mysql_connection_rules.specs.declared.reason.Reason.TheVariants as reasons
-use Rattle.mysql_connection_rules.specs.declared.fault.Fault.TheVariants.{Memory as MemoryFault, Unasked}
+use Rattle.mysql_connection_rules.specs.declared.fault.Fault.TheVariants.{Unasked}
 use Rattle.mysql_connection_rules.specs.Events.{Event}
 use Rattle.mysql_connection_rules.specs.Events as events
 use Rattle.mysql_connection_rules.specs.ModeLaws.{leaves_mode}
-use Rattle.mysql_connection_rules.specs.SessionModes.{is_resetting, mode_asked, mode_behind, mode_by, mode_other}
+use Rattle.mysql_connection_rules.specs.SessionModes.{mode_asked, mode_behind, mode_other}
 use Rattle.mysql_connection_rules.specs.Standing.{Standing, kept}
-use Rattle.mysql_connection_rules.specs.StepLaws.{SaidIn, step_fails, step_said, step_says}
+use Rattle.mysql_connection_rules.specs.StepLaws.{SaidIn, step_said, step_says}
 use Rattle.mysql_connection_rules.specs.Standing.About.{Nothing}
-use Rattle.mysql_connection_rules.specs.Steps.{Step, execution_of, id_in_question, in_mode, in_turn, over, parameters_in_question, reply_due}
+use Rattle.mysql_connection_rules.specs.Steps.{execution_of, id_in_question, in_mode, in_turn, over, parameters_in_question, reply_due}
 use Rattle.mysql_connection_rules.specs.Steps.{statement_in_question, step}
 use Rattle.mysql_reply_events.specs.declared.context.ReplyKind.TheVariants as kinds
 use Rattle.mysql_connection_rules.specs.Streams.{begins_error}
 use Rattle.mysql_connection_state.specs.Follows.{FollowsByPhase, FollowsEvent, Goes, LeadsByPhase, LeadsTo, after_said}
-use Rattle.mysql_connection_state.specs.Follows.{by_phase_for, command_said}
-use Rattle.mysql_connection_state.specs.Reads.{Reads, ReadsInPlace}
-use Rattle.mysql_connection_state.specs.Views.{ConnectionState, event_view}
-use Rattle.mysql_connection_state.specs.declared.event.Event.{Event as HeldEvent}
+use Rattle.mysql_connection_state.specs.Follows.{by_phase_for}
+use Rattle.mysql_connection_state.specs.Views.{ConnectionState}
 use Rattle.mysql_connection_state.specs.declared.following.FollowRefusal.{FollowRefusal}
 use Rattle.mysql_connection_state.specs.declared.following.FollowRefusal.TheVariants.{Held, Memory}
 
 -- ---- reading
-
-pub reads_event : (s : Standing) (payload : List ℕ) (event : HeldEvent) (mid new : Standing) →
-    Reads (in_turn s.phase s payload) (Ok event) mid →
-    new ≡ in_mode (mode_by (is_resetting s.phase) (event_view event) s.mode) mid → Reads (step s payload) (Ok event) new
-unfolding mode_behind
-reads_event s payload event mid new h is =
-    step_says s payload (event_view event) mid h ∙ ap (λ (w : Standing). Ok (event_view event, w)) (sym is)
-
-pub reads_fault : (s : Standing) (payload : List ℕ) (fault : Fault) (mid new : Standing) →
-    Reads (in_turn s.phase s payload) (Err fault) mid → Reads (step s payload) (Err fault) new
-reads_fault s payload MemoryFault mid new h = tt
-reads_fault s payload fault mid new h = step_fails s payload fault h
 
 -- a row leaves the mode
 pub reads_row : (s : Standing) (payload : List ℕ) (row : Row) (mid : Standing) →

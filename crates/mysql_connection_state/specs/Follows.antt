@@ -1,4 +1,4 @@
--- What a state does behind an event that was put: it goes on, or nothing changes.
+-- What a state does behind an event that a payload says: it goes on, or nothing changes.
 -- MySQL: Client/Server Protocol, "Connection Lifecycle".
 use Rattle.std.specs.Prelude.{◌≡◌, ◌+◌, ◌<◌, ◌≤◌, ℕ, List, Option, Some, None, Result, Ok, Err}
 use Rattle.std.specs.Prelude.{if◌then◌else◌}
@@ -33,8 +33,8 @@ use Rattle.mysql_connection_state.specs.declared.following.FollowRefusal.TheVari
 abbrev pub LeadsTo : Standing → Event → List ℕ → Standing → Type 0
 LeadsTo s event payload after = step_for event s payload ≡ Ok (event, after)
 
--- An event was put by this payload: the state is behind it, within the room for what is kept; or it
--- is as it was, where that would be more, or memory ran out.
+-- This payload says the event: the state is behind it, within the room for what is kept; or it is as it
+-- was, where that would be more, or memory ran out.
 abbrev pub FollowsEvent : ConnectionState → Event → List ℕ → (room : ℕ) → Result (Unit {0}) FollowRefusal →
     ConnectionState → Type 0
 FollowsEvent old event payload room (Ok done) new =

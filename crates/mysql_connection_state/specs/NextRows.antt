@@ -1,10 +1,11 @@
--- A row that is read where it lies behind another one.
+-- A row that is read where it lies, behind another one or not.
 -- MySQL: Client/Server Protocol, "Text Resultset Row" and "Binary Protocol Resultset Row".
 use Rattle.std.specs.Prelude.{◌≡◌, ◌≤◌, ◌⊎◌, List, ℕ, Bool, true, false, None, Some, Ok, Err}
 use Rattle.mysql_connection_statements.specs.Statements.{Statements}
 use Rattle.mysql_reply_events.specs.Events.Awaited.{Rows}
 use Rattle.mysql_reply_events.specs.Events.Event.{RowEvent}
 use Rattle.mysql_reply_events.specs.NextRows.{TakesNoRow, is_next_row}
+use Rattle.mysql_reply_events.specs.Reader.{is_row_due}
 use Rattle.mysql_reply_events.specs.Standing.{RowAt}
 use Rattle.mysql_reply_events.specs.declared.fault.ReplyFault.TheVariants.{BadRow}
 use Rattle.mysql_rows.specs.Rows.{Row}
@@ -49,3 +50,16 @@ ReadsNoNextRow old payload = (old.rows ≡ None) ⊎
 abbrev pub TakesRow : ConnectionState → List ℕ → Bool → ConnectionState → Type 0
 TakesRow old payload true new = ReadsNextRow old payload new
 TakesRow old payload false new = (new.standing ≡ old.standing) × ReadsNoNextRow old payload
+
+-- The same of a row that was due, a first one too.
+abbrev pub LendsRowOfReply : HeldReply → List ℕ → Bool → HeldReply → Type 0
+LendsRowOfReply old payload true new =
+    (is_row_due old.reader.context old.reader.so_far payload ≡ true) ×
+    ((these : Statements) → SaysRow old these payload new these)
+LendsRowOfReply old payload false new =
+    new ≡ record old { reader = record old.reader { rows = new.reader.rows } }
+
+-- A row that was due was read; or nothing has changed but what reads rows.
+abbrev pub LendsRow : ConnectionState → List ℕ → Bool → ConnectionState → Type 0
+LendsRow old payload true new = ReadsNextRow old payload new
+LendsRow old payload false new = new.standing ≡ old.standing

@@ -1,49 +1,23 @@
 //! Payloads by which a user is logged in or changed.
 
-ghost use Rattle.std.specs.Prelude.{◌≡◌, IfOk, OnErr, OnOk, Some, if◌then◌else◌, option_map};
+ghost use Rattle.std.specs.Prelude.{◌≡◌, OnErr, OnOk, Some, if◌then◌else◌, option_map};
 ghost use Rattle.mysql_auth.specs.Views.{plugin_view};
-ghost use Rattle.mysql_authentication.specs.Readings.{authentication_at};
 ghost use Rattle.mysql_authentication.specs.Views.{authentication_view};
 ghost use Rattle.mysql_connection_rules.specs.Standing as phases;
 ghost use Rattle.mysql_connection_rules.specs.Steps.{after_acceptance, after_authentication, after_denial};
 ghost use Rattle.mysql_connection_rules.specs.Steps.{answered as answered_by};
-ghost use Rattle.mysql_connection_rules.specs.Steps.{authentication_step, greets_anew, in_phase};
+ghost use Rattle.mysql_connection_rules.specs.Steps.{in_phase};
 ghost use Rattle.mysql_connection_rules.specs.Steps.{is_compressed};
-ghost use Rattle.mysql_connection_rules.specs.Steps.{is_fast, of_login, with_plugin};
-ghost use Rattle.mysql_connection_state.specs.Reads.{Gives, Reads, answer_step};
-ghost use Rattle.mysql_connection_state.specs.Views.{EventHasUnclear};
+ghost use Rattle.mysql_connection_rules.specs.Steps.{is_fast, with_plugin};
 
 use crate::due::Due;
-use crate::event::Event;
-use crate::login::login_fault;
-use crate::owned::owned_authentication;
-use crate::said::{boxed, said_if};
 use crate::state::State;
 use bitflags::Flags;
 use mysql_auth::AuthPlugin;
-use mysql_authentication::{AuthenticationEvent, read_authentication};
-use mysql_connection_rules::{Exchange, Fault, Reason};
+use mysql_authentication::AuthenticationEvent;
+use mysql_connection_rules::{Exchange, Reason};
 use mysql_const::{Capabilities, CapabilityFlags};
-use mysql_queries::ByteString;
-use std::alloc::{AllocError, Global};
-
-// What a server's payload says.
-fn authentication(
-    alloc: Global,
-    capabilities: CapabilityFlags,
-    payload: &[u8],
-) -> Result<AuthenticationEvent<'static>, Fault>
-    ensures { Gives authentication_view result
-        (of_login (authentication_at capabilities.0 payload.now)) }
-{
-    match read_authentication(alloc, capabilities, payload) {
-        Ok(said) => match owned_authentication(alloc, said) {
-            Ok(owned) => Ok(owned),
-            Err(_) => Err(Fault::Memory),
-        },
-        Err(fault) => Err(login_fault(fault)),
-    }
-}
+use std::alloc::AllocError;
 
 // What follows a login is compressed.
 fn is_compressed(capabilities: Capabilities) -> bool
@@ -73,19 +47,6 @@ fn is_fast(plugin: &Option<AuthPlugin>, bytes: &[u8]) -> bool
 {
     match plugin {
         Some(AuthPlugin::CachingSha2Password) => bytes == [3].as_slice(),
-        _ => false,
-    }
-}
-
-// Behind a change of user that was its number alone MariaDB greets anew.
-fn greets_anew(exchange: Exchange, payload: &[u8]) -> bool
-    ensures { result ≡ greets_anew exchange payload.now }
-{
-    match exchange {
-        Exchange::BareChange => match payload {
-            [10, ..] => true,
-            _ => false,
-        },
         _ => false,
     }
 }
@@ -187,37 +148,5 @@ impl State {
                 Ok(())
             }
         }
-    }
-
-    /// Reads a server's payload by which a user is logged in or changed.
-    #[inline(never)]
-    pub(crate) fn read_authentication(
-        &mut self,
-        exchange: Exchange,
-        payload: &[u8],
-    ) -> Result<Event, Fault>
-        ensures reads { Reads (authentication_step exchange self.old.standing payload.now) result self.new.standing }
-        ensures unclear { IfOk result (λ event. EventHasUnclear self.old.standing payload.now event) }
-    {
-        if greets_anew(exchange, payload) {
-            return Err(Fault::BadGreeting);
-        }
-        let said = authentication(self.alloc, self.capabilities.protocol, payload)?;
-        let said = boxed(self.alloc, said)?;
-        let done = self.follow_authentication(exchange, &said);
-        said_if(Event::Authentication(said), done)
-    }
-
-    /// Reads the client's answer to such a one.
-    #[inline(never)]
-    pub(crate) fn read_answer(&mut self, exchange: Exchange, payload: &[u8]) -> Result<Event, Fault>
-        ensures reads { Reads (answer_step exchange self.old.standing payload.now) result self.new.standing }
-        ensures unclear { IfOk result (λ event. EventHasUnclear self.old.standing payload.now event) }
-    {
-        let Ok(bytes) = ByteString::copy(self.alloc, payload) else {
-            return Err(Fault::Memory);
-        };
-        self.set_due(Due::Authentication(exchange));
-        Ok(Event::Answer(bytes))
     }
 }

@@ -1,28 +1,25 @@
 //! Commands: what each says, changes, and what is due behind it.
 
-ghost use Rattle.std.specs.Prelude.{◌≡◌, IfOk, None, OnErr, OnOk, option_map};
+ghost use Rattle.std.specs.Prelude.{◌≡◌, ◌==◌, ◌||◌, IfOk, List, None, OnErr, OnOk, false, option_map, ℕ};
 ghost use Rattle.std.specs.Option.{option_and_then, option_copied};
 ghost use Rattle.mysql_auth.specs.Views.{plugin_view};
 ghost use Rattle.mysql_commands.specs.Commands.{command_at};
-ghost use Rattle.mysql_commands.specs.Views.{HasUnclear, command_view};
+ghost use Rattle.mysql_commands.specs.Views.{command_view};
 ghost use Rattle.mysql_rows.specs.Views.{shared_columns};
 ghost use Rattle.mysql_connection_rules.specs.Standing as standing;
 ghost use Rattle.mysql_connection_rules.specs.Steps as steps;
 ghost use Rattle.mysql_connection_statements.specs.Statements.{is_reset, statement_at};
-ghost use Rattle.mysql_connection_state.specs.Reads.{Reads};
-ghost use Rattle.mysql_connection_state.specs.Views.{EventHasUnclear, about_view};
+ghost use Rattle.mysql_connection_state.specs.Views.{about_view};
 ghost use Rattle.mysql_reply_events.specs.declared.context.ReplyKind.TheVariants as kinds;
 
 use crate::due::{About, Due, InReply};
-use crate::event::Event;
 use crate::executions::{id_in_question, shared_columns_of, statement_of};
-use crate::said::{boxed, said_if};
-use crate::sizes::counted;
+use crate::sizes::counted_size;
 use crate::state::State;
 use mysql_auth::AuthPlugin;
 use mysql_columns::Column;
 use mysql_commands::{Command, Reply};
-use mysql_connection_rules::{Exchange, Fault, Reason};
+use mysql_connection_rules::{Exchange, Reason};
 use mysql_connection_statements::Statements;
 use mysql_const::Capabilities;
 use mysql_executions::StatementParameters;
@@ -58,23 +55,6 @@ pub fn command_in<'p>(
     let parameters = parameters_in_question(statements, payload);
     let command = Command::read(alloc, capabilities, parameters, payload)?;
     Ok(Box::new(alloc, command)?)
-}
-
-// The same in bytes of its own.
-fn command_of(
-    alloc: Global,
-    capabilities: Capabilities,
-    statements: &Statements,
-    payload: &[u8],
-) -> Result<Command<'static>, AllocError>
-    ensures reads { IfOk result (λ command. command_view command ≡
-        command_at capabilities (steps.parameters_in_question statements.now payload.now)
-        payload.now) }
-    ensures unclear { IfOk result (λ command. HasUnclear capabilities
-        (steps.parameters_in_question statements.now payload.now) payload.now command) }
-{
-    let parameters = parameters_in_question(statements, payload);
-    Command::read(alloc, capabilities, parameters, payload)?.into_owned(alloc)
 }
 
 // The plugin that a change of user names.
@@ -187,7 +167,7 @@ impl State {
         ensures err { OnErr result (self.new ≡ self.old) }
     {
         let text = text_of(self.alloc, command)?;
-        let size = counted(payload)?;
+        let size = counted_size(payload);
         self.statements.forget_last();
         self.await_reply(ReplyKind::Prepare, None, About::Preparing { text, size });
         Ok(())
@@ -231,7 +211,7 @@ impl State {
         else {
             return Ok(());
         };
-        let size = counted(payload)?;
+        let size = counted_size(payload);
         self.statements
             .add_long_data(id, *place, bytes.as_slice(), size)
     }
@@ -280,15 +260,15 @@ impl State {
         self.await_reply(kind, None, about_by(number));
     }
 
-    /// What a command changes, and what is due behind it, by its number.
+    /// What a command that is no execution changes, and what is due behind it, by its number.
     pub(crate) fn by_number(
         &mut self,
         number: u8,
-        body: &[u8],
         payload: &[u8],
         command: &Command,
     ) -> Result<(), AllocError>
-        ensures ok { OnOk result (self.new.standing ≡ steps.by_number number body.now
+        requires { ((number == 0x17) || (number == 0xfa)) ≡ false }
+        ensures ok { OnOk result ((body : List ℕ) → self.new.standing ≡ steps.by_number number body
             (steps.id_in_question self.old.standing.statements payload.now)
             (steps.statement_in_question self.old.standing.statements payload.now)
             payload.now (command_view command.now) self.old.standing) }
@@ -302,7 +282,6 @@ impl State {
             }
             0x11 => self.change_user(payload, command),
             0x16 => self.prepare(payload, command),
-            0x17 | 0xfa => self.execution(number, body, id),
             0x18 => self.long_data(id, payload, command),
             0x19 => {
                 self.close(id);
@@ -315,30 +294,5 @@ impl State {
                 Ok(())
             }
         }
-    }
-
-    // What a command changes, and what is due behind it; an empty payload is one too.
-    fn go_on_behind(&mut self, payload: &[u8], command: &Command) -> Result<(), AllocError>
-        ensures { OnOk result (self.new.standing ≡
-            steps.after_command self.old.standing payload.now (command_view command.now)) }
-    {
-        match payload {
-            [] => {
-                self.await_reply(ReplyKind::Plain, None, About::Nothing);
-                Ok(())
-            }
-            [number, body @ ..] => self.by_number(*number, body, payload, command),
-        }
-    }
-
-    /// Reads a command.
-    pub(crate) fn read_command(&mut self, payload: &[u8]) -> Result<Event, Fault>
-        ensures reads { Reads (steps.command_step self.old.standing payload.now) result self.new.standing }
-        ensures unclear { IfOk result (λ event. EventHasUnclear self.old.standing payload.now event) }
-    {
-        let command = command_of(self.alloc, self.capabilities, &self.statements, payload)?;
-        let command = boxed(self.alloc, command)?;
-        let done = self.go_on_behind(payload, &command);
-        said_if(Event::Command(command), done)
     }
 }

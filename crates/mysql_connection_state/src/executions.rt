@@ -5,7 +5,7 @@ ghost use Rattle.std.specs.Option.{option_and_then, option_copied};
 ghost use Rattle.mysql_executions.specs.Bulks.{bulk_head};
 ghost use Rattle.mysql_rows.specs.Views.{shared_columns};
 ghost use Rattle.mysql_connection_rules.specs.Steps.{about_execution, after_executing};
-ghost use Rattle.mysql_connection_rules.specs.Steps.{carried_types, execution_of};
+ghost use Rattle.mysql_connection_rules.specs.Steps.{carried_types};
 ghost use Rattle.mysql_connection_rules.specs.Steps.{id_in_question, is_unagreed_bulk, refused_as};
 ghost use Rattle.mysql_connection_statements.specs.Statements.{statement_at};
 ghost use Rattle.mysql_connection_state.specs.Follows.{after_settled};
@@ -159,35 +159,5 @@ impl State {
     {
         self.await_reply(ReplyKind::Binary, columns, About::OfStatement(id));
         self.run_statement();
-    }
-
-    /// An execution came, with this number. There is only a reply of a statement that isn't known, and
-    /// of a bulk execution that isn't in force.
-    pub(crate) fn execution(
-        &mut self,
-        number: u8,
-        body: &[u8],
-        id: Option<u32>,
-    ) -> Result<(), AllocError>
-        ensures ok { OnOk result (self.new.standing ≡ execution_of number body.now id
-            (option_and_then (statement_at self.old.standing.statements) id) self.old.standing) }
-        ensures err { OnErr result (self.new ≡ self.old) }
-    {
-        if is_unagreed_bulk(self.capabilities, number) {
-            self.await_reply(ReplyKind::Binary, None, About::Nothing);
-            return Ok(());
-        }
-        let Some(id) = id else {
-            self.await_reply(ReplyKind::Binary, None, About::Nothing);
-            return Ok(());
-        };
-        let Some(statement) = self.statements.get(id) else {
-            self.await_reply(ReplyKind::Binary, None, About::Nothing);
-            return Ok(());
-        };
-        let count = statement.parameters().count();
-        let columns = shared_columns_of(Some(statement))?;
-        let types = carried_types(self.alloc, self.capabilities, number, count, body)?;
-        self.executing(id, columns, refused_as(number, body), types.as_slice())
     }
 }

@@ -1,4 +1,4 @@
-//! What stands behind an event that was put, in place of its payload being read: all or nothing.
+//! What stands behind an event that a payload says, read or put: all or nothing.
 
 ghost use Rattle.std.specs.Prelude.{◌≡◌, OnErr};
 ghost use Rattle.mysql_authentication.specs.Views.{authentication_view, greeting_view};
@@ -21,7 +21,7 @@ use mysql_connection_rules::{Exchange, Reason};
 use std::alloc::AllocError;
 use thiserror::Error;
 
-/// Why a state doesn't go on behind an event that was put.
+/// Why a state doesn't go on behind an event.
 ///
 /// MySQL: Client/Server Protocol, "Connection Lifecycle" and "Prepared Statements".
 #[derive(Clone, Copy, Debug, PartialEq, Eq, Error)]
@@ -100,7 +100,7 @@ impl State {
         Ok(())
     }
 
-    // Goes on behind an event that was put by this payload; the mode stays.
+    // Goes on behind the event that this payload says; the mode stays.
     fn follow_by_phase(
         &mut self,
         event: &Event,
@@ -124,7 +124,7 @@ impl State {
         }
     }
 
-    /// Goes on behind an event that was put by this payload, without reading it.
+    /// Goes on behind the event that this payload says, read or put.
     ///
     /// So much room there is for what is kept.
     ///
@@ -132,8 +132,8 @@ impl State {
     /// that doesn't say this event where it stands nothing is promised, but that a refusal changes
     /// nothing.
     ///
-    /// Promise: where the payload says the event, exactly that stands which reading it would leave,
-    /// or nothing changes (`FollowsEvent`).
+    /// Promise: where the payload says the event, exactly that stands to which the table of steps
+    /// leads, or nothing changes (`FollowsEvent`).
     ///
     /// # Errors
     /// - `Held` where more would be kept than there is room for.

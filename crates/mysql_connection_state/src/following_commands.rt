@@ -6,7 +6,7 @@ ghost use Rattle.mysql_commands.specs.Views.{command_view};
 ghost use Rattle.mysql_connection_rules.specs.Standing as standing;
 ghost use Rattle.mysql_connection_rules.specs.Standing.{Standing, kept};
 ghost use Rattle.mysql_connection_rules.specs.Steps as steps;
-ghost use Rattle.mysql_connection_statements.specs.Statements.{Statement, counted, is_reset};
+ghost use Rattle.mysql_connection_statements.specs.Statements.{Statement, is_reset};
 ghost use Rattle.mysql_connection_statements.specs.Statements.{statement_at};
 ghost use Rattle.mysql_session_modes.specs.SessionModes.{mode_behind_statement, mode_behind_text};
 ghost use Rattle.mysql_rows.specs.Views.{shared_columns};
@@ -21,6 +21,7 @@ use crate::executions::{
 };
 use crate::following::{FollowRefusal, fit};
 use crate::modes::mode_asked;
+use crate::sizes::counted_size;
 use crate::state::State;
 use mysql_columns::Column;
 use mysql_commands::Command;
@@ -29,13 +30,6 @@ use mysql_executions::{BoundType, Refused};
 use mysql_reply_events::ReplyKind;
 use mysql_session_modes::SessionMode;
 use std::rc::RcSlice;
-
-/// What a payload counts of which something is kept: no payload is so long that it doesn't fit.
-pub fn counted_size(payload: &[u8]) -> usize
-    ensures { result ≡ counted payload.now }
-{
-    4 + payload.len()
-}
 
 impl State {
     // How much is kept for the statements behind long data.
@@ -186,7 +180,7 @@ impl State {
             }
             _ => {
                 fit(self.size_behind(number, payload, command), room)?;
-                self.by_number(number, body, payload, command)?;
+                self.by_number(number, payload, command)?;
                 Ok(())
             }
         }

@@ -1,16 +1,17 @@
 //! Events of a reply that were put, and bytes of a file that it asks for.
 
-ghost use Rattle.std.specs.Prelude.{◌≡◌, ◌<◌, ◌^◌, ℕ, IfOk, None, Ok, OnErr, OnOk, false, true};
+ghost use Rattle.std.specs.Prelude.{◌≡◌, ◌<◌, ◌≤◌, ◌^◌, ℕ, IfOk, None, Ok, OnErr, OnOk, false, true};
 ghost use Rattle.std.specs.Prelude.{if◌then◌else◌};
 ghost use Rattle.std.specs.Option.{option_copied, option_map};
 ghost use Rattle.mysql_columns.specs.Extended.{ExtendedDefinition};
 ghost use Rattle.mysql_columns.specs.Views.{extended_view};
 ghost use Rattle.mysql_reply_events.specs.Behind.{behind, is_column};
 ghost use Rattle.mysql_reply_events.specs.Events.{ReplySoFar};
-ghost use Rattle.mysql_reply_events.specs.Events.Event.{ColumnEvent};
+ghost use Rattle.mysql_reply_events.specs.Events.Event.{ColumnEvent, RowEvent};
 ghost use Rattle.mysql_reply_events.specs.Reader.{GoesOn};
 ghost use Rattle.mysql_reply_events.specs.Table.{event_at, file_data_at};
 ghost use Rattle.mysql_reply_events.specs.Views.{event_view as reply_view};
+ghost use Rattle.mysql_rows.specs.Rows.{Row};
 ghost use Rattle.mysql_rows.specs.Views.{shared_columns};
 ghost use Rattle.mysql_connection_rules.specs.Standing.{InReply as StandingReply};
 ghost use Rattle.mysql_connection_rules.specs.Standing as phases;
@@ -24,12 +25,10 @@ ghost use Rattle.mysql_connection_state.specs.Follows.{next_of, or_of_statement,
 ghost use Rattle.mysql_connection_state.specs.Reads.{IsExecuting, told};
 ghost use Rattle.mysql_connection_state.specs.Views.{about_view, in_reply_view};
 
-use crate::changes::executing;
 use crate::due::{About, Due, InReply};
 use crate::following::{FollowRefusal, fit};
-use crate::following_commands::counted_size;
 use crate::following_sizes::{going_size, whole_size};
-use crate::sizes::sum;
+use crate::sizes::{counted_size, sum};
 use crate::state::State;
 use mysql_columns::{Column, ExtendedColumn};
 use mysql_connection_rules::Side;
@@ -88,6 +87,30 @@ fn prepared(
             Ok(Some(id))
         }
         _ => Ok(None),
+    }
+}
+
+// An execution is answered, by an error too; a report of progress is no answer.
+fn executing(
+    pending: Pending,
+    event: &ReplyEvent,
+    statements: &mut Statements,
+) -> Result<About, AllocError>
+    ensures statements { OnOk result (statements.new ≡
+        steps.changed_by (phases.Executing pending) 0 (reply_view event.now) statements.old) }
+    ensures about { IfOk result (λ after. about_view after ≡
+        steps.about_after (phases.Executing pending) (reply_view event.now)) }
+    ensures err { OnErr result (2 ^ 64 ≤
+        (steps.changed_by (phases.Executing pending) 0 (reply_view event.now) statements.old).stored) }
+{
+    let id = pending.id;
+    match event {
+        ReplyEvent::Progress(_) => Ok(About::Executing(pending)),
+        ReplyEvent::Error(error) => {
+            statements.take_back(error.error_code(), pending)?;
+            Ok(About::OfStatement(id))
+        }
+        _ => Ok(About::OfStatement(id)),
     }
 }
 
@@ -371,6 +394,25 @@ impl InReply {
         }
     }
 
+    // It goes on behind a row, as behind most events of a long reply: next to nothing changes.
+    fn pass_row(
+        &mut self,
+        event: &ReplyEvent,
+        room: u128,
+        statements: &Statements,
+    ) -> Result<(), FollowRefusal>
+        requires going { self.old.reader.fault ≡ None }
+        requires row { (row : Row) × (reply_view event.now ≡ RowEvent row) }
+        ensures { (size : ℕ) → Passes self.old statements.now size (reply_view event.now) room
+            result self.new statements.now }
+    {
+        let going = going_size(statements, &self.about, 0, event);
+        fit(going + (self.earlier as u128 + self.coming as u128), room)?;
+        self.reader.pass(event);
+        self.row_came();
+        Ok(())
+    }
+
     // It goes on behind an event whose payload counts so much, all or nothing.
     fn pass(
         &mut self,
@@ -384,6 +426,9 @@ impl InReply {
         ensures { Passes self.old statements.old size (reply_view event.now) room result self.new
             statements.new }
     {
+        if let ReplyEvent::Row(_) = event {
+            return self.pass_row(event, room, statements);
+        }
         let sizes = self.sizes_behind(event, size)?;
         let whole = self.is_whole_behind(event);
         let total = self.total_behind(event, size, statements, sizes, whole);

@@ -1,10 +1,9 @@
-//! What stands of a connection between two payloads, and what the payload that is due says.
+//! What stands of a connection between two payloads, and behind the event that each says.
 //!
-//! [`State`] reads the payloads of both sides, one event each, by one table of steps.
+//! [`State`] goes on behind the events of both sides by one table of steps, all or nothing.
 #![tactic(auto)]
 
 mod authentication;
-mod changes;
 mod commands;
 mod due;
 pub mod event;
@@ -16,10 +15,8 @@ mod following_sizes;
 mod login;
 mod modes;
 mod next_rows;
-mod owned;
 pub mod phase;
 mod replies;
-mod said;
 mod sizes;
 mod state;
 

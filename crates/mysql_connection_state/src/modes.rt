@@ -163,15 +163,6 @@ impl State {
         mode_by(self.mode, self.is_resetting(), event)
     }
 
-    /// An event was read, before which this was known of the mode.
-    pub(crate) fn tell_mode(&mut self, mode: SessionMode, resets: bool, event: &Event)
-        ensures standing { self.new.standing ≡
-            in_mode (modes.mode_by resets (event_view event.now) mode) self.old.standing }
-        ensures rows { self.new.rows ≡ self.old.rows }
-    {
-        self.mode = mode_by(mode, resets, event);
-    }
-
     /// This is known of the session's mode now.
     pub(crate) fn set_mode(&mut self, mode: SessionMode)
         ensures standing { self.new.standing ≡ in_mode mode self.old.standing }

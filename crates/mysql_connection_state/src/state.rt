@@ -1,22 +1,19 @@
 //! What stands of a connection between two payloads.
 
-ghost use Rattle.std.specs.Prelude.{◌≡◌, IfOk, option_map};
+ghost use Rattle.std.specs.Prelude.{◌≡◌, option_map};
 ghost use Rattle.std.specs.Option.{option_and_then, option_copied};
 ghost use Rattle.mysql_auth.specs.Views.{plugin_view};
 ghost use Rattle.mysql_connection_statements.specs.Statements.{resolved, statement_at};
-ghost use Rattle.mysql_connection_rules.specs.Standing.{at_first, kept, logged_in, phase_size};
-ghost use Rattle.mysql_connection_rules.specs.Steps.{in_phase, in_turn, step, turn};
+ghost use Rattle.mysql_connection_rules.specs.Standing.{about_size, at_first, kept, logged_in, phase_size};
+ghost use Rattle.mysql_connection_rules.specs.Steps.{in_phase, turn};
 ghost use Rattle.mysql_connection_rules.specs.Streams.{is_client, number_in, numbered};
-ghost use Rattle.mysql_connection_state.specs.Reads.{IsCount, Reads, farewell_step};
-ghost use Rattle.mysql_connection_state.specs.Views.{EventHasUnclear, Fits, phase_view, plain_phase};
+ghost use Rattle.mysql_connection_state.specs.Reads.{IsCount};
+ghost use Rattle.mysql_connection_state.specs.Views.{Fits, about_view, phase_view, plain_phase};
 
-use crate::changes::about_size;
-use crate::due::Due;
-use crate::event::Event;
-use crate::login::last_words;
+use crate::due::{About, Due};
 use crate::phase::Phase;
 use mysql_auth::AuthPlugin;
-use mysql_connection_rules::{Fault, Reason, Side};
+use mysql_connection_rules::Side;
 use mysql_connection_statements::Statements;
 use mysql_const::{Capabilities, CapabilityFlags, MariadbCapabilities};
 use mysql_executions::StatementParameters;
@@ -108,6 +105,18 @@ fn number_in(due: &Due, number: u8) -> u8
     }
 }
 
+// What is kept for what a reply is about, beside its statement. None where it is more than a
+// `usize` holds.
+fn about_size(statements: &Statements, about: &About) -> Option<usize>
+    ensures { IsCount (about_size statements.now (about_view about.now)) result }
+{
+    match about {
+        About::Preparing { text: _, size } => Some(*size),
+        About::Executing(pending) => statements.pending_size(pending),
+        _ => Some(0),
+    }
+}
+
 fn is_client(side: Side) -> bool
     ensures { result ≡ is_client side }
 {
@@ -159,84 +168,6 @@ impl State {
         ensures { self.new.standing ≡ in_phase (phase_view due) self.old.standing }
     {
         self.due = due;
-    }
-
-    // Reads the payload that is due; the mode stays.
-    pub(crate) fn read_by_phase(&mut self, payload: &[u8]) -> Result<Event, Fault>
-        ensures reads { Reads (in_turn self.old.standing.phase self.old.standing payload.now) result
-            self.new.standing }
-        ensures unclear { IfOk result (λ event. EventHasUnclear self.old.standing payload.now event) }
-    {
-        match &self.due {
-            Due::Greeting => self.read_greeting(payload),
-            Due::Response => self.read_response(payload),
-            Due::Authentication(exchange) => {
-                let exchange = *exchange;
-                self.read_authentication(exchange, payload)
-            }
-            Due::Answer(exchange) => {
-                let exchange = *exchange;
-                self.read_answer(exchange, payload)
-            }
-            Due::Command => self.read_command(payload),
-            Due::Reply(reply) => {
-                let side = reply.side();
-                self.read_in_reply(payload, side)
-            }
-            Due::Over(_) => Err(Fault::Unasked),
-        }
-    }
-
-    /// Reads the payload that is due, of the side whose turn it is.
-    ///
-    /// Promise: the event and what stands behind it are exactly those of the table of steps, or its
-    /// fault, for any bytes (`step`). Exactly those values of an execution are unclear that are so by
-    /// its bytes and by what is in force (`EventHasUnclear`).
-    ///
-    /// # Errors
-    /// - `OldProtocol`, `BadGreeting`, `BadLogin`, `BadSwitch`, `BadReply`, each named by what
-    ///   can't be read.
-    /// - `Unasked` where nothing is due.
-    /// - `Memory`.
-    ///
-    /// After an error the state may be anything.
-    ///
-    /// MySQL: Client/Server Protocol, "Connection Phase" and "Command Phase"; MariaDB:
-    /// Client/Server Protocol, "Connecting", "2 - Text Protocol" and "3 - Binary Protocol (Prepared
-    /// Statements)".
-    pub fn read(&mut self, payload: &[u8]) -> Result<Event, Fault>
-        ensures reads { Reads (step self.old.standing payload.now) result self.new.standing }
-        ensures unclear { IfOk result (λ event. EventHasUnclear self.old.standing payload.now event) }
-    {
-        let mode = self.session_mode();
-        let resets = self.is_resetting();
-        match self.read_by_phase(payload) {
-            Ok(event) => {
-                self.tell_mode(mode, resets, &event);
-                Ok(event)
-            }
-            Err(fault) => Err(fault),
-        }
-    }
-
-    /// Reads the server's last words: an error that answers nothing. The connection is over then.
-    ///
-    /// Promise: the error is the one that is read without capabilities (`farewell_step`).
-    ///
-    /// # Errors
-    /// - `BadReply(BadError)` where the payload is no error.
-    /// - `Memory`.
-    ///
-    /// After an error the state may be anything.
-    ///
-    /// MySQL: Client/Server Protocol, "ERR_Packet" and "Connection Lifecycle".
-    #[inline(never)]
-    pub fn farewell(&mut self, payload: &[u8]) -> Result<Event, Fault>
-        ensures { Reads (farewell_step self.old.standing payload.now) result self.new.standing }
-    {
-        let error = last_words(self.alloc, payload)?;
-        self.set_due(Due::Over(Reason::Farewell));
-        Ok(Event::Farewell(error))
     }
 
     /// A packet of a side was read, behind which this number is due. A command begins anew at 0.

@@ -6,7 +6,6 @@ ghost use Rattle.mysql_rows.specs.Views.{column_views, row_view};
 ghost use Rattle.mysql_reply_event_writer.specs.NextRows.{WritesNextRow, under};
 ghost use Rattle.mysql_reply_event_writer.specs.OwnCells.{FitsCell, IsOwnText, WritesOwnCells};
 
-use crate::payloads::has_binary_rows;
 use mysql_cells::Value;
 use mysql_cells::laws::fields_fit;
 use mysql_columns::Column;
@@ -123,5 +122,5 @@ pub fn write_next_row(
     if columns.len() != row.len() {
         return Ok(false);
     }
-    write_own_cells(has_binary_rows(context.kind), columns, row, out)
+    write_own_cells(context.kind.has_binary_rows(), columns, row, out)
 }

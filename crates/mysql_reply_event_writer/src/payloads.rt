@@ -18,59 +18,14 @@ ghost use Rattle.mysql_reply_event_writer.specs.Written.{cells_bytes, count_byte
 ghost use Rattle.mysql_reply_event_writer.specs.Written.{follow_told, form_cause, terminator_bytes, unless_cause};
 
 use crate::refusal::ReplyPutRefusal;
-use bitflags::Flags;
 use mysql_buf::BufMutExt;
-use mysql_const::{CapabilityFlags, MariadbCapabilities};
 use mysql_fields::MySerialize;
 use mysql_ok_packets::{CommonOkPacket, OkPacket, OldEofPacket, ResultSetTerminator};
-use mysql_reply_events::{Context, ReplyEvent, ReplyKind};
+use mysql_reply_events::{Context, ReplyEvent};
 use mysql_rows::{Row, RowRefusal};
 use mysql_server_packets::{ErrPacket, ProgressReport, ServerError, StmtPacket};
 use std::alloc::AllocError;
 use std::borrow::CowSlice;
-
-/// No EOF packet stands behind columns, and an OK packet ends rows.
-#[tactic(auto, unfolding(bitflags::proofs::OnLiterals::bitflags_on_literals))]
-fn deprecates_eof(context: Context) -> bool
-    ensures { result ≡ readings.deprecate_eof context }
-{
-    context
-        .capabilities
-        .protocol
-        .contains(CapabilityFlags::CLIENT_DEPRECATE_EOF)
-}
-
-/// MySQL's byte says whether columns follow.
-#[tactic(auto, unfolding(bitflags::proofs::OnLiterals::bitflags_on_literals))]
-fn has_optional_metadata(context: Context) -> bool
-    ensures { result ≡ readings.optional_metadata context }
-{
-    context
-        .capabilities
-        .protocol
-        .contains(CapabilityFlags::CLIENT_OPTIONAL_RESULTSET_METADATA)
-}
-
-/// MariaDB's byte says whether columns follow.
-#[tactic(auto, unfolding(bitflags::proofs::OnLiterals::bitflags_on_literals))]
-fn has_cached_metadata(context: Context) -> bool
-    ensures { result ≡ readings.cached_metadata context }
-{
-    context
-        .capabilities
-        .mariadb
-        .contains(MariadbCapabilities::MARIADB_CLIENT_CACHE_METADATA)
-}
-
-/// Rows are binary.
-pub fn has_binary_rows(kind: ReplyKind) -> bool
-    ensures { result ≡ readings.is_binary kind }
-{
-    match kind {
-        ReplyKind::Binary | ReplyKind::Fetch => true,
-        _ => false,
-    }
-}
 
 /// Appends an OK packet.
 #[tactic(auto, unfolding(mysql_ok_packets::specs::Written::ok_packet_bytes))]
@@ -102,7 +57,7 @@ fn write_eof(context: Context, ok: &OkPacket, out: &mut Vec<u8>) -> Result<(), A
 fn write_terminator(context: Context, ok: &OkPacket, out: &mut Vec<u8>) -> Result<(), AllocError>
     ensures { Appends result out.old.items out.new.items (terminator_bytes context (ok_packet_view ok.now)) }
 {
-    if deprecates_eof(context) {
+    if context.deprecates_eof() {
         write_ok_terminator(context, ok, out)
     } else {
         write_eof(context, ok, out)
@@ -194,9 +149,9 @@ fn write_count(
 ) -> Result<(), AllocError>
     ensures { Appends result out.old.items out.new.items (count_bytes context count follow) }
 {
-    if has_optional_metadata(context) {
+    if context.has_optional_metadata() {
         write_follow_and_count(count, follow, out)
-    } else if has_cached_metadata(context) {
+    } else if context.has_cached_metadata() {
         write_count_and_follow(count, follow, out)
     } else {
         out.put_lenenc_int(count as u64)
@@ -238,7 +193,7 @@ fn write_prepared(
     ensures { Appends result out.old.items out.new.items
         (prepare_ok (prepare_ok_view statement.now) ++ follow_told context follow) }
 {
-    if has_optional_metadata(context) {
+    if context.has_optional_metadata() {
         write_prepared_and_follow(statement, follow, out)
     } else {
         write_prepared_alone(statement, out)
@@ -251,7 +206,7 @@ fn write_row(context: Context, row: &Row, out: &mut Vec<u8>) -> Result<(), Reply
         (unless_cause (form_cause context (row_view row.now)) (cells_bytes context (row_view row.now)))
         out.old.items out.new.items result }
 {
-    let written = if has_binary_rows(context.kind) {
+    let written = if context.kind.has_binary_rows() {
         row.write_binary(row.columns_ref(), out)
     } else {
         row.write_text(out)

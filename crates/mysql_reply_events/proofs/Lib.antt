@@ -1,5 +1,6 @@
 mod BinaryRows
 mod RowsInPlace
 mod Peeking
+mod PeekedParts
 mod LeadingOn
 mod NextRows

@@ -129,7 +129,7 @@ reads_row old new payload format due same context so_far fault answered =
       goes_on = record { context = context; fault = fault };
     }
 
-refused_on : {A B : Type 0} (fault : ReplyFault) (r : Result A ReplyFault) (f : A → Result B ReplyFault) → Refuses fault r → Refuses fault (r >>= f)
+pub refused_on : {A B : Type 0} (fault : ReplyFault) (r : Result A ReplyFault) (f : A → Result B ReplyFault) → Refuses fault r → Refuses fault (r >>= f)
 refused_on faults.Memory r f h = tt
 refused_on faults.BadHeader r f h = ap (λ r. r >>= f) h
 refused_on faults.BadCount r f h = ap (λ r. r >>= f) h

@@ -1,4 +1,4 @@
--- A row that is read where it lies behind another one.
+-- A row that is read where it lies, behind another one or not.
 -- MySQL: Client/Server Protocol, "Text Resultset Row" and "Binary Protocol Resultset Row".
 use Rattle.std.specs.Prelude.{◌≡◌, ◌⊎◌, List, ◌∷◌, Bool, true, false, nat_lt, Option, Some, None, Ok, Err}
 use Rattle.mysql_columns.specs.Columns.{ColumnDefinition}
@@ -7,7 +7,7 @@ use Rattle.mysql_row_refs.specs.declared.errors.RowError.{RowError}
 use Rattle.mysql_row_refs.specs.declared.reader.RowReader.{RowReader}
 use Rattle.mysql_reply_events.specs.Events.{Awaited, Payload}
 use Rattle.mysql_reply_events.specs.Events.Awaited.{Rows}
-use Rattle.mysql_reply_events.specs.Reader.{ReaderState, ReadsRow}
+use Rattle.mysql_reply_events.specs.Reader.{ReaderState, ReadsRow, is_row_due}
 use Rattle.mysql_reply_events.specs.Standing.{ReadsAt, Standing}
 use Rattle.mysql_reply_events.specs.Table.{event_at}
 use Rattle.mysql_reply_events.specs.declared.fault.ReplyFault.TheVariants.{BadRow}
@@ -34,3 +34,8 @@ TakesNoRow old payload = (old.rows ≡ None) ⊎ ((is_next_row old.so_far.awaite
 abbrev pub TakesRow : ReaderState → Payload → Bool → ReaderState → Type 0
 TakesRow old payload true new = (old.so_far.awaited ≡ Rows true) × ReadsRow old payload new
 TakesRow old payload false new = (new ≡ record old { rows = new.rows }) × TakesNoRow old payload
+
+-- The payload is a row that was due, a first one too; or nothing has changed but what reads rows.
+abbrev pub LendsRow : ReaderState → Payload → Bool → ReaderState → Type 0
+LendsRow old payload true new = (is_row_due old.context old.so_far payload ≡ true) × ReadsRow old payload new
+LendsRow old payload false new = new ≡ record old { rows = new.rows }

@@ -49,6 +49,7 @@ fn pass_raw_row(awaited: &mut Awaited)
 }
 
 /// The reply goes on behind an event: any but a column.
+#[inline(always)]
 pub fn pass(alloc: Global, context: Context, state: &mut ReplyState, event: &ReplyEvent)
     requires { behind.is_column (event_view event.now) ≡ false }
     ensures behind { so_far state.new ≡ behind.behind context (so_far state.old) (event_view event.now) }

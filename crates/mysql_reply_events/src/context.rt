@@ -1,6 +1,10 @@
 //! What a reply is read by.
 
-use mysql_const::Capabilities;
+ghost use Rattle.std.specs.Prelude.{◌≡◌};
+ghost use Rattle.mysql_reply_events.specs.Readings.{cached_metadata, deprecate_eof, is_binary, optional_metadata};
+
+use bitflags::Flags;
+use mysql_const::{Capabilities, CapabilityFlags, MariadbCapabilities};
 
 /// The kind of command that a reply answers.
 ///
@@ -24,9 +28,53 @@ pub enum ReplyKind {
     Fetch,
 }
 
+impl ReplyKind {
+    /// Rows are binary.
+    pub fn has_binary_rows(self) -> bool
+        ensures { result ≡ is_binary self }
+    {
+        match self {
+            ReplyKind::Binary | ReplyKind::Fetch => true,
+            _ => false,
+        }
+    }
+}
+
 /// The command's kind and the capabilities in force on the connection.
 #[derive(Clone, Copy, Debug, PartialEq, Eq)]
 pub struct Context {
     pub kind: ReplyKind,
     pub capabilities: Capabilities,
+}
+
+impl Context {
+    /// No EOF packet stands behind columns, and an OK packet ends rows.
+    #[tactic(auto, unfolding(bitflags::proofs::OnLiterals::bitflags_on_literals))]
+    pub fn deprecates_eof(self) -> bool
+        ensures { result ≡ deprecate_eof self }
+    {
+        self.capabilities
+            .protocol
+            .contains(CapabilityFlags::CLIENT_DEPRECATE_EOF)
+    }
+
+    /// MySQL's byte says whether columns follow.
+    #[tactic(auto, unfolding(bitflags::proofs::OnLiterals::bitflags_on_literals))]
+    pub fn has_optional_metadata(self) -> bool
+        ensures { result ≡ optional_metadata self }
+    {
+        self.capabilities
+            .protocol
+            .contains(CapabilityFlags::CLIENT_OPTIONAL_RESULTSET_METADATA)
+    }
+
+    /// MariaDB's byte says whether columns follow.
+    #[tactic(auto, unfolding(bitflags::proofs::OnLiterals::bitflags_on_literals))]
+    pub fn has_cached_metadata(self) -> bool
+        ensures { result ≡ cached_metadata self }
+    {
+        self.capabilities
+            .mariadb
+            .contains(MariadbCapabilities::MARIADB_CLIENT_CACHE_METADATA)
+    }
 }

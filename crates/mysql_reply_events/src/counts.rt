@@ -10,7 +10,6 @@ ghost use Rattle.mysql_reply_events.specs.Views.{Tells};
 
 use crate::context::Context;
 use crate::fault::ReplyFault;
-use crate::forms::{has_cached_metadata, has_optional_metadata};
 use crate::packets::refused_of;
 use mysql_buf::ParseBuf;
 use mysql_fields::{ParseExt, WireError};
@@ -43,11 +42,11 @@ fn number_of(buf: &mut ParseBuf) -> Result<u64, WireError>
 fn count_of(context: Context, buf: &mut ParseBuf) -> Result<(u64, bool), WireError>
     ensures { TellsPart (λ count. count) buf.new.0.now result (count_at context buf.old.0.now) }
 {
-    if has_optional_metadata(context) {
+    if context.has_optional_metadata() {
         let follow = follow_of(buf)?;
         let count = number_of(buf)?;
         Ok((count, follow))
-    } else if has_cached_metadata(context) {
+    } else if context.has_cached_metadata() {
         let count = number_of(buf)?;
         let follow = follow_of(buf)?;
         Ok((count, follow))
@@ -80,7 +79,7 @@ fn prepared_of(
         (prepared_at context buf.old.0.now) }
 {
     let statement: StmtPacket = buf.parse(alloc, ())?;
-    if has_optional_metadata(context) {
+    if context.has_optional_metadata() {
         let follow = follow_of(buf)?;
         Ok((statement, follow))
     } else {

@@ -14,7 +14,6 @@ ghost use Rattle.mysql_reply_events.specs.Views.{Gives, named, refused};
 
 use crate::context::Context;
 use crate::fault::ReplyFault;
-use crate::forms::deprecates_eof;
 use mysql_buf::ParseBuf;
 use mysql_columns::{ExtendedColumn, ListedColumn};
 use mysql_const::CapabilityFlags;
@@ -188,7 +187,7 @@ fn terminator_of<'a>(
         (if deprecate_eof context then result_set_terminator_at (protocol context) buf.old.0.now
         else old_eof_at buf.old.0.now) }
 {
-    if deprecates_eof(context) {
+    if context.deprecates_eof() {
         ok_terminator_of(alloc, context.capabilities.protocol, buf)
     } else {
         old_eof_of(alloc, context.capabilities.protocol, buf)

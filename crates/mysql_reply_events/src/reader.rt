@@ -6,10 +6,11 @@ ghost use Rattle.mysql_row_refs.specs.RowRefs.{row_ref_view};
 ghost use Rattle.mysql_rows.specs.Rows.{Row};
 ghost use Rattle.mysql_rows.specs.Views.{shared_columns};
 ghost use Rattle.mysql_reply_events.specs.Behind.{behind, is_column};
+ghost use Rattle.mysql_reply_events.specs.Events.{ReplySoFar};
 ghost use Rattle.mysql_reply_events.specs.Events.Event.{ColumnEvent};
-ghost use Rattle.mysql_reply_events.specs.NextRows.{TakesRow, is_next_row};
+ghost use Rattle.mysql_reply_events.specs.NextRows.{LendsRow, TakesRow, is_next_row};
 ghost use Rattle.mysql_reply_events.specs.Reader.{GoesOn, HasFailed, Peeks, ReadsInPlace, ReadsOn, TakesFileData};
-ghost use Rattle.mysql_reply_events.specs.Reader.{awaits_rows, fresh_reader, is_row_due};
+ghost use Rattle.mysql_reply_events.specs.Reader.{awaits_rows, fresh_reader, is_column_due, is_row_due};
 ghost use Rattle.mysql_reply_events.specs.Standing.{RowAt, columns_of, format_of};
 ghost use Rattle.mysql_reply_events.specs.States.{PeeksStep, Steps, bare_reply, so_far};
 ghost use Rattle.mysql_reply_events.specs.Table as table;
@@ -20,9 +21,9 @@ use crate::behind::{pass, pass_column, turn_behind};
 use crate::context::{Context, ReplyKind};
 use crate::event::ReplyEvent;
 use crate::fault::ReplyFault;
-use crate::forms::{deprecates_eof, is_report_like};
-use crate::packets::report_packet;
-use crate::rows::has_binary_rows;
+use crate::forms::is_report_like;
+use crate::packets::{column_packet, report_packet};
+use crate::rows::row_packet;
 use crate::standing::StandingColumns;
 use crate::state::ReplyState;
 use crate::steps::place_step;
@@ -76,6 +77,25 @@ fn peek_step(
     step(alloc, context, bare_state, payload)
 }
 
+/// What a payload would be to a state, by a state of its own that goes then.
+fn peek_apart(
+    alloc: Global,
+    context: Context,
+    state: &ReplyState,
+    payload: &[u8],
+) -> Result<ReplyEvent, ReplyFault>
+    ensures { PeeksStep (table.event_at context (so_far state.now) payload.now) result }
+{
+    let Ok(standing) = state.standing.share() else {
+        return Err(ReplyFault::Memory);
+    };
+    let mut bare_state = ReplyState {
+        awaited: Awaited::of(alloc, state.awaited.due()),
+        standing,
+    };
+    peek_step(alloc, context, &mut bare_state, state, payload)
+}
+
 /// The command is a fetch.
 fn is_fetch(kind: ReplyKind) -> bool
     ensures { result ≡ table.is_fetch kind }
@@ -103,7 +123,67 @@ fn is_row_due(context: Context, state: &ReplyState, payload: &[u8]) -> bool
 {
     awaits_rows(context, state)
         && !is_report_like(context, payload)
-        && is_row(payload, deprecates_eof(context))
+        && is_row(payload, context.deprecates_eof())
+}
+
+/// What a payload would be that is read as a row.
+fn peek_row(
+    alloc: Global,
+    context: Context,
+    state: &ReplyState,
+    payload: &[u8],
+) -> Result<ReplyEvent, ReplyFault>
+    requires { is_row_due context (so_far state.now) payload.now ≡ true }
+    ensures { PeeksStep (table.event_at context (so_far state.now) payload.now) result }
+{
+    match state.standing.columns() {
+        Some(columns) => {
+            let row = row_packet(alloc, context, columns, payload)?;
+            Ok(ReplyEvent::Row(row))
+        }
+        None => peek_apart(alloc, context, state, payload),
+    }
+}
+
+/// A column is due, and the payload is no progress report.
+fn is_column_due(context: Context, state: &ReplyState, payload: &[u8]) -> bool
+    ensures { result ≡ is_column_due context (so_far state.now) payload.now }
+{
+    match &state.awaited {
+        Awaited::Columns {
+            group: _,
+            left: _,
+            columns: _,
+        } => !is_report_like(context, payload),
+        _ => false,
+    }
+}
+
+/// What a payload would be that is read as a column. It isn't kept.
+fn peek_column(alloc: Global, context: Context, payload: &[u8]) -> Result<ReplyEvent, ReplyFault>
+    ensures { (s : ReplySoFar) → is_column_due context s payload.now ≡ true →
+        PeeksStep (table.event_at context s payload.now) result }
+{
+    let column = column_packet(alloc, context, payload)?;
+    Ok(ReplyEvent::Column(column))
+}
+
+/// What a payload would be to a state. A row or a column needs no other state.
+fn peek_payload(
+    alloc: Global,
+    context: Context,
+    state: &ReplyState,
+    payload: &[u8],
+) -> Result<ReplyEvent, ReplyFault>
+    ensures { PeeksStep (table.event_at context (so_far state.now) payload.now) result }
+{
+    if is_row_due(context, state, payload) {
+        peek_row(alloc, context, state, payload)
+    } else if is_column_due(context, state, payload) {
+        peek_column(alloc, context, payload)
+    } else {
+        peek_apart(alloc, context, state, payload)
+    }
 }
 
 /// A row is due behind another one, and the payload begins as one.
@@ -120,7 +200,7 @@ fn is_next_row(awaited: &Awaited, payload: &[u8]) -> bool
 pub fn format_of(kind: ReplyKind) -> RowFormat
     ensures { result ≡ format_of kind }
 {
-    if has_binary_rows(kind) {
+    if kind.has_binary_rows() {
         RowFormat::Binary
     } else {
         RowFormat::Text
@@ -238,14 +318,7 @@ impl EventReader {
         if let Some(fault) = self.fault {
             return Err(fault);
         }
-        let Ok(standing) = self.state.standing.share() else {
-            return Err(ReplyFault::Memory);
-        };
-        let mut state = ReplyState {
-            awaited: Awaited::of(self.alloc, self.state.awaited.due()),
-            standing,
-        };
-        peek_step(self.alloc, self.context, &mut state, &self.state, payload)
+        peek_payload(self.alloc, self.context, &self.state, payload)
     }
 
     /// Takes a payload of the client's file; an empty one ends the file.
@@ -282,6 +355,7 @@ impl EventReader {
     /// of this event would leave (`behind`, `EventsLeadOn`).
     ///
     /// MySQL: Client/Server Protocol, "COM_QUERY Response" and "COM_STMT_PREPARE Response".
+    #[inline(always)]
     pub fn pass(&mut self, event: &ReplyEvent)
         requires going { self.old.fault ≡ None }
         requires other { is_column (event_view event.now) ≡ false }
@@ -390,7 +464,34 @@ impl EventReader {
         }
     }
 
-    /// The row that [`EventReader::read_in_place`] read last, which borrows its payload.
+    /// Reads a row that is due where it lies, a first one too. `false` says nothing of the payload:
+    /// [`EventReader::read`] reads it then.
+    ///
+    /// Memory is asked for at the first row of a result alone; without it the answer is `false`.
+    ///
+    /// Promise: where it is `true`, the row is the one that `read` would answer, and
+    /// [`EventReader::row_ref`] gives it. Else nothing has changed but what `row_ref` gives
+    /// (`LendsRow`).
+    ///
+    /// MySQL: Client/Server Protocol, "Text Resultset Row" and "Binary Protocol Resultset Row"; C
+    /// API, "mysql_use_result()".
+    pub fn lend_row(&mut self, payload: &[u8]) -> bool
+        requires { self.old.fault ≡ None }
+        ensures { LendsRow self.old payload.now result self.new }
+    {
+        if !is_row_due(self.context, &self.state, payload) {
+            return false;
+        }
+        match self.state.standing.read(self.alloc, payload) {
+            Ok(()) => {
+                self.state.awaited = Awaited::Rows { known: true };
+                true
+            }
+            Err(_) => false,
+        }
+    }
+
+    /// The row that was read last where it lies, which borrows its payload.
     ///
     /// MySQL: Client/Server Protocol, "Text Resultset Row" and "Binary Protocol Resultset Row".
     pub fn row_ref<'r, 'p>(&'r self, payload: &'p [u8]) -> RowRef<'r, 'p>

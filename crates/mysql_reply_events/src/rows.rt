@@ -22,16 +22,6 @@ use std::rc::RcSlice;
 #[derive(Clone, Copy, Debug, Default, PartialEq, Eq, Hash)]
 struct InvalidRowHeader;
 
-/// Rows are binary.
-pub fn has_binary_rows(kind: ReplyKind) -> bool
-    ensures { result ≡ is_binary kind }
-{
-    match kind {
-        ReplyKind::Binary | ReplyKind::Fetch => true,
-        _ => false,
-    }
-}
-
 // A binary row at the front of the bytes. What is left after a refusal isn't said.
 #[tactic(auto, unfolding(mysql_rows::specs::Rows::binary_resultset_row_at))]
 fn binary_row_of(
@@ -74,7 +64,7 @@ fn row_of(
         (if is_binary kind then binary_resultset_row_at (shared_columns columns) buf.old.0.now else
         text_row_at (shared_columns columns) buf.old.0.now)) }
 {
-    if has_binary_rows(kind) {
+    if kind.has_binary_rows() {
         binary_row_of(alloc, columns, buf)
     } else {
         text_row_of(alloc, columns, buf)

@@ -26,7 +26,7 @@ use crate::context::{Context, ReplyKind};
 use crate::counts::{count_packet, prepared_packet};
 use crate::event::ReplyEvent;
 use crate::fault::ReplyFault;
-use crate::forms::{begins_ok, begins_terminator, deprecates_eof, has_optional_metadata};
+use crate::forms::{begins_ok, begins_terminator};
 use crate::packets::{
     bytes_of, column_packet, eof_packet, error_packet, field_packet, file_packet, ok_packet,
     terminator_packet,
@@ -96,7 +96,7 @@ fn statement_columns(alloc: Global, context: Context, columns: u16, follow: bool
             left: columns - 1,
             columns: Vec::new(alloc),
         }
-    } else if deprecates_eof(context) {
+    } else if context.deprecates_eof() {
         Awaited::Nothing
     } else {
         Awaited::ColumnsEnd {
@@ -123,7 +123,7 @@ fn after_group(alloc: Global, context: Context, group: ColumnGroup, known: bool)
 pub fn after_columns(alloc: Global, context: Context, group: ColumnGroup, known: bool) -> Awaited
     ensures { awaited_view result ≡ table.after_columns context (group_view group) known }
 {
-    if deprecates_eof(context) {
+    if context.deprecates_eof() {
         after_group(alloc, context, group, known)
     } else {
         Awaited::ColumnsEnd { group, known }
@@ -253,7 +253,7 @@ fn after_count(
     ensures { Tells awaited_view result (table.after_count context standing.now.columns (count, columns_follow)) }
 {
     let stand = is_execution(context.kind) && standing.are_so_many(count);
-    if columns_follow || stand || has_optional_metadata(context) {
+    if columns_follow || stand || context.has_optional_metadata() {
         Ok(behind_count(alloc, context, standing, count, columns_follow))
     } else {
         Err(ReplyFault::BadCount)
@@ -383,7 +383,7 @@ fn row_event(
             Ok(ReplyEvent::Row(row))
         }
         _ => {
-            if has_optional_metadata(context) {
+            if context.has_optional_metadata() {
                 let bytes = bytes_of(alloc, payload)?;
                 Ok(ReplyEvent::RawRow(bytes))
             } else {

@@ -4,6 +4,7 @@ ghost use Rattle.std.specs.Prelude.{◌≡◌};
 ghost use Rattle.mysql_session_modes.specs.SessionModes as texts;
 
 // The text goes on with the word, which is given in small letters.
+#[inline(always)]
 fn is_word_at(word: &[u8], text: &[u8]) -> bool
     ensures { result ≡ texts.is_word_at word.now text.now }
 {
