@@ -1,7 +1,7 @@
 //! The calls of a connection, each with what it has to answer.
 
 use crate::troubles::Trouble;
-use mysql_connection_lines::{write_end, write_event, write_lent_row};
+use mysql_connection_lines::{Secrets, write_end, write_event, write_lent_row};
 use mysql_connection_machine::{Connection, ConnectionFault, End, FeedRefusal, LentEvent};
 use mysql_connection_rules::{Fault, Limits, Reason, Side};
 use mysql_connection_state::{Event, Phase};
@@ -53,9 +53,9 @@ pub fn close(connection: &mut Connection) -> Result<(), Trouble> {
     }
 }
 
-/// Appends an event's line.
+/// Appends an event's line, with all bytes.
 pub fn put_event(event: &Event, text: &mut Vec<u8>) -> Result<(), Trouble> {
-    write_event(text, event)?;
+    write_event(text, event, Secrets::Shown)?;
     text.extend_from_slice(b"\n")?;
     Ok(())
 }

@@ -7,7 +7,7 @@ use mysql_connection::{
     EventReader, Execution, ExtendedColumn, Fault, FeedRefusal, GreetingEvent, LentEvent, Limits,
     ListedColumn, LoginFault, LoginRefusal, LoginResponse, MariadbCapabilities, PacketsRefusal,
     ParameterType, PayloadRefusal, Phase, PutRefusal, Reason, RecodingRefusal, Refused, Reply,
-    ReplyEvent, ReplyFault, ReplyKind, ReplyPutRefusal, ResponseEvent, SessionMode, Side,
+    ReplyEvent, ReplyFault, ReplyKind, ReplyPutRefusal, ResponseEvent, Secrets, SessionMode, Side,
     Statement, StatementIds, StatementParameters, Statements, Tracking, Turn, UnclearCells,
     UnclearValues, capabilities_in_force, mode_begun, mode_behind_ok, put_authentication,
     put_command, put_event, put_greeting, put_response, read_authentication, read_bulk_types,
@@ -18,9 +18,9 @@ use mysql_connection::{
 
 mod laws {
     use mysql_connection::laws::{
-        connection_executions_are_received, events_lead_on, packets_are_spoken,
-        payloads_are_in_turn, read_commands_are_put, read_events_are_put, sent_packets_are_put,
-        stored_is_the_sum,
+        connection_executions_are_received, events_lead_on, kept_lists_are_counted,
+        packets_are_spoken, payloads_are_in_turn, read_commands_are_put, read_events_are_put,
+        sent_packets_are_put, stored_is_the_sum,
     };
 
     mod agreement {

@@ -1,6 +1,7 @@
 //! Commands: bytes that were written, modes, receivers, parameter sets, sending, texts and recoders.
 
 ghost use Rattle.mysql_c_commands.specs.Adding.{AddsSetIn};
+ghost use Rattle.mysql_c_commands.specs.Executing.{PutsExecutionFrom};
 ghost use Rattle.mysql_c_commands.specs.Modes.{InMode, flagged, unknown_mode};
 ghost use Rattle.mysql_c_commands.specs.Receivers.{EndsAs, IsFedBy, LetsGo, MakesReceiver, OfReceiver, content_at};
 ghost use Rattle.mysql_c_commands.specs.Receivers.{missing_code, reading_code, sets_held};
@@ -21,11 +22,12 @@ ghost use Rattle.std.specs.Prelude.{MatchOption, None, Some, [], false, length, 
 ghost use Rattle.mysql_cells.specs.declared.value.Value.TheVariants as value;
 
 use mysql_c_commands::{
-    Parameter, ShownContent, ShownPlace, ShownStop, bind_text, is_safe_to_quote, mode_of_sql_mode,
-    mode_of_status, receiver_clear, receiver_content, receiver_end, receiver_feed, receiver_new,
-    receiver_sets, receiver_width, recoder_end, recoder_feed, recoder_new, send, sets_add,
-    sets_clear, sets_count, sets_end_set, sets_new, sets_push_bytes, sets_push_date, sets_push_int,
-    sets_push_null, sets_push_time, sets_push_uint, value_text,
+    Parameter, ShownContent, ShownPlace, ShownStop, bind_text, execution_put, is_safe_to_quote,
+    mode_of_sql_mode, mode_of_status, receiver_clear, receiver_content, receiver_end,
+    receiver_feed, receiver_new, receiver_sets, receiver_width, recoder_end, recoder_feed,
+    recoder_new, send, sets_add, sets_clear, sets_count, sets_end_set, sets_new, sets_push_bytes,
+    sets_push_date, sets_push_double, sets_push_float, sets_push_int, sets_push_null,
+    sets_push_time, sets_push_uint, value_text,
 };
 use mysql_c_handles::{Handle, ShownEnd, bytes_clear, bytes_data, bytes_new};
 use std::alloc::Global;
@@ -232,6 +234,32 @@ pub extern "C" fn mysql_session_sets_push_uint(
     sets_push_uint(alloc, handle, number)
 }
 
+/// Gives the next set a float, by its bits.
+#[unsafe(no_mangle)]
+pub extern "C" fn mysql_session_sets_push_float(
+    alloc: Global,
+    handle: &mut Handle,
+    bits: u32,
+) -> u32
+    ensures { OfSets handle.old.object result handle.new.object
+        (TakesValueIn (value.Float bits) result handle.new.object) }
+{
+    sets_push_float(alloc, handle, bits)
+}
+
+/// Gives the next set a double, by its bits.
+#[unsafe(no_mangle)]
+pub extern "C" fn mysql_session_sets_push_double(
+    alloc: Global,
+    handle: &mut Handle,
+    bits: u64,
+) -> u32
+    ensures { OfSets handle.old.object result handle.new.object
+        (TakesValueIn (value.Double bits) result handle.new.object) }
+{
+    sets_push_double(alloc, handle, bits)
+}
+
 /// Gives the next set a copy of bytes.
 #[unsafe(no_mangle)]
 pub extern "C" fn mysql_session_sets_push_bytes(
@@ -353,6 +381,23 @@ pub extern "C" fn mysql_session_send(
         place.new out.new.object }
 {
     send(alloc, sets, query, road, id, limit, flags, out, place)
+}
+
+/// Appends the payload of an execution of a statement to the bytes of another handle.
+///
+/// Its values are those of the set of this number, each with its own type. Floats are among them.
+#[unsafe(no_mangle)]
+pub extern "C" fn mysql_session_execution_put(
+    alloc: Global,
+    sets: &mut Handle,
+    set: usize,
+    statement: u32,
+    out: &mut Handle,
+) -> u32
+    ensures kept { sets.new.object ≡ sets.old.object }
+    ensures put { PutsExecutionFrom statement sets.old.object set out.old.object result out.new.object }
+{
+    execution_put(alloc, sets, set, statement, out)
 }
 
 /// Appends the text of the set of this number over a query to the bytes of another handle. Where

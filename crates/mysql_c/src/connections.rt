@@ -18,7 +18,7 @@ ghost use Rattle.mysql_c_replies.specs.Shown.{ShowsColumn};
 ghost use Rattle.mysql_values.specs.Spelling.TheVariants.{Quoted};
 
 use mysql_c_commands::mode_flags;
-use mysql_c_connection::{Handle, ShownConnectionEnd, ShownStanding};
+use mysql_c_connection::{Handle, Secrets, ShownConnectionEnd, ShownStanding};
 use mysql_c_connection_events::ShownEvent;
 use mysql_c_handles::Handle as BytesHandle;
 use mysql_c_replies::{ShownColumn, ShownValue};
@@ -230,6 +230,8 @@ pub extern "C" fn mysql_session_connection_column(
 }
 
 /// Shows the event that was told last as a line, or how the connection ended.
+///
+/// Of an authentication's bytes the line has the length alone.
 #[unsafe(no_mangle)]
 pub extern "C" fn mysql_session_connection_line(
     alloc: Global,
@@ -240,7 +242,21 @@ pub extern "C" fn mysql_session_connection_line(
     ensures { OfOpen handle.old.object result handle.new.object
         (λ old. IsOpen handle.new.object (Lines old)) }
 {
-    mysql_c_connection::connection_line(alloc, handle, text, len)
+    mysql_c_connection::connection_line(alloc, handle, Secrets::Hidden, text, len)
+}
+
+/// Shows the same line with the bytes of an authentication, as passwords and their scrambles.
+#[unsafe(no_mangle)]
+pub extern "C" fn mysql_session_connection_line_with_secrets(
+    alloc: Global,
+    handle: &mut Handle,
+    text: &mut *const u8,
+    len: &mut usize,
+) -> u32
+    ensures { OfOpen handle.old.object result handle.new.object
+        (λ old. IsOpen handle.new.object (Lines old)) }
+{
+    mysql_c_connection::connection_line(alloc, handle, Secrets::Shown, text, len)
 }
 
 /// Shows how a connection stands.

@@ -1,6 +1,6 @@
 -- What a set is that comes as an array: the value that each of its parameters describes, and why one describes none.
-use Rattle.std.specs.Prelude.{◌≡◌, ◌⊎◌, ℕ, ◌+◌, ◌==◌, nat_lt, List, [], ◌∷◌, ◌++◌, length, map, slice_range, Option}
-use Rattle.std.specs.Prelude.{Some, None, Result, Ok, Err, Vec, if◌then◌else◌}
+use Rattle.std.specs.Prelude.{◌≡◌, ◌⊎◌, ℕ, ◌+◌, ◌^◌, ◌==◌, nat_lt, List, [], ◌∷◌, ◌++◌, length, map, slice_range}
+use Rattle.std.specs.Prelude.{Option, Some, None, Result, Ok, Err, Vec, if◌then◌else◌}
 use Rattle.std.specs.declared.alloc.Global.{Global}
 use Rattle.mysql_cells.specs.declared.value.Value.{Value}
 use Rattle.mysql_cells.specs.declared.value.Value.TheVariants as value
@@ -20,18 +20,24 @@ bytes_from bytes start len =
     if nat_lt (length bytes) (start + len) then Err OutOfRange else Ok
     (value.Bytes (slice_range bytes start (start + len)))
 
+-- the float of these bits, where they are those of 32
+abbrev pub float_from : ℕ → Result Value Code
+float_from bits = if nat_lt bits (2 ^ 32) then Ok (value.Float bits) else Err OutOfRange
+
 -- The value that a parameter describes, by its kind: 0 is NULL, 1 a number with a sign, 2 one
--- without, 3 bytes of those that were handed over, 6 a date, 7 a duration. Why there is none: the
--- kind is another, or its bytes don't lie there.
+-- without, 3 bytes of those that were handed over, 4 a float, 5 a double, 6 a date, 7 a duration.
+-- Why there is none: the kind is another, its bytes don't lie there, or a float's bits are more than 32.
 abbrev pub parameter_value : List ℕ → Parameter → Result Value Code
 parameter_value bytes p =
     if p.kind == 0 then Ok value.NULL
     else (if p.kind == 1 then Ok (value.Int p.int)
     else (if p.kind == 2 then Ok (value.UInt p.uint)
     else (if p.kind == 3 then bytes_from bytes p.start p.len
+    else (if p.kind == 4 then float_from p.uint
+    else (if p.kind == 5 then Ok (value.Double p.uint)
     else (if p.kind == 6 then Ok (value.Date p.year p.month p.day p.hour p.minute p.second p.micros)
     else (if p.kind == 7 then Ok (value.Time p.negative p.days p.hour p.minute p.second p.micros)
-    else Err NoSuchKind)))))
+    else Err NoSuchKind)))))))
 
 -- the first error of answers
 abbrev pub first_error : List (Result Value Code) → Option Code

@@ -1,4 +1,5 @@
 pub mod Adding
+pub mod Executing
 pub mod Modes
 pub mod Receivers
 pub mod Recoding

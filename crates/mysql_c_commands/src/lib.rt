@@ -4,6 +4,7 @@
 //! Each public function is a call of the library for C, with the contract of its export.
 #![tactic(auto)]
 
+mod executing;
 mod modes;
 mod parameter;
 mod receiver;
@@ -13,6 +14,7 @@ mod sets;
 mod shown;
 mod texts;
 
+pub use executing::execution_put;
 pub use modes::{is_safe_to_quote, mode_flags, mode_of_sql_mode, mode_of_status};
 pub use parameter::Parameter;
 pub use receiver::{
@@ -23,7 +25,8 @@ pub use recoder::{recoder_end, recoder_feed, recoder_new};
 pub use sending::send;
 pub use sets::{
     sets_add, sets_clear, sets_count, sets_end_set, sets_new, sets_push_bytes, sets_push_date,
-    sets_push_int, sets_push_null, sets_push_time, sets_push_uint,
+    sets_push_double, sets_push_float, sets_push_int, sets_push_null, sets_push_time,
+    sets_push_uint,
 };
 pub use shown::{ShownContent, ShownPlace, ShownStop};
 pub use texts::{bind_text, value_text};

@@ -3,7 +3,8 @@
 ghost use Rattle.std.specs.Prelude.{◌≡◌, ◌⊎◌, ◌∷◌, ◌++◌, [], IfErr, IfOk, OnOk, Ok, Err};
 ghost use Rattle.mysql_cells.specs.declared.value.Value.TheVariants as value;
 ghost use Rattle.mysql_c_handles.specs.declared.code.Code.TheVariants as code;
-ghost use Rattle.mysql_c_commands.specs.Adding.{Describe, IsDescriptionCause, bytes_from, parameter_value};
+ghost use Rattle.mysql_c_commands.specs.Adding.{Describe, IsDescriptionCause, bytes_from};
+ghost use Rattle.mysql_c_commands.specs.Adding.{float_from, parameter_value};
 
 use mysql_c_handles::Code;
 use mysql_values::{ByteString, Value};
@@ -11,8 +12,9 @@ use std::alloc::Global;
 
 /// A value as C describes it: its kind, and what that kind has.
 ///
-/// The kinds are 0 NULL, 1 a number with a sign, 2 one without, 3 bytes, 6 a date, 7 a duration.
-/// Bytes lie in those that are handed over beside the array, `len` of them from `start` on.
+/// The kinds are 0 NULL, 1 a number with a sign, 2 one without, 3 bytes. And 4 is a float, 5 a
+/// double, 6 a date, 7 a duration. A float and a double are their bits, in `uint`. Bytes lie in
+/// those that are handed over beside the array, `len` of them from `start` on.
 #[repr(C)]
 #[derive(Clone, Copy)]
 pub struct Parameter {
@@ -49,6 +51,17 @@ fn copied(alloc: Global, bytes: &[u8], start: usize, len: usize) -> Result<Value
     }
 }
 
+/// The float of these bits, which 32 have to hold.
+fn float_of(bits: u64) -> Result<Value, Code>
+    ensures { result ≡ float_from bits }
+{
+    if bits < 1 << 32 {
+        Ok(Value::Float(bits as u32))
+    } else {
+        Err(Code::OutOfRange)
+    }
+}
+
 /// The value that a parameter describes.
 fn value_of(alloc: Global, bytes: &[u8], parameter: &Parameter) -> Result<Value, Code>
     ensures ok { IfOk result (λ made. parameter_value bytes.now parameter.now ≡ Ok made) }
@@ -60,6 +73,8 @@ fn value_of(alloc: Global, bytes: &[u8], parameter: &Parameter) -> Result<Value,
         1 => Ok(Value::Int(p.int)),
         2 => Ok(Value::UInt(p.uint)),
         3 => copied(alloc, bytes, p.start, p.len),
+        4 => float_of(p.uint),
+        5 => Ok(Value::Double(p.uint)),
         6 => Ok(Value::Date(p.year, p.month, p.day, p.hour, p.minute, p.second, p.micros)),
         7 => Ok(Value::Time(p.negative, p.days, p.hour, p.minute, p.second, p.micros)),
         _ => Err(Code::NoSuchKind),

@@ -203,6 +203,22 @@ pub fn sets_push_uint(alloc: Global, handle: &mut Handle, number: u64) -> u32
     push(alloc, handle, Value::UInt(number))
 }
 
+/// Gives the next set a float, by its bits.
+pub fn sets_push_float(alloc: Global, handle: &mut Handle, bits: u32) -> u32
+    ensures { OfSets handle.old.object result handle.new.object
+        (TakesValueIn (value.Float bits) result handle.new.object) }
+{
+    push(alloc, handle, Value::Float(bits))
+}
+
+/// Gives the next set a double, by its bits.
+pub fn sets_push_double(alloc: Global, handle: &mut Handle, bits: u64) -> u32
+    ensures { OfSets handle.old.object result handle.new.object
+        (TakesValueIn (value.Double bits) result handle.new.object) }
+{
+    push(alloc, handle, Value::Double(bits))
+}
+
 /// Gives the next set a copy of bytes.
 pub fn sets_push_bytes(alloc: Global, handle: &mut Handle, bytes: &[u8]) -> u32
     ensures { OfSets handle.old.object result handle.new.object

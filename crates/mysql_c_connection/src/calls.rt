@@ -13,7 +13,7 @@ use crate::object::{Object, OpenConnection};
 use crate::shown::ShownConnectionEnd;
 use mysql_c_connection_events::{ShownEvent, blank};
 use mysql_c_handles::start_of;
-use mysql_connection_lines::{write_end, write_event};
+use mysql_connection_lines::{Secrets, write_end, write_event};
 use mysql_connection_machine::{Connection, End, FeedRefusal};
 use mysql_connection_rules::{Limits, Side};
 use mysql_connection_state::Event;
@@ -42,6 +42,7 @@ pub fn connection_new(
         event: None,
         end: None,
         line: Vec::new(alloc),
+        line_with_secrets: Vec::new(alloc),
     };
     match handle.set(alloc, Object::Open(open)) {
         Ok(()) => ConnectionCode::Done.number(),
@@ -67,6 +68,7 @@ impl OpenConnection {
         ensures { Tells (code_number result) self.old self.new shown.new }
     {
         self.line.clear();
+        self.line_with_secrets.clear();
         self.end = None;
         self.event = None;
         match self.connection.next_event() {
@@ -89,34 +91,65 @@ impl OpenConnection {
     {
         let end = self.connection.finish();
         self.line.clear();
+        self.line_with_secrets.clear();
         self.event = None;
         self.end = Some(end);
         *shown = telling_end(end);
     }
 
     /// Writes the line of the event, or of the end, unless it stands.
-    fn write_line(&mut self) -> ConnectionCode
+    fn write_line(&mut self, secrets: Secrets) -> ConnectionCode
         ensures { Lines self.old self.new }
     {
-        if !self.line.is_empty() {
-            return ConnectionCode::Done;
+        match secrets {
+            Secrets::Hidden => write_unless_written(&mut self.line, &self.event, self.end, secrets),
+            Secrets::Shown => write_unless_written(
+                &mut self.line_with_secrets,
+                &self.event,
+                self.end,
+                secrets,
+            ),
         }
-        let written = line_of(&mut self.line, &self.event, self.end);
-        match written {
-            Ok(true) => ConnectionCode::Done,
-            Ok(false) => ConnectionCode::OutOfRange,
-            Err(_) => {
-                self.line.clear();
-                ConnectionCode::Memory
-            }
+    }
+
+    /// The line that was written.
+    fn written_line(&self, secrets: Secrets) -> &[u8] {
+        match secrets {
+            Secrets::Hidden => &self.line,
+            Secrets::Shown => &self.line_with_secrets,
+        }
+    }
+}
+
+/// Writes the line of an event, or of an end, unless it is there.
+fn write_unless_written(
+    line: &mut Vec<u8>,
+    event: &Option<Event>,
+    end: Option<End>,
+    secrets: Secrets,
+) -> ConnectionCode {
+    if !line.is_empty() {
+        return ConnectionCode::Done;
+    }
+    match line_of(line, event, end, secrets) {
+        Ok(true) => ConnectionCode::Done,
+        Ok(false) => ConnectionCode::OutOfRange,
+        Err(_) => {
+            line.clear();
+            ConnectionCode::Memory
         }
     }
 }
 
 /// Writes the line of an event, or of an end, where there is one.
-fn line_of(line: &mut Vec<u8>, event: &Option<Event>, end: Option<End>) -> io::Result<bool> {
+fn line_of(
+    line: &mut Vec<u8>,
+    event: &Option<Event>,
+    end: Option<End>,
+    secrets: Secrets,
+) -> io::Result<bool> {
     match event {
-        Some(event) => write_event(line, event)?,
+        Some(event) => write_event(line, event, secrets)?,
         None => match end {
             Some(end) => write_end(line, end)?,
             None => return Ok(false),
@@ -270,14 +303,20 @@ pub fn connection_finish(alloc: Global, handle: &mut Handle, shown: &mut ShownCo
 }
 
 /// Shows the line of the event, or of the end, of the connection that an object is.
-fn line_in(object: &mut Object, text: &mut *const u8, len: &mut usize) -> ConnectionCode
+fn line_in(
+    object: &mut Object,
+    secrets: Secrets,
+    text: &mut *const u8,
+    len: &mut usize,
+) -> ConnectionCode
     ensures { OfOpen object.old (code_number result) object.new (λ old. IsOpen object.new (Lines old)) }
 {
     match object {
         Object::Open(open) => {
-            let code = open.write_line();
-            *text = start_of(&open.line);
-            *len = open.line.len();
+            let code = open.write_line(secrets);
+            let line = open.written_line(secrets);
+            *text = start_of(line);
+            *len = line.len();
             code
         }
         Object::Empty => ConnectionCode::EmptyHandle,
@@ -288,6 +327,7 @@ fn line_in(object: &mut Object, text: &mut *const u8, len: &mut usize) -> Connec
 pub fn connection_line(
     alloc: Global,
     handle: &mut Handle,
+    secrets: Secrets,
     text: &mut *const u8,
     len: &mut usize,
 ) -> u32
@@ -297,7 +337,7 @@ pub fn connection_line(
     let Some(mut object) = handle.take(alloc) else {
         return ConnectionCode::EmptyHandle.number();
     };
-    let code = line_in(&mut object, text, len);
+    let code = line_in(&mut object, secrets, text, len);
     handle.put(object);
     code.number()
 }

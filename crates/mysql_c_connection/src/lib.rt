@@ -23,6 +23,7 @@ pub use calls::{
 pub use code::ConnectionCode;
 pub use columns::connection_column;
 pub use handle::Handle;
+pub use mysql_connection_lines::Secrets;
 pub use object::{Object, OpenConnection};
 pub use putting::{connection_after_login, connection_put, connection_put_packets};
 pub use shown::{ShownConnectionEnd, ShownStanding};

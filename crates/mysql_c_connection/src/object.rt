@@ -5,13 +5,14 @@ use mysql_connection_state::Event;
 
 /// A connection, and the event that was told last.
 ///
-/// Beside them it has how the connection ended, once it was asked, and the line of the event or of
-/// the end.
+/// Beside them it has how the connection ended, once it was asked. Of the event, or the end, it has
+/// two lines: without the bytes of an authentication, and with them.
 pub struct OpenConnection {
     pub connection: Connection,
     pub event: Option<Event>,
     pub end: Option<End>,
     pub line: Vec<u8>,
+    pub line_with_secrets: Vec<u8>,
 }
 
 // Written out, so that who owns one lets it go in one step.
@@ -22,6 +23,7 @@ impl Drop for OpenConnection {
             event: _event,
             end: _,
             line: _line,
+            line_with_secrets: _line_with_secrets,
         } = self;
     }
 }

@@ -40,6 +40,7 @@ pub fn connection_after_login(
         event: None,
         end: None,
         line: Vec::new(alloc),
+        line_with_secrets: Vec::new(alloc),
     };
     match handle.set(alloc, Object::Open(open)) {
         Ok(()) => ConnectionCode::Done.number(),
@@ -76,6 +77,7 @@ impl OpenConnection {
             Ok(event) => {
                 *shown = telling_event(&self.connection, &event);
                 self.line.clear();
+                self.line_with_secrets.clear();
                 self.end = None;
                 self.event = Some(event);
                 ConnectionCode::Done

@@ -6,7 +6,7 @@ use crate::stop::Stop;
 use crate::transcript::Transcript;
 use mysql_connection_machine::End;
 use mysql_connection_rules::Limits;
-use mysql_transcripts::print_end;
+use mysql_transcripts::{Secrets, print_end};
 use std::alloc::Global;
 use std::io::{BufWriter, Read, Write};
 
@@ -83,12 +83,13 @@ fn answer_end<W: Write>(output: &mut W, transcript: &mut Transcript) -> Result<S
 pub(crate) fn connection<R: Read, W: Write>(
     alloc: Global,
     limit: usize,
+    secrets: Secrets,
     input: &mut R,
     output: &mut W,
 ) -> Result<Status, Stop> {
     let mut printing = Printing {
         alloc,
-        transcript: Transcript::new(alloc, limits_of(limit)),
+        transcript: Transcript::new(alloc, limits_of(limit), secrets),
         output,
     };
     follow_input(alloc, input, &mut printing)?;

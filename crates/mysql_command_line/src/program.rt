@@ -91,7 +91,7 @@ fn run_words<R: Read, W: Write>(
         Task::Audit(statement) => audit(alloc, statement, input, output),
         Task::Follow(statement) => follow(alloc, statement, input, output),
         Task::Recode(statement) => recode(alloc, statement, input, output),
-        Task::Connection(limit) => connection(alloc, limit, input, output),
+        Task::Connection(limit, secrets) => connection(alloc, limit, secrets, input, output),
         Task::Help => help(output),
     }
 }
@@ -122,8 +122,9 @@ fn answer_stop<W: Write>(output: &mut W, stop: &Stop) -> Status {
 /// no further than to a fault.
 /// - `recode ID LIMIT QUERY` reads a stream of commands and prints the executions that carry the same sets.
 /// - `connection LIMIT` reads a transcript of a connection and prints a line for each payload, as
-///   soon as it stands. It reads no further than to a fault or an end.
-/// - `help` prints these words in thirteen lines, and reads nothing.
+///   soon as it stands. It reads no further than to a fault or an end. Of an authentication's data
+///   it prints the length, but behind `--secrets`, which is before the limit.
+/// - `help` prints these words in fourteen lines, and reads nothing.
 ///
 /// Behind a command `--mode NAMES` may stand, with `no-backslash-escapes` and `ansi-quotes` between
 /// commas: the modes of the server that reads the commands. `--hex` may follow: texts have byte strings

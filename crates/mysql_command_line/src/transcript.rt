@@ -6,7 +6,7 @@ use crate::stop::Stop;
 use mysql_connection_machine::{Connection, End, FeedRefusal};
 use mysql_connection_rules::{Fault, Limits, Reason, Side};
 use mysql_connection_state::Phase;
-use mysql_transcripts::{Position, Record, print_event};
+use mysql_transcripts::{Position, Record, Secrets, print_event};
 use std::alloc::Global;
 use std::io::Write;
 
@@ -16,15 +16,17 @@ pub(crate) struct Transcript {
     alloc: Global,
     connection: Connection,
     position: Position,
+    secrets: Secrets,
 }
 
 impl Transcript {
     /// One of which no byte came.
-    pub(crate) fn new(alloc: Global, limits: Limits) -> Transcript {
+    pub(crate) fn new(alloc: Global, limits: Limits, secrets: Secrets) -> Transcript {
         Transcript {
             alloc,
             connection: Connection::new(alloc, limits),
             position: Position::before_record(),
+            secrets,
         }
     }
 
@@ -45,7 +47,7 @@ impl Transcript {
     fn print_events<W: Write>(&mut self, output: &mut W) -> Result<(), Stop> {
         for _ in 0..u64::MAX {
             match self.connection.next_event() {
-                Ok(Some(event)) => print_event(self.alloc, output, &event)?,
+                Ok(Some(event)) => { print_event(self.alloc, output, &event, self.secrets)? },
                 _ => return Ok(()),
             }
         }

@@ -7,6 +7,7 @@ ghost use Rattle.mysql_command_line.specs.declared.stop.Stop.TheVariants as stop
 
 use crate::stop::Stop;
 use mysql_session::{Mode, Road, Spelling};
+use mysql_transcripts::Secrets;
 
 /// A query for a server in a mode, and how byte strings are spelled in its texts. With it go its
 /// statement's id and the limit of its packets.
@@ -34,7 +35,7 @@ pub(crate) enum Task<'a> {
     /// A stream of commands as executions.
     Recode(Statement<'a>),
     /// What the payloads of a connection say, of payloads no longer than this.
-    Connection(usize),
+    Connection(usize, Secrets),
     /// What the program knows.
     Help,
 }
@@ -160,10 +161,22 @@ fn statement_in(words: &[String]) -> Result<Statement<'_>, Stop> {
     }
 }
 
-/// What the word behind `connection` asks for.
-fn connection_of(limit: &str) -> Result<Task<'_>, Stop> {
+/// What is shown of secrets by the words' beginning, and the words behind it.
+fn secrets_first(words: &[String]) -> (Secrets, &[String]) {
+    match words {
+        [word, rest @ ..] if word.as_str() == "--secrets" => (Secrets::Shown, rest),
+        _ => (Secrets::Hidden, words),
+    }
+}
+
+/// What the words behind `connection` ask for.
+fn connection_of(words: &[String]) -> Result<Task<'_>, Stop> {
+    let (secrets, words) = secrets_first(words);
+    let [limit] = words else {
+        return Err(Stop::Usage);
+    };
     match whole_number(limit) {
-        Some(limit) if limit >= 4 => Ok(Task::Connection(limit)),
+        Some(limit) if limit >= 4 => Ok(Task::Connection(limit, secrets)),
         _ => Err(Stop::BadLimit),
     }
 }
@@ -182,7 +195,7 @@ pub(crate) fn task_of(words: &[String]) -> Result<Task<'_>, Stop> {
         [command, words @ ..] if command.as_str() == "recode" => {
             Ok(Task::Recode(statement_in(words)?))
         }
-        [command, limit] if command.as_str() == "connection" => connection_of(limit),
+        [command, words @ ..] if command.as_str() == "connection" => connection_of(words),
         [command] if command.as_str() == "help" => Ok(Task::Help),
         _ => Err(Stop::Usage),
     }

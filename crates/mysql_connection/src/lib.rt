@@ -5,8 +5,8 @@
 //!     let event = connection.next_event()?;   // of a Connection: None until a payload is whole
 //!
 //!     let command = Command::read(alloc, capabilities, parameters, payload)?;
-//!     write_command(&mut output, &command)?;  // Execute id=3 flags=0 parameters=((i 1)) ..
-//!     let event = reader.read(payload)?;      // of an EventReader of the reply
+//!     write_command(&mut output, &command, Secrets::Hidden)?;  // Execute id=3 flags=0 ..
+//!     let event = reader.read(payload)?;                       // of an EventReader of the reply
 #![tactic(auto)]
 
 pub mod laws;
@@ -34,7 +34,7 @@ pub use mysql_connection_state::{Event, Phase};
 pub use mysql_connection_statements::{Statement, Statements};
 pub use mysql_connection_writer::BadEvent;
 pub use mysql_event_lines::{
-    write_authentication_event, write_command, write_greeting_event, write_reply_event,
+    Secrets, write_authentication_event, write_command, write_greeting_event, write_reply_event,
     write_response_event, write_row_ref,
 };
 pub use mysql_executions::{Refused, read_bulk_types, read_execution_types};

@@ -1,12 +1,13 @@
 //! A connection's events and its end as lines of text.
 //!
-//!     write_event(&mut output, &event)?;  // client Query attributes=() text=x53454c4543542031
-//!     write_end(&mut output, end)?;       // end Over Quit
+//!     write_event(&mut output, &event, Secrets::Hidden)?;  // client AuthAnswer data=(20 bytes)
+//!     write_end(&mut output, end)?;                        // end Over Quit
 #![tactic(auto)]
 
 use mysql_connection_machine::{ConnectionFault, End};
 use mysql_connection_rules::{Fault, Side};
 use mysql_connection_state::Event;
+pub use mysql_event_lines::Secrets;
 use mysql_event_lines::{
     write_answer, write_authentication_event, write_command, write_farewell, write_file_data,
     write_greeting_event, write_reply_event, write_response_event, write_row_ref,
@@ -37,18 +38,18 @@ fn side_of(event: &Event) -> Side {
 
 /// Writes what a payload of a connection says, as a line without its end.
 ///
-/// The line has whose payload it is, the event's name, and its fields.
+/// The line has whose payload it is, the event's name, and its fields. Statements are as they came.
 ///
 /// # Errors
 /// - Those of the output.
-pub fn write_event<W: Write>(output: &mut W, event: &Event) -> io::Result<()> {
+pub fn write_event<W: Write>(output: &mut W, event: &Event, secrets: Secrets) -> io::Result<()> {
     write!(output, "{} ", name_of(side_of(event)))?;
     match event {
         Event::Greeting(greeting) => write_greeting_event(output, greeting),
-        Event::Response(response) => write_response_event(output, response),
-        Event::Authentication(said) => write_authentication_event(output, said),
-        Event::Answer(data) => write_answer(output, data.as_slice()),
-        Event::Command(command) => write_command(output, command),
+        Event::Response(response) => write_response_event(output, response, secrets),
+        Event::Authentication(said) => write_authentication_event(output, said, secrets),
+        Event::Answer(data) => write_answer(output, data.as_slice(), secrets),
+        Event::Command(command) => write_command(output, command, secrets),
         Event::Reply(said) => write_reply_event(output, said),
         Event::FileData(data) => write_file_data(output, data.as_slice()),
         Event::Farewell(error) => write_farewell(output, error),

@@ -17,7 +17,7 @@ use mysql_commands::{BulkExecution, Command, Execution, ParameterType};
 use std::alloc::{AllocError, Global};
 use std::collections::BTreeMap;
 
-/// The id that stands for the statement that was prepared last.
+/// The id that means the statement that was prepared last.
 const LAST_PREPARED: u32 = 0xffff_ffff;
 
 /// The ids that a connection's statements have on another connection.
@@ -53,7 +53,7 @@ impl StatementIds {
     /// Another statement that had the id here is known no more.
     ///
     /// # Errors
-    /// - `AllocError` for want of memory; nothing changes then.
+    /// - `AllocError` where memory runs out; nothing changes then.
     pub fn prepared(&mut self, own: u32, other: u32) -> Result<(), AllocError>
         ensures ok { OnOk result (known self.new ≡ with_id own other (known self.old)) }
         ensures err { OnErr result (known self.new ≡ known self.old) }
@@ -137,7 +137,7 @@ impl StatementIds {
     /// `in_force` are the types of the statement's parameters here, as
     /// `Connection::statement` has them; a command that is no execution takes none.
     ///
-    /// Promise: exactly that command (`recoded`), whose sets are the same: the law
+    /// Promise: exactly that command (`recoded`), whose sets are the same: the theorem
     /// [`recoded_commands_say_the_same`](crate::laws::recoded_commands_say_the_same).
     ///
     /// # Errors

@@ -2,8 +2,9 @@
 
 use crate::fields::{
     name_of, write_bytes, write_bytes_if, write_hexadecimal, write_number, write_pairs,
-    write_space, write_value,
+    write_secret, write_space, write_value,
 };
+use crate::secrets::Secrets;
 use mysql_cells::Value;
 use mysql_commands::Command;
 use mysql_executions::{Attribute, BulkExecution, BulkValue, Execution};
@@ -11,6 +12,11 @@ use mysql_login::ComChangeUser;
 use mysql_replication::{ComBinlogDump, ComBinlogDumpGtid, ComRegisterSlave, ComTableDump};
 use std::io;
 use std::io::Write;
+
+/// The first bytes of the commands that have an answer of an authentication, or a password.
+const CHANGE_USER: u8 = 0x11;
+
+const REGISTER_SLAVE: u8 = 0x15;
 
 /// Writes attributes as a list of names and values.
 fn write_attributes<W: Write>(output: &mut W, attributes: &[Attribute]) -> io::Result<()> {
@@ -32,10 +38,14 @@ fn write_query<W: Write>(output: &mut W, attributes: &[Attribute], sql: &[u8]) -
     write_bytes(output, "text", sql)
 }
 
-fn write_change_user<W: Write>(output: &mut W, change: &ComChangeUser) -> io::Result<()> {
+fn write_change_user<W: Write>(
+    output: &mut W,
+    change: &ComChangeUser,
+    secrets: Secrets,
+) -> io::Result<()> {
     output.write_all(b"ChangeUser")?;
     write_bytes(output, "user", change.user())?;
-    write_bytes(output, "answer", change.auth_plugin_data())?;
+    write_secret(output, "answer", change.auth_plugin_data(), secrets)?;
     write_bytes(output, "database", change.database())?;
     let Some(more) = change.more_data() else {
         return output.write_all(b" charset=- plugin=- attributes=-");
@@ -62,12 +72,16 @@ fn write_binlog_dump_gtid<W: Write>(output: &mut W, dump: &ComBinlogDumpGtid) ->
     write!(output, " sets={}", dump.sids().len())
 }
 
-fn write_registration<W: Write>(output: &mut W, replica: &ComRegisterSlave) -> io::Result<()> {
+fn write_registration<W: Write>(
+    output: &mut W,
+    replica: &ComRegisterSlave,
+    secrets: Secrets,
+) -> io::Result<()> {
     output.write_all(b"RegisterSlave")?;
     write_number(output, "server", u64::from(replica.server_id()))?;
     write_bytes(output, "host", replica.hostname_raw())?;
     write_bytes(output, "user", replica.user_raw())?;
-    write_bytes(output, "password", replica.password_raw())?;
+    write_secret(output, "password", replica.password_raw(), secrets)?;
     write_number(output, "port", u64::from(replica.port()))?;
     write_number(output, "rank", u64::from(replica.replication_rank()))?;
     write_number(output, "master", u64::from(replica.master_id()))
@@ -185,13 +199,16 @@ fn write_bulk_execution<W: Write>(output: &mut W, bulk: &BulkExecution) -> io::R
 }
 
 /// Writes a payload that is laid out as no command that is known: its first byte, and those behind it.
-fn write_other<W: Write>(output: &mut W, payload: &[u8]) -> io::Result<()> {
+fn write_other<W: Write>(output: &mut W, payload: &[u8], secrets: Secrets) -> io::Result<()> {
     match payload {
         [] => output.write_all(b"Other byte=- data=x"),
         [byte, data @ ..] => {
             output.write_all(b"Other")?;
             write_number(output, "byte", u64::from(*byte))?;
-            write_bytes(output, "data", data)
+            match *byte {
+                CHANGE_USER | REGISTER_SLAVE => write_secret(output, "data", data, secrets),
+                _ => write_bytes(output, "data", data),
+            }
         }
     }
 }
@@ -209,7 +226,7 @@ fn write_one<W: Write>(output: &mut W, name: &str, field: &str, number: u64) -> 
 }
 
 /// Writes a command about a prepared statement, or one of replication.
-fn write_further<W: Write>(output: &mut W, command: &Command) -> io::Result<()> {
+fn write_further<W: Write>(output: &mut W, command: &Command, secrets: Secrets) -> io::Result<()> {
     match command {
         Command::Prepare(sql) => write_text(output, "Prepare", "text", sql.as_slice()),
         Command::Execute(execution) => write_execution(output, execution),
@@ -232,17 +249,22 @@ fn write_further<W: Write>(output: &mut W, command: &Command) -> io::Result<()> 
         Command::BinlogDump(dump) => write_binlog_dump(output, dump),
         Command::BinlogDumpGtid(dump) => write_binlog_dump_gtid(output, dump),
         Command::TableDump(dump) => write_table_dump(output, dump),
-        Command::RegisterSlave(replica) => write_registration(output, replica),
-        Command::Other(payload) => write_other(output, payload.as_slice()),
+        Command::RegisterSlave(replica) => write_registration(output, replica, secrets),
+        Command::Other(payload) => write_other(output, payload.as_slice(), secrets),
         _ => Ok(()),
     }
 }
 
-/// Writes what a client asks for, as a line without its end.
+/// Writes what a client asks for, as a line without its end. Texts of statements are written as
+/// they came, with passwords in them.
 ///
 /// # Errors
 /// - Those of the output.
-pub fn write_command<W: Write>(output: &mut W, command: &Command) -> io::Result<()> {
+pub fn write_command<W: Write>(
+    output: &mut W,
+    command: &Command,
+    secrets: Secrets,
+) -> io::Result<()> {
     match command {
         Command::Quit => output.write_all(b"Quit"),
         Command::InitDb(schema) => write_text(output, "InitDb", "schema", schema.as_slice()),
@@ -263,10 +285,10 @@ pub fn write_command<W: Write>(output: &mut W, command: &Command) -> io::Result<
         Command::ProcessKill(id) => write_one(output, "ProcessKill", "id", u64::from(*id)),
         Command::Debug => output.write_all(b"Debug"),
         Command::Ping => output.write_all(b"Ping"),
-        Command::ChangeUser(change) => write_change_user(output, change),
+        Command::ChangeUser(change) => write_change_user(output, change, secrets),
         Command::SetOption(option) => write_one(output, "SetOption", "option", u64::from(*option)),
         Command::ResetConnection => output.write_all(b"ResetConnection"),
         Command::Clone(arguments) => write_text(output, "Clone", "data", arguments.as_slice()),
-        _ => write_further(output, command),
+        _ => write_further(output, command, secrets),
     }
 }

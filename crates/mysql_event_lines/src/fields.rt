@@ -2,6 +2,7 @@
 
 ghost use Rattle.std.specs.Prelude.{◌≤◌, length};
 
+use crate::secrets::Secrets;
 use mysql_auth::AuthPlugin;
 use mysql_cells::Value;
 use mysql_connect_attributes::ConnectAttributes;
@@ -50,6 +51,19 @@ pub(crate) fn write_flag<W: Write>(output: &mut W, name: &str, flag: bool) -> io
 pub(crate) fn write_bytes<W: Write>(output: &mut W, name: &str, bytes: &[u8]) -> io::Result<()> {
     write!(output, " {name}=")?;
     write_hexadecimal(output, bytes)
+}
+
+/// Writes a field that has bytes of an authentication, or how many they are.
+pub(crate) fn write_secret<W: Write>(
+    output: &mut W,
+    name: &str,
+    bytes: &[u8],
+    secrets: Secrets,
+) -> io::Result<()> {
+    match secrets {
+        Secrets::Shown => write_bytes(output, name, bytes),
+        Secrets::Hidden => write!(output, " {name}=({} bytes)", bytes.len()),
+    }
 }
 
 /// Writes a field that has bytes, or `-` where it isn't there.

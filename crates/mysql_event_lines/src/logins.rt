@@ -1,7 +1,10 @@
 //! What one payload of logging in says, as a line.
 
-use crate::fields::{name_of, write_bytes, write_bytes_if, write_number, write_pairs};
+use crate::fields::{
+    name_of, write_bytes, write_bytes_if, write_number, write_pairs, write_secret,
+};
 use crate::replies::{write_error, write_ok};
+use crate::secrets::Secrets;
 use mysql_auth::OldAuthSwitchRequest;
 use mysql_authentication::{AuthenticationEvent, GreetingEvent, LoginResponse, ResponseEvent};
 use mysql_handshake::HandshakePacket;
@@ -44,10 +47,14 @@ fn write_request<W: Write>(output: &mut W, name: &str, request: &SslRequest) -> 
     write_number(output, "extended", u64::from(request.offered().mariadb.0))
 }
 
-fn write_response<W: Write>(output: &mut W, response: &HandshakeResponse) -> io::Result<()> {
+fn write_response<W: Write>(
+    output: &mut W,
+    response: &HandshakeResponse,
+    secrets: Secrets,
+) -> io::Result<()> {
     write_request(output, "Login", response.request())?;
     write_bytes(output, "user", response.user())?;
-    write_bytes(output, "answer", response.scramble_buf())?;
+    write_secret(output, "answer", response.scramble_buf(), secrets)?;
     write_bytes_if(output, "database", response.db_name())?;
     write_bytes_if(output, "plugin", name_of(response.auth_plugin()))?;
     write_pairs(output, response.attributes())
@@ -57,13 +64,19 @@ fn write_response<W: Write>(output: &mut W, response: &HandshakeResponse) -> io:
 ///
 /// # Errors
 /// - Those of the output.
-pub fn write_response_event<W: Write>(output: &mut W, event: &ResponseEvent) -> io::Result<()> {
+pub fn write_response_event<W: Write>(
+    output: &mut W,
+    event: &ResponseEvent,
+    secrets: Secrets,
+) -> io::Result<()> {
     match event {
         ResponseEvent::SecureRequest(request) => write_request(output, "SecureRequest", request),
         ResponseEvent::Login(LoginResponse::CutOff(request)) => write_request(
             output, "Login", request,
         ),
-        ResponseEvent::Login(LoginResponse::Whole(response)) => write_response(output, response),
+        ResponseEvent::Login(LoginResponse::Whole(response)) => {
+            write_response(output, response, secrets)
+        }
     }
 }
 
@@ -73,24 +86,30 @@ fn write_plugin<W: Write>(
     name: &str,
     plugin: &[u8],
     data: &[u8],
+    secrets: Secrets,
 ) -> io::Result<()> {
     write!(output, "{name}")?;
     write_bytes(output, "plugin", plugin)?;
-    write_bytes(output, "data", data)
+    write_secret(output, "data", data, secrets)
 }
 
 /// Writes data of a plugin behind its name.
-fn write_data<W: Write>(output: &mut W, name: &str, data: &[u8]) -> io::Result<()> {
+fn write_data<W: Write>(
+    output: &mut W,
+    name: &str,
+    data: &[u8],
+    secrets: Secrets,
+) -> io::Result<()> {
     write!(output, "{name}")?;
-    write_bytes(output, "data", data)
+    write_secret(output, "data", data, secrets)
 }
 
 /// Writes what a client answers to a payload of an authentication, as a line without its end.
 ///
 /// # Errors
 /// - Those of the output.
-pub fn write_answer<W: Write>(output: &mut W, data: &[u8]) -> io::Result<()> {
-    write_data(output, "AuthAnswer", data)
+pub fn write_answer<W: Write>(output: &mut W, data: &[u8], secrets: Secrets) -> io::Result<()> {
+    write_data(output, "AuthAnswer", data, secrets)
 }
 
 /// Writes what a server's payload of an authentication says, as a line without its end.
@@ -100,24 +119,37 @@ pub fn write_answer<W: Write>(output: &mut W, data: &[u8]) -> io::Result<()> {
 pub fn write_authentication_event<W: Write>(
     output: &mut W,
     event: &AuthenticationEvent,
+    secrets: Secrets,
 ) -> io::Result<()> {
     match event {
         AuthenticationEvent::Accepted(ok) => write_ok(output, "Accepted", ok),
         AuthenticationEvent::Denied(error) => write_error(output, "Denied", error),
         AuthenticationEvent::AuthSwitch(request) => {
             let (plugin, data) = (request.auth_plugin_ref(), request.plugin_data_ref());
-            write_plugin(output, "AuthSwitch", plugin, data)
+            write_plugin(output, "AuthSwitch", plugin, data, secrets)
         }
-        AuthenticationEvent::OldAuthSwitch(request) => { write_old_switch(output, request) }
-        AuthenticationEvent::AuthMore(more) => write_data(output, "AuthMore", more.data()),
+        AuthenticationEvent::OldAuthSwitch(request) => write_old_switch(output, request, secrets),
+        AuthenticationEvent::AuthMore(more) => write_data(output, "AuthMore", more.data(), secrets),
         AuthenticationEvent::NextFactor(request) => {
             let (plugin, data) = (request.auth_plugin_ref(), request.plugin_data_ref());
-            write_plugin(output, "NextFactor", plugin, data)
+            write_plugin(output, "NextFactor", plugin, data, secrets)
         }
-        AuthenticationEvent::PluginData(data) => write_data(output, "PluginData", data.as_slice()),
+        AuthenticationEvent::PluginData(data) => {
+            write_data(output, "PluginData", data.as_slice(), secrets)
+        }
     }
 }
 
-fn write_old_switch<W: Write>(output: &mut W, request: &OldAuthSwitchRequest) -> io::Result<()> {
-    write_plugin(output, "AuthSwitch", request.auth_plugin().as_bytes(), &[])
+fn write_old_switch<W: Write>(
+    output: &mut W,
+    request: &OldAuthSwitchRequest,
+    secrets: Secrets,
+) -> io::Result<()> {
+    write_plugin(
+        output,
+        "AuthSwitch",
+        request.auth_plugin().as_bytes(),
+        &[],
+        secrets,
+    )
 }

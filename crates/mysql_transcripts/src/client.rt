@@ -1,17 +1,23 @@
 //! What a client says, as a line without its end.
 
 use crate::values::{
-    print_bytes, print_bytes_if, print_number, print_one, print_text, print_value,
+    print_bytes, print_bytes_if, print_number, print_one, print_secret, print_text, print_value,
 };
 use mysql_auth::AuthPlugin;
 use mysql_authentication::{LoginResponse, ResponseEvent};
 use mysql_cells::Value;
 use mysql_commands::Command;
+use mysql_event_lines::Secrets;
 use mysql_executions::{Attribute, BulkExecution, BulkValue, Execution, UnclearCells};
 use mysql_login::ComChangeUser;
 use std::alloc::Global;
 use std::io;
 use std::io::Write;
+
+/// The first bytes of the commands that have an answer of an authentication, or a password.
+const CHANGE_USER: u8 = 0x11;
+
+const REGISTER_SLAVE: u8 = 0x15;
 
 /// The bytes of a plugin's name, where there is one.
 fn name_of<'x>(plugin: Option<&'x AuthPlugin<'_>>) -> Option<&'x [u8]> {
@@ -188,8 +194,21 @@ fn print_bulk<W: Write>(alloc: Global, output: &mut W, bulk: &BulkExecution) -> 
     print_unclear(output, &bulk.unclear)
 }
 
+/// Prints a payload that is laid out as no command that is known. One that begins as a change of user
+/// or a replica's registration may have a password.
+fn print_other<W: Write>(output: &mut W, payload: &[u8], secrets: Secrets) -> io::Result<()> {
+    match payload {
+        [CHANGE_USER | REGISTER_SLAVE, ..] => print_secret(output, "other", payload, secrets),
+        _ => print_text(output, "other", payload),
+    }
+}
+
 /// Prints a request of a replica.
-fn print_replication<W: Write>(output: &mut W, command: &Command) -> io::Result<()> {
+fn print_replication<W: Write>(
+    output: &mut W,
+    command: &Command,
+    secrets: Secrets,
+) -> io::Result<()> {
     match command {
         Command::BinlogDump(dump) => {
             print_text(output, "binlog-dump", dump.filename_raw())?;
@@ -207,13 +226,18 @@ fn print_replication<W: Write>(output: &mut W, command: &Command) -> io::Result<
             print_one(output, "register-slave", u64::from(replica.server_id()))
         }
         Command::Clone(arguments) => print_text(output, "clone", arguments.as_slice()),
-        Command::Other(payload) => print_text(output, "other", payload.as_slice()),
+        Command::Other(payload) => print_other(output, payload.as_slice(), secrets),
         _ => Ok(()),
     }
 }
 
 /// Prints a command about a prepared statement.
-fn print_prepared<W: Write>(alloc: Global, output: &mut W, command: &Command) -> io::Result<()> {
+fn print_prepared<W: Write>(
+    alloc: Global,
+    output: &mut W,
+    command: &Command,
+    secrets: Secrets,
+) -> io::Result<()> {
     match command {
         Command::Prepare(sql) => print_text(output, "prepare", sql.as_slice()),
         Command::Execute(execution) => print_execution(alloc, output, execution),
@@ -233,7 +257,7 @@ fn print_prepared<W: Write>(alloc: Global, output: &mut W, command: &Command) ->
             print_one(output, "fetch", u64::from(*stmt_id))?;
             print_number(output, u64::from(*rows))
         }
-        _ => print_replication(output, command),
+        _ => print_replication(output, command, secrets),
     }
 }
 
@@ -242,6 +266,7 @@ pub(crate) fn print_command<W: Write>(
     alloc: Global,
     output: &mut W,
     command: &Command,
+    secrets: Secrets,
 ) -> io::Result<()> {
     match command {
         Command::Quit => output.write_all(b"quit"),
@@ -267,6 +292,6 @@ pub(crate) fn print_command<W: Write>(
         Command::ChangeUser(change) => print_change(output, change),
         Command::SetOption(option) => print_one(output, "set-option", u64::from(*option)),
         Command::ResetConnection => output.write_all(b"reset-connection"),
-        _ => print_prepared(alloc, output, command),
+        _ => print_prepared(alloc, output, command, secrets),
     }
 }

@@ -1,8 +1,9 @@
 //! What a server says, as a line without its end.
 
-use crate::values::{print_bytes, print_number, print_one, print_text, print_value};
+use crate::values::{print_bytes, print_number, print_one, print_secret, print_text, print_value};
 use mysql_authentication::{AuthenticationEvent, GreetingEvent};
 use mysql_columns::Column;
+use mysql_event_lines::Secrets;
 use mysql_ok_packets::OkPacket;
 use mysql_reply_events::ReplyEvent;
 use mysql_rows::Row;
@@ -36,6 +37,7 @@ pub(crate) fn print_greeting<W: Write>(output: &mut W, event: &GreetingEvent) ->
 pub(crate) fn print_authentication<W: Write>(
     output: &mut W,
     event: &AuthenticationEvent,
+    secrets: Secrets,
 ) -> io::Result<()> {
     match event {
         AuthenticationEvent::Accepted(_) => output.write_all(b"accepted"),
@@ -46,11 +48,15 @@ pub(crate) fn print_authentication<W: Write>(
         AuthenticationEvent::OldAuthSwitch(request) => {
             print_text(output, "auth-switch", request.auth_plugin().as_bytes())
         }
-        AuthenticationEvent::AuthMore(more) => print_text(output, "auth-more", more.data()),
+        AuthenticationEvent::AuthMore(more) => {
+            print_secret(output, "auth-more", more.data(), secrets)
+        }
         AuthenticationEvent::NextFactor(request) => {
             print_text(output, "next-factor", request.auth_plugin_ref())
         }
-        AuthenticationEvent::PluginData(data) => print_text(output, "plugin-data", data.as_slice()),
+        AuthenticationEvent::PluginData(data) => {
+            print_secret(output, "plugin-data", data.as_slice(), secrets)
+        }
     }
 }
 

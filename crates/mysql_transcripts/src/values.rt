@@ -3,6 +3,7 @@
 ghost use Rattle.std.specs.Prelude.{◌≤◌, length};
 
 use mysql_cells::Value;
+use mysql_event_lines::Secrets;
 use mysql_queries::Content;
 use std::alloc::Global;
 use std::io;
@@ -47,6 +48,19 @@ pub(crate) fn print_bytes_if<W: Write>(output: &mut W, bytes: Option<&[u8]>) -> 
 pub(crate) fn print_text<W: Write>(output: &mut W, word: &str, bytes: &[u8]) -> io::Result<()> {
     write!(output, "{word}")?;
     print_bytes(output, bytes)
+}
+
+/// Prints a word, and bytes of an authentication behind it, or how many they are.
+pub(crate) fn print_secret<W: Write>(
+    output: &mut W,
+    word: &str,
+    bytes: &[u8],
+    secrets: Secrets,
+) -> io::Result<()> {
+    match secrets {
+        Secrets::Shown => print_text(output, word, bytes),
+        Secrets::Hidden => write!(output, "{word} ({} bytes)", bytes.len()),
+    }
 }
 
 /// Prints a number.
