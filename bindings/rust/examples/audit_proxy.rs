@@ -22,43 +22,50 @@
 //! - `--longest` is the longest payload of either side. `--held` is how much is held of a
 //!   connection in all, by default four times that.
 
-#[path = "audit_proxy/audit.rs"]
+// What both this example and the program `bindings/audit` do stands there.
+#[path = "../../audit/src/audit.rs"]
 mod audit;
-#[path = "audit_proxy/commands.rs"]
+#[path = "../../audit/src/commands.rs"]
 mod commands;
 mod common;
-#[path = "audit_proxy/lines.rs"]
+#[path = "../../audit/src/lines.rs"]
 mod lines;
-#[path = "audit_proxy/masking.rs"]
+#[path = "../../audit/src/masking.rs"]
 mod masking;
 #[path = "audit_proxy/passing.rs"]
 mod passing;
-#[path = "audit_proxy/texts.rs"]
+#[path = "../../audit/src/plain.rs"]
+mod plain;
+#[allow(dead_code)] // (the program has more of it told)
+#[path = "../../audit/src/teller.rs"]
+mod teller;
+#[path = "../../audit/src/texts.rs"]
 mod texts;
 
 use audit::{Audit, OnFault};
 use commands::Telling;
 use common::{write_packet, Failure, Unread, LIMIT};
-use lines::Format;
-use mysql_session::{capability, Greeting, Limits, PacketReader};
+use lines::{Answer, Format, Heading, Sink, Told};
+use mysql_session::{Limits, PacketReader};
 use passing::Passage;
+use plain::hide;
 use std::env;
-use std::io::{self, Write};
-use std::net::{TcpListener, TcpStream};
+use std::io::{self, ErrorKind, Write};
+use std::net::{SocketAddr, TcpListener, TcpStream, ToSocketAddrs};
 use std::process::{exit, ExitCode};
 use std::thread;
 use std::time::Duration;
+use teller::Origin;
 
 const USAGE: &str = "usage: audit_proxy LISTEN UPSTREAM [--json] [--secrets] \
                      [--on-fault pass|cut] [--pass-first] [--plain] [--longest BYTES] [--held BYTES]";
 
-/// What is taken out of the server's greeting by `--plain`.
-const HIDDEN: u32 = capability::CLIENT_COMPRESS
-    | capability::CLIENT_SSL
-    | capability::CLIENT_ZSTD_COMPRESSION_ALGORITHM;
-
-/// How long it waits where no client can be taken.
+/// How long it waits until what it has no descriptor for is tried again.
 const PAUSE: Duration = Duration::from_millis(20);
+/// How long an address of the server has to answer. Other clients wait for that.
+const PATIENCE: Duration = Duration::from_secs(5);
+/// What the system says where it has no descriptor: ENFILE and EMFILE.
+const NO_DESCRIPTOR: [i32; 2] = [23, 24];
 
 /// The first byte of a server's error.
 const ERROR: u8 = 0xff;
@@ -143,23 +150,42 @@ fn main() -> ExitCode {
     }
 }
 
-/// Prints a line. A proxy that can't print what it sees ends.
-fn print_line(line: &str) {
-    if let Err(error) = writeln!(io::stdout(), "{line}") {
-        eprintln!("what passes can't be printed: {error}");
-        exit(1);
+/// Prints lines. A proxy that can't print what it sees ends.
+pub struct Printer;
+
+impl Sink for Printer {
+    fn tell(&mut self, format: Format, heading: &Heading, told: &Told, answer: Option<&Answer>) {
+        let line = format.line(heading, told, answer);
+        if let Err(error) = writeln!(io::stdout(), "{line}") {
+            eprintln!("what passes can't be printed: {error}");
+            exit(1);
+        }
     }
 }
 
-/// Serves each client that connects, in own threads. A client for which no thread can be had
-/// is closed, and the others go on.
+/// Serves each client that connects, in own threads. A client whose server can't be reached, or for
+/// which no thread can be had, is closed, and the others go on.
+///
+/// The way to a client's server is opened before another client is taken. So no client takes the
+/// descriptor that another one waits for.
 fn listen(options: &Options) -> io::Result<()> {
+    let upstream: Vec<SocketAddr> = options.upstream.to_socket_addrs()?.collect();
     let listener = TcpListener::bind(&options.listen)?;
     eprintln!("listening at {}", listener.local_addr()?);
     for number in 1.. {
-        let (client, options) = (next_client(&listener), options.clone());
+        let client = with_descriptor(|| Ok(listener.accept()?.0));
+        let both = client.and_then(|client| Ok((client, with_descriptor(|| connect(&upstream))?)));
+        let (client, server) = match both {
+            Ok(both) => both,
+            Err(error) => {
+                eprintln!("connection {number}: {error}");
+                thread::sleep(PAUSE);
+                continue;
+            }
+        };
+        let options = options.clone();
         let serving = thread::Builder::new().spawn(move || {
-            if let Err(failure) = serve(number, client, &options) {
+            if let Err(failure) = serve(number, client, server, &options) {
                 eprintln!("connection {number}: {failure}");
             }
         });
@@ -170,33 +196,59 @@ fn listen(options: &Options) -> io::Result<()> {
     Ok(())
 }
 
-/// The next client. Where none can be had, as without a descriptor, that is told once. It is tried
-/// again until one is had.
-fn next_client(listener: &TcpListener) -> TcpStream {
+/// Opens a socket. Where no descriptor is left that is told once, and tried again until there is
+/// one.
+fn with_descriptor(open: impl Fn() -> io::Result<TcpStream>) -> io::Result<TcpStream> {
     let mut is_told = false;
     loop {
-        match listener.accept() {
-            Ok((client, _)) => return client,
-            Err(error) if is_told => drop(error),
-            Err(error) => {
-                eprintln!("no client can be taken for now: {error}");
-                is_told = true;
+        let error = match open() {
+            Err(error)
+                if error
+                    .raw_os_error()
+                    .is_some_and(|it| NO_DESCRIPTOR.contains(&it)) =>
+            {
+                error
             }
+            opened => return opened,
+        };
+        if !is_told {
+            eprintln!("no client can be taken for now: {error}");
+            is_told = true;
         }
         thread::sleep(PAUSE);
     }
 }
 
+/// The way to the server, at the first of its addresses that answers.
+fn connect(upstream: &[SocketAddr]) -> io::Result<TcpStream> {
+    let mut refused = ErrorKind::AddrNotAvailable.into();
+    for address in upstream {
+        match TcpStream::connect_timeout(address, PATIENCE) {
+            Ok(server) => return Ok(server),
+            Err(error) => refused = error,
+        }
+    }
+    Err(refused)
+}
+
 /// Passes all on between a client and the server, and tells what they say.
-fn serve(number: u64, client: TcpStream, options: &Options) -> Result<(), Failure> {
-    let mut server = TcpStream::connect(&options.upstream)?;
+fn serve(
+    number: u64,
+    client: TcpStream,
+    mut server: TcpStream,
+    options: &Options,
+) -> Result<(), Failure> {
     client.set_nodelay(true)?;
     server.set_nodelay(true)?;
     let audit = Audit::new(
-        number,
+        Origin {
+            number,
+            client: None,
+        },
         options.telling(),
         options.limits(),
         options.on_fault,
+        Printer,
     )?;
     let came = match options.plain {
         true => plain_greeting(&mut server)?,
@@ -218,21 +270,4 @@ fn plain_greeting(server: &mut TcpStream) -> Result<Vec<u8>, Failure> {
     write_packet(&mut came, 0, &payload)?;
     came.extend_from_slice(&unread.0);
     Ok(came)
-}
-
-/// Clears the bits of the hidden capabilities in a greeting. Their lower half stands behind the
-/// version, the connection's id and the first scramble, the upper one behind collation and status.
-fn hide(greeting: &mut [u8]) -> Result<(), Failure> {
-    let version = Greeting::read(greeting)?.version.len();
-    let lower = 1 + version + 1 + 4 + 8 + 1;
-    let upper = lower + 2 + 1 + 2;
-    for (at, bits) in [lower, lower + 1, upper, upper + 1]
-        .into_iter()
-        .zip(HIDDEN.to_le_bytes())
-    {
-        if let Some(byte) = greeting.get_mut(at) {
-            *byte &= !bits;
-        }
-    }
-    Ok(())
 }

@@ -1,6 +1,6 @@
 //! The statements that the auditing proxy shows without their passwords.
 
-#[path = "../examples/audit_proxy/masking.rs"]
+#[path = "../../audit/src/masking.rs"]
 mod masking;
 
 use masking::masked;

@@ -1,6 +1,7 @@
 //! Bytes on their way between two sockets, past the audit.
 
-use crate::audit::Audit;
+use crate::audit::{Audit, Follows};
+use crate::Printer;
 use mysql_session::Side;
 use std::io::{self, Read, Write};
 use std::net::{Shutdown, TcpStream};
@@ -11,7 +12,7 @@ const PIECE: usize = 1 << 16;
 
 /// What both directions of a connection share.
 pub struct Passage {
-    audit: Mutex<Audit>,
+    audit: Mutex<Audit<Printer>>,
     /// One of the sides was read further, or has ended.
     changed: Condvar,
     pass_first: bool,
@@ -25,7 +26,7 @@ struct Waiting {
 }
 
 impl Passage {
-    pub fn new(audit: Audit, pass_first: bool) -> Passage {
+    pub fn new(audit: Audit<Printer>, pass_first: bool) -> Passage {
         Passage {
             audit: Mutex::new(audit),
             changed: Condvar::new(),
@@ -49,7 +50,7 @@ impl Passage {
         Ok(())
     }
 
-    fn audit(&self) -> MutexGuard<'_, Audit> {
+    fn audit(&self) -> MutexGuard<'_, Audit<Printer>> {
         self.audit
             .lock()
             .expect("no thread panics while it has the audit")
@@ -146,5 +147,22 @@ impl Passage {
                 .wait(audit)
                 .expect("no thread panics while it has the audit");
         }
+    }
+}
+
+impl Audit<Printer> {
+    /// How many of the bytes that were taken of a side aren't read yet.
+    fn unread(&self, side: Side) -> usize {
+        match self.follows {
+            Follows::Reads => self.connection.rest(side).len(),
+            Follows::Passes | Follows::Cuts => 0,
+        }
+    }
+
+    /// Whether more bytes of a side can be read before the other side has spoken.
+    fn is_due(&self, side: Side) -> bool {
+        self.follows != Follows::Reads
+            || self.connection.turn() == Some(side)
+            || self.ended.contains(&side.other())
     }
 }

@@ -30,7 +30,10 @@ pub struct Told {
 
 /// A result in a server's reply.
 pub enum Outcome {
-    Rows(u64),
+    Rows {
+        rows: u64,
+        warnings: u16,
+    },
     Done {
         affected: u64,
         insert_id: u64,
@@ -56,6 +59,8 @@ pub enum Outcome {
 /// The connection that a line is about.
 pub struct Heading<'a> {
     pub connection: u64,
+    /// The client's address. Where there is none, nor is told when a reply began, and its bytes.
+    pub client: Option<&'a str>,
     pub user: &'a [u8],
     pub database: &'a [u8],
 }
@@ -64,7 +69,16 @@ pub struct Heading<'a> {
 pub struct Answer<'a> {
     pub outcomes: &'a [Outcome],
     pub took: Duration,
+    /// How long it took to the reply's first byte.
+    pub first: Option<Duration>,
+    /// How many bytes of the client and of the server it took.
+    pub traffic: [u64; 2],
     pub whole: bool,
+}
+
+/// What takes the lines of connections.
+pub trait Sink {
+    fn tell(&mut self, format: Format, heading: &Heading, told: &Told, answer: Option<&Answer>);
 }
 
 impl Told {
@@ -220,8 +234,11 @@ impl Format {
 
 fn text_line(heading: &Heading, told: &Told, answer: Option<&Answer>) -> String {
     let (user, database) = (readable(heading.user), readable(heading.database));
-    let mut line = format!("{} #{} {user}@{database} ", now(), heading.connection);
-    line += told.kind;
+    let mut line = format!("{} #{} ", now(), heading.connection);
+    if let Some(client) = heading.client {
+        let _ = write!(line, "{client} ");
+    }
+    let _ = write!(line, "{user}@{database} {}", told.kind);
     for (name, what) in &told.fields {
         let _ = write!(line, " {name}={what}");
     }
@@ -237,14 +254,22 @@ fn text_line(heading: &Heading, told: &Told, answer: Option<&Answer>) -> String 
             outcomes.push("no whole reply".to_string());
         }
         let seconds = answer.took.as_secs_f64();
-        let _ = write!(line, " -> {} ({seconds:.6} s)", outcomes.join("; "));
+        let _ = write!(line, " -> {} ({seconds:.6} s", outcomes.join("; "));
+        if heading.client.is_some() {
+            if let Some(first) = answer.first {
+                let _ = write!(line, ", first {:.6} s", first.as_secs_f64());
+            }
+            let [client, server] = answer.traffic;
+            let _ = write!(line, ", {client} + {server} bytes");
+        }
+        line.push(')');
     }
     line
 }
 
 fn text_outcome(outcome: &Outcome) -> String {
     match outcome {
-        Outcome::Rows(rows) => counted(*rows, "row"),
+        Outcome::Rows { rows, warnings } => counted(*rows, "row") + &and_warnings(*warnings),
         Outcome::Done {
             affected,
             insert_id,
@@ -257,10 +282,7 @@ fn text_outcome(outcome: &Outcome) -> String {
             if *insert_id > 0 {
                 let _ = write!(text, ", id {insert_id}");
             }
-            if *warnings > 0 {
-                let _ = write!(text, ", {}", counted(u64::from(*warnings), "warning"));
-            }
-            text
+            text + &and_warnings(*warnings)
         }
         Outcome::Error {
             code,
@@ -282,6 +304,13 @@ fn text_outcome(outcome: &Outcome) -> String {
     }
 }
 
+fn and_warnings(number: u16) -> String {
+    match number {
+        0 => String::new(),
+        _ => format!(", {}", counted(u64::from(number), "warning")),
+    }
+}
+
 /// A number of things, with their name in the plural where there isn't one.
 fn counted(number: u64, name: &str) -> String {
     let end = if number == 1 { "" } else { "s" };
@@ -290,11 +319,17 @@ fn counted(number: u64, name: &str) -> String {
 
 fn json_line(heading: &Heading, told: &Told, answer: Option<&Answer>) -> String {
     let mut line = format!(
-        r#"{{"time":"{}","connection":{},"user":{},"database":{},"kind":"{}""#,
+        r#"{{"time":"{}","connection":{}"#,
         now(),
-        heading.connection,
-        json_text(heading.user),
-        json_text(heading.database),
+        heading.connection
+    );
+    if let Some(client) = heading.client {
+        let _ = write!(line, r#","client":"{client}""#);
+    }
+    let (user, database) = (json_text(heading.user), json_text(heading.database));
+    let _ = write!(
+        line,
+        r#","user":{user},"database":{database},"kind":"{}""#,
         told.kind
     );
     let texts = told.text.iter().map(|text| ("text", text));
@@ -310,13 +345,20 @@ fn json_line(heading: &Heading, told: &Told, answer: Option<&Answer>) -> String 
             line,
             r#","results":{outcomes},"whole":{whole},"seconds":{seconds:.6}"#
         );
+        if heading.client.is_some() {
+            if let Some(first) = answer.first {
+                let _ = write!(line, r#","first":{:.6}"#, first.as_secs_f64());
+            }
+            let _ = write!(line, r#","traffic":{:?}"#, answer.traffic);
+        }
     }
     line + "}"
 }
 
 fn json_outcome(outcome: &Outcome) -> String {
     match outcome {
-        Outcome::Rows(rows) => format!(r#"{{"rows":{rows}}}"#),
+        Outcome::Rows { rows, warnings: 0 } => format!(r#"{{"rows":{rows}}}"#),
+        Outcome::Rows { rows, warnings } => format!(r#"{{"rows":{rows},"warnings":{warnings}}}"#),
         Outcome::Done {
             affected,
             insert_id,

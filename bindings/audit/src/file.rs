@@ -1,0 +1,338 @@
+//! The file that lines are appended to: begun anew at a size or when it is asked for, and what is
+//! done where it takes no more.
+
+use crate::lines::Format;
+use crate::options::LogFull;
+use crate::texts::now;
+use std::fmt::Display;
+use std::fs::{self, File, OpenOptions};
+use std::io::{self, ErrorKind, Write};
+use std::os::fd::AsFd;
+use std::os::unix::fs::OpenOptionsExt;
+use std::path::{Path, PathBuf};
+use std::process::exit;
+use std::sync::atomic::{AtomicBool, Ordering};
+use std::sync::Arc;
+use std::thread::sleep;
+use std::time::Duration;
+
+/// How long it waits until a line is tried again.
+const PAUSE: Duration = Duration::from_millis(50);
+
+/// What others ask of the file, also while it waits.
+#[derive(Default)]
+pub struct Asked {
+    pub reopens: AtomicBool,
+    /// Nothing is tried again.
+    pub gives_up: AtomicBool,
+}
+
+/// How it is written.
+#[derive(Clone)]
+pub struct Manner {
+    pub format: Format,
+    pub full: LogFull,
+    pub rotate: u64,
+    pub keep: u16,
+}
+
+pub struct LogFile {
+    path: Option<PathBuf>,
+    file: File,
+    size: u64,
+    manner: Manner,
+    asked: Arc<Asked>,
+    /// The rest of a line whose front was written.
+    torn: Vec<u8>,
+    /// How many lines were lost that no line tells yet.
+    pub lost: u64,
+    is_failing: bool,
+}
+
+/// Says something on standard error, if there is one.
+pub fn say(what: &str) {
+    let _ = writeln!(io::stderr(), "{what}");
+}
+
+fn open(path: Option<&Path>) -> io::Result<File> {
+    match path {
+        Some(path) => {
+            let mut how = OpenOptions::new();
+            how.append(true).create(true).mode(0o640).open(path)
+        }
+        None => Ok(io::stdout().as_fd().try_clone_to_owned()?.into()),
+    }
+}
+
+fn count_lines(bytes: &[u8]) -> u64 {
+    bytes.iter().filter(|byte| **byte == b'\n').count() as u64
+}
+
+/// How many of these bytes are whole lines within the room: at least one.
+fn front(lines: &[u8], room: u64) -> usize {
+    let room = usize::try_from(room).unwrap_or(usize::MAX).min(lines.len());
+    let last = lines[..room].iter().rposition(|byte| *byte == b'\n');
+    let first = || lines.iter().position(|byte| *byte == b'\n');
+    last.or_else(first).map_or(lines.len(), |at| at + 1)
+}
+
+impl LogFile {
+    pub fn open(path: Option<PathBuf>, manner: Manner, asked: Arc<Asked>) -> io::Result<LogFile> {
+        let file = open(path.as_deref())?;
+        Ok(LogFile {
+            size: file.metadata().map_or(0, |it| it.len()),
+            path,
+            file,
+            manner,
+            asked,
+            torn: Vec::new(),
+            lost: 0,
+            is_failing: false,
+        })
+    }
+
+    /// Writes lines, or loses them. Before them it tells how many were lost.
+    pub fn write(&mut self, mut lines: &[u8]) {
+        self.reopen_if_asked();
+        if self.lost > 0 && !self.tell_lost() {
+            self.lost += count_lines(lines);
+            return;
+        }
+        while !lines.is_empty() {
+            let count = self.make_room(lines);
+            let (piece, rest) = lines.split_at(count);
+            if let Err(done) = self.put(piece) {
+                self.lose(&piece[done..], done > 0 && piece[done - 1] != b'\n');
+                self.lost += count_lines(rest);
+                return;
+            }
+            lines = rest;
+        }
+    }
+
+    /// Tells how many lines were lost. Where it can't be told, the number stays.
+    fn tell_lost(&mut self) -> bool {
+        let (time, lost) = (now(), self.lost);
+        let line = match self.manner.format {
+            Format::Json => format!("{{\"time\":\"{time}\",\"kind\":\"lost\",\"lines\":{lost}}}\n"),
+            Format::Text => format!("{time} lost lines={lost}\n"),
+        };
+        match self.put(line.as_bytes()) {
+            Ok(()) => self.lost = 0,
+            Err(0) => return false,
+            Err(done) => {
+                self.lost = 0;
+                self.torn = line.as_bytes()[done..].to_vec();
+                return false;
+            }
+        }
+        say(&format!("the log is written again: {lost} lines were lost"));
+        true
+    }
+
+    /// Counts the lines of what wasn't written. Of a line whose front was written the rest is kept,
+    /// so that it goes on where it was torn.
+    fn lose(&mut self, unwritten: &[u8], is_torn: bool) {
+        let torn = if is_torn { front(unwritten, 0) } else { 0 };
+        self.torn.extend_from_slice(&unwritten[..torn]);
+        self.lost += count_lines(&unwritten[torn..]);
+    }
+
+    /// Writes bytes behind the rest of a torn line. The answer is how many of them were written,
+    /// where these aren't all.
+    fn put(&mut self, bytes: &[u8]) -> Result<(), usize> {
+        let torn = std::mem::take(&mut self.torn);
+        let written = self.put_all(&torn);
+        if written < torn.len() && self.torn.is_empty() {
+            self.torn = torn[written..].to_vec();
+            return Err(0);
+        }
+        match self.put_all(bytes) {
+            written if written == bytes.len() => Ok(()),
+            written => Err(written),
+        }
+    }
+
+    fn put_all(&mut self, bytes: &[u8]) -> usize {
+        let mut done = 0;
+        while done < bytes.len() {
+            let error = match self.file.write(&bytes[done..]) {
+                Ok(count) if count > 0 => {
+                    done += count;
+                    self.size += count as u64;
+                    self.is_failing = false;
+                    continue;
+                }
+                Ok(_) => ErrorKind::WriteZero.into(),
+                Err(error) if error.kind() == ErrorKind::Interrupted => continue,
+                Err(error) => error,
+            };
+            if !self.is_tried_again(&error) {
+                break;
+            }
+        }
+        done
+    }
+
+    /// What is done about an error: whether the same bytes are tried again.
+    fn is_tried_again(&mut self, error: &io::Error) -> bool {
+        if !self.is_failing {
+            say(&format!("the log can't be written: {error}"));
+            self.is_failing = true;
+        }
+        match self.manner.full {
+            LogFull::Pass => false,
+            LogFull::Stop => exit(1),
+            LogFull::Wait => {
+                sleep(PAUSE);
+                self.reopen_if_asked();
+                !self.asked.gives_up.load(Ordering::Relaxed)
+            }
+        }
+    }
+
+    /// Opens the file anew, which may have been moved away.
+    pub fn reopen_if_asked(&mut self) {
+        if !self.asked.reopens.swap(false, Ordering::Relaxed) || self.path.is_none() {
+            return;
+        }
+        self.lost += u64::from(!self.torn.is_empty());
+        self.torn.clear();
+        match open(self.path.as_deref()) {
+            Ok(file) => {
+                self.size = file.metadata().map_or(0, |it| it.len());
+                self.file = file;
+            }
+            Err(error) => say(&format!("the log can't be opened anew: {error}")),
+        }
+    }
+
+    /// How many of these bytes go into the file, another one where it has its size.
+    fn make_room(&mut self, lines: &[u8]) -> usize {
+        if self.manner.rotate == 0 || self.path.is_none() {
+            return lines.len();
+        }
+        let first = front(lines, 0) as u64;
+        if self.size > 0 && self.size + first > self.manner.rotate && self.torn.is_empty() {
+            if let Err(error) = self.rotate() {
+                say(&format!("the log can't be rotated: {error}"));
+            }
+            // Where that failed, it is tried again behind as many bytes.
+            self.size = 0;
+        }
+        front(lines, self.manner.rotate.saturating_sub(self.size))
+    }
+
+    /// Begins another file. It is opened first, so that nothing has changed where that fails.
+    fn rotate(&mut self) -> io::Result<()> {
+        let Some(path) = &self.path else {
+            return Ok(());
+        };
+        let next = beside(path, "new");
+        let file = open(Some(&next))?;
+        let moved = move_on(path, self.manner.keep).and_then(|()| fs::rename(&next, path));
+        if let Err(error) = moved {
+            let _ = fs::remove_file(next);
+            return Err(error);
+        }
+        self.file = file;
+        Ok(())
+    }
+}
+
+/// The file beside another that has this end.
+fn beside(path: &Path, end: impl Display) -> PathBuf {
+    let mut name = path.to_path_buf().into_os_string();
+    name.push(format!(".{end}"));
+    PathBuf::from(name)
+}
+
+/// Gives a file, and older ones, their next numbers. Of them so many are kept.
+fn move_on(path: &Path, keep: u16) -> io::Result<()> {
+    for number in (1..keep).rev() {
+        is_there(fs::rename(beside(path, number), beside(path, number + 1)))?;
+    }
+    is_there(match keep {
+        0 => fs::remove_file(path),
+        _ => fs::rename(path, beside(path, 1)),
+    })
+}
+
+/// What came of a file, but for one that isn't there.
+fn is_there(done: io::Result<()>) -> io::Result<()> {
+    match done {
+        Err(error) if error.kind() == ErrorKind::NotFound => Ok(()),
+        done => done,
+    }
+}
+
+#[cfg(test)]
+mod tests {
+    use super::{front, Arc, Asked, Format, LogFile, LogFull, Manner};
+    use std::fs;
+    use std::path::PathBuf;
+
+    fn log(name: &str, rotate: u64, keep: u16) -> (PathBuf, LogFile) {
+        let folder = std::env::temp_dir().join(format!("audit-{name}-{}", std::process::id()));
+        let _ = fs::remove_dir_all(&folder);
+        fs::create_dir(&folder).expect("a folder");
+        let manner = Manner {
+            format: Format::Json,
+            full: LogFull::Pass,
+            rotate,
+            keep,
+        };
+        let path = Some(folder.join("log"));
+        let file = LogFile::open(path, manner, Arc::new(Asked::default()));
+        (folder, file.expect("a log"))
+    }
+
+    #[test]
+    fn a_front_has_whole_lines() {
+        assert_eq!(4, front(b"one\ntwo\n", 7));
+        assert_eq!(8, front(b"one\ntwo\n", 8));
+        assert_eq!(4, front(b"one\ntwo\n", 2));
+        assert_eq!(3, front(b"one", 2));
+    }
+
+    #[test]
+    fn it_rotates_between_lines_and_keeps_some() {
+        let (folder, mut log) = log("rotate", 10, 2);
+        log.write(b"one\ntwo\nthree\nfour\n");
+        log.write(b"a line of more bytes\nfive\n");
+        let text = |name| fs::read_to_string(folder.join(name)).expect("a file");
+        assert_eq!("five\n", text("log"));
+        assert_eq!("a line of more bytes\n", text("log.1"));
+        assert_eq!("four\n", text("log.2"));
+        assert!(!folder.join("log.3").exists());
+        fs::remove_dir_all(folder).expect("the folder");
+    }
+
+    #[test]
+    fn where_it_cant_rotate_it_goes_on() {
+        let (folder, mut log) = log("stays", 10, 2);
+        fs::create_dir(folder.join("log.new")).expect("a folder in the next file's place");
+        log.write(b"one\ntwo\nthree\nfour\n");
+        let text = |name| fs::read_to_string(folder.join(name)).expect("a file");
+        assert_eq!("one\ntwo\nthree\nfour\n", text("log"));
+        fs::remove_dir(folder.join("log.new")).expect("the folder");
+        log.write(b"five\nsix\n");
+        assert_eq!(
+            ("one\ntwo\nthree\nfour\nfive\n", "six\n"),
+            (&*text("log.1"), &*text("log"))
+        );
+        fs::remove_dir_all(folder).expect("the folder");
+    }
+
+    #[test]
+    fn what_is_torn_goes_on_and_what_is_lost_is_told() {
+        let (folder, mut log) = log("torn", 0, 2);
+        log.lose(b"st of a line\nanother\nand one more\n", true);
+        assert_eq!((2, &b"st of a line\n"[..]), (log.lost, &log.torn[..]));
+        log.write(b"next\n");
+        let text = fs::read_to_string(folder.join("log")).expect("a file");
+        assert!(text.starts_with("st of a line\n{\"time\":\""));
+        assert!(text.ends_with("\"kind\":\"lost\",\"lines\":2}\nnext\n"));
+        fs::remove_dir_all(folder).expect("the folder");
+    }
+}

@@ -1,0 +1,327 @@
+//! What the events of a connection become: a line for each command whose reply is whole.
+
+use crate::commands::{asked, Telling};
+use crate::lines::{Answer, Format, Heading, Outcome, Sink, Told};
+use mysql_session::{status, ErrorPacket, Event, OkPacket, Side};
+use std::fmt::Display;
+use std::mem;
+use std::time::{Duration, Instant};
+
+/// A command, or a login, whose reply isn't whole.
+struct Running {
+    told: Told,
+    began: Instant,
+    /// When the first byte of the reply came.
+    first: Option<Instant>,
+    outcomes: Vec<Outcome>,
+    /// The rows of a result that hasn't ended.
+    rows: Option<u64>,
+    /// How many columns it has, and how many of them are to come.
+    columns: [u16; 2],
+    /// Whether its values are laid out as those of an execution.
+    is_binary: bool,
+    /// What the connection's user and database are where the server agrees.
+    becomes: Option<(Option<Vec<u8>>, Vec<u8>)>,
+}
+
+/// The connection that lines are about.
+pub struct Origin {
+    pub number: u64,
+    /// The client's address, where it is told.
+    pub client: Option<Box<str>>,
+}
+
+/// Tells the events of a connection.
+pub struct Teller<S> {
+    origin: Origin,
+    format: Format,
+    pub telling: Telling,
+    sink: S,
+    user: Vec<u8>,
+    database: Vec<u8>,
+    /// The server's number of the connection.
+    thread: u32,
+    running: Option<Running>,
+    /// How many bytes the payload has whose front is read next.
+    length: Option<usize>,
+    /// Whether the server said that a transaction is open.
+    pub in_transaction: bool,
+    pub commands: u64,
+    /// How many bytes of each side came.
+    pub came: [u64; 2],
+    /// How many of them were told.
+    told: [u64; 2],
+    began: Instant,
+}
+
+impl<S: Sink> Teller<S> {
+    pub fn new(origin: Origin, telling: Telling, sink: S) -> Teller<S> {
+        Teller {
+            origin,
+            format: telling.format,
+            telling,
+            sink,
+            user: Vec::new(),
+            database: Vec::new(),
+            thread: 0,
+            running: None,
+            length: None,
+            in_transaction: false,
+            commands: 0,
+            came: [0; 2],
+            told: [0; 2],
+            began: Instant::now(),
+        }
+    }
+
+    /// Whether a command's, or a login's, reply isn't whole.
+    pub fn is_running(&self) -> bool {
+        self.running.is_some()
+    }
+
+    /// Notes that bytes of a side came.
+    pub fn take_bytes(&mut self, side: Side, count: usize) {
+        self.came[side as usize] += count as u64;
+        if let (Side::Server, Some(running)) = (side, &mut self.running) {
+            running.first.get_or_insert_with(Instant::now);
+        }
+    }
+
+    pub fn take(&mut self, event: &Event) {
+        match event {
+            Event::Greeting(greeting) => self.thread = greeting.connection,
+            Event::Login(login) => {
+                self.begin(Told::new("login").with("thread", self.thread));
+                // One that is refused is told by this name, too.
+                (self.user, self.database) = (login.user.to_vec(), login.database.to_vec());
+            }
+            Event::ChangeUser(change) => {
+                let to = self.format.text(change.user);
+                self.begin(Told::new("change user").with("to", to));
+                self.will_become(Some(change.user), change.database);
+            }
+            Event::InitDb(database) => {
+                self.begin(Told::new("init db").with_text(self.format.text(database)));
+                self.will_become(None, database);
+            }
+            Event::Rejected(error) => self.tell_error("refused", error),
+            Event::Farewell(error) => self.tell_error("farewell", error),
+            event => match asked(self.telling, event) {
+                Some(told) => {
+                    self.telling.has_secrets |= told.is_secret && told.kind == "prepare";
+                    self.begin(told);
+                    if let Some(running) = &mut self.running {
+                        running.is_binary = is_execution(event);
+                    }
+                }
+                None => self.take_reply(event),
+            },
+        }
+    }
+
+    /// Takes what a server answers, or the bytes of a file that it asked for.
+    fn take_reply(&mut self, event: &Event) {
+        let Some(running) = &mut self.running else {
+            return;
+        };
+        running.first.get_or_insert_with(Instant::now);
+        if let Event::Accepted(ok) | Event::Ok(ok) | Event::RowsEnd(ok) = event {
+            self.in_transaction = ok.status & status::SERVER_STATUS_IN_TRANS != 0;
+        }
+        match event {
+            Event::ColumnCount {
+                count,
+                columns_follow,
+            } => {
+                running.rows = Some(0);
+                running.columns = [*count, u16::from(*columns_follow) * count];
+            }
+            Event::Column(_) => running.columns[1] = running.columns[1].saturating_sub(1),
+            Event::Row(_) | Event::RawRow(_) | Event::Field { .. } => {
+                *running.rows.get_or_insert(0) += 1;
+            }
+            Event::RowsEnd(ok) => running.take_end(ok),
+            Event::FileData(data) => {
+                if let Some(Outcome::File { bytes, .. }) = running.outcomes.last_mut() {
+                    *bytes += data.len() as u64;
+                }
+            }
+            event => {
+                if let Some(outcome) = Outcome::of(event) {
+                    // An error may stand in a row's place.
+                    running.end_rows();
+                    running.outcomes.push(outcome);
+                }
+            }
+        }
+    }
+
+    /// A row without values, in the place of one that isn't read. None where none is due, or its
+    /// form isn't known.
+    pub fn row_of_nulls(&self) -> Option<Vec<u8>> {
+        let running = self.running.as_ref()?;
+        let ([columns, 0], Some(_)) = (running.columns, running.rows) else {
+            return None;
+        };
+        let columns = usize::from(columns);
+        if !running.is_binary {
+            return Some(vec![0xfb; columns]);
+        }
+        // Two bits of the bitmap stand before the columns.
+        let bits = vec![0xff; (columns + 2).div_ceil(8)];
+        Some([vec![0], bits].concat())
+    }
+
+    /// Notes that the next payload stands for one of so many bytes, of which so many are left out.
+    pub fn skip(&mut self, length: usize, left_out: usize) {
+        self.length = Some(length);
+        let outcome = self.running.as_mut().and_then(|it| it.outcomes.last_mut());
+        if let Some(Outcome::File { bytes, .. }) = outcome {
+            *bytes += left_out as u64;
+        }
+    }
+
+    /// Tells of a payload that was skipped, where no line of a command does.
+    pub fn end_skip(&mut self, side: Side) {
+        if let Some(length) = self.length.take() {
+            let by = self.format.text(side.to_string().as_bytes());
+            let told = Told::new("skipped").with("by", by).with("length", length);
+            self.tell(&told, None);
+        }
+    }
+
+    /// Tells an error that answers nothing that was asked.
+    fn tell_error(&mut self, kind: &'static str, error: &ErrorPacket) {
+        self.finish_command(false, [0; 2]);
+        let answer = Answer {
+            outcomes: &[Outcome::error(error)],
+            took: Duration::ZERO,
+            first: None,
+            traffic: self.take_untold([0; 2]),
+            whole: true,
+        };
+        self.tell(&Told::new(kind), Some(&answer));
+    }
+
+    fn begin(&mut self, told: Told) {
+        let told = match self.length.take() {
+            Some(length) => told.with("length", length),
+            None => told,
+        };
+        self.commands += u64::from(told.kind != "login");
+        self.running = Some(Running {
+            told,
+            began: Instant::now(),
+            first: None,
+            outcomes: Vec::new(),
+            rows: None,
+            columns: [0; 2],
+            is_binary: false,
+            becomes: None,
+        });
+    }
+
+    fn will_become(&mut self, user: Option<&[u8]>, database: &[u8]) {
+        if let Some(running) = &mut self.running {
+            running.becomes = Some((user.map(<[u8]>::to_vec), database.to_vec()));
+        }
+    }
+
+    /// How many bytes of each side were read and aren't told, where so many aren't read.
+    fn take_untold(&mut self, unread: [usize; 2]) -> [u64; 2] {
+        [0, 1].map(|side| {
+            let read = self.came[side].saturating_sub(unread[side] as u64);
+            read.saturating_sub(mem::replace(&mut self.told[side], read))
+        })
+    }
+
+    /// Tells the command that ran, if one did, with its reply or what came of it. Of each side so
+    /// many bytes aren't read.
+    pub fn finish_command(&mut self, whole: bool, unread: [usize; 2]) {
+        let Some(mut running) = self.running.take() else {
+            return;
+        };
+        running.end_rows();
+        if let (Some(Outcome::Done { .. }), Some((user, database))) =
+            (running.outcomes.last(), running.becomes.take())
+        {
+            self.user = user.unwrap_or_else(|| mem::take(&mut self.user));
+            self.database = database;
+        }
+        if running.told.is_secret {
+            running.outcomes.iter_mut().for_each(Outcome::hide_message);
+        }
+        let answer = Answer {
+            outcomes: &running.outcomes,
+            took: running.began.elapsed(),
+            first: running.first.map(|first| first - running.began),
+            traffic: self.take_untold(unread),
+            whole,
+        };
+        self.tell(&running.told, Some(&answer));
+    }
+
+    fn tell(&mut self, told: &Told, answer: Option<&Answer>) {
+        let heading = Heading {
+            connection: self.origin.number,
+            client: self.origin.client.as_deref(),
+            user: &self.user,
+            database: &self.database,
+        };
+        self.sink.tell(self.format, &heading, told, answer);
+    }
+
+    pub fn tell_unread(&mut self, kind: &'static str, why: &dyn Display) {
+        self.finish_command(false, [0; 2]);
+        let why = self.format.text(why.to_string().as_bytes());
+        self.tell(&Told::new(kind).with_text(why), None);
+    }
+
+    pub fn end(&mut self, by: &dyn Display, how: &str) {
+        let seconds = format!("{:.6}", self.began.elapsed().as_secs_f64());
+        let mut told = Told::new("end")
+            .with("by", self.format.text(by.to_string().as_bytes()))
+            .with("commands", self.commands)
+            .with("seconds", seconds);
+        if self.origin.client.is_some() {
+            let [client, server] = self.came;
+            told = told.with("traffic", format!("[{client},{server}]"));
+            if self.in_transaction {
+                told = told.with("transaction", true);
+            }
+        }
+        self.tell(&told.with_text(self.format.text(how.as_bytes())), None);
+    }
+}
+
+/// Whether it is an execution, also one that can't be read.
+fn is_execution(event: &Event) -> bool {
+    match event {
+        Event::Execute { .. } | Event::BulkExecute { .. } => true,
+        Event::Other(payload) => matches!(payload.first(), Some(0x17 | 0xfa)),
+        _ => false,
+    }
+}
+
+impl Running {
+    fn end_rows(&mut self) {
+        self.end_rows_with(0);
+    }
+
+    fn end_rows_with(&mut self, warnings: u16) {
+        let rows = self.rows.take();
+        self.outcomes
+            .extend(rows.map(|rows| Outcome::Rows { rows, warnings }));
+    }
+
+    /// Takes the packet that ends rows. Some commands are answered by it alone.
+    fn take_end(&mut self, ok: &OkPacket) {
+        match self.rows {
+            None if self.told.kind != "fetch" => self.outcomes.push(Outcome::done(ok)),
+            _ => {
+                self.rows.get_or_insert(0);
+                self.end_rows_with(ok.warnings);
+            }
+        }
+    }
+}

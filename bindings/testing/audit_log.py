@@ -1,0 +1,261 @@
+"""What becomes of the lines of bindings/audit: its log is full, slow, moved away or filtered."""
+
+import fcntl
+import json
+import os
+import resource
+import signal
+import sys
+import termios
+import threading
+import time
+
+from audit_support import ERROR, OK, Pair, Program, lines_of, log_file, packet, query, receive, \
+    wait_for
+from recorded import check
+
+# How long a file may get where the disk is to be full.
+FULL = 20000
+
+
+def limit_files():
+    """Has a file take no more, as on a full disk."""
+    resource.setrlimit(resource.RLIMIT_FSIZE, (FULL, FULL))
+
+
+def texts(records):
+    """Returns the texts of queries."""
+    return [it["text"] for it in records if it["kind"] == "query"]
+
+
+def check_full_disk(executable):
+    """Clients go on where the disk is full. Once it has room, no line is torn, and those that are
+    lost are counted."""
+    with log_file() as log, Program(executable, "--log", str(log), preexec_fn=limit_files) as proxy:
+        pair, count = Pair(proxy), 400
+        for number in range(count):
+            pair.say(f"SELECT {number}")
+        wait_for(lambda: log.stat().st_size == FULL, "a full log")
+        text = log.read_text()
+        os.truncate(log, 0)
+        for number in range(count, count + 20):
+            pair.say(f"SELECT {number}")
+        proxy.stop()
+        records = lines_of(text + log.read_text())
+        lost = sum(it["lines"] for it in records if it["kind"] == "lost")
+        queries = texts(records)
+        check(count + 20, len(queries) + lost, "lines that are written, and those that are lost")
+        check("SELECT 419", queries[-1], "the last line")
+        check(True, lost > 100, "whether lines were lost")
+        said = proxy.said()
+        check(True, "the log can't be written: File too large" in said, "what is said of the log")
+        check(True, f"{lost} lines were lost" in said, "what is said of the lines")
+        pair.close()
+
+
+def check_waits(executable, *options):
+    """Clients wait where the disk is full, and no line is lost."""
+    with log_file() as log, Program(executable, "--log", str(log), "--log-held", "2000", *options,
+                                    preexec_fn=limit_files) as proxy:
+        pair, count, answered = Pair(proxy), 400, []
+
+        def say():
+            for number in range(count):
+                pair.say(f"SELECT {number}")
+                answered.append(number)
+
+        saying = threading.Thread(target=say)
+        saying.start()
+        texts_before = []
+
+        def make_room():
+            if log.stat().st_size == FULL:
+                texts_before.append(log.read_text())
+                known = "".join(texts_before).count('"kind":"query"')
+                check(True, "--strict" not in options or len(answered) <= known, "answers")
+                os.truncate(log, 0)
+
+        while saying.is_alive():
+            saying.join(0.3)
+            make_room()
+        pair.close()
+
+        def has_end():
+            make_room()
+            return '"end"' in "".join(texts_before) + log.read_text()
+
+        wait_for(has_end, "an end")
+        make_room()
+        proxy.stop()
+        records = lines_of("".join(texts_before) + log.read_text())
+        check([f"SELECT {number}" for number in range(count)], texts(records), "all lines")
+        check([], [it for it in records if it["kind"] == "lost"], "lines that are lost")
+
+
+def check_dev_full(executable):
+    """A log that never takes a line: clients go on, or the program ends, as it is told."""
+    with Program(executable, "--log", "/dev/full") as proxy:
+        pair = Pair(proxy)
+        for _ in range(5):
+            pair.say("SELECT 1")
+        proxy.stop(1)
+        check(True, "7 lines were lost" in proxy.said(), "what is said")
+        pair.close()
+    with Program(executable, "--log", "/dev/full", "--log-full", "wait", "--grace", "0.3") as proxy:
+        pair = Pair(proxy)
+        proxy.stop(1)
+        # On a busy machine the last line isn't given up before the program ends.
+        said = proxy.said()
+        check(True, "lines were lost" in said or "last lines couldn't be written" in said,
+              "what is said behind a wait")
+        pair.close()
+    for options in ([], ["--strict"]):
+        with Program(executable, "--log", "/dev/full", "--log-full", "stop", *options) as proxy:
+            pair = Pair(proxy, logs_in=False)
+            pair.close()
+            check(1, proxy.process.wait(60), "the status of one that stops")
+
+
+def check_slow_reader(executable):
+    """Nobody reads the log for a while. Clients go on and lines are counted, or they wait."""
+    count = 3000
+    with Program(executable, "--log-held", "100000") as proxy:
+        pair = Pair(proxy)
+        for number in range(count):
+            pair.say(f"SELECT {number}")
+        pair.close()
+        written, lost = 0, 0
+        while written + lost < count or not lost:
+            record = json.loads(proxy.process.stdout.readline())
+            written += record["kind"] == "query"
+            lost += record["lines"] if record["kind"] == "lost" else 0
+        # A login and an end may be lost, too.
+        check(True, written + lost in range(count, count + 3), "lines that are written, or lost")
+        proxy.stop()
+    with Program(executable, "--log-held", "10000", "--log-full", "wait") as proxy:
+        pair = Pair(proxy)
+        said = b"".join(query(f"SELECT {number}") for number in range(count))
+        sender = threading.Thread(target=pair.client.sendall, args=[said])
+        answers = threading.Thread(target=pair.server.sendall, args=[packet(1, OK) * count])
+        for it in (sender, answers):
+            it.start()
+        found = []
+        while len(found) < count:
+            found += texts([json.loads(proxy.process.stdout.readline())])
+        check([f"SELECT {number}" for number in range(count)], found, "all lines")
+        check(packet(1, OK) * count, receive(pair.client, 11 * count), "all answers")
+        for it in (sender, answers):
+            it.join()
+        pair.close()
+        proxy.stop()
+
+
+def check_stuck(executable):
+    """Nobody reads a strict line, and clients are refused besides: a signal still ends the program."""
+    with Program(executable, "--strict", "--connections", "1", "--grace", "0.3") as proxy:
+        pair, waiting = Pair(proxy), bytearray(4)
+        # A pipe has no room for such a line.
+        pair.ask("SELECT '" + "x" * (1 << 18) + "'")
+        pair.server.sendall(packet(1, OK))
+
+        def begins():
+            fcntl.ioctl(proxy.process.stdout, termios.FIONREAD, waiting)
+            return int.from_bytes(waiting, sys.byteorder) > 1 << 15
+
+        wait_for(begins, "a line that isn't read")
+        others = [proxy.ask() for _ in range(8)]
+        proxy.stop(1)
+        check(b"", receive(pair.client, 1), "what comes of an answer whose line isn't written")
+        for it in others:
+            it.close()
+        pair.close()
+
+
+def check_moved(executable):
+    """The log is moved away in the midst of traffic, and opened anew by a HUP or a USR1."""
+    with log_file() as log, Program(executable, "--log", str(log)) as proxy:
+        pair, parts = Pair(proxy), 5
+        for part in range(parts):
+            for number in range(100):
+                pair.say(f"SELECT {100 * part + number}")
+            log.rename(log.with_suffix(f".{part}"))
+            proxy.process.send_signal((signal.SIGHUP, signal.SIGUSR1)[part % 2])
+            wait_for(log.exists, "a new log")
+        pair.close()
+        proxy.stop()
+        files = [*(log.with_suffix(f".{part}") for part in range(parts)), log]
+        records = lines_of("".join(it.read_text() for it in files))
+        check([f"SELECT {number}" for number in range(100 * parts)], texts(records), "all lines")
+
+
+def check_rotated(executable):
+    """The log is rotated by its size, and some older files are kept."""
+    with log_file() as log, Program(executable, "--log", str(log), "--rotate", "5000", "--keep",
+                                    "3") as proxy:
+        pair = Pair(proxy)
+        for number in range(300):
+            pair.say(f"SELECT {number}")
+        pair.close()
+        proxy.stop()
+        names = sorted(it.name for it in log.parent.iterdir())
+        check(["log", "log.1", "log.2", "log.3"], names, "the files")
+        files = [log.with_suffix(it) for it in (".3", ".2", ".1", "")]
+        check(True, all(it.stat().st_size <= 5000 for it in files), "their sizes")
+        found = texts(lines_of("".join(it.read_text() for it in files)))
+        check([f"SELECT {number}" for number in range(300)][-len(found):], found, "their lines")
+        check(True, len(found) > 40, "how many there are")
+
+
+def told(executable, *options, sleeps=0):
+    """Returns the lines about some statements of two users, of which one takes so many seconds."""
+    with Program(executable, *options) as proxy:
+        for user, database in (("ann", "shop"), ("bob", "shop"), ("ann", "books")):
+            pair = Pair(proxy, user, database)
+            pair.say("SELECT 1")
+            pair.say("SELECT nothing", ERROR)
+            pair.ask("SELECT SLEEP(1)")
+            time.sleep(sleeps)
+            pair.answer(packet(1, OK))
+            pair.client.sendall(packet(0, b"\x01"))
+            pair.client.close()
+            receive(pair.server, 6)
+            pair.close()
+        proxy.stop()
+        return proxy.printed()
+
+
+def fields(records):
+    """Returns what lines have beside times, sorted: those of two loops come in any order."""
+    return sorted((it["user"], it["database"], it["kind"], it.get("text", "")) for it in records)
+
+
+def check_filters(executable):
+    """Only the lines that are asked for are written."""
+    every = fields(told(executable))
+    check(9, len([it for it in every if it[2] == "query"]), "the commands")
+    for options, at, wanted in ((["--user", "ann"], 0, "ann"),
+                                (["--user", "ann", "--user", "bob", "--database", "books"], 1, "books")):
+        check([it for it in every if it[at] == wanted], fields(told(executable, *options)), options)
+    wanted = [it for it in every if it[2] == "end" or it[3] == "SELECT nothing"]
+    check(wanted, fields(told(executable, "--errors")), "errors")
+    for options in (["--slower", "0.2"], ["--errors", "--slower", "0.2"]):
+        records = told(executable, *options, sleeps=2)
+        ran = [it for it in records if it["kind"] != "end"]
+        # On a busy machine others may be slow, too.
+        fast = [it for it in ran if it["seconds"] < 0.2]
+        check(["SELECT nothing"] * len(fast) if "--errors" in options else [],
+              [it["text"] for it in fast], "lines that are fast")
+        found = [it["text"] for it in ran]
+        check(3, found.count("SELECT SLEEP(1)"), "lines that are slow")
+        check(True, "--errors" not in options or found.count("SELECT nothing") == 3, "errors")
+        check(3, len(records) - len(ran), "ends")
+
+
+def checks():
+    """Returns all of them, by their names."""
+    return [("a full disk", check_full_disk),
+            ("a full disk for which clients wait", lambda it: check_waits(it, "--log-full", "wait")),
+            ("a full disk for which strict lines wait", lambda it: check_waits(it, "--strict")),
+            ("/dev/full", check_dev_full), ("a slow reader of the log", check_slow_reader),
+            ("a log that stands still", check_stuck), ("a log that is moved", check_moved),
+            ("a log that is rotated", check_rotated), ("filters", check_filters)]

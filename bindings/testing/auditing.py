@@ -1,0 +1,35 @@
+"""The tests of bindings/audit: those of the crate, and the program before a server of our own."""
+
+import os
+
+from .support import BINDINGS, run, rust_environment
+
+FOLDER = os.path.join(BINDINGS, "audit")
+TESTING = os.path.join(BINDINGS, "testing")
+RECORDINGS = os.path.join(os.path.dirname(BINDINGS), "crates", "connection_conformance", "data")
+
+
+def build_load(room):
+    """Compiles the program that says recorded conversations, and returns its file."""
+    made = os.path.join(room, "audit_load")
+    run(["rustc", "-O", "--edition", "2021", os.path.join(TESTING, "audit_load.rs"), "-o", made])
+    return made
+
+
+def check_program(program, load):
+    """Runs the checks, and tells what they measured."""
+    words = ["python3", os.path.join(TESTING, "audit.py"), program, RECORDINGS, "--load", load]
+    print(run(words), end="", flush=True)
+
+
+def test_audit(report, library, room):
+    """Tests the crate, builds its program, and has connections pass it."""
+    how = {"cwd": FOLDER, "env": rust_environment(library, room)}
+    strict = {**how, "env": {**how["env"], "RUSTFLAGS": "-D warnings"}}
+    report.run("cargo test of the audit", run, ["cargo", "test", "--offline"], **strict)
+    built = report.run("cargo build of the audit", run,
+                       ["cargo", "build", "--offline", "--release"], **how)
+    load = report.run("the load for the audit", build_load, room)
+    if built and load:
+        program = os.path.join(room, "target", "release", "mysql-audit")
+        report.run("connections through the audit", check_program, program, load)
