@@ -2,14 +2,29 @@
  * shared object that is loaded before all others. Needs glibc, and one thread.
  *
  * A block counts with what malloc adds to it. Where a block grows both count, the old one and the
- * new one, since both stand while bytes are copied. */
+ * new one, since both stand while bytes are copied.
+ *
+ * With HEAP_WRAPPED it is linked by --wrap of the four calls, beside a heap of the sanitizers. */
 #include <malloc.h>
 #include <stddef.h>
 
-void *__libc_malloc(size_t);
-void *__libc_calloc(size_t, size_t);
-void *__libc_realloc(void *, size_t);
-void __libc_free(void *);
+#ifdef HEAP_WRAPPED
+#define COUNTED(call) __wrap_##call
+#define OWN(call) __real_##call
+#else
+#define COUNTED(call) call
+#define OWN(call) __libc_##call
+#endif
+
+void *OWN(malloc)(size_t);
+void *OWN(calloc)(size_t, size_t);
+void *OWN(realloc)(void *, size_t);
+void OWN(free)(void *);
+
+void *COUNTED(malloc)(size_t);
+void *COUNTED(calloc)(size_t, size_t);
+void *COUNTED(realloc)(void *, size_t);
+void COUNTED(free)(void *);
 
 size_t heap_held(void);
 size_t heap_most(void);
@@ -25,13 +40,13 @@ static void *taken(void *block) {
     return block;
 }
 
-void *malloc(size_t len) { return taken(__libc_malloc(len)); }
+void *COUNTED(malloc)(size_t len) { return taken(OWN(malloc)(len)); }
 
-void *calloc(size_t count, size_t len) { return taken(__libc_calloc(count, len)); }
+void *COUNTED(calloc)(size_t count, size_t len) { return taken(OWN(calloc)(count, len)); }
 
-void *realloc(void *block, size_t len) {
+void *COUNTED(realloc)(void *block, size_t len) {
     size_t old = size_of(block);
-    void *grown = __libc_realloc(block, len);
+    void *grown = OWN(realloc)(block, len);
     if (grown || len == 0) {
         taken(grown);
         held -= old;
@@ -39,9 +54,9 @@ void *realloc(void *block, size_t len) {
     return grown;
 }
 
-void free(void *block) {
+void COUNTED(free)(void *block) {
     held -= size_of(block);
-    __libc_free(block);
+    OWN(free)(block);
 }
 
 size_t heap_held(void) { return held; }
