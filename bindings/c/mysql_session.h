@@ -50,8 +50,8 @@ extern "C" {
 
 /* The number of this interface. mysql_session_abi() answers the library's: compare them before
  * any other call. It changes with each change of what the library exports and of a struct, and the
- * shared object's name has it: libmysql_session.so.7. */
-#define MYSQL_SESSION_ABI 7
+ * shared object's name has it: libmysql_session.so.8. */
+#define MYSQL_SESSION_ABI 8
 
 uint32_t mysql_session_abi(void);
 
@@ -304,11 +304,16 @@ uint32_t mysql_session_receiver_end(mysql_session_handle *handle, mysql_session_
 uint32_t mysql_session_sets_new(mysql_session_handle *handle);
 
 /* Each gives the next set one more value, for the next placeholder. Bytes are copied, and no field
- * of a date or a duration is checked. After MEMORY nothing has changed.
+ * of a date or a duration is checked. A float and a double are their bits, as memcpy takes them.
+ * They go into mysql_session_execution_put and mysql_session_writer_row. By REFUSED_FLOAT
+ * mysql_session_send and mysql_session_bind_text refuse a set with one. After MEMORY nothing has
+ * changed.
  * Answer OK, MEMORY, EMPTY_HANDLE, OTHER_KIND. */
 uint32_t mysql_session_sets_push_null(mysql_session_handle *handle);
 uint32_t mysql_session_sets_push_int(mysql_session_handle *handle, int64_t number);
 uint32_t mysql_session_sets_push_uint(mysql_session_handle *handle, uint64_t number);
+uint32_t mysql_session_sets_push_float(mysql_session_handle *handle, uint32_t bits);
+uint32_t mysql_session_sets_push_double(mysql_session_handle *handle, uint64_t bits);
 uint32_t mysql_session_sets_push_bytes(mysql_session_handle *handle, const uint8_t *bytes,
                                        size_t len);
 uint32_t mysql_session_sets_push_date(mysql_session_handle *handle, uint16_t year, uint8_t month,
@@ -321,8 +326,8 @@ uint32_t mysql_session_sets_push_time(mysql_session_handle *handle, bool negativ
 /* Ends the next set: its values stand behind the sets before it. Also a set of no values. */
 uint32_t mysql_session_sets_end_set(mysql_session_handle *handle);
 
-/* A value of an array: its kind (of mysql_session_kind or mysql_session_value_kind, but no float),
- * and the fields of that kind. Those of a BYTES value are `len` bytes from `start` on, in the bytes
+/* A value of an array: its kind (of mysql_session_kind or mysql_session_value_kind), and the fields
+ * of that kind. The bits of a FLOAT or a DOUBLE are in `uint_value`. Those of a BYTES value are `len` bytes from `start` on, in the bytes
  * that are handed over beside the array. All fields are set (zeros will do), `negative` to 0 or 1:
  * the whole struct is copied. */
 typedef struct mysql_session_parameter {
@@ -343,9 +348,9 @@ typedef struct mysql_session_parameter {
 } mysql_session_parameter;
 
 /* Puts one more set behind the whole ones: `count` values, whose bytes lie in `bytes` of `len`.
- * What was pushed for the next set stays. Answers OK, NO_SUCH_KIND or OUT_OF_RANGE (bytes that
- * don't lie in `bytes`) of the first such value, MEMORY, EMPTY_HANDLE, OTHER_KIND; but for OK
- * nothing has changed. */
+ * What was pushed for the next set stays. Answers OK, MEMORY, EMPTY_HANDLE, OTHER_KIND. Of the first
+ * value that is none it answers NO_SUCH_KIND or OUT_OF_RANGE. Out of range are bytes that don't lie
+ * in `bytes`, and a FLOAT of more than 32 bits. But for OK nothing has changed. */
 uint32_t mysql_session_sets_add(mysql_session_handle *handle,
                                 const mysql_session_parameter *values, size_t count,
                                 const uint8_t *bytes, size_t len);
@@ -402,6 +407,17 @@ uint32_t mysql_session_send(mysql_session_handle *sets, const uint8_t *query, si
                             uint32_t road, uint32_t statement, size_t limit, uint32_t flags,
                             mysql_session_handle *out, mysql_session_place *place);
 
+/* Appends to the bytes of `out` the payload of an execution of a statement. Its values are those of
+ * one set, by its number from 0. mysql_session_connection_put takes such a payload. Each value has
+ * its own type: BIGINT, FLOAT, DOUBLE, VAR_STRING, DATETIME, TIME or NULL. Floats are among them,
+ * which mysql_session_send refuses. It is laid out for a connection on which
+ * CLIENT_QUERY_ATTRIBUTES isn't in force.
+ * Answers OK, or why nothing is appended. The first that holds is the answer: EMPTY_HANDLE,
+ * OTHER_KIND or OUT_OF_RANGE (no such set) of `sets`. Then come EMPTY_HANDLE and OTHER_KIND of
+ * `out`, REFUSED_TOO_MANY_PLACES and MEMORY. */
+uint32_t mysql_session_execution_put(mysql_session_handle *sets, size_t set, uint32_t statement,
+                                     mysql_session_handle *out);
+
 /* Appends to the bytes of `out` the text of one set, by its number from 0. It is the query with a
  * literal in the place of each placeholder. It is what a COM_QUERY has behind its first byte.
  * Safe for a server in the mode that the flags (of mysql_session_flag) tell. The connection's
@@ -418,7 +434,7 @@ uint32_t mysql_session_bind_text(mysql_session_handle *sets, size_t set, const u
 /* Appends to the bytes of `out` the literal of one value, by the numbers of its set and its place.
  * Safe where the text of mysql_session_bind_text with the same flags is.
  * Answers OK, NO_SUCH_MODE (before any other), EMPTY_HANDLE, OTHER_KIND, OUT_OF_RANGE, MEMORY. A
- * float has no literal, and is REFUSED_FLOAT; but no call here puts a float into a set. */
+ * float has no literal, and is REFUSED_FLOAT. */
 uint32_t mysql_session_value_text(mysql_session_handle *sets, size_t set, size_t place,
                                   uint32_t flags, mysql_session_handle *out);
 
@@ -837,8 +853,8 @@ uint32_t mysql_session_packets_restart(mysql_session_handle *handle);
 /* Appends a payload to the bytes of `out`, framed: behind a header of four bytes, with the number
  * `*number`. A payload of 16777215 bytes or more takes more chunks. `*number` is then the next
  * one's.
- * Answers OK, or why nothing is appended: FAULT_TOO_LARGE (more than `limit` bytes), MEMORY,
- * EMPTY_HANDLE, OTHER_KIND. */
+ * Answers OK, or why nothing is appended, when `*number` stays as it was: FAULT_TOO_LARGE (more than
+ * `limit` bytes), MEMORY, EMPTY_HANDLE, OTHER_KIND. */
 uint32_t mysql_session_packet_put(mysql_session_handle *out, const uint8_t *payload, size_t len,
                                   uint8_t *number, size_t limit);
 
@@ -986,8 +1002,8 @@ uint32_t mysql_session_connection_after_login(mysql_session_connection *connecti
 /* Frees the connection, as mysql_session_free does an object. */
 void mysql_session_connection_free(mysql_session_connection *connection);
 
-/* Takes a piece of a side's stream, whole, and reads nothing of it yet. Answers OK, or why nothing
- * of it is taken: NO_SUCH_KIND (of a side, before any other), CONNECTION_CLOSED, CONNECTION_HELD,
+/* Takes a piece of a side's stream, whole, and reads nothing of it yet; behind a fault it is taken
+ * too, and never read. Answers OK, or why nothing of it is taken: NO_SUCH_KIND (of a side, before any other), CONNECTION_CLOSED, CONNECTION_HELD,
  * MEMORY, EMPTY_HANDLE. At CONNECTION_HELD take events first, or feed the side whose turn it is. */
 uint32_t mysql_session_connection_feed(mysql_session_connection *connection, uint32_t side,
                                        const uint8_t *piece, size_t len);
@@ -1076,7 +1092,8 @@ enum mysql_session_event_kind {
     MYSQL_SESSION_EVENT_CLONE = 0x120,           /* data */
     MYSQL_SESSION_EVENT_BULK_EXECUTE = 0x1fa,    /* statement, rows, params (in each), text, data
                                                   * (from the first row on that can't be read) */
-    /* A payload that is laid out as none of these: data, and number, its first byte. */
+    /* A payload that is laid out as none of these: data, and number, its first byte. Some servers run
+     * such a payload; which reply follows goes by that byte. */
     MYSQL_SESSION_EVENT_OTHER = 0x200
 };
 
@@ -1119,7 +1136,8 @@ typedef struct mysql_session_event {
  * good until another call on the connection. That is _next, _put, _put_packets, _finish, _new,
  * _after_login or _free. What is shown of a statement or of a stream's rest is good until the next
  * of these, of _feed or of _close. Answers OK, the fault of the packet that is first, MEMORY (a
- * fault too), EMPTY_HANDLE. Each further call answers the fault too; the events before it stay. */
+ * fault too), EMPTY_HANDLE. Each further call answers the fault too; the events before it stay.
+ * Nothing else changes: the calls below answer the state before the payload that has the fault. */
 uint32_t mysql_session_connection_next(mysql_session_connection *connection,
                                        mysql_session_event *event);
 
@@ -1200,9 +1218,16 @@ uint32_t mysql_session_connection_column(mysql_session_connection *connection, s
 
 /* The event that was told last as a line of text, without its end: whose it is, its name, its
  * fields. Behind mysql_session_connection_finish it is how the connection stands, as `end Whole`.
- * Answers OK, OUT_OF_RANGE (no event was told), MEMORY, EMPTY_HANDLE. */
+ * Of data of an authentication, but for a greeting's scramble, it has the length, as `(20 bytes)`.
+ * So it has of a replica's password. The texts of statements are as they were sent, with passwords
+ * in them. Answers OK, OUT_OF_RANGE (no event was told), MEMORY, EMPTY_HANDLE. */
 uint32_t mysql_session_connection_line(mysql_session_connection *connection,
                                        const uint8_t **text, size_t *len);
+
+/* The same line with all bytes, those of passwords and their scrambles too. Answers what _line
+ * answers. */
+uint32_t mysql_session_connection_line_with_secrets(mysql_session_connection *connection,
+                                                    const uint8_t **text, size_t *len);
 
 /* What is due on a connection. */
 enum mysql_session_phase {

@@ -84,6 +84,7 @@ import enum
 import importlib.machinery
 import importlib.util
 import itertools
+import math
 import os
 import re
 import sys
@@ -117,7 +118,7 @@ __all__ = [
 __version__ = "0.1.0"
 
 # The number of the interface that this module calls.
-ABI = 7
+ABI = 8
 
 # The max_allowed_packet that most servers have.
 DEFAULT_LIMIT = 1 << 24
@@ -132,7 +133,19 @@ AUTOCOMMIT = 2
 # ---- Codes, roads and kinds ---------------------------------------------------------------------
 
 
-class Code(enum.IntEnum):
+class _Numbers(enum.IntEnum):
+    """Numbers that `print` tells by their names, as Python before 3.11 does by itself."""
+
+    __str__ = enum.Enum.__str__
+
+
+class _Flags(enum.IntFlag):
+    """The same of flags."""
+
+    __str__ = enum.Flag.__str__
+
+
+class Code(_Numbers):
     """What a call of the library answers. The header says which call answers which code."""
 
     OK = 0
@@ -214,7 +227,7 @@ class Code(enum.IntEnum):
     CONNECTION_NOT_ITS_TURN = 520
 
 
-class Road(enum.IntEnum):
+class Road(_Numbers):
     """How parameter sets are sent."""
 
     TEXT = 0
@@ -227,7 +240,7 @@ class Road(enum.IntEnum):
     """One prepare, and the fewest of MariaDB's bulk executions. Safe for any MariaDB server."""
 
 
-class Spelling(enum.IntEnum):
+class Spelling(_Numbers):
     """How byte strings are spelled where values are written as literals: str and bytes. Numbers and
     NULL are spelled as ever, and dates and durations stand in quotes."""
 
@@ -240,7 +253,7 @@ class Spelling(enum.IntEnum):
     string of bytes also where a number is wanted."""
 
 
-class EndKind(enum.IntEnum):
+class EndKind(_Numbers):
     """How a stream ends."""
 
     WHOLE = 0
@@ -251,7 +264,7 @@ class EndKind(enum.IntEnum):
     FAULT = 3
 
 
-class ReplyKind(enum.IntEnum):
+class ReplyKind(_Numbers):
     """The kind of command that a reply answers."""
 
     QUERY = 0
@@ -259,7 +272,7 @@ class ReplyKind(enum.IntEnum):
     PREPARE = 2
 
 
-class Capability(enum.IntFlag):
+class Capability(_Flags):
     """What client and server can do (MySQL: Client/Server Protocol, "Capabilities Flags")."""
 
     LONG_PASSWORD = 1
@@ -297,7 +310,7 @@ class Capability(enum.IntFlag):
     REMEMBER_OPTIONS = 0x80000000
 
 
-class MariadbCapability(enum.IntFlag):
+class MariadbCapability(_Flags):
     """MariaDB's own capabilities, in a word of their own (MariaDB: "Connecting", 'Capabilities')."""
 
     PROGRESS = 1
@@ -308,7 +321,7 @@ class MariadbCapability(enum.IntFlag):
     BULK_UNIT_RESULTS = 0x20
 
 
-class ColumnType(enum.IntEnum):
+class ColumnType(_Numbers):
     """Types of columns (MySQL: Client/Server Protocol, "Field Types")."""
 
     DECIMAL = 0
@@ -347,7 +360,7 @@ class ColumnType(enum.IntEnum):
     GEOMETRY = 255
 
 
-class Status(enum.IntFlag):
+class Status(_Flags):
     """Bits of a server's status (MySQL: Client/Server Protocol, "Status Flags")."""
 
     IN_TRANS = 1
@@ -368,7 +381,7 @@ class Status(enum.IntFlag):
     """MariaDB's alone."""
 
 
-class ColumnFlag(enum.IntFlag):
+class ColumnFlag(_Flags):
     """Flags of a column (MySQL: Client/Server Protocol, "Column Definition Flags")."""
 
     NOT_NULL = 1
@@ -389,7 +402,7 @@ class ColumnFlag(enum.IntFlag):
     NUM = 0x8000
 
 
-class Cursor(enum.IntFlag):
+class Cursor(_Flags):
     """Cursors that an execution asks for (MySQL: Client/Server Protocol, "COM_STMT_EXECUTE")."""
 
     NO_CURSOR = 0
@@ -398,7 +411,7 @@ class Cursor(enum.IntFlag):
     SCROLLABLE = 4
 
 
-class StateType(enum.IntEnum):
+class StateType(_Numbers):
     """What of a session changed (MySQL: Client/Server Protocol, "OK_Packet", 'Session State
     Information')."""
 
@@ -410,7 +423,7 @@ class StateType(enum.IntEnum):
     TRANSACTION_STATE = 5
 
 
-class Collation(enum.IntEnum):
+class Collation(_Numbers):
     """Some collations by their ids. A server lists all of its own in
     information_schema.COLLATIONS."""
 
@@ -534,9 +547,10 @@ class TimeFields(NamedTuple):
 Text = Union[str, bytes]
 """A text that goes in: str goes as UTF-8."""
 
-Parameter = Union[None, bool, int, str, bytes, bytearray, memoryview, datetime.datetime,
+Parameter = Union[None, bool, int, float, str, bytes, bytearray, memoryview, datetime.datetime,
                   datetime.date, datetime.timedelta, DateFields, TimeFields]
-"""A value of a set. A float has no exact form on each road: give its text, as repr has it."""
+"""A value of a set. `Command.execute` and `ReplyWriter.row` take a float; what sends sets, and what
+writes texts, refuses it by REFUSED_FLOAT. There give its text, as repr has it."""
 
 Content = Union[None, int, bytes]
 """A value that a stream carries: dates, durations and texts are the bytes of their text."""
@@ -556,8 +570,10 @@ def _folder() -> str:
     if named:
         return named
     here = os.path.dirname(os.path.abspath(__file__))
-    has = os.path.exists(os.path.join(here, "_native.abi3.so"))
-    return here if has else os.path.join(os.path.dirname(here), "out")
+    # In the repository alone, where what compiles the extension stands beside this file.
+    is_built_aside = (not os.path.exists(os.path.join(here, "_native.abi3.so"))
+                      and os.path.exists(os.path.join(here, "make_native.py")))
+    return os.path.join(os.path.dirname(here), "out") if is_built_aside else here
 
 
 def _build_word() -> str:
@@ -621,6 +637,11 @@ _WHERE: Dict[int, Tuple[str, ...]] = {
 }
 
 
+# What a code means here, where the library's text is about more languages.
+_MEANING: Dict[int, str] = {Code.EMPTY_HANDLE: "it is closed: ",
+                            Code.CONNECTION_HELD: "`room` says how many bytes are taken: "}
+
+
 def is_proved() -> bool:
     """Whether the library says of itself that it was proved before it was compiled."""
     return bool(_native.build() == 1)
@@ -658,8 +679,7 @@ class MySQLSessionError(Exception):
 
     def __str__(self) -> str:
         spot = "".join(f", {name} {number}" for name, number in self._where.items())
-        closed = "it is closed: " * (self.code == Code.EMPTY_HANDLE)
-        return f"{closed}{self.text} (code {int(self.code)}{spot})"
+        return f"{_MEANING.get(self.code, '')}{self.text} (code {int(self.code)}{spot})"
 
 
 def _known(code: int) -> int:
@@ -679,9 +699,11 @@ def _fitting(number: int, bits: int) -> int:
     """The number, where it is one of so many bits without a sign."""
     if not isinstance(number, int):
         raise TypeError(f"a number is wanted, or a name of a number as Road.TEXT, not {number!r}")
-    if not 0 <= number < 1 << bits:
-        raise OverflowError(f"{number} is no number of {bits} bits without a sign")
-    return number
+    # A subclass may compare as it likes.
+    value = int.__index__(number)
+    if not 0 <= value < 1 << bits:
+        raise OverflowError(f"{value} is no number of {bits} bits without a sign")
+    return value
 
 
 _SIZE_BITS = 64
@@ -805,7 +827,8 @@ class ParameterSets(_Object):
 
     A set is a sequence with a value for each placeholder, in their order: see `Parameter`. A bool
     is 0 or 1. An int below 2**63 is signed, and one of 2**63 and more has no sign: `Road.BULK`
-    refuses the two in one place. A str is its UTF-8. A datetime has to be naive.
+    refuses the two in one place. A float has 64 bits. A str is its UTF-8. A datetime has to be
+    naive.
     """
 
     def __init__(self, sets: Iterable[Sequence[Parameter]] = ()) -> None:
@@ -815,8 +838,8 @@ class ParameterSets(_Object):
     def add(self, values: Sequence[Parameter]) -> None:
         """Puts a set behind the others.
 
-        Raises TypeError for what is no sequence of parameters, OverflowError for an int of more
-        than 64 bits; the sets stay as they were then.
+        Raises TypeError for what is no sequence of parameters, as a set of Python's, which has no
+        order. Raises OverflowError for an int of more than 64 bits. The sets stay as they were then.
         """
         self._native.add(values)
 
@@ -923,7 +946,8 @@ def bind_text(query: Text, values: Params, *, mode: Mode = Mode(),
     below 80 that follow one another are themselves. For a server in another mode a value may end
     its literal, and what stands behind the quote is read as SQL.
 
-    Raises MySQLSessionError: MIXED, REFUSED_NOT_ALONE, REFUSED_PARAMS, REFUSED_WRONG_COUNT.
+    Raises MySQLSessionError: MIXED, REFUSED_NOT_ALONE, REFUSED_PARAMS, REFUSED_WRONG_COUNT,
+    REFUSED_FLOAT.
     """
     query, [ordered] = _in_order(query, [values], mode)
     with ParameterSets([ordered]) as sets:
@@ -935,7 +959,8 @@ def literal(value: Parameter, *, mode: Mode = Mode(),
             spelling: Spelling = Spelling.QUOTED) -> bytes:
     """The literal of a value, as it stands in the text of a query.
 
-    Safe for the servers that `bind_text` is safe for by the same mode and spelling.
+    Safe for the servers that `bind_text` is safe for by the same mode and spelling. Raises
+    MySQLSessionError by REFUSED_FLOAT, as a float has none.
     """
     with ParameterSets([(value,)]) as sets:
         text: bytes = _native.value_text(sets._native, _flags(mode, spelling))
@@ -1291,6 +1316,8 @@ _Reader = Callable[[Any], Any]
 
 # No more digits than Python reads by default, for what older versions take grows by their square.
 _WHOLE_TEXT = re.compile(rb"[+-]?[0-9]{1,4300}\Z")
+# A number with a point or an exponent, as servers write DECIMAL and DOUBLE.
+_REAL_TEXT = re.compile(rb"[+-]?(?:[0-9]+(?:\.[0-9]*)?|\.[0-9]+)(?:[eE][+-]?[0-9]+)?\Z")
 _DATE_TEXT = re.compile(rb"([0-9]{4})-([0-9]{2})-([0-9]{2})"
                         rb"(?: ([0-9]{2}):([0-9]{2}):([0-9]{2})(?:\.([0-9]{1,6}))?)?\Z")
 _TIME_TEXT = re.compile(rb"(-?)([0-9]{2,9}):([0-9]{2}):([0-9]{2})(?:\.([0-9]{1,6}))?\Z")
@@ -1314,11 +1341,18 @@ def _truth(cell: Cell) -> bool:
 
 
 def _float(cell: Cell) -> float:
-    return float(_only((bytes, int, float), cell))
+    if not isinstance(cell, bytes):
+        return float(_only((int, float), cell))
+    number = float(_only(re.Match, _REAL_TEXT.match(cell))[0])
+    if math.isinf(number):
+        raise OverflowError
+    return number
 
 
 def _decimal(cell: Cell) -> decimal.Decimal:
-    return decimal.Decimal(cell.decode() if isinstance(cell, bytes) else _only(int, cell))
+    if not isinstance(cell, bytes):
+        return decimal.Decimal(_only(int, cell))
+    return decimal.Decimal(_only(re.Match, _REAL_TEXT.match(cell))[0].decode())
 
 
 def _text(cell: Cell) -> str:
@@ -1621,7 +1655,8 @@ class ReplyWriter(_Object):
 
     def row(self, values: Sequence[Parameter]) -> bytes:
         """A row: a value for each column. In the reply to an execution the value has to be of its
-        column's type."""
+        column's type. A float is rounded to the 32 bits of a FLOAT column. In the reply to a query
+        it has no form: give its text. Raises OverflowError for a float that 32 bits haven't."""
         try:
             written: bytes = self._native.row(values)
         except BaseException:
@@ -1677,14 +1712,14 @@ def _described(columns: Iterable[Column]) -> Tuple[Tuple[Any, ...], ...]:
 # ---- Whole connections --------------------------------------------------------------------------
 
 
-class Side(enum.IntEnum):
+class Side(_Numbers):
     """A side of a connection."""
 
     CLIENT = 0
     SERVER = 1
 
 
-class Phase(enum.IntEnum):
+class Phase(_Numbers):
     """What is due on a connection."""
 
     GREETING = 0
@@ -1697,7 +1732,7 @@ class Phase(enum.IntEnum):
     OVER = 7
 
 
-class Reason(enum.IntEnum):
+class Reason(_Numbers):
     """Why a connection is over: what follows isn't read here."""
 
     REJECTED = 0
@@ -1723,7 +1758,7 @@ class BulkKind(enum.Enum):
     """Nothing: the column stays as it is."""
 
 
-class ConnectionEndKind(enum.IntEnum):
+class ConnectionEndKind(_Numbers):
     """How a connection stands once both of its streams have ended."""
 
     OVER = 0
@@ -2137,7 +2172,8 @@ class CommandEvent(Event):
 
 @dataclasses.dataclass(frozen=True)
 class OtherEvent(_DataBase):
-    """A payload that is laid out as no command, as it stands."""
+    """A payload that is laid out as no command, as it stands. Some servers run such a payload; which
+    reply follows goes by its first byte."""
 
 
 class Put(NamedTuple):
@@ -2342,10 +2378,15 @@ class Connection(_Object):
             raise
         return written
 
-    def line(self) -> str:
+    def line(self, *, secrets: bool = False) -> str:
         """The event that was told or put last as a line of text; behind `finish` how the connection
-        stands, as `end Whole`."""
-        return str(self._native.line())
+        stands, as `end Whole`.
+
+        Of data of an authentication, but for a greeting's scramble, it has the length, as
+        `(20 bytes)`. So it has of a replica's password. With `secrets` all bytes are there. The
+        texts of statements are as they were sent, with passwords in them.
+        """
+        return str(self._native.line(secrets))
 
     def columns(self) -> Tuple[Column, ...]:
         """The columns of the event that was told last: of a row all, of a column itself; of any
@@ -2616,7 +2657,7 @@ def _number(number: int, size: int) -> bytes:
 
 class Command:
     """The payloads of commands, as `Connection.put` takes them (MySQL: Client/Server Protocol,
-    "Command Phase"). Executions are made by `executions`."""
+    "Command Phase"). `executions` has the packets of the executions of many sets."""
 
     @staticmethod
     def quit() -> bytes:
@@ -2671,6 +2712,18 @@ class Command:
     def prepare(text: Text) -> bytes:
         """Prepares a statement; the reply has its id."""
         return b"\x16" + _as_bytes(text)
+
+    @staticmethod
+    def execute(statement: int, values: Sequence[Parameter] = ()) -> bytes:
+        """Executes a prepared statement with values in the order of its placeholders, floats among
+        them. Each value has its own type: BIGINT, DOUBLE, VAR_STRING, DATETIME, TIME or NULL.
+
+        It is for a connection without QUERY_ATTRIBUTES. Raises MySQLSessionError by
+        REFUSED_TOO_MANY_PLACES.
+        """
+        with ParameterSets([values]) as sets:
+            payload: bytes = _native.execution_put(sets._native, statement)
+            return payload
 
     @staticmethod
     def long_data(statement: int, place: int, data: bytes) -> bytes:

@@ -3,6 +3,7 @@
 from __future__ import annotations
 
 import datetime
+import gzip
 import io
 import os
 import pathlib
@@ -344,7 +345,8 @@ class Recordings(unittest.TestCase):
         rest = [it for it in packets if it.source != SERVER or it.number != packets[0].number]
         rest = rest[next(at for at, it in enumerate(rest) if it.source == SERVER) + 1:]
         ran = self.read(written(rest))
-        self.assertEqual(ran.stdout, "not read: 1 other TCP connections\n")
+        self.assertEqual((ran.stdout, ran.returncode),
+                         ("not read: 1 TCP connections that were captured in part\n", 1))
         ran = self.read(written(rest), "--port", "3306")
         self.assertIn("its greeting wasn't captured\n", ran.stdout)
         self.assertEqual(ran.returncode, 1)
@@ -445,12 +447,37 @@ class Recordings(unittest.TestCase):
         self.assertGreater(len(wanted), 5)
         self.assertEqual(self.lines(self.read(written(packets), "--lines").stdout), wanted)
 
+    def test_statuses(self) -> None:
+        """The status is 0 where nothing more comes of a connection, and 1 where it goes on unread."""
+        ends = {(RECORDINGS / (name + ".events")).read_text().splitlines()[-1]: name
+                for name in self.NAMES}
+        self.assertGreater(len(ends), 8)
+        for end, name in ends.items():
+            with self.subTest(end=end, name=name):
+                packets = conversation(self.sent(name, 40000), random.Random(14))
+                is_read = end in ("end Whole", "end Over Quit", "end Over Denied", "end Over Rejected")
+                self.assertEqual(self.read(written(packets)).returncode, int(not is_read))
+        packets = conversation(self.sent("pipelined", 40000), random.Random(15))
+        ran = self.read(written([it for it in packets if it.source != SERVER]))
+        self.assertEqual((ran.stdout, ran.returncode),
+                         ("not read: 1 TCP connections that were captured in part\n", 1))
+        ran = self.read(written([it for it in packets if it.source != SERVER]), "--port", "80")
+        self.assertEqual((ran.stdout, ran.returncode), ("not read: 1 other TCP connections\n", 0))
+        ran = self.read(written([it for it in packets if it.source == SERVER]))
+        self.assertIn("unfinished client\n", ran.stdout)
+        self.assertEqual(ran.returncode, 1)
+
     def test_others(self) -> None:
-        """Connections of other protocols are left out, and files that are no captures refused."""
+        """Connections of other protocols are left out, and files that are no captures refused. A file
+        of gzip is read as what is in it."""
         sent = {Address("192.0.2.1", 40000): b"GET / HTTP/1.0\r\n\r\n", SERVER: b"HTTP/1.0 200 OK"}
         ran = self.read(written(conversation(sent, random.Random(8))))
         self.assertEqual(ran.stdout, "not read: 1 other TCP connections\n")
         self.assertEqual(ran.returncode, 0)
+        packed = gzip.compress(written(conversation(sent, random.Random(8))))
+        self.assertEqual(self.read(packed).stdout, ran.stdout)
+        self.assertEqual(self.read(packed[:-9]).returncode, 2)
+        self.assertEqual(self.read(packed[:20] + b"\xff" * 40).returncode, 2)
         ran = self.read(b"GET / HTTP/1.0\r\n\r\n")
         self.assertEqual(ran.stderr, "read_capture: the file is neither a pcap nor a pcapng "
                          "capture\n")

@@ -14,8 +14,10 @@ import socket
 import subprocess
 import sys
 import tempfile
+import threading
 import unittest
 from typing import Any, Dict, Iterator, List, Mapping, Sequence, Tuple
+from unittest import mock
 
 EXAMPLES = pathlib.Path(__file__).resolve().parent / "examples"
 sys.path.insert(0, str(EXAMPLES))
@@ -120,6 +122,31 @@ class Examples(unittest.TestCase):
             self.assertEqual(done.returncode, 2)
 
 
+    def test_password(self) -> None:
+        """The password is that of the environment: a server that refuses it tells what it was sent."""
+        def refuse() -> None:
+            stream, _ = listener.accept()
+            with stream, ms.Connection() as it:
+                stream.sendall(it.put(Side.SERVER, ms.put_greeting(
+                    1, "8.0.0", int(test_server.CAPABILITIES), b"12345678", b"123456789012")).packets)
+                login = None
+                while not isinstance(login, ms.LoginEvent):
+                    it.feed(Side.CLIENT, stream.recv(1000))
+                    login = it.next_event()
+                refusal = b"\xff\x15\x04#28000" + login.response.hex().encode()
+                stream.sendall(it.put(Side.SERVER, refusal).packets)
+
+        with socket.create_server(("127.0.0.1", 0)) as listener, \
+                mock.patch.dict(os.environ, {"MYSQL_PASSWORD": "secret"}):
+            thread = threading.Thread(target=refuse)
+            thread.start()
+            done = replay(listener.getsockname()[1], b"", "SELECT ?")
+            thread.join()
+        wanted = client.native(b"secret", b"12345678123456789012").hex()
+        self.assertEqual((done.stderr, done.returncode),
+                         (f"replay: error 1045 (28000): {wanted}\n", 2))
+
+
 # ---- The test server and the client -------------------------------------------------------------
 
 TIMES = {"columns": {"id": "bigint unsigned", "day": "date", "at": "datetime", "took": "time",
@@ -142,6 +169,25 @@ def added(values: Tuple[Any, ...]) -> Mapping[str, Any]:
     return {"columns": {"sum": "bigint"}, "rows": [[sum(map(int, values))]]}
 
 
+# What asks by text and by an execution, and for the server's version and level of isolation.
+CONNECTOR_J = "/usr/share/java/mariadb-java-client.jar"
+JAVA = """import java.sql.*;
+public class It {
+    public static void main(String[] words) throws Exception {
+        for (String more : new String[] { "", "&useServerPrepStmts=true" }) {
+            String url = "jdbc:mariadb://127.0.0.1:" + words[0] + "/shop?user=ann&password=x" + more;
+            try (Connection it = DriverManager.getConnection(url)) {
+                ResultSet rows = it.prepareStatement("SELECT * FROM times").executeQuery();
+                rows.next();
+                System.out.println(rows.getDate("day"));
+                if (it.getTransactionIsolation() != Connection.TRANSACTION_REPEATABLE_READ)
+                    throw new Exception("another level");
+                System.out.println(it.getMetaData().getDatabaseProductVersion());
+            }
+        }
+    }
+}
+"""
 ANSWERS: Dict[str, test_server.Given] = {
     "SELECT * FROM times": TIMES, TIMES_BY_ID: {**TIMES, "where": ["id"]}, SUM: added,
     INSERT: lambda values: {"affected": 1, "id": len(values[1] or b"")},
@@ -151,7 +197,9 @@ ANSWERS: Dict[str, test_server.Given] = {
 @contextlib.contextmanager
 def connected(answers: Mapping[str, test_server.Given]) -> Iterator[client.Client]:
     """A client of the test server, which answers by this table."""
-    with contextlib.redirect_stdout(io.StringIO()), test_server.serving(answers) as port:
+    out = io.StringIO()
+    with contextlib.redirect_stdout(out), contextlib.redirect_stderr(out), \
+            test_server.serving(answers) as port:
         with client.Client(socket.create_connection(("127.0.0.1", port))) as it:
             it.log_in("anyone", "secret", "shop")
             yield it
@@ -217,6 +265,104 @@ class TestServer(unittest.TestCase):
             with self.assertRaisesRegex(client.Refused, "^error 1064 .42000.: no answer"):
                 it.prepare("SELECT ?")
 
+    def test_drivers(self) -> None:
+        """What drivers ask by themselves is answered, and what the table has is its answer."""
+        rows: List[Tuple[str, Dict[str, Any]]] = [
+            ("select version()", {"version()": "8.0.0-test-server"}),
+            ("SELECT DATABASE(), current_user() AS who, CONNECTION_ID()",
+             {"DATABASE()": "shop", "who": "anyone@%", "CONNECTION_ID()": 1}),
+            # Of Connector/J, of Django, of the `mariadb` client.
+            ("SELECT @@max_allowed_packet,@@system_time_zone,@@time_zone,"
+             "@@auto_increment_increment",
+             {"@@max_allowed_packet": 1 << 24, "@@system_time_zone": "UTC", "@@time_zone": "SYSTEM",
+              "@@auto_increment_increment": 1}),
+            ("/* a driver */SELECT  @@session.sql_mode AS sql_mode, @@tx_isolation AS `level`;",
+             {"sql_mode": "", "level": "REPEATABLE-READ"}),
+            ("SELECT VERSION(),\n@@sql_mode, CONVERT_TZ('2001-01-01 01:00:00', 'UTC', 'UTC') IS NOT "
+             "NULL", {"VERSION()": "8.0.0-test-server", "@@sql_mode": "",
+                      "CONVERT_TZ('2001-01-01 01:00:00', 'UTC', 'UTC') IS NOT NULL": 1}),
+            ("select @@version_comment limit 1", {"@@version_comment": "canned answers"}),
+            ("SELECT @@autocommit", {"@@autocommit": 0}),
+            ("SHOW VARIABLES LIKE 'lower_case%'",
+             {"Variable_name": "lower_case_table_names", "Value": "0"}),
+            ("SHOW SESSION VARIABLES WHERE Variable_name IN ('time_zone', 'nothing')",
+             {"Variable_name": "time_zone", "Value": "SYSTEM"})]
+        table: Dict[str, test_server.Given] = {
+            "select @@autocommit": {"columns": {"@@autocommit": "int"}, "rows": [[0]]}}
+        with connected(table) as it:
+            for query, wanted in rows:
+                with self.subTest(query=query):
+                    self.assertEqual(self.dicts(it.query(query)), [wanted])
+            self.assertEqual(self.dicts(it.query("SHOW WARNINGS")), [])
+            statement = it.prepare("SELECT @@sql_mode").statement
+            [results] = it.execute("SELECT @@sql_mode", statement, [()])
+            self.assertEqual(self.dicts(results), [{"@@sql_mode": ""}])
+            for command in (Command.init_db("first"), Command.query("USE `second`")):
+                [done] = it.results(command)
+                self.assertIsInstance(done, ms.Ok)
+                self.assertIn(self.dicts(it.query("SELECT SCHEMA()")),
+                              ([{"SCHEMA()": "first"}], [{"SCHEMA()": "second"}]))
+            self.assertEqual(self.dicts(it.query("SELECT SCHEMA()")), [{"SCHEMA()": "second"}])
+
+    def test_without_answer(self) -> None:
+        """What has no answer is printed, each on one line."""
+        refused = ["SELECT @@nothing", "select version(), sleep()", "SELECT\n\x1b[2J", "SHOW TABLES",
+                   "SELECT /*! 1, */ version()", "SELECT '" + "x" * 2000 + "'"]
+        with contextlib.redirect_stderr(io.StringIO()) as said, \
+                contextlib.redirect_stdout(io.StringIO()), test_server.serving(ANSWERS) as port, \
+                client.Client(socket.create_connection(("127.0.0.1", port))) as it:
+            it.log_in("anyone")
+            for query in refused:
+                [error] = it.query(query)
+                assert isinstance(error, ms.ServerError)
+                self.assertEqual(error.code, 1064)
+            with self.assertRaises(client.Refused):
+                it.prepare("SELECT ?")
+            it.results(Command.process_kill(7))
+        lines = said.getvalue().splitlines()
+        no_answer = "client 1: no answer to this query is known: "
+        self.assertEqual(lines[:5] + lines[6:], [
+            no_answer + "select @@nothing", no_answer + "select version(), sleep()",
+            no_answer + r"select \x1b[2j", no_answer + "show tables",
+            no_answer + "select /*! 1, */ version()", no_answer + "select ?",
+            "client 1: Command isn't answered"])
+        self.assertEqual((len(lines[5]), lines[5][-3:]), (1013, " .."))
+
+    def test_packets_go_at_once(self) -> None:
+        """Neither end waits for an acknowledgement before it sends a small packet."""
+        def is_set(stream: socket.socket) -> bool:
+            return bool(stream.getsockopt(socket.IPPROTO_TCP, socket.TCP_NODELAY))
+
+        found = []
+
+        class Watched(test_server.Session):
+            def close(self) -> None:
+                found.append(is_set(self._stream))
+                super().close()
+
+        with mock.patch.object(test_server, "Session", Watched), connected({}) as it:
+            self.assertTrue(is_set(it._stream))
+        self.assertEqual(found, [True])
+
+    def test_mode_of_executions(self) -> None:
+        """The session's mode tells which placeholders an executed text has; the server is asked for
+        it if it isn't known."""
+        with connected(ANSWERS) as it:
+            statement = it.prepare(TIMES_BY_ID).statement
+            with mock.patch.object(ms, "executions", wraps=ms.executions) as made, \
+                    mock.patch.object(it, "track_mode") as asked:
+                list(it.execute(TIMES_BY_ID, statement, [(1,)]))
+                self.assertEqual((made.call_args[1]["mode"], asked.call_count), (ms.Mode(), 0))
+                it.query("SET @a = 1")
+                list(it.execute(TIMES_BY_ID, statement, [(1,)]))
+                self.assertEqual(asked.call_count, 1)
+                quoting = ms.Mode(ansi_quotes=True)
+                with mock.patch.object(client.Client, "mode", quoting):
+                    list(it.execute(TIMES_BY_ID, statement, [(1,)]))
+                self.assertEqual(made.call_args[1]["mode"], quoting)
+                list(it.execute(TIMES_BY_ID, statement, [(1,)], mode=quoting))
+                self.assertEqual((made.call_args[1]["mode"], asked.call_count), (quoting, 1))
+
     def test_long_data(self) -> None:
         with connected(ANSWERS) as it:
             statement = it.prepare(INSERT).statement
@@ -278,6 +424,37 @@ class TestServer(unittest.TestCase):
                                   stderr=subprocess.PIPE, timeout=60, universal_newlines=True)
         wanted = tuple(it for it in FIRST.values())
         self.assertEqual((done.stderr, done.stdout), ("", f"{wanted}\n"))
+
+    def test_sqlalchemy(self) -> None:
+        """SQLAlchemy over PyMySQL, where there is a Python that has both."""
+        program = ("import sqlalchemy, sys\nfrom sqlalchemy import text\n"
+                   "url = f'mysql+pymysql://ann:x@127.0.0.1:{sys.argv[1]}/shop'\n"
+                   "with sqlalchemy.create_engine(url).connect() as it:\n"
+                   "    print(it.execute(text('SELECT * FROM times')).fetchall()[0])\n"
+                   "    print(it.dialect.server_version_info)\n")
+        found = [it for it in (sys.executable, "/usr/bin/python3")
+                 if os.path.exists(it) and not subprocess.run(
+                     [it, "-c", "import pymysql, sqlalchemy"], stderr=subprocess.DEVNULL).returncode]
+        if not found:
+            self.skipTest("there is no SQLAlchemy with PyMySQL")
+        with contextlib.redirect_stdout(io.StringIO()), test_server.serving(ANSWERS) as port:
+            done = subprocess.run([found[0], "-c", program, str(port)], stdout=subprocess.PIPE,
+                                  stderr=subprocess.PIPE, timeout=300, universal_newlines=True)
+        wanted = f"{tuple(FIRST.values())}\n(8, 0, 0)\n"
+        self.assertEqual((done.stderr, done.stdout), ("", wanted))
+
+    def test_connector_j(self) -> None:
+        """Connector/J, by text and by executions, where there is a Java that has it."""
+        if shutil.which("javac") is None or not os.path.exists(CONNECTOR_J):
+            self.skipTest("there is no Java with Connector/J")
+        with tempfile.TemporaryDirectory() as folder:
+            pathlib.Path(folder, "It.java").write_text(JAVA, encoding="utf-8")
+            subprocess.run(["javac", "It.java"], cwd=folder, check=True, timeout=300)
+            with contextlib.redirect_stdout(io.StringIO()), test_server.serving(ANSWERS) as port:
+                done = subprocess.run(["java", "-cp", f".:{CONNECTOR_J}", "It", str(port)],
+                                      cwd=folder, stdout=subprocess.PIPE, stderr=subprocess.PIPE,
+                                      timeout=300, universal_newlines=True)
+        self.assertEqual((done.stderr, done.stdout), ("", "2024-02-29\n8.0.0-test-server\n" * 2))
 
     def test_refused_login(self) -> None:
         """A client that finds no server that greets, and one that is sent away."""

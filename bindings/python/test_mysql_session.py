@@ -17,6 +17,7 @@ import pathlib
 import pickle
 import re
 import signal
+import struct
 import sys
 import threading
 import time
@@ -259,6 +260,20 @@ VALUES: List[Tuple[ms.Parameter, ms.Content]] = [
 ]
 
 
+class Small(int):
+    """A number that says it is smaller than any other, and larger."""
+
+    def __lt__(self, other: object) -> bool:
+        return True
+
+    __le__ = __gt__ = __ge__ = __lt__
+
+    def __int__(self) -> int:
+        return 0
+
+    __index__ = __int__
+
+
 class Sets(Case):
     """Sets are sent by each road, and come back."""
 
@@ -325,10 +340,11 @@ class Sets(Case):
             sets.add((1, "a"))
             sets.add([None, b""])
             self.assertEqual(len(sets), 2)
-            for wrong in ("ab", b"ab", {"a": 1, "b": 2}, [1, 2.5], [1, object()], [[1]]):
+            for wrong in ("ab", b"ab", {"a": 1, "b": 2}, {1, 2}, frozenset((1, 2)),
+                          {"a": 1}.keys(), [1, 2j], [1, object()], [[1]]):
                 with self.assertRaises(TypeError):
                     sets.add(wrong)  # type: ignore[arg-type]
-            for large in (2**64, -2**63 - 1):
+            for large in (2**64, -2**63 - 1, Small(2**70), Small(-2**70)):
                 with self.assertRaises(OverflowError):
                     sets.add((large,))
             with self.assertRaises(OverflowError):
@@ -541,6 +557,8 @@ class Refusals(Case):
             (Code.REFUSED_MIXED_KINDS, "SELECT ?, ?", [(1, 1), (1, "a")], bulk, 1000,
              {"set": 1, "place": 1}),
             (Code.REFUSED_ROW_TOO_LARGE, "SELECT ?", [("x",), ("x" * 100,)], bulk, 31, {"set": 1}),
+            *((Code.REFUSED_FLOAT, "SELECT ?, ?", [(1, 1), (1, 2.5)], road, 1000,
+               {"set": 1, "place": 1}) for road in Road),
         ]
         for code, query, sets, road, limit, where in rows:
             self.refuses(code, lambda: ms.send(query, sets, road, 1, limit),  # type: ignore
@@ -550,6 +568,8 @@ class Refusals(Case):
         self.refuses(Code.MIXED, lambda: ms.bind_text("SELECT ?, :a", [1, 2]))
         self.refuses(Code.REFUSED_NOT_ALONE, lambda: ms.bind_text("SELECT 1-?", [1]), place=0)
         self.refuses(Code.REFUSED_WRONG_COUNT, lambda: ms.bind_text("SELECT ?", []), set=0)
+        self.refuses(Code.REFUSED_FLOAT, lambda: ms.bind_text("DO ?, ?", [1, 2.5]), set=0, place=1)
+        self.refuses(Code.REFUSED_FLOAT, lambda: ms.literal(2.5))
 
     def test_receivers(self) -> None:
         self.refuses(Code.LIMIT_TOO_SMALL, lambda: ms.Receiver("SELECT ?", limit=3))
@@ -794,6 +814,30 @@ class Writing(Case):
             self.refuses(Code.WRITE_STATUS, lambda: writer.end_rows(4), result=0)
             writer.end_rows()
             writer.end()
+
+    def test_floats(self) -> None:
+        """A float is a cell of its column's width, in the reply to an execution alone."""
+        columns = [Column(b"f", ColumnType.FLOAT), Column(b"d", ColumnType.DOUBLE)]
+        rows: List[Tuple[ms.Parameter, ...]] = [
+            (1.5, -2.25), (0.1, 0.1), (float("inf"), float("-inf")), (None, -0.0)]
+        with ms.ReplyReader(ReplyKind.EXECUTE, PROTOCOL_41) as reader:
+            reader.feed(written(columns, rows, ReplyKind.EXECUTE))
+            [read] = reader.take()
+        assert isinstance(read, ms.Rows)
+        near = struct.unpack("<f", struct.pack("<f", 0.1))[0]
+        self.assertEqual(list(map(repr, read.rows)), list(map(repr, [
+            (1.5, -2.25), (near, 0.1), (float("inf"), float("-inf")), (None, -0.0)])))
+        with ms.ReplyWriter(ReplyKind.EXECUTE, PROTOCOL_41) as writer:
+            writer.rows(columns)
+            for large in (1e39, -1e39):
+                with self.assertRaises(OverflowError):
+                    writer.row((large, 1.5))
+            self.refuses(Code.WRITE_NOT_ENDED, lambda: writer.rows(columns[::-1]), result=0)
+            self.assertTrue(writer.row((1e38, 1e39)))
+        with ms.ReplyWriter(ReplyKind.QUERY, PROTOCOL_41) as writer:
+            writer.rows(columns)
+            self.refuses(Code.WRITE_NO_FORM, lambda: writer.row((1.5, None)), result=0, row=0,
+                         place=0)
 
     def test_refusals(self) -> None:
         with ms.ReplyWriter(ReplyKind.PREPARE, PROTOCOL_41) as writer:
@@ -1073,7 +1117,7 @@ class Connections(Case):
         with ms.Connection(client=1 << 26, server=1 << 26, held=1 << 30) as connection:
             def take(events: Iterable[ms.Event]) -> None:
                 for event in events:
-                    line = connection.line()
+                    line = connection.line(secrets=True)
                     self.assertEqual(line.split()[0], event.side.name.lower())
                     self.assertTrue(event and event.name and repr(event))
                     found.append(line)

@@ -76,8 +76,8 @@ class InValues(Case):
                  "-9223372036854775808", "-9223372036854775809", "9" * 100]
         self.assertEqual(values_in(cells(large, texts)), [(int(it),) for it in texts])
         real = Column(b"d", ColumnType.DOUBLE, 0, 63)
-        texts = ["0", "-2.25e3", "1e400", "-1e-400", "1.7976931348623157e308", "0.1", "-0", "3." * 1,
-                 "0." + "1" * 100, "inf"]
+        texts = ["0", "-2.25e3", "-1e-400", "1.7976931348623157e308", "0.1", "-0", "3." * 1,
+                 "0." + "1" * 100]
         found = values_in(cells(real, texts))
         self.assertEqual([repr(it) for it, in found], [repr(float(it)) for it in texts])
         price = Column(b"p", ColumnType.NEWDECIMAL, 0, 63)
@@ -140,6 +140,9 @@ class InValues(Case):
         rows: List[Tuple[ColumnType, str]] = [
             (ColumnType.LONG, "x"), (ColumnType.LONG, ""), (ColumnType.LONG, "1_0"),
             (ColumnType.DOUBLE, "x"), (ColumnType.DOUBLE, ""), (ColumnType.NEWDECIMAL, "--1"),
+            *((kind, text) for kind in (ColumnType.DOUBLE, ColumnType.NEWDECIMAL) for text in
+              ("1_0", " 1", "1 ", "\uff11", "Infinity", "-inf", "NaN", "sNaN", "0x10", ".", "1e")),
+            (ColumnType.DOUBLE, "1e999"), (ColumnType.DOUBLE, "9" * 400),
             (ColumnType.DATE, "2024-02-3x"), (ColumnType.DATE, "2024-02-29 00:00:01"),
             (ColumnType.DATETIME, "x"), (ColumnType.DATETIME, "2024-02-29 01:02:03."),
             (ColumnType.TIME, "1:2"), (ColumnType.TIME, "-:00:00"), (ColumnType.TIME, "")]
@@ -386,7 +389,7 @@ class Tables(Case):
 
     def test_floats(self) -> None:
         column = Column(b"a", ColumnType.FLOAT, 0, 63)
-        texts: List[Optional[str]] = ["1.5", None, "1e400", "inf", " 2"]
+        texts: List[Optional[str]] = ["1.5", None, "-1e300", "0." + "3" * 99]
         with at_rows(cells(column, texts)) as connection:
             table = connection.take_table()
         assert table
@@ -535,7 +538,7 @@ class Misuse(Case):
             with self.assertRaises(OverflowError):
                 writer.end_rows(1 << 16)
             with self.assertRaises(TypeError):
-                writer.row([1.5])  # type: ignore[list-item]
+                writer.row([object()])  # type: ignore[list-item]
             self.assertEqual(writer.rest(), b"")
             connection.put(Side.CLIENT, b"\x0e")
             with self.assertRaises(TypeError):

@@ -4,7 +4,9 @@ and an auditor are in bindings/testing/three_machines.py."""
 from __future__ import annotations
 
 import contextlib
+import datetime
 import itertools
+from fractions import Fraction
 from typing import Callable, Iterator, List, Tuple
 
 import mysql_session as ms
@@ -38,11 +40,11 @@ class Talk:
         """A side puts a payload, which the others read as what was put."""
         end = self.ends[side]
         packets, event = end.put(side, payload)
-        self.lines.append(end.line())
+        self.lines.append(end.line(secrets=True))
         for reader in (self.ends[Side(1 - side)], self.auditor):
             reader.feed(side, packets)
             self.case.assertEqual(reader.next_event(), event)
-            self.case.assertEqual(reader.line(), self.lines[-1])
+            self.case.assertEqual(reader.line(secrets=True), self.lines[-1])
             self.case.assertIsNone(reader.next_event())
         return event
 
@@ -183,6 +185,29 @@ class Putting(Case):
                 packets = packets[used:]
             self.assertEqual(values, [(1, b"tea"), (None, b"\0\xff"), (3, None)])
 
+    def test_floats(self) -> None:
+        """An execution has floats among its values, and each other kind of them."""
+        values: List[ms.Parameter] = [
+            1.5, float("inf"), None, -7, 2**63, "tea", b"\0\xff",
+            datetime.datetime(2024, 2, 29, 1, 2, 3, 4), -datetime.timedelta(hours=30)]
+        with Talk(self, behind_login()) as talk:
+            query = f"DO {', '.join('?' * len(values))}"
+            self.prepared(talk, query, len(values))
+            event = talk.say(Side.CLIENT, Command.execute(5, values))
+            assert isinstance(event, ms.ExecuteEvent)
+            wanted = [it.encode() if isinstance(it, str) else it for it in values]
+            self.assertEqual(list(event.values), wanted)
+            self.assertEqual((event.statement, event.text), (5, query.encode()))
+        with Talk(self, behind_login()) as talk:
+            self.prepared(talk, "DO 1", 0)
+            event = talk.say(Side.CLIENT, Command.execute(5))
+            assert isinstance(event, ms.ExecuteEvent)
+            self.assertEqual(list(event.values), [])
+        self.refuses(Code.REFUSED_TOO_MANY_PLACES, lambda: Command.execute(5, [1.5] * 65536))
+        for strange in (Fraction(1, 2), object(), [1.5]):
+            with self.assertRaises(TypeError):
+                Command.execute(5, [strange])  # type: ignore[list-item]
+
     def test_long_data(self) -> None:
         """Long data is put with its execution."""
         long = b"x" * 20000000
@@ -246,7 +271,9 @@ class Putting(Case):
             packets, event = talk.ends[Side.SERVER].put(Side.SERVER, greeting)
             self.assertEqual(proxy.put(Side.SERVER, greeting), (packets, event))
             self.assertEqual(proxy.turn, Side.CLIENT)
-            self.assertEqual(proxy.line(), talk.ends[Side.SERVER].line())
+            for secrets in (False, True):
+                self.assertEqual(proxy.line(secrets=secrets),
+                                 talk.ends[Side.SERVER].line(secrets=secrets))
 
 
 class Refusals(Case):
@@ -256,7 +283,7 @@ class Refusals(Case):
     def unchanged(self, connection: ms.Connection) -> Iterator[None]:
         """Within it, nothing of how the connection stands changes, nor the line that was told."""
         def stands() -> object:
-            return connection._standing(), connection.line()
+            return connection._standing(), connection.line(secrets=True)
 
         before = stands()
         yield

@@ -124,6 +124,15 @@ class AsValues(unittest.TestCase):
             self.assertEqual(ms.rows_as_tuples(columns, [cells]), [(1.5, -2250.0)])
             self.assertEqual(ms.rows_as_dicts(columns, [cells]), [{"f": 1.5, "d": -2250.0}])
 
+    def test_texts_of_numbers(self) -> None:
+        """Numbers with points and exponents, also long ones, and of columns of texts."""
+        column = Column(b"s", ColumnType.VAR_STRING)
+        for text in ("7", "-7.", "+.5", "0.25", "1e20", "-1.5E-7", "00" * 50 + "1.5", "1" * 300):
+            found = ms.rows_as_tuples([column, column], [(text.encode(), text.encode())], float,
+                                      Decimal)
+            self.assertEqual(found, [(float(text), Decimal(text))])
+        self.assertEqual(ms.rows_as_tuples([column], [(7,), (1.5,)], float), [(7.0,), (1.5,)])
+
     def test_durations(self) -> None:
         """Those that timedelta lacks stay as they are."""
         columns = [Column(b"t", ColumnType.TIME)]
@@ -167,6 +176,9 @@ class AsValues(unittest.TestCase):
                          lambda: ms.rows_as(Number, [number], [(cell,)]))
         cases: List[Tuple[Any, ms.Cell]] = [
             (bool, b"2"), (float, b"x"), (Decimal, b"x"), (Decimal, 1.5), (str, b"\xff"), (str, 7),
+            *((wanted, text) for wanted in (float, Decimal) for text in
+              (b"1_0", b" 1", b"1\n", b"\xef\xbc\x91", b"infinity", b"-Inf", b"NaN", b"NaN1", b"",
+               b"." + b"0" * 70 + b"_1", b"1e5x", b"+", b"--1")), (float, b"-1e309"),
             (bytes, 7), (datetime.datetime, b"2024-02-30 00:00:00"), (datetime.datetime, b"x"),
             (datetime.datetime, DateFields(0, 0, 0)), (datetime.date, b"2024-02-29 00:00:01"),
             (datetime.date, 7), (datetime.timedelta, b"1:2"), (datetime.timedelta, 7)]

@@ -33,6 +33,10 @@ OF_PACKETS = ("OutOfSync", "AfterQuit", "Unasked", "Held", "NotDue")
 # Events whose names in lines are others: COM_.. have those of their own.
 NAMES = {"Answer": "AuthAnswer", "OldAuthSwitch": "AuthSwitch", "CutOffLogin": "Login",
          "Field": "Column"}
+# The field of a line that is a length where secrets are hidden.
+SECRETS = {"Login": "answer", "ChangeUser": "answer", "RegisterSlave": "password",
+           **{name: "data" for name in ("AuthAnswer", "AuthSwitch", "AuthMore", "NextFactor",
+                                        "PluginData")}}
 
 
 def connection_of(of: Conversation) -> ms.Connection:
@@ -56,6 +60,15 @@ def mode_of(connection: ms.Connection) -> int:
             + MODES["ANSI_QUOTES"] * mode.ansi_quotes)
 
 
+def without_secrets(line: str) -> str:
+    """A line in which data of an authentication, and a replica's password, are a length."""
+    name = line.split(" ")[1]
+    is_secret = name in SECRETS or re.match(r"client Other byte=(17|21) ", line)
+    field = SECRETS.get(name, "data")
+    return line if not is_secret else re.sub(
+        f" {field}=x([0-9a-f]*)", lambda it: f" {field}=({len(it.group(1)) // 2} bytes)", line)
+
+
 def next_line(connection: ms.Connection) -> Optional[str]:
     """The line of the next event, or none, or a line of a fault."""
     try:
@@ -64,11 +77,13 @@ def next_line(connection: ms.Connection) -> Optional[str]:
         return f"fault {fault}"
     if event is None:
         return None
-    line = connection.line()
+    line = connection.line(secrets=True)
     side, name = line.split(" ")[:2]
     told = NAMES.get(event.name, event.name)
     if SIDES[side] != event.side or (told not in ("Command", name)):
         raise Failure(f"the event {event.side.name} {event.name} has the line {line}")
+    if connection.line() != without_secrets(line):
+        raise Failure(f"{line} without its secrets is {connection.line()}")
     return line
 
 
@@ -199,7 +214,7 @@ def put_again(of: Conversation) -> int:
             speaker, listener = ends[side], ends[Side(1 - side)]
             put, _ = speaker.connection.put(side, payload)
             client.compare(put.hex(), packets.hex(), want.place)
-            for line in [speaker.connection.line()], listener.feed(side, put):
+            for line in [speaker.connection.line(secrets=True)], listener.feed(side, put):
                 client.compare_lines(line, [want], want.place)
             client.compare(client.connection.turn, server.connection.turn, want.place)
             client.compare(client.connection.mode, server.connection.mode, want.place)

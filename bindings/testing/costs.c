@@ -263,7 +263,7 @@ static size_t take_events(mysql_session_connection *connection) {
         if (!by_line) continue;
         const uint8_t *text = NULL;
         size_t len = 0;
-        must(mysql_session_connection_line(connection, &text, &len));
+        must(mysql_session_connection_line_with_secrets(connection, &text, &len));
         seen += len;
     }
 }

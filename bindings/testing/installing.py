@@ -88,7 +88,7 @@ LIMITED = """
     PyErr_ExceptionMatches PyErr_Fetch PyErr_Format PyErr_NoMemory PyErr_Occurred PyErr_Restore
     PyErr_SetObject PyErr_SetString PyEval_RestoreThread PyEval_SaveThread PyExc_ArithmeticError
     PyExc_ImportError PyExc_KeyError PyExc_OverflowError PyExc_RuntimeError PyExc_TypeError
-    PyExc_ValueError PyFloat_AsDouble PyFloat_FromDouble PyImport_ImportModule PyIter_Next
+    PyExc_ValueError PyFloat_AsDouble PyFloat_FromDouble PyFloat_Type PyImport_ImportModule PyIter_Next
     PyList_Append PyList_AsTuple PyList_GetItem PyList_GetSlice PyList_New PyList_SetItem
     PyList_SetSlice PyList_Size PyList_Type PyLong_AsLongLong PyLong_AsLongLongAndOverflow
     PyLong_AsUnsignedLongLong PyLong_FromLong PyLong_FromLongLong PyLong_FromSize_t

@@ -96,11 +96,14 @@ def test_rust(report, library, room):
     report.run("cargo doc", run, ["cargo", "doc", "--offline", "--no-deps"], **strict)
     if report.run("cargo build --examples", run, ["cargo", "build", "--offline", "--examples"],
                   **how):
-        proxy = os.path.join(room, "target", "debug", "examples", "audit_proxy")
+        examples = os.path.join(room, "target", "debug", "examples")
+        proxy = os.path.join(examples, "audit_proxy")
         words = ["python3", os.path.join(TESTING, "recorded.py"), proxy, RECORDINGS]
         report.run("recorded connections through the proxy", run, words)
-        report.run("examples/poll_loop", poll_loop,
-                   os.path.join(room, "target", "debug", "examples", "poll_loop"))
+        report.run("examples/poll_loop", poll_loop, os.path.join(examples, "poll_loop"))
+        report.run("clients at servers that are told what to say", run,
+                   ["python3", os.path.join(TESTING, "told.py"), examples],
+                   env=python_environment(library))
 
 
 def poll_loop(program):
@@ -138,6 +141,12 @@ def test_python(report, library, room, events=None):
     for file in sorted(glob.glob(os.path.join(folder, "examples", "*.py"))):
         words = ["python3", file, "--help"]
         report.run(os.path.relpath(file, ROOT) + " --help", run, words, **how)
+
+
+def fuzz(library):
+    """Reads inputs of fixed seeds under sanitizers, and tells how many and what of."""
+    words = [os.path.join(TESTING, "fuzz"), "--short", "--library", library]
+    print("  " + run(["python3", *words]).splitlines()[1], flush=True)
 
 
 def measure_costs(library):

@@ -134,15 +134,17 @@ class State:
         """The event that a payload is, and its packets."""
         connection, _ = self.put()
         packets = connection.put(side, payload).packets
-        return connection.line(), packets
+        return connection.line(secrets=True), packets
 
     def check_fed(self, side, packets, wanted):
         """Feeds packets whole, and byte by byte."""
         connection = self.fed()
-        compare([connection.line() for _ in connection.feed(side, packets)], [wanted], "fed whole")
+        found = [connection.line(secrets=True) for _ in connection.feed(side, packets)]
+        compare(found, [wanted], "fed whole")
         connection = self.fed()
         for at in range(len(packets)):
-            lines = [connection.line() for _ in connection.feed(side, packets[at:at + 1])]
+            lines = [connection.line(secrets=True)
+                     for _ in connection.feed(side, packets[at:at + 1])]
             compare(lines, [wanted] if at + 1 == len(packets) else [], f"fed by its byte {at}")
 
     def code_of_front(self, side, front):

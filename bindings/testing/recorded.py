@@ -6,8 +6,8 @@ PROXY is the proxy's executable, and the folder RECORDINGS has recorded connecti
 NAME.server are the bytes of both sides, and NAME.events is what each payload is. Here are both
 ends: a client and a server that send what was recorded. What each gets has to be what the other
 sent, and what the proxy prints, what the events say. With `--on-fault cut` a connection that can't
-be read further is ended. Without threads for more clients the proxy goes on. It prints no password
-but with `--secrets`.
+be read further is ended. Without descriptors or threads for more clients the proxy goes on. It
+prints no password but with `--secrets`.
 """
 
 import contextlib
@@ -16,6 +16,7 @@ import os
 import pathlib
 import random
 import re
+import resource
 import socket
 import struct
 import subprocess
@@ -26,6 +27,8 @@ from typing import NamedTuple
 import with_passwords
 
 SECONDS = 60
+# How many descriptors the proxy may open where it is to have too few.
+DESCRIPTORS = 24
 
 # The first byte of a change of user, which may be laid out as none.
 CHANGE_USER = b"\x11"
@@ -393,6 +396,31 @@ def check_secrets(executable, path, at):
     check("SELECT 'shown'", records[-2]["text"], "a text without a password")
 
 
+def limit_descriptors():
+    """Lets the process that is to be the proxy open few files."""
+    resource.setrlimit(resource.RLIMIT_NOFILE, (DESCRIPTORS, DESCRIPTORS))
+
+
+def check_descriptors(executable):
+    """More clients come than the proxy has descriptors for. It says so, and serves the next one once
+    they have gone."""
+    with Proxy(executable, "--pass-first", preexec_fn=limit_descriptors) as proxy:
+        flood = [proxy.ask() for _ in range(2 * DESCRIPTORS)]
+        while "no client can be taken" not in proxy.process.stderr.readline():
+            check(None, proxy.process.poll(), "the status of a proxy without descriptors")
+        for it in flood:
+            it.close()
+        with proxy.ask() as asking:
+            asking.sendall(b"?")
+            said = b""
+            while not said:
+                answering, _ = proxy.listener.accept()
+                with answering:
+                    answering.settimeout(SECONDS)
+                    said = answering.recv(1)
+        check(b"?", said, "what comes of the client behind the flood")
+
+
 def check_threads(executable):
     """A client for which no thread can be had is closed, and the proxy goes on."""
     with Proxy(executable, env={**os.environ, "RUST_MIN_STACK": str(1 << 47)}) as proxy:
@@ -418,6 +446,7 @@ def main():
     for options in ([], ["--pass-first"]):
         with Proxy(executable, "--longest", "20000", *options) as proxy:
             check_flood(proxy, pathlib.Path(recordings, "ansi_quotes.events"), at)
+    check_descriptors(executable)
     check_threads(executable)
     print(f"{len(paths)} recordings, {count} commands and logins are told as their events say")
 

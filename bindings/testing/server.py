@@ -498,7 +498,8 @@ class Tests:
               .replace("\n", "\n  "), flush=True)
 
     def examples_in_ansi_quotes(self):
-        """At a server in ANSI_QUOTES the replay and the loader do what they do elsewhere."""
+        """At a server in ANSI_QUOTES the replay, the loader and the replication reader do what they do
+        elsewhere."""
         self.sql("CREATE TABLE quoting (name VARCHAR(99)); SET GLOBAL sql_mode = 'ANSI_QUOTES'")
         try:
             query, names = "INSERT INTO quoting VALUES (?)", ["it's", '"', "\\"]
@@ -510,6 +511,10 @@ class Tests:
                 it.write("name\nit's\n\"\"\"\"\n\\\n")
             self.load("quoting", "quoting.csv")
             compare(self.sql("SELECT HEX(name) FROM quoting"), [[hex_of(it)] for it in names * 4])
+            [[position]] = self.sql("SELECT @@gtid_binlog_pos")
+            self.sql("INSERT INTO quoting VALUES ('logged')")
+            events = [name for name, _ in self.read_log("--gtid", position)]
+            compare(events.count("WRITE_ROWS_EVENT_V1"), 1)
         finally:
             self.sql("SET GLOBAL sql_mode = DEFAULT")
 

@@ -111,7 +111,7 @@ class Three:
             if self.refused[error.code] <= COMPARED:
                 self.compare_fault(side, payload, error.code)
             return None
-        self.heard(side, packets, [(event, end.line())])
+        self.heard(side, packets, [(event, end.line(secrets=True))])
         return event
 
     def compare_fault(self, side, payload, code):
@@ -184,7 +184,7 @@ class Three:
         listener, told = self.ends[ms.Side(1 - side)], []
         for piece in self.pieces(packets, listener, side):
             for event in listener.feed(side, piece):
-                told.append((event, listener.line()))
+                told.append((event, listener.line(secrets=True)))
         same("how many events are read", len(told), count)
         if put is not None:
             same("what is read", repr(told), repr(put))
@@ -211,7 +211,7 @@ class Three:
         for event in events:
             if self.audited == len(self.said):
                 raise Different(f"the auditor tells {event}")
-            same("what the auditor reads", (repr(event), self.auditor.line()),
+            same("what the auditor reads", (repr(event), self.auditor.line(secrets=True)),
                  self.said[self.audited])
             self.audited += 1
         if self.audited == len(self.said) and not any(self.waiting.values()):
@@ -241,7 +241,7 @@ class Three:
             it.feed(SERVER, ms.put_packet(payload, first)[0])
             event = it.next_event()
             same("last words", type(event), ms.FarewellEvent)
-            told.append((repr(event), it.line(), standing(it)))
+            told.append((repr(event), it.line(secrets=True), standing(it)))
             same("what is told last", told[-1], told[0])
 
     def finish(self):
@@ -258,6 +258,8 @@ class Script:
     def __init__(self, seed):
         self.seed, self.at = seed, random.Random(seed)
         self.composer = Composer(self.at)
+        # The capabilities behind a login; none of a whole connection.
+        self.words = ()
         self.three = Three(self.beginning(), self.at)
 
     def beginning(self):
@@ -268,9 +270,9 @@ class Script:
         limits = {"client": client, "server": server, "held": client + server + 300 + kept}
         if at.random() < 0.75:
             return lambda: ms.Connection(**limits)
-        words = self.composer.random_capabilities()
-        words = words[0] & ~(1 << 11 | 1 << 5 | 1 << 26), words[1]
-        return lambda: ms.Connection.after_login(*words, **limits)
+        word, own = self.composer.random_capabilities()
+        self.words = word & ~(1 << 11 | 1 << 5 | 1 << 26), own
+        return lambda: ms.Connection.after_login(*self.words, **limits)
 
     def run(self):
         """Runs it to its end, and returns how many events there were."""
@@ -408,7 +410,8 @@ def put_again(name):
             if isinstance(event, ms.FarewellEvent):
                 break
             packets, again = writer.put(event.side, next(payloads[event.side]))
-            same(f"payload {count}", (repr(again), writer.line()), (repr(event), reader.line()))
+            same(f"payload {count}", (repr(again), writer.line(secrets=True)),
+                 (repr(event), reader.line(secrets=True)))
             written[event.side] += packets
             count += 1
     for side, packets in written.items():

@@ -23,6 +23,8 @@
 #include <errno.h>
 #include <inttypes.h>
 #include <netdb.h>
+#include <netinet/in.h>
+#include <netinet/tcp.h>
 #include <stdarg.h>
 #include <stdio.h>
 #include <stdlib.h>
@@ -214,7 +216,7 @@ static void open_file(csv *from, const char *name)
 static int connect_to(const char *host, const char *port)
 {
     struct addrinfo hints, *found, *each;
-    int failure, why = 0, made = -1;
+    int failure, why = 0, made = -1, on = 1;
     memset(&hints, 0, sizeof hints);
     hints.ai_socktype = SOCK_STREAM;
     failure = getaddrinfo(host, port, &hints, &found);
@@ -231,6 +233,9 @@ static int connect_to(const char *host, const char *port)
     freeaddrinfo(found);
     if (made < 0)
         stop("%s port %s: %s", host, port, strerror(why));
+    /* The end of a request doesn't wait for an acknowledgement of what came before it. */
+    if (setsockopt(made, IPPROTO_TCP, TCP_NODELAY, &on, sizeof on) != 0)
+        stop("%s port %s: %s", host, port, strerror(errno));
     return made;
 }
 

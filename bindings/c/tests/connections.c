@@ -138,6 +138,21 @@ static void feed_both(void)
                                              server.len));
 }
 
+#define LOGIN_FRONT \
+    "client Login capabilities=33280 max_packet=16777216 collation=33 extended=0 user=x75 answer="
+#define LOGIN_REST " database=- plugin=- attributes=-"
+
+/* The login's line without its answer, which has no bytes, and with it. Either keeps the other. */
+static void check_both_lines(void)
+{
+    const uint8_t *hidden = NULL, *shown = NULL;
+    size_t hidden_len = 0, shown_len = 0;
+    CHECK_DONE(mysql_session_connection_line(&made, &hidden, &hidden_len));
+    CHECK_DONE(mysql_session_connection_line_with_secrets(&made, &shown, &shown_len));
+    CHECK_TEXT(hidden, hidden_len, LOGIN_FRONT "(0 bytes)" LOGIN_REST);
+    CHECK_TEXT(shown, shown_len, LOGIN_FRONT "x" LOGIN_REST);
+}
+
 static void check_event(size_t number)
 {
     mysql_session_value value;
@@ -154,6 +169,7 @@ static void check_event(size_t number)
         CHECK_NUMBER(event.side, MYSQL_SESSION_CLIENT);
         CHECK_TEXT(event.user, event.user_len, "u");
         CHECK_NUMBER(event.database_len, 0);
+        check_both_lines();
         break;
     case 3:
         CHECK_TEXT(event.text, event.len, "SELECT 1");
@@ -308,6 +324,7 @@ static void nothing(void)
         CHECK_CODE(mysql_session_connection_attribute(&none, 0, &said, &len, &value), wanted);
         CHECK_CODE(mysql_session_connection_column(&none, 0, &column), wanted);
         CHECK_CODE(mysql_session_connection_line(&none, &said, &len), wanted);
+        CHECK_CODE(mysql_session_connection_line_with_secrets(&none, &said, &len), wanted);
         CHECK_CODE(mysql_session_connection_standing(&none, &standing), wanted);
         CHECK_CODE(mysql_session_connection_statement(&none, 1, &said, &len, &params), wanted);
         CHECK_CODE(mysql_session_connection_rest(&none, 0, &said, &len), wanted);
@@ -347,6 +364,10 @@ static size_t read_refused(void)
         code = mysql_session_connection_line(&made, &said, &len);
         if (code == MYSQL_SESSION_MEMORY && was_refused())
             code = mysql_session_connection_line(&made, &said, &len);
+        CHECK_CODE(code, MYSQL_SESSION_OK);
+        code = mysql_session_connection_line_with_secrets(&made, &said, &len);
+        if (code == MYSQL_SESSION_MEMORY && was_refused())
+            code = mysql_session_connection_line_with_secrets(&made, &said, &len);
         CHECK_CODE(code, MYSQL_SESSION_OK);
         look_at(said, len);
     }
@@ -411,7 +432,8 @@ static void check_line(const file *lines)
 {
     const uint8_t *said = NULL;
     size_t len = 0, end = line_at;
-    if (!CHECK_DONE(mysql_session_connection_line(&made, &said, &len)) || lines == NULL)
+    if (!CHECK_DONE(mysql_session_connection_line_with_secrets(&made, &said, &len)) ||
+        lines == NULL)
         return;
     while (end < lines->len && lines->bytes[end] != '\n')
         end++;

@@ -121,7 +121,8 @@ static void check_line(mysql_session_connection *connection, const row *wanted)
 {
     const uint8_t *said = NULL;
     size_t len = 0, count = strlen(wanted->text);
-    if (!CHECK_DONE(mysql_session_connection_line(connection, &said, &len)) || !CHECK(len > 7))
+    if (!CHECK_DONE(mysql_session_connection_line_with_secrets(connection, &said, &len)) ||
+        !CHECK(len > 7))
         return;
     if (wanted->side != ANY_SIDE)
         CHECK_BYTES(said, 7, bytes_of(wanted->side == 0 ? "client " : "server "), 7);

@@ -85,6 +85,16 @@ static uint32_t push_uint(mysql_session_handle *handle)
     return mysql_session_sets_push_uint(handle, 1);
 }
 
+static uint32_t push_float(mysql_session_handle *handle)
+{
+    return mysql_session_sets_push_float(handle, 1);
+}
+
+static uint32_t push_double(mysql_session_handle *handle)
+{
+    return mysql_session_sets_push_double(handle, 1);
+}
+
 static uint32_t push_bytes(mysql_session_handle *handle)
 {
     return mysql_session_sets_push_bytes(handle, some, LEN);
@@ -133,6 +143,16 @@ static uint32_t bind_from(mysql_session_handle *handle)
 static uint32_t value_from(mysql_session_handle *handle)
 {
     return mysql_session_value_text(handle, 0, 0, 0, &good_out);
+}
+
+static uint32_t execution_from(mysql_session_handle *handle)
+{
+    return mysql_session_execution_put(handle, 0, 1, &good_out);
+}
+
+static uint32_t execution_to(mysql_session_handle *handle)
+{
+    return mysql_session_execution_put(&good_sets, 0, 1, handle);
 }
 
 static uint32_t recoder_feed(mysql_session_handle *handle)
@@ -284,6 +304,8 @@ static const struct {
     { "sets_push_null", mysql_session_sets_push_null, ONLY(SETS) },
     { "sets_push_int", push_int, ONLY(SETS) },
     { "sets_push_uint", push_uint, ONLY(SETS) },
+    { "sets_push_float", push_float, ONLY(SETS) },
+    { "sets_push_double", push_double, ONLY(SETS) },
     { "sets_push_bytes", push_bytes, ONLY(SETS) },
     { "sets_push_date", push_date, ONLY(SETS) },
     { "sets_push_time", push_time, ONLY(SETS) },
@@ -297,6 +319,8 @@ static const struct {
     { "send, to", send_to, ONLY(BYTES) },
     { "bind_text", bind_from, ONLY(SETS) },
     { "value_text", value_from, ONLY(SETS) },
+    { "execution_put, from", execution_from, ONLY(SETS) },
+    { "execution_put, to", execution_to, ONLY(BYTES) },
     { "recoder_feed", recoder_feed, ONLY(RECODER) },
     { "recoder_end", recoder_end, ONLY(RECODER) },
     { "reply_feed", reply_feed, ONLY(REPLY) },

@@ -61,9 +61,9 @@ static void line_of(mysql_session_connection *connection, text *to)
 {
     const uint8_t *said = NULL;
     size_t len = 0;
-    uint32_t code = mysql_session_connection_line(connection, &said, &len);
+    uint32_t code = mysql_session_connection_line_with_secrets(connection, &said, &len);
     if (code == MYSQL_SESSION_MEMORY && was_refused())
-        code = mysql_session_connection_line(connection, &said, &len);
+        code = mysql_session_connection_line_with_secrets(connection, &said, &len);
     text_clear(to);
     if (CHECK_DONE(code))
         text_add_bytes(to, said, len);

@@ -121,14 +121,14 @@ static void refuse(const mysql_session_parameter *values, size_t count, uint32_t
     check_text(0, "SELECT ?", "SELECT NULL");
 }
 
-/* Bytes that don't lie in what is handed over, kinds that there are not, floats. */
+/* Bytes that don't lie in what is handed over, kinds that there are not, a float of 33 bits. */
 static void refusals(void)
 {
     static const struct { size_t start, len; } outside[] = {
         { 6, 1 }, { 0, 7 }, { 7, 0 }, { 5, 2 }, { SIZE_MAX, 0 }, { 0, SIZE_MAX }, { SIZE_MAX, 1 },
         { 1, SIZE_MAX }, { SIZE_MAX, SIZE_MAX },
     };
-    static const uint32_t kinds[] = { MYSQL_SESSION_FLOAT, MYSQL_SESSION_DOUBLE, 8, UINT32_MAX };
+    static const uint32_t kinds[] = { 8, 9, UINT32_MAX };
     mysql_session_parameter values[2];
     size_t i;
     begin();
@@ -146,8 +146,89 @@ static void refusals(void)
         values[1].kind = kinds[i];
         refuse(values, 2, MYSQL_SESSION_NO_SUCH_KIND);
     }
+    values[0].start = 0;
+    values[1].kind = MYSQL_SESSION_FLOAT;
+    values[1].uint_value = (uint64_t)1 << 32;
+    refuse(values, 2, MYSQL_SESSION_OUT_OF_RANGE);
+    values[0].start = 6;
     values[0].len = 1;
     refuse(values, 2, MYSQL_SESSION_OUT_OF_RANGE);
+    end();
+}
+
+#define FLOATS "\x17\x09\0\0\0\0\x01\0\0\0\0\x01\x04\0\x05\0" \
+    "\0\0\xc0\x3f\0\0\0\0\0\0\x02\xc0"
+
+/* The payload of an execution of statement 9 with one set. */
+static void check_execution(size_t set, const char *wanted, size_t size)
+{
+    const uint8_t *data = NULL;
+    size_t len = 0;
+    CHECK_DONE(mysql_session_bytes_clear(&out));
+    CHECK_DONE(mysql_session_execution_put(&sets, set, 9, &out));
+    CHECK_DONE(mysql_session_bytes_data(&out, &data, &len));
+    CHECK(len == size && memcmp(data, wanted, size) == 0);
+}
+
+/* No road and no text takes a float: the set and the place are told, and nothing is appended. */
+static void refuse_floats(void)
+{
+    static const char query[] = "SELECT ?, ?";
+    mysql_session_place place = { 77, 77 };
+    const uint8_t *data = NULL;
+    size_t len = 0;
+    uint32_t road;
+    CHECK_DONE(mysql_session_bytes_clear(&out));
+    for (road = MYSQL_SESSION_TEXT; road <= MYSQL_SESSION_BULK; road++) {
+        CHECK_CODE(mysql_session_send(&sets, bytes_of(query), strlen(query), road, 1, LIMIT, 0,
+                                      &out, &place), MYSQL_SESSION_REFUSED_FLOAT);
+        CHECK_NUMBER(place.set, 0);
+        CHECK_NUMBER(place.place, 0);
+    }
+    CHECK_CODE(mysql_session_bind_text(&sets, 1, bytes_of(query), strlen(query), 0, &out, &place),
+               MYSQL_SESSION_REFUSED_FLOAT);
+    CHECK_NUMBER(place.set, 1);
+    CHECK_NUMBER(place.place, 0);
+    CHECK_CODE(mysql_session_value_text(&sets, 1, 1, 0, &out), MYSQL_SESSION_REFUSED_FLOAT);
+    CHECK_DONE(mysql_session_bytes_data(&out, &data, &len));
+    CHECK_NUMBER(len, 0);
+}
+
+/* Floats are their bits: 1.5 of 32 bits and -2.25 of 64. An execution has them. */
+static void floats(void)
+{
+    mysql_session_parameter values[2];
+    mysql_session_handle nothing = MYSQL_SESSION_NOTHING;
+    begin();
+    values[0] = value_of(MYSQL_SESSION_FLOAT);
+    values[0].uint_value = 0x3fc00000;
+    values[1] = value_of(MYSQL_SESSION_DOUBLE);
+    values[1].uint_value = 0xc002000000000000;
+    CHECK_DONE(mysql_session_sets_add(&sets, values, 2, bytes_of(""), 0));
+    CHECK_DONE(mysql_session_sets_push_float(&sets, 0x3fc00000));
+    CHECK_DONE(mysql_session_sets_push_double(&sets, 0xc002000000000000));
+    CHECK_DONE(mysql_session_sets_end_set(&sets));
+    check_execution(0, FLOATS, sizeof FLOATS - 1);
+    check_execution(1, FLOATS, sizeof FLOATS - 1);
+    refuse_floats();
+    CHECK_DONE(mysql_session_sets_end_set(&sets));
+    check_count(3);
+    check_execution(2, "\x17\x09\0\0\0\0\x01\0\0\0", 10);
+    CHECK_CODE(mysql_session_execution_put(&sets, 3, 9, &out), MYSQL_SESSION_OUT_OF_RANGE);
+    CHECK_CODE(mysql_session_execution_put(&sets, 0, 9, &nothing), MYSQL_SESSION_EMPTY_HANDLE);
+    end();
+}
+
+/* An execution has at most 65535 values. */
+static void too_many(void)
+{
+    static mysql_session_parameter values[65536];
+    begin();
+    CHECK_DONE(mysql_session_sets_add(&sets, values, 65535, bytes_of(""), 0));
+    CHECK_DONE(mysql_session_sets_add(&sets, values, 65536, bytes_of(""), 0));
+    CHECK_DONE(mysql_session_execution_put(&sets, 0, 9, &out));
+    CHECK_CODE(mysql_session_execution_put(&sets, 1, 9, &out),
+               MYSQL_SESSION_REFUSED_TOO_MANY_PLACES);
     end();
 }
 
@@ -221,6 +302,8 @@ int main(void)
     each_kind();
     pushed_values_stay();
     refusals();
+    floats();
+    too_many();
     edges();
     clear();
     many();

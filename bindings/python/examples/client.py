@@ -119,6 +119,9 @@ class Client:
     bytes."""
 
     def __init__(self, stream: socket.socket, limit: int = ms.DEFAULT_LIMIT) -> None:
+        if stream.family != socket.AF_UNIX:
+            # A command behind one without a reply would else wait for its acknowledgement, 40 ms.
+            stream.setsockopt(socket.IPPROTO_TCP, socket.TCP_NODELAY, 1)
         self._stream = stream
         self._limit = limit
         self.connection = ms.Connection(client=limit, server=limit, held=4 * limit)
@@ -234,11 +237,15 @@ class Client:
         return result
 
     def execute(self, text: ms.Text, statement: int, sets: Iterable[Sequence[ms.Parameter]],
-                road: ms.Road = ms.Road.EXECUTE) -> Iterator[List[Result]]:
+                road: ms.Road = ms.Road.EXECUTE,
+                mode: Optional[ms.Mode] = None) -> Iterator[List[Result]]:
         """Executes a statement with sets of values, one after another or in bulk; the results of
-        each execution. The mode tells only how many placeholders the text has."""
+        each execution. The mode tells only which placeholders the text has. It is the session's by
+        default, for which the server is asked if it isn't known."""
+        if mode is None and self.mode is None:
+            self.track_mode()
         packets = ms.executions(text, sets, statement, road, self._limit,
-                                mode=self.mode or ms.Mode())
+                                mode=mode or self.mode or ms.Mode())
         for reply in self.ask_packets(packets):
             results = Results()
             for event in reply:

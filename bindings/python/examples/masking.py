@@ -3,7 +3,7 @@
     masked(b"SET PASSWORD = 'secret'")    # (b"SET PASSWORD = '*****'", True)
 
 The head of bindings/testing/rows/masks.txt has the rule, and its rows are the tests. The same rule
-is that of bindings/rust/examples/audit_proxy/masking.rs.
+is that of bindings/audit/src/masking.rs.
 """
 
 from __future__ import annotations

@@ -2,6 +2,7 @@
 """Reads the MySQL connections of a capture file, and prints what both sides said.
 
     read_capture.py file.pcap
+    read_capture.py file.pcap.gz
     tcpdump -i lo -U -w - port 3306 | read_capture.py -
 
 A line for each packet of a connection, as soon as it is whole. It has when its last byte was
@@ -27,8 +28,9 @@ prints them.
 With --save the bytes of each connection go to NUMBER.client and NUMBER.server in a folder, as replays
 and other examples take them.
 
-The status is 0 where all connections were read to their ends, and 1 where not. It is 2 where the
-file can't be read as a capture.
+The status is 0 where all connections were read to their ends, and 1 where not. It is 1 too if a
+connection may be one with a MySQL server, but was captured in part. Then its beginning is missing, or
+the bytes of one end. It is 2 where the file can't be read as a capture.
 """
 
 from __future__ import annotations
@@ -36,10 +38,14 @@ from __future__ import annotations
 import argparse
 import dataclasses
 import datetime
+import gzip
+import io
 import os
 import re
 import sys
-from typing import BinaryIO, Dict, Iterator, List, Optional, Sequence, Set, Tuple, Union
+import zlib
+from typing import (BinaryIO, Dict, Iterator, List, Optional, Sequence, Set, Tuple, Union,
+                    cast)
 
 from captures import SECOND, CaptureError, Skipped, segments
 from masking import masked
@@ -52,10 +58,16 @@ import mysql_session as ms  # noqa: E402  (found by the line above)
 # How many bytes of an end are looked at before the other end is known to be no server that greets.
 FRONT = 1 << 16
 
+# What a file of gzip begins with.
+GZIP = b"\x1f\x8b"
+
 GREETING, ERROR = 0x0A, 0xFF
 
 # The last number of a command, and that of a bulk execution.
 LAST_COMMAND, BULK = 0x20, 0xFA
+
+# The ends of connections of which nothing more comes.
+ENDS = (ms.Reason.REJECTED, ms.Reason.DENIED, ms.Reason.QUIT, ms.Reason.FAREWELL)
 
 # What a client says that is no command.
 NO_COMMANDS = (ms.SecureRequestEvent, ms.LoginEvent, ms.CutOffLoginEvent, ms.AnswerEvent,
@@ -79,7 +91,7 @@ OfStatement = Union[ms.ExecuteEvent, ms.BulkExecuteEvent, ms.LongDataEvent, ms.F
                     ms.CloseEvent]
 LAST_STATEMENT = 0xFFFFFFFF
 
-COM_CHANGE_USER, EXECUTIONS = 0x11, (0x17, 0x18, 0xFA)
+COM_CHANGE_USER, COM_REGISTER_SLAVE, EXECUTIONS = 0x11, 0x15, (0x17, 0x18, 0xFA)
 
 # What is shown of a field: a text, or words, or None for how many bytes it has.
 Shown = Union[bytes, str, None]
@@ -220,7 +232,7 @@ class Secrets:
             first = event.data[0] if event.data else 0
             self._runs |= (first == COM_CHANGE_USER
                            or first in EXECUTIONS and bool(self._statements))
-            return {"data": None} if self._runs else {}
+            return {"data": None} if self._runs or first == COM_REGISTER_SLAVE else {}
         return {"text": text} if self._runs else {}
 
     def _of_reply(self, event: ms.Event) -> Dict[str, Shown]:
@@ -287,6 +299,7 @@ class Reading:
         self.user, self.commands, self.rows, self.errors = b"", 0, 0, 0
         self.last = of.began            # when its last piece was captured
         self.machine: Optional[ms.Connection] = None
+        self._has_ended = False
         self._secrets = Secrets()
         self._server = Server(of, ports)
         self._early: List[Piece] = []
@@ -370,20 +383,28 @@ class Reading:
         if self.machine is None:
             return ""
         hidden: Dict[str, Shown] = {} if secrets else self._secrets.of(event, self.machine)
-        return shown_line(self.machine.line(), hidden) if lines else shown_event(event, hidden)
+        return (shown_line(self.machine.line(secrets=True), hidden) if lines
+                else shown_event(event, hidden))
 
     def end(self) -> str:
         """How the connection stands, as the library writes it."""
         if self.machine is None:
             return "it has no greeting"
-        self.machine.finish()
+        end = self.machine.finish()
+        self._has_ended = end.kind is ms.ConnectionEndKind.WHOLE or end.reason in ENDS
         return self.machine.line()
 
     @property
     def is_whole(self) -> bool:
-        """Whether it was read to its end."""
+        """Whether it was read to its end, which `end` looks for."""
         missing = any(it.missing for it in self.of.directions.values())
-        return self.machine is not None and self.why is None and not missing
+        return self._has_ended and self.why is None and not missing
+
+    @property
+    def is_unknown(self) -> bool:
+        """Whether it may be one with a MySQL server: its beginning or the bytes of an end are missing."""
+        ends = [bool(it.next) for it in self.of.directions.values()]
+        return self._server.is_possible and (self.of.opened is None or ends.count(True) == 1)
 
     def summary(self, end: str) -> str:
         """The connection in a line."""
@@ -411,7 +432,7 @@ class Reader:
         self._ports, self._lines, self._secrets = ports, lines, secrets
         self._capabilities, self._folder = capabilities, folder
         self._readings: Dict[int, Reading] = {}
-        self._others = 0
+        self._others = self._unknown = 0
         self.whole = True
 
     def read(self, file: BinaryIO) -> None:
@@ -444,7 +465,9 @@ class Reader:
         del self._readings[reading.of.number]
         reading.close()
         if not reading.is_ours:
-            self._others += 1
+            self._others += not reading.is_unknown
+            self._unknown += reading.is_unknown
+            self.whole = self.whole and not reading.is_unknown
             return
         end = reading.end()
         if self._lines:
@@ -454,8 +477,10 @@ class Reader:
 
     def _print_rest(self, skipped: Skipped) -> None:
         """Prints what wasn't read."""
-        rest = {"other TCP connections": self._others, "frames without TCP": skipped.other,
-                "fragments of IP": skipped.fragments, "damaged frames": skipped.damaged}
+        rest = {"other TCP connections": self._others,
+                "TCP connections that were captured in part": self._unknown,
+                "frames without TCP": skipped.other, "fragments of IP": skipped.fragments,
+                "damaged frames": skipped.damaged}
         told = [f"{count} {what}" for what, count in rest.items() if count]
         if told:
             print("not read: " + ", ".join(told))
@@ -482,6 +507,11 @@ def options() -> argparse.Namespace:
     return parser.parse_args()
 
 
+def unpacked(file: io.BufferedReader) -> BinaryIO:
+    """A file, or what is in it, where it is one of gzip."""
+    return cast(BinaryIO, gzip.open(file)) if file.peek(2)[:2] == GZIP else file
+
+
 def main() -> int:
     given = options()
     reader = Reader(given.port, given.lines, given.secrets, given.capabilities, given.save)
@@ -489,13 +519,13 @@ def main() -> int:
         if given.save:
             os.makedirs(given.save, exist_ok=True)
         if given.capture == "-":
-            reader.read(sys.stdin.buffer)
+            reader.read(unpacked(sys.stdin.buffer))
         else:
             with open(given.capture, "rb") as file:
-                reader.read(file)
+                reader.read(unpacked(file))
     except KeyboardInterrupt:
         pass  # the capture was stopped, and what is known of it was printed
-    except (OSError, CaptureError) as error:
+    except (OSError, EOFError, zlib.error, CaptureError) as error:
         print(f"read_capture: {error}", file=sys.stderr)
         return 2
     return 0 if reader.whole else 1

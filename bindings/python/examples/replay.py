@@ -12,6 +12,8 @@ isn't known they are in hexadecimal, which each mode reads alike; a query with a
 sent so. The connection is in UTF-8. If the server that the stream was recorded at had
 NO_BACKSLASH_ESCAPES or ANSI_QUOTES in its SQL mode, --recorded-mode says so: texts are read by it.
 
+The password is that of the environment variable MYSQL_PASSWORD, if there is one.
+
 The status is 0 where the stream is whole and the server answered no error, 1 where not, and 2 where
 the replay itself failed.
 """
@@ -19,6 +21,7 @@ the replay itself failed.
 from __future__ import annotations
 
 import argparse
+import os
 import socket
 import sys
 from typing import Iterator, List, Sequence, Tuple
@@ -122,7 +125,7 @@ def run(given: argparse.Namespace) -> int:
         raise ValueError("the recorded mode isn't known")
     host, _, port = given.server.rpartition(":")
     with Client(socket.create_connection((host, int(port))), given.limit) as client:
-        greeting = client.log_in(given.user, database=given.database)
+        greeting = client.log_in(given.user, os.environ.get("MYSQL_PASSWORD", ""), given.database)
         print(f"server {greeting.version.decode()}")
         if given.road == "bulk" and not client.connection.mariadb_capabilities & MARIADB_BULK:
             raise ValueError("the server takes no bulk executions")

@@ -23,8 +23,9 @@ an answer; at the prepare each of them is None. Columns are of the types tinyint
 bigint, year, decimal, varchar, text, json, blob, date, datetime and time. Those of numbers may be
 unsigned. Texts are compared in small letters and with one blank between their words.
 
-Every login is let in. SET, USE, transactions, pings and the like are answered by OK; any query that
-the table hasn't is error 1064.
+Every login is let in. SET, USE, transactions, pings and the like are answered by OK. What drivers ask
+by themselves is answered by `asked.py`, but where the table has it. Any other query is error 1064, and
+is printed on standard error.
 """
 
 from __future__ import annotations
@@ -40,9 +41,12 @@ import threading
 from typing import (Any, Callable, Dict, Iterator, List, Mapping, NamedTuple, Optional, Sequence,
                     Tuple, Union)
 
-sys.path.insert(0, os.path.join(os.path.dirname(os.path.abspath(__file__)), os.pardir))
+HERE = os.path.dirname(os.path.abspath(__file__))
+sys.path[:0] = [HERE, os.path.join(HERE, os.pardir)]
 
-import mysql_session as ms  # noqa: E402  (found by the line above)
+import asked  # noqa: E402  (found by the line above)
+
+import mysql_session as ms  # noqa: E402
 from mysql_session import Capability, Column, ColumnType, ReplyKind, Side  # noqa: E402
 
 VERSION = "8.0.0-test-server"
@@ -116,18 +120,28 @@ ANSWERS: Dict[str, Given] = {
                                 "rows": [[None, "text", -7]]},
     "SELECT * FROM goods": GOODS,
     "SELECT * FROM goods WHERE id = ?": {**GOODS, "where": ["id"]},
-    "SELECT @@version_comment LIMIT 1": {"columns": {"@@version_comment": "varchar"},
-                                         "rows": [["canned answers"]]},
 }
 
 
 # ---- The table ----------------------------------------------------------------------------------
 
 
+def text_in(query: Union[str, bytes]) -> str:
+    """The text of a query, without a `;` and blanks at its end."""
+    text = query.decode(errors="replace") if isinstance(query, bytes) else query
+    return text.rstrip("; \n")
+
+
 def normal(query: Union[str, bytes]) -> str:
     """The form in which queries are looked up."""
-    text = query.decode(errors="replace") if isinstance(query, bytes) else query
-    return " ".join(text.rstrip("; \n").split()).lower()
+    return " ".join(text_in(query).split()).lower()
+
+
+def on_a_line(text: str) -> str:
+    """A text for people: on one line, of at most 1000 characters, of which none moves a cursor."""
+    shown = "".join(it if it.isprintable() else it.encode("unicode_escape").decode()
+                    for it in text[:1000])
+    return shown if len(text) <= 1000 else f"{shown} .."
 
 
 def column(name: str, kind: str) -> Column:
@@ -195,6 +209,21 @@ def rows_for(answer: Rows, values: Values) -> List[Sequence[ms.Parameter]]:
 NO_TABLE = (ValueError, KeyError, TypeError, AttributeError)
 
 
+class Who(NamedTuple):
+    """Who is logged in, by the number of the client."""
+
+    client: int
+    user: str = ""
+    schema: Optional[str] = None
+
+    def told(self) -> Dict[str, asked.Value]:
+        """The values of functions that drivers ask for."""
+        here = f"{self.user}@localhost"
+        return {"version()": VERSION, "database()": self.schema, "schema()": self.schema,
+                "user()": here, "session_user()": here, "system_user()": here,
+                "current_user()": f"{self.user}@%", "connection_id()": self.client}
+
+
 class Table:
     """Queries and their answers. Raises one of NO_TABLE."""
 
@@ -202,15 +231,16 @@ class Table:
         self._answers = {normal(query): given if callable(given) else answer_of(given)
                          for query, given in answers.items()}
 
-    def answer(self, query: bytes, values: Values = ()) -> Answer:
-        """The answer to a query, or to its execution with values."""
+    def answer(self, query: bytes, values: Values = (), who: Who = Who(0)) -> Optional[Answer]:
+        """The answer to a query, or to its execution with values; None where none is known."""
         text = normal(query)
         if text in self._answers:
             found = self._answers[text]
             return answer_of(found(values)) if callable(found) else found
         if text.startswith(DONE):
             return Done()
-        return Failure(1064, "42000", f"no answer to this query is known: {text}")
+        of_driver = asked.answer(text_in(query), who.told())
+        return None if of_driver is None else answer_of(of_driver)
 
 
 # ---- A client's connection ----------------------------------------------------------------------
@@ -232,7 +262,7 @@ class Session:
     """A client's connection: what the client says is fed, and what answers it is put."""
 
     def __init__(self, stream: socket.socket, table: Table, client: int) -> None:
-        self._stream, self._table, self._client = stream, table, client
+        self._stream, self._table, self._who = stream, table, Who(client)
         self._connection = ms.Connection()
         self._prepared = 0
 
@@ -243,8 +273,10 @@ class Session:
 
     def serve(self) -> None:
         """Greets the client, and answers it until it goes."""
+        # A small packet behind another would else wait for the client's acknowledgement.
+        self._stream.setsockopt(socket.IPPROTO_TCP, socket.TCP_NODELAY, 1)
         scramble = bytes(33 + it % 94 for it in os.urandom(20))
-        self._put(ms.put_greeting(self._client, VERSION, CAPABILITIES, scramble[:8], scramble[8:]))
+        self._put(ms.put_greeting(self._who.client, VERSION, CAPABILITIES, scramble[:8], scramble[8:]))
         while self._connection.reason is None:
             piece = self._stream.recv(min(PIECE, self._connection.room(Side.CLIENT)))
             if not piece:
@@ -268,23 +300,46 @@ class Session:
     def _answer(self, event: ms.Event) -> None:
         """Answers what the client says, where it has an answer."""
         if isinstance(event, (ms.LoginEvent, ms.ChangeUserEvent)):
-            print(f"client {self._client}: {event.user.decode(errors='replace')}", flush=True)
+            self._who = self._who._replace(user=event.user.decode(errors="replace"))
+            self._use(event.database)
+            print(f"client {self._who.client}: {on_a_line(self._who.user)}", flush=True)
             self._reply(Done())
         elif isinstance(event, ms.QueryEvent):
-            self._reply(self._table.answer(event.text))
+            self._reply(self._found(event.text))
         elif isinstance(event, ms.PrepareEvent):
             self._prepare(event.text)
         elif isinstance(event, ms.ExecuteEvent):
             # Long data that came before stands among the values.
-            self._reply(self._table.answer(event.text, event.values), event.values)
-        elif isinstance(event, (ms.InitDbEvent, ms.ResetStatementEvent)):
+            self._reply(self._found(event.text, event.values), event.values)
+        elif isinstance(event, ms.InitDbEvent):
+            self._use(event.schema)
+            self._reply(Done())
+        elif isinstance(event, ms.ResetStatementEvent):
             self._reply(Done())
         elif isinstance(event, ms.CommandEvent) and event.number in OK_COMMANDS:
             self._reply(Done())
         elif isinstance(event, ms.CommandEvent) and event.number == STATISTICS:
             self._put(b"Answers are canned")
         elif not isinstance(event, (ms.QuitEvent, ms.CloseEvent, ms.LongDataEvent)):
-            self._reply(Failure(1047, "08S01", f"{event.name} isn't answered"))
+            self._reply(self._unknown(1047, "08S01", f"{event.name} isn't answered"))
+
+    def _use(self, schema: bytes) -> None:
+        """Goes on with a schema; no bytes are none."""
+        self._who = self._who._replace(schema=schema.decode(errors="replace") or None)
+
+    def _unknown(self, error: int, state: str, why: str) -> Failure:
+        """The error of what has no answer, which is printed too: many drivers tell no more of it."""
+        print(f"client {self._who.client}: {on_a_line(why)}", file=sys.stderr, flush=True)
+        return Failure(error, state, why)
+
+    def _found(self, query: bytes, values: Values = ()) -> Answer:
+        """The answer to a query, or to its execution with values."""
+        found = self._table.answer(query, values, self._who)
+        if found is not None:
+            if normal(query).startswith("use "):
+                self._use(text_in(query).split(None, 1)[1].strip("` ").encode())
+            return found
+        return self._unknown(1064, "42000", f"no answer to this query is known: {normal(query)}")
 
     def _reply(self, answer: Answer, values: Optional[Values] = None) -> None:
         """Answers a query by text, or an execution with these values in binary."""
@@ -305,7 +360,7 @@ class Session:
     def _prepare(self, query: bytes) -> None:
         """Prepares a statement whose text the table has."""
         count = parameters_of(query)
-        answer = self._table.answer(query, (None,) * count)
+        answer = self._found(query, (None,) * count)
         if isinstance(answer, Failure):
             self._reply(answer)
             return

@@ -352,6 +352,7 @@ static PyMethodDef methods[] = {
     {"connection", connection_new, METH_VARARGS, NULL},
     {"connection_after_login", connection_after_login, METH_VARARGS, NULL},
     {"send", send_sets, METH_VARARGS, NULL},
+    {"execution_put", execution_put, METH_VARARGS, NULL},
     {"bind_text", bind_text, METH_VARARGS, NULL},
     {"value_text", value_text, METH_VARARGS, NULL},
     {NULL, NULL, 0, NULL}};
@@ -383,6 +384,7 @@ static int module_exec(PyObject *module)
         !(state->datetime = attribute("datetime", "datetime")) ||
         !(state->timedelta = attribute("datetime", "timedelta")) ||
         !(state->mapping = attribute("collections.abc", "Mapping")) ||
+        !(state->unordered = attribute("collections.abc", "Set")) ||
         !(state->none_given = PyTuple_New(0)) || !(state->no_bytes = bytes_of(NULL, 0)) ||
         !(state->room_key = PyUnicode_InternFromString("mysql_session room")))
         return -1;
@@ -407,6 +409,7 @@ static int module_traverse(PyObject *module, visitproc visit, void *arg)
     Py_VISIT(state->datetime);
     Py_VISIT(state->timedelta);
     Py_VISIT(state->mapping);
+    Py_VISIT(state->unordered);
     return 0;
 }
 
@@ -436,6 +439,7 @@ static int module_clear(PyObject *module)
     Py_CLEAR(state->datetime);
     Py_CLEAR(state->timedelta);
     Py_CLEAR(state->mapping);
+    Py_CLEAR(state->unordered);
     Py_CLEAR(state->none_given);
     Py_CLEAR(state->no_bytes);
     Py_CLEAR(state->room_key);

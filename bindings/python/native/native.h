@@ -50,7 +50,7 @@ typedef struct {
     int event_count;
     const EventClass *events[EVENT_KINDS];
     /* Types of Python's library. */
-    PyObject *decimal, *date, *datetime, *timedelta, *mapping;
+    PyObject *decimal, *date, *datetime, *timedelta, *mapping, *unordered;
     PyObject *none_given, *no_bytes, *room_key;
     /* Dates come again in a table: the last one of each slot is kept, and found by its number. */
     PyObject *dates[DATES];
@@ -199,7 +199,8 @@ PyObject *values_new(PyObject *module, PyObject *converters);
 PyObject *rows_of(PyObject *module, PyObject *args);
 /* The number that digits behind an optional sign are, where its magnitude fits; else false. */
 bool whole_of(const uint8_t *at, size_t len, bool *is_negative, uint64_t *magnitude);
-/* The number that plain digits of a float are. Else false, or an error. */
+/* The number that plain digits of a float are. Else false, or an error: where it is too large, that
+ * of an overflow. */
 bool real_of(const uint8_t *at, size_t len, double *number);
 
 /* ---- Tables ----------------------------------------------------------------------------------- */
@@ -227,6 +228,12 @@ PyObject *table_arrays(State *state, Table *table);
 void table_clear(Table *table);
 int table_traverse(Table *table, visitproc visit, void *arg);
 
+/* Which of so many columns have floats of 32 bits. */
+typedef struct {
+    bool *columns;
+    size_t count;
+} Narrow;
+
 /* ---- The parts -------------------------------------------------------------------------------- */
 
 extern PyType_Spec receiver_spec, sets_spec, recoder_spec, reply_spec, writer_spec, packets_spec,
@@ -243,7 +250,8 @@ PyObject *connection_after_login(PyObject *module, PyObject *args);
 PyObject *send_sets(PyObject *module, PyObject *args);
 PyObject *bind_text(PyObject *module, PyObject *args);
 PyObject *value_text(PyObject *module, PyObject *args);
-int sets_add_values(State *state, Object *sets, PyObject *values);
+PyObject *execution_put(PyObject *module, PyObject *args);
+int sets_add_values(State *state, Object *sets, PyObject *values, const Narrow *narrow);
 int set_up_events(State *state, PyObject *classes);
 
 #endif

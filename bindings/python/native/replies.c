@@ -455,6 +455,7 @@ typedef struct {
     OBJECT_HEAD
     uint32_t kind;
     Object *row;
+    Narrow narrow;
 } Writer;
 
 PyObject *writer_new(PyObject *module, PyObject *args)
@@ -570,6 +571,22 @@ static int give_columns(Writer *self, PyObject *columns)
     return 0;
 }
 
+/* Which of the columns, that were given, have floats of 32 bits. */
+static int narrow_of(PyObject *columns, Narrow *narrow)
+{
+    narrow->count = (size_t)PyTuple_Size(columns);
+    narrow->columns = PyMem_Malloc(narrow->count + 1);
+    if (!narrow->columns) {
+        PyErr_NoMemory();
+        return -1;
+    }
+    for (size_t i = 0; i < narrow->count; i++) {
+        PyObject *type = PyTuple_GetItem(PyTuple_GetItem(columns, (Py_ssize_t)i), 0);
+        narrow->columns[i] = PyLong_AsLongLong(type) == MYSQL_SESSION_TYPE_FLOAT;
+    }
+    return 0;
+}
+
 static PyObject *writer_rows(PyObject *it, PyObject *columns)
 {
     Writer *self = (Writer *)it;
@@ -581,13 +598,18 @@ static PyObject *writer_rows(PyObject *it, PyObject *columns)
     }
     if (begin((Object *)self))
         return NULL;
-    if (give_columns(self, columns)) {
+    Narrow narrow;
+    if (give_columns(self, columns) || narrow_of(columns, &narrow)) {
         self->busy = false;
         return NULL;
     }
     mysql_session_spot spot = {0};
     uint32_t code =
         mysql_session_writer_rows(&self->held->handles[0], to_write((Object *)self, 1), &spot);
+    /* Of rows that were refused nothing is begun. */
+    PyMem_Free(code ? narrow.columns : self->narrow.columns);
+    if (!code)
+        self->narrow = narrow;
     return wrote(self, code, &spot);
 }
 
@@ -620,7 +642,7 @@ static PyObject *writer_row(PyObject *it, PyObject *values)
         return NULL;
     mysql_session_handle *row = &self->row->held->handles[0];
     uint32_t code = mysql_session_sets_clear(row);
-    if (code || sets_add_values(self->state, self->row, values)) {
+    if (code || sets_add_values(self->state, self->row, values, &self->narrow)) {
         if (code)
             fail(self->state, code);
         self->busy = false;
@@ -684,6 +706,7 @@ static PyObject *writer_ungive(PyObject *it, PyObject *none)
 static void writer_dealloc(PyObject *it)
 {
     Py_CLEAR(((Writer *)it)->row);
+    PyMem_Free(((Writer *)it)->narrow.columns);
     object_dealloc(it);
 }
 

@@ -1,5 +1,6 @@
 /* Parameter sets: put together, sent, received and recoded. */
 #include "native.h"
+#include <float.h>
 
 /* ---- Parameter sets --------------------------------------------------------------------------- */
 
@@ -76,6 +77,29 @@ static int int_in(PyObject *it, mysql_session_parameter *value)
     }
     value->kind = MYSQL_SESSION_UINT;
     value->uint_value = large;
+    return 0;
+}
+
+/* A float, as a double, or as one of 32 bits where its column has those. */
+static int float_in(PyObject *it, bool is_narrow, mysql_session_parameter *value)
+{
+    double number = PyFloat_AsDouble(it);
+    if (number == -1 && PyErr_Occurred())
+        return -1;
+    if (!is_narrow) {
+        value->kind = MYSQL_SESSION_DOUBLE;
+        memcpy(&value->uint_value, &number, sizeof number);
+        return 0;
+    }
+    if ((number > FLT_MAX && number <= DBL_MAX) || (number < -FLT_MAX && number >= -DBL_MAX)) {
+        PyErr_Format(PyExc_OverflowError, "%S is no float of 32 bits", it);
+        return -1;
+    }
+    float narrow = (float)number;
+    uint32_t bits;
+    memcpy(&bits, &narrow, sizeof bits);
+    value->kind = MYSQL_SESSION_FLOAT;
+    value->uint_value = bits;
     return 0;
 }
 
@@ -187,13 +211,16 @@ static int is_a(PyObject *it, PyObject *class)
 }
 
 /* Puts a value into its place of the array. */
-static int value_in(State *state, PyObject *it, Set *set, mysql_session_parameter *value)
+static int value_in(State *state, PyObject *it, bool is_narrow, Set *set,
+                    mysql_session_parameter *value)
 {
     int is;
     if (it == Py_None)
         return 0;
     if (PyLong_Check(it))
         return int_in(it, value);
+    if (PyFloat_Check(it))
+        return float_in(it, is_narrow, value);
     if (PyUnicode_Check(it) || PyBytes_Check(it) || PyByteArray_Check(it) || PyMemoryView_Check(it))
         return bytes_in(it, set, value);
     if ((is = is_a(it, state->datetime)))
@@ -226,7 +253,7 @@ static void set_end(Set *set)
 }
 
 /* The set of a tuple's values; `set_end` ends it also where this fails. */
-static int set_of(State *state, PyObject *values, Set *set)
+static int set_of(State *state, PyObject *values, const Narrow *narrow, Set *set)
 {
     size_t count = (size_t)PyTuple_Size(values);
     set->values = set->few;
@@ -243,9 +270,11 @@ static int set_of(State *state, PyObject *values, Set *set)
         }
     }
     memset(set->values, 0, count * sizeof *set->values);
-    for (size_t i = 0; i < count; i++)
-        if (value_in(state, PyTuple_GetItem(values, (Py_ssize_t)i), set, &set->values[i]))
+    for (size_t i = 0; i < count; i++) {
+        bool is_narrow = narrow && i < narrow->count && narrow->columns[i];
+        if (value_in(state, PyTuple_GetItem(values, (Py_ssize_t)i), is_narrow, set, &set->values[i]))
             return -1;
+    }
     if (set->byte_count == 1 || !set->len)
         return 0;
     if (set->len > sizeof set->few_joined && !(set->joined = PyMem_Malloc(set->len))) {
@@ -261,14 +290,14 @@ static int set_of(State *state, PyObject *values, Set *set)
 }
 
 /* Puts a set behind the others of `sets`. */
-static int add_tuple(State *state, Object *sets, int number, PyObject *values)
+static int add_tuple(State *state, Object *sets, PyObject *values, const Narrow *narrow)
 {
     Set set;
-    int wrong = set_of(state, values, &set);
+    int wrong = set_of(state, values, narrow, &set);
     if (!wrong && !(wrong = begin(sets))) {
         const uint8_t *at = set.byte_count == 1 ? set.bytes[0].at : set.joined;
-        uint32_t code = mysql_session_sets_add(&sets->held->handles[number], set.values, set.count,
-                                               at, set.len);
+        uint32_t code = mysql_session_sets_add(&sets->held->handles[0], set.values, set.count, at,
+                                               set.len);
         sets->busy = false;
         if (code) {
             fail(state, code);
@@ -279,6 +308,19 @@ static int add_tuple(State *state, Object *sets, int number, PyObject *values)
     return wrong;
 }
 
+/* Whether values are of a class that gives no order to placeholders: a text, a mapping, Python's own
+ * sets. Less than 0 is an error. */
+static int has_no_order(State *state, PyObject *values)
+{
+    if (PyList_Check(values))
+        return 0;
+    if (PyUnicode_Check(values) || PyBytes_Check(values) || PyByteArray_Check(values) ||
+        PyMemoryView_Check(values) || PyDict_Check(values))
+        return 1;
+    int is = PyObject_IsInstance(values, state->mapping);
+    return is ? is : PyObject_IsInstance(values, state->unordered);
+}
+
 /* A set as a tuple of its values. */
 static PyObject *tuple_of(State *state, PyObject *values)
 {
@@ -286,21 +328,17 @@ static PyObject *tuple_of(State *state, PyObject *values)
         Py_INCREF(values);
         return values;
     }
-    int is = PyList_Check(values) ? 0
-             : PyUnicode_Check(values) || PyBytes_Check(values) || PyByteArray_Check(values) ||
-                       PyMemoryView_Check(values) || PyDict_Check(values)
-                 ? 1
-                 : PyObject_IsInstance(values, state->mapping);
+    int is = has_no_order(state, values);
     if (is > 0)
         PyErr_SetString(PyExc_TypeError,
                         "a set is a sequence of values in the order of the placeholders");
     return is ? NULL : PySequence_Tuple(values);
 }
 
-int sets_add_values(State *state, Object *sets, PyObject *values)
+int sets_add_values(State *state, Object *sets, PyObject *values, const Narrow *narrow)
 {
     PyObject *tuple = tuple_of(state, values);
-    int wrong = tuple ? add_tuple(state, sets, 0, tuple) : -1;
+    int wrong = tuple ? add_tuple(state, sets, tuple, narrow) : -1;
     Py_XDECREF(tuple);
     return wrong;
 }
@@ -320,7 +358,7 @@ PyObject *sets_new(PyObject *module, PyObject *none)
 static PyObject *sets_add(PyObject *it, PyObject *values)
 {
     Object *self = (Object *)it;
-    if (check(self) || sets_add_values(self->state, self, values))
+    if (check(self) || sets_add_values(self->state, self, values, NULL))
         return NULL;
     Py_RETURN_NONE;
 }
@@ -332,7 +370,7 @@ static PyObject *sets_extend(PyObject *it, PyObject *sets)
     if (!iterator)
         return NULL;
     while ((values = PyIter_Next(iterator))) {
-        int wrong = sets_add_values(self->state, self, values);
+        int wrong = sets_add_values(self->state, self, values, NULL);
         Py_DECREF(values);
         if (wrong)
             break;
@@ -433,6 +471,26 @@ PyObject *send_sets(PyObject *module, PyObject *args)
         mysql_session_free(&out);
     }
     in_end(&query);
+    return made;
+}
+
+PyObject *execution_put(PyObject *module, PyObject *args)
+{
+    State *state = state_of(module);
+    PyObject *given;
+    uint32_t statement;
+    if (needs_setup(state) || !PyArg_ParseTuple(args, "OO&", &given, to_u32, &statement))
+        return NULL;
+    Object *sets = sets_in(state, given);
+    if (!sets)
+        return NULL;
+    mysql_session_handle out = MYSQL_SESSION_NOTHING;
+    uint32_t code = mysql_session_bytes_new(&out);
+    if (!code)
+        code = mysql_session_execution_put(&sets->held->handles[0], 0, statement, &out);
+    sets->busy = false;
+    PyObject *made = code ? fail(state, code) : written(state, &out);
+    mysql_session_free(&out);
     return made;
 }
 

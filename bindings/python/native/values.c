@@ -169,7 +169,7 @@ bool real_of(const uint8_t *at, size_t len, double *number)
         text[i] = (char)at[i];
     }
     text[len] = 0;
-    *number = PyOS_string_to_double(text, NULL, NULL);
+    *number = PyOS_string_to_double(text, NULL, PyExc_OverflowError);
     if (*number == -1.0 && PyErr_Occurred()) {
         if (PyErr_ExceptionMatches(PyExc_ValueError))
             PyErr_Clear();

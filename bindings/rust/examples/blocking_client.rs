@@ -18,13 +18,15 @@
 //! 2 where the words are wrong.
 
 #[path = "blocking_client/client.rs"]
+#[allow(dead_code)] // what goes on in a form of its own: here nothing does
 mod client;
 #[path = "blocking_client/passwords.rs"]
 mod passwords;
 
 use client::{Account, Client, Failure, LIMIT};
 use mysql_session::{
-    capability, command, executions, Capabilities, Event, FromValue, OkPacket, ParameterSets, Value,
+    capability, column_type, command, executions_in, Capabilities, ColumnType, Event, FromValue,
+    OkPacket, ParameterSets, Time, Value,
 };
 use passwords::Secret;
 use std::env;
@@ -141,11 +143,13 @@ fn execute(
     sets: &ParameterSets,
     out: &mut dyn Write,
 ) -> Result<bool, Failure> {
+    // It tells which placeholders the query has, and is known before the next statement.
+    let mode = client.mode()?.unwrap_or_default();
     client.send(&command::prepare(query))?;
     let Some(statement) = statement_of(client, out)? else {
         return Ok(false);
     };
-    let packets = executions(sets, query, statement, LIMIT)?;
+    let packets = executions_in(sets, query, statement, LIMIT, mode)?;
     let mut left = &packets[..];
     let mut done = true;
     while !left.is_empty() {
@@ -182,7 +186,9 @@ fn print_reply(client: &mut Client, out: &mut dyn Write) -> Result<bool, Failure
                     writeln!(out, "{}", names.join("\t"))?;
                 }
                 rows += 1;
-                let cells: Vec<String> = row.into_iter().map(cell_text).collect();
+                let cells: Vec<String> = (row.columns().zip(row))
+                    .map(|(column, value)| cell_text(column.column_type, value))
+                    .collect();
                 writeln!(out, "{}", cells.join("\t"))?;
             }
             Event::RowsEnd(_) => writeln!(out, "{}", counted(rows))?,
@@ -213,12 +219,33 @@ fn ok_text(packet: &OkPacket<'_>) -> String {
     text
 }
 
-/// What a cell holds: in the reply to a query a text, in that to an execution any value.
-fn cell_text(value: Value<'_>) -> String {
+/// What a cell holds. In the reply to a query it is a text. In that to an execution it is any value,
+/// and printed as that text would be.
+fn cell_text(of: ColumnType, value: Value<'_>) -> String {
     match value {
         Value::Null => "NULL".to_string(),
         Value::Bytes(bytes) => readable(bytes),
+        Value::Date(date) if of.kind != column_type::DATE => {
+            let (hour, minute, second) = (date.hour, date.minute, date.second);
+            let (year, month, day) = (date.year, date.month, date.day);
+            let fraction = fraction_text(of.decimals, date.micros);
+            format!("{year:04}-{month:02}-{day:02} {hour:02}:{minute:02}:{second:02}{fraction}")
+        }
+        Value::Time(time) => {
+            let fraction = fraction_text(of.decimals, time.micros);
+            format!("{}{fraction}", Time { micros: 0, ..time })
+        }
         value => String::from_value(value).expect("a value but NULL and bytes has a text"),
+    }
+}
+
+/// The fraction of a second, by as many digits as the column has; some have no number of them.
+fn fraction_text(decimals: u8, micros: u32) -> String {
+    let digits = format!("{micros:06}");
+    match decimals {
+        1..=6 => format!(".{}", &digits[..decimals.into()]),
+        _ if micros == 0 => String::new(),
+        _ => format!(".{digits}"),
     }
 }
 

@@ -40,6 +40,7 @@ struct End {
 impl End {
     fn new(side: Side, stream: TcpStream) -> Result<End, Failure> {
         stream.set_nonblocking(true)?;
+        stream.set_nodelay(true)?;
         let (protocol, mariadb) = (PROTOCOL, 0);
         let capabilities = Capabilities { protocol, mariadb };
         Ok(End {

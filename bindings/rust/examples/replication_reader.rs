@@ -4,39 +4,42 @@
 //! replication_reader ADDRESS USER [--file NAME --position N | --gtid POSITION] [--events N]
 //! ```
 //!
-//! The user has an empty password, of the plugin mysql_native_password: the response to the
-//! server's greeting is empty then, as this library has no hashes. The log is read from its first
-//! file on, or from a position in a file. Or it is read behind a position of MariaDB's global
-//! transaction identifiers, as `0-1-42`. It is read to its end, or until N events were printed.
-//!
-//! Variables are set by texts. Their literals are in hexadecimal, and the queries have no backslash:
-//! so the server reads them alike in each SQL mode. A MariaDB whose SQL mode has ANSI_QUOTES can't be
-//! read. Its status then has a bit without a name in the protocol, by which the library refuses each
-//! OK packet.
+//! The user logs in as blocking_client has it, by MYSQL_PASSWORD or MYSQL_PASSWORD_SHA1. The log is
+//! read from its first file on, or from a position in a file. Or it is read behind a position of
+//! MariaDB's global transaction identifiers, as `0-1-42`. It is read to its end, or until N events
+//! were printed.
 
+#[path = "blocking_client/client.rs"]
+#[allow(dead_code)] // its queries of one text: here they have values
+mod client;
+#[allow(dead_code)] // what writes a packet: the client does
 mod common;
+#[path = "blocking_client/passwords.rs"]
+mod passwords;
 
-use common::{write_packet, Failure, Unread, LIMIT};
+use client::{Account, Client, LIMIT};
+use common::{Failure, Unread};
 use mysql_session::{
-    capability, send_in, BinlogDump, Bytes, Greeting, Login, Mode, PacketReader, ParameterSets,
-    RegisterReplica, ReplyKind, ReplyReader, ReplyResult, Road, Spelling, Value,
-    BINLOG_DUMP_NON_BLOCK,
+    capability, BinlogDump, Bytes, Capabilities, Event, PacketReader, ParameterSets,
+    RegisterReplica, Value, BINLOG_DUMP_NON_BLOCK,
 };
+use passwords::Secret;
 use std::env;
-use std::io::{self, Read, Write};
-use std::net::TcpStream;
+use std::io::{self, Write};
 use std::process::ExitCode;
 
 const USAGE: &str =
     "replication_reader ADDRESS USER [--file NAME --position N | --gtid POSITION] [--events N]";
 
-const PLUGIN: &[u8] = b"mysql_native_password";
-
-const CAPABILITIES: u32 = capability::CLIENT_LONG_PASSWORD
-    | capability::CLIENT_PROTOCOL_41
-    | capability::CLIENT_TRANSACTIONS
-    | capability::CLIENT_SECURE_CONNECTION
-    | capability::CLIENT_PLUGIN_AUTH;
+const CAPABILITIES: Capabilities = Capabilities {
+    protocol: capability::CLIENT_LONG_PASSWORD
+        | capability::CLIENT_PROTOCOL_41
+        | capability::CLIENT_TRANSACTIONS
+        | capability::CLIENT_SECURE_CONNECTION
+        | capability::CLIENT_PLUGIN_AUTH
+        | capability::CLIENT_SESSION_TRACK,
+    mariadb: 0,
+};
 
 /// How many bytes an event's header has.
 const HEADER: usize = 19;
@@ -49,14 +52,6 @@ struct Request {
     position: u32,
     gtid: Option<String>,
     events: Option<u64>,
-}
-
-/// A connection on which a user is logged in.
-struct Connection {
-    stream: TcpStream,
-    unread: Unread,
-    /// What both sides have.
-    capabilities: u32,
 }
 
 fn main() -> ExitCode {
@@ -106,14 +101,25 @@ fn request_of(words: &[String]) -> Option<Request> {
 
 /// Logs in, registers as a replica, and prints the log's events and how many they are.
 fn read_log(request: &Request) -> Result<(), Failure> {
-    let mut connection = Connection::open(&request.address, request.user.as_bytes())?;
-    connection.set(
+    let account = Account {
+        user: request.user.as_bytes(),
+        password: Secret::of_environment()?,
+        database: b"",
+        capabilities: CAPABILITIES,
+    };
+    let mut client = Client::connect(&request.address, &account)?;
+    set(
+        &mut client,
         b"SET @master_binlog_checksum = @@global.binlog_checksum",
         &[],
     )?;
-    connection.set(b"SET @mariadb_slave_capability = ?", &[4.into()])?;
+    set(
+        &mut client,
+        b"SET @mariadb_slave_capability = ?",
+        &[4.into()],
+    )?;
     if let Some(gtid) = &request.gtid {
-        connection.set(b"SET @slave_connect_state = ?", &[gtid.into()])?;
+        set(&mut client, b"SET @slave_connect_state = ?", &[gtid.into()])?;
     }
     let server = std::process::id();
     let mut payload = Bytes::new()?;
@@ -122,8 +128,8 @@ fn read_log(request: &Request) -> Result<(), Failure> {
         ..RegisterReplica::default()
     }
     .put(&mut payload)?;
-    write_packet(&mut connection.stream, 0, &payload)?;
-    connection.read_reply()?;
+    client.send(&payload)?;
+    read_reply(&mut client)?;
     payload.clear();
     BinlogDump {
         server,
@@ -132,122 +138,60 @@ fn read_log(request: &Request) -> Result<(), Failure> {
         file: request.file.as_bytes(),
     }
     .put(&mut payload)?;
+    client.send(&payload)?;
     let mut out = io::stdout().lock();
-    let events = connection.print_events(&payload, request.events, &mut out)?;
+    let events = print_events(client, request.events, &mut out)?;
     Ok(writeln!(out, "{events} events")?)
 }
 
-impl Connection {
-    /// Connects and logs in a user without a password.
-    fn open(address: &str, user: &[u8]) -> Result<Connection, Failure> {
-        let mut stream = TcpStream::connect(address)?;
-        let mut unread = Unread::default();
-        let payload = unread.packet(&mut stream, &mut PacketReader::new(0, LIMIT)?)?;
+/// Sets a variable by a query with these values, which is written for the session's mode.
+fn set(client: &mut Client, query: &[u8], values: &[Value<'_>]) -> Result<(), Failure> {
+    let mut sets = ParameterSets::new()?;
+    sets.add(values)?;
+    let text = client.text(query, &sets, 0)?;
+    client.query(&text)?;
+    read_reply(client)
+}
+
+/// Reads the reply to a command to its end.
+fn read_reply(client: &mut Client) -> Result<(), Failure> {
+    while client.awaits_reply() {
+        if let Event::Error(error) | Event::Farewell(error) = client.next()? {
+            return Err(error.to_string().into());
+        }
+    }
+    Ok(())
+}
+
+/// Prints the headers of the log's events, or of the first ones. The answer is how many they are. The
+/// connection tells the first of them, and is over then: the others are packets that are cut out of
+/// the stream.
+fn print_events(
+    mut client: Client,
+    most: Option<u64>,
+    out: &mut dyn Write,
+) -> Result<u64, Failure> {
+    let mut payload = match client.next()? {
+        Event::Error(error) | Event::Farewell(error) => return Err(error.to_string().into()),
+        Event::Line(payload) => payload.to_vec(),
+        event => return Err(format!("the server answers {}", event.name()).into()),
+    };
+    let (mut stream, unread) = client.into_stream();
+    let (mut unread, mut reader) = (Unread(unread), PacketReader::new(2, LIMIT)?);
+    let mut events = 0;
+    while most.is_none_or(|most| events < most) {
         check_no_error(&payload)?;
-        let capabilities = CAPABILITIES & Greeting::read(&payload)?.capabilities;
-        let mut connection = Connection {
-            stream,
-            unread,
-            capabilities,
-        };
-        connection.log_in(user)?;
-        Ok(connection)
-    }
-
-    /// Answers the greeting, and what the server asks for behind it.
-    fn log_in(&mut self, user: &[u8]) -> Result<(), Failure> {
-        let login = Login {
-            capabilities: CAPABILITIES,
-            user,
-            plugin: PLUGIN,
-            ..Login::default()
-        };
-        let mut payload = Bytes::new()?;
-        login.put(LIMIT as u32, &mut payload)?;
-        write_packet(&mut self.stream, 1, &payload)?;
-        let mut answer = self.packet(2)?;
-        if let [0xfe, switch @ ..] = &answer[..] {
-            check_plugin(switch)?;
-            write_packet(&mut self.stream, 3, b"")?;
-            answer = self.packet(4)?;
+        match &payload[..] {
+            [0, event @ ..] => writeln!(out, "{}", header_line(event)?)?,
+            [0xfe, ..] => break,
+            _ => return Err("the server sends a packet that is no event".into()),
         }
-        check_no_error(&answer)?;
-        match answer.first() {
-            Some(0) => Ok(()),
-            _ => Err("the server asks for more than an empty password".into()),
+        events += 1;
+        if most != Some(events) {
+            payload = unread.packet(&mut stream, &mut reader)?;
         }
     }
-
-    /// The payload of the next packet, which has this number.
-    fn packet(&mut self, number: u8) -> Result<Vec<u8>, Failure> {
-        self.unread
-            .packet(&mut self.stream, &mut PacketReader::new(number, LIMIT)?)
-    }
-
-    /// Sets a variable by a query with these values. They are literals in its text, in hexadecimal:
-    /// so any mode reads them.
-    fn set(&mut self, query: &[u8], values: &[Value<'_>]) -> Result<(), Failure> {
-        let mut sets = ParameterSets::new()?;
-        sets.add(values)?;
-        let mut command = Bytes::new()?;
-        let (mode, spelling) = (Mode::default(), Spelling::Hexadecimal);
-        send_in(
-            &sets,
-            query,
-            Road::Text,
-            0,
-            LIMIT,
-            mode,
-            spelling,
-            &mut command,
-        )?;
-        self.stream.write_all(&command)?;
-        self.read_reply()
-    }
-
-    /// Reads the reply to a command to its end.
-    fn read_reply(&mut self) -> Result<(), Failure> {
-        let mut reader = ReplyReader::new(ReplyKind::Query, self.capabilities, 1, LIMIT)?;
-        let mut piece = [0; 1 << 12];
-        loop {
-            let count = self.stream.read(&mut piece)?;
-            reader.feed(&piece[..count])?;
-            let results = reader.take()?;
-            if let Some(ReplyResult::Error(error)) = results.last() {
-                return Err(server_error(error.code, error.message));
-            }
-            if results.last().is_some_and(ReplyResult::is_last) {
-                return Ok(());
-            }
-            if count == 0 {
-                return Err(reader.end().end().to_string().into());
-            }
-        }
-    }
-
-    /// Asks for the log, and prints the headers of its events, or of the first ones. The answer is
-    /// how many they are.
-    fn print_events(
-        &mut self,
-        dump: &[u8],
-        most: Option<u64>,
-        out: &mut dyn Write,
-    ) -> Result<u64, Failure> {
-        write_packet(&mut self.stream, 0, dump)?;
-        let mut reader = PacketReader::new(1, LIMIT)?;
-        let mut events = 0;
-        while most.is_none_or(|most| events < most) {
-            let payload = self.unread.packet(&mut self.stream, &mut reader)?;
-            check_no_error(&payload)?;
-            match &payload[..] {
-                [0, event @ ..] => writeln!(out, "{}", header_line(event)?)?,
-                [0xfe, ..] => return Ok(events),
-                _ => return Err("the server sends a packet that is no event".into()),
-            }
-            events += 1;
-        }
-        Ok(events)
-    }
+    Ok(events)
 }
 
 /// The error that an error packet tells, whose message may stand behind a state.
@@ -259,22 +203,8 @@ fn check_no_error(payload: &[u8]) -> Result<(), Failure> {
         [b'#', _, _, _, _, _, message @ ..] => message,
         _ => text,
     };
-    Err(server_error(u16::from_le_bytes([*low, *high]), message))
-}
-
-/// An error of the server.
-fn server_error(code: u16, message: &[u8]) -> Failure {
-    format!("error {code}: {}", String::from_utf8_lossy(message)).into()
-}
-
-/// Whether the server switches to the one plugin that this program has: its name ends with a zero.
-fn check_plugin(switch: &[u8]) -> Result<(), Failure> {
-    let plugin = switch.split(|byte| *byte == 0).next().unwrap_or(switch);
-    if plugin == PLUGIN {
-        return Ok(());
-    }
-    let name = String::from_utf8_lossy(plugin);
-    Err(format!("the server asks for the plugin {name}, which this program has not").into())
+    let code = u16::from_le_bytes([*low, *high]);
+    Err(format!("error {code}: {}", String::from_utf8_lossy(message)).into())
 }
 
 /// An event's header as a line.

@@ -50,7 +50,7 @@ codes! {
         pub const MIXED: Code = Code(6);
         /// There is no road of this number. No safe call answers it.
         pub const NO_SUCH_ROAD: Code = Code(7);
-        /// There is no kind of this number: of a value, as a float among parameters, or of a column.
+        /// There is no kind of this number: of a value, or of a column.
         pub const NO_SUCH_KIND: Code = Code(8);
         /// Bytes of a packet are cut off, or have no such layout.
         pub const BAD_PACKET: Code = Code(9);

@@ -12,6 +12,9 @@ use std::error;
 use std::fmt;
 use std::ptr::null_mut;
 
+/// One of the calls that show an event as a line.
+type LineCall = unsafe extern "C" fn(*mut raw::Connection, *mut *const u8, *mut usize) -> u32;
+
 /// A side of a connection.
 #[derive(Clone, Copy, Debug, PartialEq, Eq, Hash)]
 pub enum Side {
@@ -589,14 +592,30 @@ impl Connection {
     /// name, its fields. Behind [`Connection::finish`] it is how the connection stands, as
     /// `end Whole`.
     ///
+    /// Of data of an authentication, but for a greeting's scramble, it has the length, as
+    /// `(20 bytes)`. So it has of a replica's password. The texts of statements are as they were
+    /// sent, with passwords in them.
+    ///
     /// # Errors
     /// [`Code::OUT_OF_RANGE`] where no event was told; [`Code::MEMORY`].
     pub fn line(&self) -> Result<&str, Error> {
+        self.line_by(raw::mysql_session_connection_line)
+    }
+
+    /// The line that [`Connection::line`] gives, with all bytes: those of passwords and their
+    /// scrambles too.
+    ///
+    /// # Errors
+    /// [`Code::OUT_OF_RANGE`] where no event was told; [`Code::MEMORY`].
+    pub fn line_with_secrets(&self) -> Result<&str, Error> {
+        self.line_by(raw::mysql_session_connection_line_with_secrets)
+    }
+
+    /// The line that one of the two calls shows.
+    fn line_by(&self, call: LineCall) -> Result<&str, Error> {
         let mut text = raw::Text::default();
         // SAFETY: "Handles": by `ConnectionHandle::get`; "Results go out": fields of one local.
-        answer(unsafe {
-            raw::mysql_session_connection_line(self.handle.get(), &mut text.at, &mut text.len)
-        })?;
+        answer(unsafe { call(self.handle.get(), &mut text.at, &mut text.len) })?;
         // SAFETY: the bytes are "good until the next call on it" that takes its `&mut self`.
         let bytes = unsafe { text.bytes() };
         Ok(std::str::from_utf8(bytes).expect("a line is in ASCII"))

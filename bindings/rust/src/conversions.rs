@@ -1,6 +1,6 @@
 //! Values as types of Rust: a cell by itself, or a row as a tuple.
 
-use crate::texts::{date_in, duration_in, float_text, number_in, time_in};
+use crate::texts::{date_in, duration_in, float_in, float_text, number_in, time_in};
 use crate::values::{Date, Time, Value};
 use std::any::type_name;
 use std::error;
@@ -16,8 +16,8 @@ use std::time::Duration;
 /// |---|---|
 /// | `i8` to `i64`, `u8` to `u64`, `isize`, `usize` | whole numbers and their texts, in range |
 /// | `bool` | 0 and 1, and their texts |
-/// | `f32` | floats, whole numbers up to 2^24, and texts of a number |
-/// | `f64` | floats, doubles, whole numbers up to 2^53, and texts of a number |
+/// | `f32` | floats, whole numbers up to 2^24, and texts of a number in range |
+/// | `f64` | floats, doubles, whole numbers up to 2^53, and texts of a number in range |
 /// | `&[u8]`, `Vec<u8>`, `[u8; N]` | bytes, an array of its length |
 /// | `&str` | bytes that are UTF-8 |
 /// | `String` | bytes that are UTF-8, and the text of any value but NULL |
@@ -256,7 +256,7 @@ impl<'a> FromValue<'a> for f32 {
             Value::Float(number) => Some(number),
             Value::Int(number) => exact(number.into(), 24).map(|number| number as f32),
             Value::UInt(number) => exact(number.into(), 24).map(|number| number as f32),
-            Value::Bytes(text) => number_in(text),
+            Value::Bytes(text) => float_in(text),
             _ => None,
         }
     }
@@ -274,7 +274,7 @@ impl<'a> FromValue<'a> for f64 {
             Value::Double(number) => Some(number),
             Value::Int(number) => exact(number.into(), 53).map(|number| number as f64),
             Value::UInt(number) => exact(number.into(), 53).map(|number| number as f64),
-            Value::Bytes(text) => number_in(text),
+            Value::Bytes(text) => float_in(text),
             _ => None,
         }
     }

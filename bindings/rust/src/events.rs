@@ -134,7 +134,8 @@ pub enum Event<'a> {
     ResetConnection,
     /// Any other command.
     Command(OtherCommand<'a>),
-    /// A payload that is laid out as no command, as it stands.
+    /// A payload that is laid out as no command, as it stands. Some servers run such a payload; which
+    /// reply follows goes by its first byte.
     Other(&'a [u8]),
 
     /// An OK packet, which is a result.

@@ -4,8 +4,8 @@
 //! - [`Receiver`] reads a stream of commands about one query, and shows its parameter sets;
 //!   [`Recoder`] and [`recode`] make one form of it.
 //! - [`send`] appends [`ParameterSets`] as commands to [`Bytes`], by text, by execution or in bulk.
-//!   [`executions`] has those of a statement that was prepared before. And [`bind_text`] puts one
-//!   set into the query's text.
+//!   [`executions`] has those of a statement that was prepared before, [`put_execution`] one with
+//!   floats. And [`bind_text`] puts one set into the query's text.
 //! - [`Mode`] is how a server reads a text, and [`Spelling`] how byte strings are written in one:
 //!   calls whose names end with `_in` take them.
 //! - [`ReplyReader`] reads a server's reply; [`ReplyWriter`] writes one.
@@ -96,8 +96,8 @@ pub use results::{
     SessionState, SessionStates,
 };
 pub use sending::{
-    bind_text, bind_text_in, bulk_executions, executions, send, send_in, value_text, value_text_in,
-    Road,
+    bind_text, bind_text_in, bulk_executions, executions, executions_in, put_execution, send,
+    send_in, value_text, value_text_in, Road,
 };
 pub use sets::ParameterSets;
 pub use values::{Content, Date, Time, Value};

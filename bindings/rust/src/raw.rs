@@ -9,7 +9,7 @@ use std::ptr::null;
 use std::slice;
 
 /// `MYSQL_SESSION_ABI`: the interface that is declared here.
-pub const ABI: u32 = 7;
+pub const ABI: u32 = 8;
 
 // `enum mysql_session_flag`.
 pub const NO_BACKSLASH_ESCAPES: u32 = 1;
@@ -304,6 +304,8 @@ extern "C" {
     pub fn mysql_session_sets_push_null(handle: *mut Handle) -> u32;
     pub fn mysql_session_sets_push_int(handle: *mut Handle, number: i64) -> u32;
     pub fn mysql_session_sets_push_uint(handle: *mut Handle, number: u64) -> u32;
+    pub fn mysql_session_sets_push_float(handle: *mut Handle, bits: u32) -> u32;
+    pub fn mysql_session_sets_push_double(handle: *mut Handle, bits: u64) -> u32;
     pub fn mysql_session_sets_push_bytes(handle: *mut Handle, bytes: *const u8, len: usize) -> u32;
     pub fn mysql_session_sets_push_date(
         handle: *mut Handle,
@@ -353,6 +355,12 @@ extern "C" {
         flags: u32,
         out: *mut Handle,
         place: *mut Place,
+    ) -> u32;
+    pub fn mysql_session_execution_put(
+        sets: *mut Handle,
+        set: usize,
+        statement: u32,
+        out: *mut Handle,
     ) -> u32;
     pub fn mysql_session_bind_text(
         sets: *mut Handle,
@@ -654,6 +662,11 @@ extern "C" {
         column: *mut Column,
     ) -> u32;
     pub fn mysql_session_connection_line(
+        connection: *mut Connection,
+        text: *mut *const u8,
+        len: *mut usize,
+    ) -> u32;
+    pub fn mysql_session_connection_line_with_secrets(
         connection: *mut Connection,
         text: *mut *const u8,
         len: *mut usize,

@@ -138,7 +138,7 @@ pub fn send_in(
 ///
 /// They are laid out for a connection where [`CLIENT_QUERY_ATTRIBUTES`] isn't in force. The server
 /// is in any mode that reads the query's placeholders as the default mode does; else there is
-/// [`send_in`].
+/// [`executions_in`].
 ///
 /// ```
 /// use mysql_session::{executions, ParameterSets};
@@ -162,7 +162,37 @@ pub fn executions(
     statement: u32,
     limit: usize,
 ) -> Result<Vec<u8>, Error> {
-    behind_prepare(sets, query, Road::Execute, statement, limit)
+    executions_in(sets, query, statement, limit, Mode::default())
+}
+
+/// The packets of [`executions`] for a server in this mode, which tells only which placeholders the
+/// query has.
+///
+/// ```
+/// use mysql_session::{executions, executions_in, Mode, ParameterSets};
+///
+/// # fn main() -> Result<(), mysql_session::Error> {
+/// let mut sets = ParameterSets::new()?;
+/// sets.add(&[7.into()])?;
+/// // In ANSI_QUOTES these are quotes of a name, in which a backslash is a byte like any other.
+/// let query = br#"SELECT "a\", ?"#;
+/// let mode = Mode { ansi_quotes: true, ..Mode::default() };
+/// assert!(executions_in(&sets, query, 9, 1 << 24, mode).is_ok());
+/// assert!(executions(&sets, query, 9, 1 << 24).is_err());
+/// # Ok(())
+/// # }
+/// ```
+///
+/// # Errors
+/// Those of [`send_in`].
+pub fn executions_in(
+    sets: &ParameterSets,
+    query: &[u8],
+    statement: u32,
+    limit: usize,
+    mode: Mode,
+) -> Result<Vec<u8>, Error> {
+    behind_prepare(sets, query, Road::Execute, statement, limit, mode)
 }
 
 /// The packets that execute a prepared statement with all of these sets by the fewest of MariaDB's
@@ -180,7 +210,44 @@ pub fn bulk_executions(
     statement: u32,
     limit: usize,
 ) -> Result<Vec<u8>, Error> {
-    behind_prepare(sets, query, Road::Bulk, statement, limit)
+    behind_prepare(sets, query, Road::Bulk, statement, limit, Mode::default())
+}
+
+/// Appends to `out` the payload of an execution of a prepared statement with the values of one set,
+/// by its number from 0. [`Connection::put`](crate::Connection::put) takes it.
+///
+/// Each value has its own type. Floats are among them, which [`send`] refuses. The
+/// payload is laid out for a connection where
+/// [`CLIENT_QUERY_ATTRIBUTES`](crate::capability::CLIENT_QUERY_ATTRIBUTES) isn't in force. Safe for
+/// any server.
+///
+/// ```
+/// use mysql_session::{put_execution, Bytes, ParameterSets};
+///
+/// # fn main() -> Result<(), mysql_session::Error> {
+/// let mut sets = ParameterSets::new()?;
+/// sets.add(&[1.5.into(), "tea".into()])?;
+/// let mut payload = Bytes::new()?;
+/// put_execution(&sets, 0, 9, &mut payload)?;
+/// assert_eq!(payload.as_slice()[..5], [0x17, 9, 0, 0, 0]);
+/// assert_eq!(payload.as_slice()[16..24], 1.5f64.to_le_bytes());
+/// # Ok(())
+/// # }
+/// ```
+///
+/// # Errors
+/// [`Code::OUT_OF_RANGE`] where there is no such set, [`Code::REFUSED_TOO_MANY_PLACES`],
+/// [`Code::MEMORY`]; nothing is appended then.
+pub fn put_execution(
+    sets: &ParameterSets,
+    set: usize,
+    statement: u32,
+    out: &mut Bytes,
+) -> Result<(), Error> {
+    // SAFETY: as in `send_in`.
+    let code =
+        unsafe { raw::mysql_session_execution_put(sets.looking(), set, statement, out.changing()) };
+    Ok(answer(code)?)
 }
 
 /// What is sent by a road behind its prepare.
@@ -190,9 +257,13 @@ fn behind_prepare(
     road: Road,
     statement: u32,
     limit: usize,
+    mode: Mode,
 ) -> Result<Vec<u8>, Error> {
     let mut out = Bytes::new()?;
-    send(sets, query, road, statement, limit, &mut out)?;
+    let spelling = Spelling::Quoted;
+    send_in(
+        sets, query, road, statement, limit, mode, spelling, &mut out,
+    )?;
     Ok(behind_payload(&out).to_vec())
 }
 

@@ -1,6 +1,6 @@
 //! Parameter sets that are put together.
 
-use crate::codes::{answer, certain, Code, Error};
+use crate::codes::{answer, certain, Error};
 use crate::handle::Handle;
 use crate::raw;
 use crate::values::{Date, Time, Value};
@@ -35,7 +35,7 @@ impl ParameterSets {
     /// No sets.
     ///
     /// # Errors
-    /// [`Code::MEMORY`].
+    /// [`Code::MEMORY`](crate::Code::MEMORY).
     pub fn new() -> Result<ParameterSets, Error> {
         // SAFETY: "Handles": a handle that is being made.
         let handle = Handle::made(|handle| unsafe { raw::mysql_session_sets_new(handle) })?;
@@ -49,8 +49,7 @@ impl ParameterSets {
     /// Gives the next set one more value, for the next placeholder.
     ///
     /// # Errors
-    /// [`Code::NO_SUCH_KIND`] of a float, as no parameter is one; [`Code::MEMORY`]. Nothing has
-    /// changed then.
+    /// [`Code::MEMORY`](crate::Code::MEMORY); nothing has changed then.
     pub fn push<'a>(&mut self, value: impl Into<Value<'a>>) -> Result<(), Error> {
         let (handle, value) = (self.handle.get(), value.into());
         // SAFETY: "Handles": by `Handle::get`; "Bytes go in": they are a slice.
@@ -64,7 +63,12 @@ impl ParameterSets {
                 }
                 Value::Date(date) => push_date(handle, date),
                 Value::Time(time) => push_time(handle, time),
-                Value::Float(_) | Value::Double(_) => Code::NO_SUCH_KIND.number(),
+                Value::Float(number) => {
+                    raw::mysql_session_sets_push_float(handle, number.to_bits())
+                }
+                Value::Double(number) => {
+                    raw::mysql_session_sets_push_double(handle, number.to_bits())
+                }
             }
         };
         Ok(answer(code)?)
@@ -73,7 +77,7 @@ impl ParameterSets {
     /// Ends the next set: its values stand behind the sets before it. Also a set of no values.
     ///
     /// # Errors
-    /// [`Code::MEMORY`]; nothing has changed then.
+    /// [`Code::MEMORY`](crate::Code::MEMORY); nothing has changed then.
     pub fn end_set(&mut self) -> Result<(), Error> {
         // SAFETY: "Handles": by `Handle::get`.
         Ok(answer(unsafe {
@@ -84,8 +88,7 @@ impl ParameterSets {
     /// Puts one more set behind the whole ones. What was pushed for the next set stays.
     ///
     /// # Errors
-    /// [`Code::NO_SUCH_KIND`] of a float, as no parameter is one; [`Code::MEMORY`]. Nothing has
-    /// changed then.
+    /// [`Code::MEMORY`](crate::Code::MEMORY); nothing has changed then.
     pub fn add(&mut self, values: &[Value<'_>]) -> Result<(), Error> {
         self.values.clear();
         self.bytes.clear();

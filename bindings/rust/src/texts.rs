@@ -14,6 +14,11 @@ pub(crate) fn number_in<T: FromStr>(text: &[u8]) -> Option<T> {
     has_digit.then(|| from_utf8(text).ok()?.parse().ok())?
 }
 
+/// The float that a text is, where one is as large.
+pub(crate) fn float_in<T: FromStr + Copy + Into<f64>>(text: &[u8]) -> Option<T> {
+    number_in(text).filter(|number: &T| (*number).into().is_finite())
+}
+
 /// The text of a float: the shortest that is read as the same one. As a server's it has an exponent
 /// below 1e-15 and from 1e15 on.
 pub(crate) fn float_text<T: LowerExp + Display + Copy + Into<f64>>(number: T) -> String {

@@ -138,7 +138,8 @@ impl fmt::Display for Time {
 /// A value: a parameter that is sent, or what a cell of a row holds.
 ///
 /// Whole numbers of the widths up to 32 bits, `i64`, `isize` and `bool` become [`Value::Int`], a `u64`
-/// or `usize` [`Value::UInt`]. A text or bytes become [`Value::Bytes`], and `None` becomes [`Value::Null`].
+/// or `usize` [`Value::UInt`]. An `f32` becomes [`Value::Float`], an `f64` [`Value::Double`]. A text
+/// or bytes become [`Value::Bytes`], and `None` becomes [`Value::Null`].
 #[derive(Clone, Copy, PartialEq)]
 pub enum Value<'a> {
     /// NULL.
@@ -149,9 +150,9 @@ pub enum Value<'a> {
     UInt(u64),
     /// Bytes, among them texts.
     Bytes(&'a [u8]),
-    /// A float, which rows have and no parameter is.
+    /// A float: a cell, or a parameter of [`put_execution`](crate::put_execution) alone.
     Float(f32),
-    /// A double, which rows have and no parameter is.
+    /// A double: a cell, or a parameter of [`put_execution`](crate::put_execution) alone.
     Double(f64),
     /// A date.
     Date(Date),
@@ -216,8 +217,14 @@ impl<'a> Value<'a> {
                 parameter.len = text.len();
                 bytes.extend_from_slice(text);
             }
-            Value::Float(_) => parameter.kind = 4,
-            Value::Double(_) => parameter.kind = 5,
+            Value::Float(number) => {
+                parameter.kind = 4;
+                parameter.uint_value = number.to_bits().into();
+            }
+            Value::Double(number) => {
+                parameter.kind = 5;
+                parameter.uint_value = number.to_bits();
+            }
             Value::Date(date) => set_date(&mut parameter, date),
             Value::Time(time) => set_time(&mut parameter, time),
         }
@@ -308,6 +315,18 @@ impl From<usize> for Value<'_> {
 impl From<u64> for Value<'_> {
     fn from(number: u64) -> Self {
         Value::UInt(number)
+    }
+}
+
+impl From<f32> for Value<'_> {
+    fn from(number: f32) -> Self {
+        Value::Float(number)
+    }
+}
+
+impl From<f64> for Value<'_> {
+    fn from(number: f64) -> Self {
+        Value::Double(number)
     }
 }
 

@@ -52,13 +52,37 @@ fn recordings() -> Vec<Recording> {
     names.iter().map(|name| recording(name)).collect()
 }
 
+/// A line in which data of an authentication, and a replica's password, are a length.
+fn without_secrets(line: &str) -> String {
+    let name = line.split(' ').nth(1).expect("a line has a name");
+    let field = match name {
+        "Login" | "ChangeUser" => " answer=x",
+        "RegisterSlave" => " password=x",
+        "AuthAnswer" | "AuthSwitch" | "AuthMore" | "NextFactor" | "PluginData" => " data=x",
+        // What begins as a change of user or a registration, and is laid out as none.
+        "Other" if line.contains(" byte=17 ") || line.contains(" byte=21 ") => " data=x",
+        _ => return line.to_string(),
+    };
+    let Some((front, behind)) = line.split_once(field) else {
+        return line.to_string();
+    };
+    let len = behind.find(' ').unwrap_or(behind.len());
+    let field = field.trim_end_matches('x');
+    format!("{front}{field}({} bytes){}", len / 2, &behind[len..])
+}
+
 /// Takes the events that are there, and their lines. Each event is printed whole, so that all that it
 /// shows is read.
 fn take_lines(connection: &mut Connection, lines: &mut Vec<String>) -> Result<(), ConnectionFault> {
     while let Some(event) = connection.next_event()? {
         assert!(!format!("{event:?}").is_empty());
         let (side, name) = (event.side(), event.name());
-        let line = connection.line().expect("memory isn't short").to_string();
+        let hidden = connection.line().expect("memory isn't short");
+        let line = connection
+            .line_with_secrets()
+            .expect("memory isn't short")
+            .to_string();
+        assert_eq!(hidden, without_secrets(&line));
         assert!(line.starts_with(&format!("{side} ")), "{line} is of {side}");
         // Events of COM_.. and others that have no variant of their own have other names in lines.
         if name != "Command" && name != "Line" {

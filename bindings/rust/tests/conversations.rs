@@ -270,7 +270,10 @@ impl Wanted {
 fn take_lines(connection: &mut Connection, lines: &mut Vec<String>) -> Result<(), ConnectionFault> {
     while let Some(event) = connection.next_event()? {
         let (side, name) = (event.side(), event.name());
-        let line = connection.line().expect("memory isn't short").to_string();
+        let line = connection
+            .line_with_secrets()
+            .expect("memory isn't short")
+            .to_string();
         let mut words = line.split(' ');
         assert_eq!(side_of(words.next().unwrap_or("")), Some(side), "{line}");
         let word = words.next().unwrap_or("");
@@ -390,7 +393,7 @@ fn put_again(it: &Conversation) -> Result<(), Error> {
         };
         let mut out = Bytes::new()?;
         speaker.put(side, &packets[4..], &mut out)?;
-        wanted.assert_is(speaker.line()?, &step.place);
+        wanted.assert_is(speaker.line_with_secrets()?, &step.place);
         assert_eq!(&out[..], &packets[..], "{}", step.place);
         let mut lines = Vec::new();
         let fed = feed(listener, side, packets, usize::MAX, &mut lines);

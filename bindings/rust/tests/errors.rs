@@ -1,8 +1,8 @@
 //! Errors by their codes, texts and places, and objects behind a fault.
 
 use mysql_session::{
-    bind_text, put_packet, recode, send, At, Bytes, Code, End, Error, ParameterSets, Receiver,
-    Recoder, Road, Value,
+    bind_text, put_execution, put_packet, recode, send, value_text, At, Bytes, Code, End, Error,
+    ParameterSets, Receiver, Recoder, Road, Value,
 };
 use std::collections::HashSet;
 
@@ -122,20 +122,26 @@ fn codes_have_texts() {
 }
 
 #[test]
-fn a_float_is_no_parameter() -> Result<(), Error> {
-    let mut sets = ParameterSets::new()?;
-    for float in [Value::Float(1.5), Value::Double(1.5)] {
-        assert_eq!(sets.push(float).unwrap_err().code(), Code::NO_SUCH_KIND);
-        assert_eq!(
-            sets.add(&[1.into(), float]).unwrap_err().code(),
-            Code::NO_SUCH_KIND
-        );
+fn a_float_is_sent_by_no_road() -> Result<(), Error> {
+    for float in [Value::from(1.5f32), Value::from(1.5f64)] {
+        for road in [Road::Text, Road::Execute, Road::Bulk] {
+            let sets: [&[Value<'_>]; 2] = [&[1.into(), 2.into()], &[3.into(), float]];
+            let error = refusal(&sets, b"SELECT ?, ?", road, LIMIT)?;
+            assert_eq!(error.code(), Code::REFUSED_FLOAT);
+            assert_eq!(error.at(), Some(At::Value { set: 1, place: 1 }));
+        }
+        let mut sets = ParameterSets::new()?;
+        sets.push(2)?;
+        sets.push(float)?;
+        sets.end_set()?;
+        let mut out = Bytes::new()?;
+        let error = bind_text(&sets, 0, b"?, ?", &mut out).unwrap_err();
+        assert_eq!(error.code(), Code::REFUSED_FLOAT);
+        assert_eq!(error.at(), Some(At::Value { set: 0, place: 1 }));
+        let error = value_text(&sets, 0, 1, &mut out).unwrap_err();
+        assert_eq!(error.code(), Code::REFUSED_FLOAT);
+        assert!(out.is_empty());
     }
-    sets.push(2)?;
-    sets.end_set()?;
-    let mut out = Bytes::new()?;
-    bind_text(&sets, 0, b"?", &mut out)?;
-    assert_eq!((sets.len(), out.as_slice()), (1, &b"2"[..]));
     Ok(())
 }
 
@@ -245,5 +251,21 @@ fn a_recoder_stops_at_a_fault() -> Result<(), Error> {
     assert_eq!(recoder.feed(b"", &mut out), Err(error));
     assert_eq!(recoder.end(&mut out), Err(error));
     assert_eq!(out.as_slice(), before);
+    Ok(())
+}
+
+#[test]
+fn an_execution_that_is_refused_appends_nothing() -> Result<(), Error> {
+    let mut sets = ParameterSets::new()?;
+    sets.add(&vec![Value::Null; 65_535])?;
+    sets.add(&vec![Value::Null; 65_536])?;
+    let mut out = Bytes::new()?;
+    put_execution(&sets, 0, 1, &mut out)?;
+    let length = out.len();
+    let error = put_execution(&sets, 1, 1, &mut out).unwrap_err();
+    assert_eq!(error.code(), Code::REFUSED_TOO_MANY_PLACES);
+    let error = put_execution(&sets, 2, 1, &mut out).unwrap_err();
+    assert_eq!((error.code(), error.at()), (Code::OUT_OF_RANGE, None));
+    assert_eq!(out.len(), length);
     Ok(())
 }

@@ -1,8 +1,8 @@
 //! Queries whose placeholders have names, and sets by these.
 
 use mysql_session::{
-    bind_text, executions, send, Bytes, Code, Error, Mode, NameError, NamedQuery, ParameterSets,
-    Receiver, Road, Value,
+    bind_text, executions, put_execution, send, Bytes, Code, Error, Mode, NameError, NamedQuery,
+    ParameterSets, Receiver, Road, Value,
 };
 
 const LIMIT: usize = 1 << 24;
@@ -137,14 +137,22 @@ fn a_set_that_lacks_a_name_is_not_added() -> Result<(), Error> {
         }
     );
     assert_eq!(error.to_string(), "no value is given for :b");
-    let given = [("a", Value::Double(0.5)), ("b", Value::Null)];
-    let error = sets.add_named(&query, &given).unwrap_err();
-    let NameError::Refused(refused) = error else {
-        panic!("{error:?}");
-    };
-    assert_eq!(refused.code(), Code::NO_SUCH_KIND);
-    assert_eq!(error.to_string(), refused.to_string());
     assert!(sets.is_empty());
+    Ok(())
+}
+
+#[test]
+fn a_float_has_a_name() -> Result<(), Error> {
+    let query = NamedQuery::new(b"SELECT :a, :b")?;
+    let given = [("b", Value::Null), ("a", Value::Double(0.5))];
+    let mut named = ParameterSets::new()?;
+    assert_eq!(named.add_named(&query, &given), Ok(()));
+    let mut listed = ParameterSets::new()?;
+    listed.add(&[Value::Double(0.5), Value::Null])?;
+    let [mut by_name, mut by_place] = [Bytes::new()?, Bytes::new()?];
+    put_execution(&named, 0, 1, &mut by_name)?;
+    put_execution(&listed, 0, 1, &mut by_place)?;
+    assert_eq!(by_name.as_slice(), by_place.as_slice());
     Ok(())
 }
 

@@ -15,8 +15,8 @@ mod reply;
 
 use execution::execution;
 use mysql_session::{
-    capability, command, Bytes, Capabilities, Connection, Date, Error, Event, Greeting, Limits,
-    Login, Side, Time, Value,
+    capability, command, put_execution, Bytes, Capabilities, Connection, Date, Error, Event,
+    Greeting, Limits, Login, ParameterSets, Side, Time, Value,
 };
 use recording::Recording;
 
@@ -68,6 +68,16 @@ fn has_values(connection: &mut Connection, payload: &[u8], wanted: &[Value<'_>])
     }
 }
 
+/// The payload of an execution of statement 7 with these values, as the library makes it. A server
+/// takes it as it takes the example's.
+fn of_a_set(values: &[Value<'_>]) -> Result<Vec<u8>, Error> {
+    let mut sets = ParameterSets::new()?;
+    sets.add(values)?;
+    let mut payload = Bytes::new()?;
+    put_execution(&sets, 0, 7, &mut payload)?;
+    Ok(payload.to_vec())
+}
+
 #[test]
 fn an_execution_reads_as_its_values() -> Result<(), Error> {
     let (short, long) = (vec![b'x'; 251], vec![b'y'; 70_000]);
@@ -103,6 +113,9 @@ fn an_execution_reads_as_its_values() -> Result<(), Error> {
     for count in 0..=values.len() {
         let mut connection = prepared(count)?;
         let payload = execution(7, 0, &values[..count], |_| false);
+        has_values(&mut connection, &payload, &values[..count]);
+        let mut connection = prepared(count)?;
+        let payload = of_a_set(&values[..count])?;
         has_values(&mut connection, &payload, &values[..count]);
     }
     Ok(())

@@ -392,7 +392,7 @@ fn what_is_written_is_read() -> Result<(), Error> {
 }
 
 #[test]
-fn floats_are_read_out_of_rows() -> Result<(), Error> {
+fn floats_are_written_and_read() -> Result<(), Error> {
     let mut out = Bytes::new()?;
     let mut writer = ReplyWriter::new(ReplyKind::Execute, CAPABILITIES, 1, LIMIT)?;
     writer.column(b"f", ColumnType { kind: 4, ..LONG })?;
@@ -404,6 +404,11 @@ fn floats_are_read_out_of_rows() -> Result<(), Error> {
     row.extend_from_slice(&1.5f32.to_le_bytes());
     row.extend_from_slice(&(-2.25f64).to_le_bytes());
     reader.feed(&row)?;
+    let mut sets = ParameterSets::new()?;
+    sets.add(&[1.5f32.into(), (-2.25f64).into()])?;
+    let mut written = Bytes::new()?;
+    writer.row(&sets, 0, &mut written)?;
+    assert_eq!(written.as_slice(), row);
     let results = reader.take()?;
     let [ReplyResult::Rows(rows)] = &results[..] else {
         panic!("{results:?}");

@@ -81,6 +81,9 @@ fn floats_are_numbers() {
         (Value::Bytes(b"7"), Some(7.0)),
         (Value::Bytes(b"inf"), None),
         (Value::Bytes(b"NaN"), None),
+        (Value::Bytes(b"1e309"), None),
+        (Value::Bytes(b"1_0"), None),
+        (Value::Bytes(b" 1"), None),
         (Value::Bytes(b""), None),
         (Value::Date(Date::default()), None),
         (Value::Null, None),
@@ -96,6 +99,7 @@ fn floats_are_numbers() {
         (Value::Float(0.1), Some(0.1)),
         (Value::Double(0.5), None),
         (Value::Bytes(b"0.1"), Some(0.1)),
+        (Value::Bytes(b"-1e39"), None),
         (Value::Int(1 << 24), Some(16_777_216.0)),
         (Value::UInt((1 << 24) + 1), None),
     ]);

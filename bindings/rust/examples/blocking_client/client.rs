@@ -97,10 +97,7 @@ impl Client {
         sets: &ParameterSets,
         set: usize,
     ) -> Result<Bytes, Failure> {
-        if self.connection.mode().is_none() {
-            self.track_mode()?;
-        }
-        let (mode, spelling) = match self.connection.mode() {
+        let (mode, spelling) = match self.mode()? {
             Some(mode) => (mode, Spelling::Quoted),
             None if query.contains(&b'\\') => {
                 return Err("the mode isn't known, and the query has a backslash".into())
@@ -154,6 +151,20 @@ impl Client {
             self.receive()?;
         }
         Ok(self.connection.event().expect("an event was told"))
+    }
+
+    /// The socket, and the server's bytes behind the last event: what goes on in a form of its own.
+    pub fn into_stream(self) -> (TcpStream, Vec<u8>) {
+        let unread = self.connection.rest(Side::Server).to_vec();
+        (self.stream, unread)
+    }
+
+    /// The session's SQL mode, for which the server is asked if it isn't known.
+    pub fn mode(&mut self) -> Result<Option<Mode>, Failure> {
+        if self.connection.mode().is_none() {
+            self.track_mode()?;
+        }
+        Ok(self.connection.mode())
     }
 
     /// Fails where the connection is over, as behind the server's last words: nothing is put then.

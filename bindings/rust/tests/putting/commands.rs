@@ -12,7 +12,7 @@ fn commands_are_read_as_they_were_made() -> Result<(), Error> {
     let mut out = Bytes::new()?;
     let mut put = |payload: Vec<u8>, reply: &[u8]| -> Result<String, Error> {
         connection.put(Side::Client, &payload, &mut out)?;
-        let line = connection.line()?.to_string();
+        let line = connection.line_with_secrets()?.to_string();
         if !reply.is_empty() {
             connection.put(Side::Server, reply, &mut out)?;
         }

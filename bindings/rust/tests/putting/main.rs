@@ -53,7 +53,10 @@ impl Party {
 
     /// Notes the line of the event that was told last.
     fn note(&mut self) {
-        let line = self.connection.line().expect("memory isn't short");
+        let line = self
+            .connection
+            .line_with_secrets()
+            .expect("memory isn't short");
         self.lines.push(line.to_string());
     }
 
