@@ -19,6 +19,8 @@ _mysql_session_program() {
         offered="--hex $roads"
     elif [[ $command =~ ^(audit|follow|recode)$ ]] && ((COMP_CWORD == 2)); then
         offered="--mode"
+    elif [[ $command == connection ]] && ((COMP_CWORD == 2)); then
+        offered="--secrets"
     fi
     COMPREPLY=($(compgen -W "$offered" -- "$word"))
 }
