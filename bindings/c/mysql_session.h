@@ -984,9 +984,9 @@ enum mysql_session_side {
  * Of each side as much waits unread as its longest payload takes with its headers. What `held`
  * leaves beside both is for what is kept of statements, columns and long data. Take twice as much
  * as both. Where nothing is left, no statement is prepared and no column is read: CONNECTION_KEPT.
- * It counts payloads, not memory. What is kept takes up to 15 bytes of memory for each byte counted,
- * and long data of a late parameter up to 60,000. One event takes up to 770 for each byte of its
- * payload, until the next call. These were measured (docs/COSTS.md), and no contract has them.
+ * It counts payloads, not memory. What is kept takes up to 25 bytes of memory for each byte counted.
+ * One event takes up to 320 for each byte of its payload, until the next call. These were measured
+ * (docs/COSTS.md), and no contract has them.
  * Answers OK, MEMORY. */
 uint32_t mysql_session_connection_new(mysql_session_connection *connection, size_t client,
                                       size_t server, size_t held);

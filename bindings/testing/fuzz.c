@@ -424,8 +424,9 @@ static void tell_totals(uint64_t inputs, int findings) {
                "(of %.0f without sanitizers)\n",
                READER_NAMES[i], (unsigned long long)of->readers[i], of->memory[i],
                allowed[i].memory, of->nanoseconds[i], allowed[i].nanoseconds);
-    printf("a byte that is held kept up to %.1f bytes (of %.1f); twice as many bytes took up to "
-           "%.1f times as long each\n", of->kept, allowed[CONNECTION].kept, of->growth);
+    printf("a byte that is held kept up to %.1f bytes (of %.1f); of eight times as many bytes each "
+           "took up to %.1f times as long\n",
+           of->kept, allowed[CONNECTION].kept, of->growth);
     printf("kinds:");
     for (size_t i = 0; i < KINDS; i++) if (of->kinds[i]) printf(" %zx", i);
     printf("\ncodes:");
@@ -439,7 +440,9 @@ static int read_again(const char *name) {
     input in = read_input(from);
     fclose(from);
     int is_found = finds(&in, 0);
+    free_input(&in);
     if (is_found) printf("FOUND: %s: %s\n", common->name, common->detail);
+    else printf("nothing is found\n");
     return is_found;
 }
 

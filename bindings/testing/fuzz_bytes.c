@@ -154,7 +154,7 @@ void grow(input *in, uint32_t stream, size_t at, uint32_t width, size_t each) {
 
 /* So many times that there are some thousand bytes, or some hundred thousand. */
 void choose_times(input *in, size_t limit) {
-    size_t unit = 0, len = (size_t)6000 << below(7);
+    size_t unit = 0, len = (size_t)6000 << below(8);
     for (uint32_t i = 0; i < in->segments; i++) unit += in->segment[i].len;
     in->times = unit > 0 ? 1 + len / unit : 1;
     if (in->times > limit) in->times = limit;

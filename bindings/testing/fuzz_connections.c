@@ -32,6 +32,7 @@ static size_t with_headers(size_t longest) { return longest + 4 * (longest / CHU
 
 /* Whether the limits leave room for the longest payload of both sides. */
 static int is_ample(const input *in) {
+    if (in->limits[0] > SIZE_MAX / 4 || in->limits[1] > SIZE_MAX / 4) return 0;
     return in->limits[2] >= with_headers(in->limits[0]) + with_headers(in->limits[1]);
 }
 
@@ -222,6 +223,9 @@ static int take(const input *in, mysql_session_connection *connection, told *of,
         note(&event);
         ask(connection, &of->sum, &event);
         mysql_session_standing behind = standing_of(connection);
+        if (before.client_room != SIZE_MAX && before.server_room != SIZE_MAX &&
+            behind.client_room + behind.server_room < before.client_room + before.server_room + 4)
+            found("an event takes no bytes", "event %x", event.kind);
         look_at_held(in, &behind);
         add_number(&of->sum, behind.capabilities ^ (uint64_t)behind.mariadb_capabilities << 32);
         add_number(&of->sum, behind.phase << 8 | behind.reason << 4 | behind.turn);
@@ -246,6 +250,11 @@ static size_t feed(const input *in, mysql_session_connection *connection, uint32
     uint8_t *piece = copied(at, len);
     must(mysql_session_connection_feed(connection, side, piece, len), "feed");
     free(piece);
+    mysql_session_standing behind = standing_of(connection);
+    size_t then = side ? behind.server_room : behind.client_room;
+    if (behind.held != standing.held + len || (room != SIZE_MAX && then + len != room))
+        found("a piece takes other room than its length", "%zu of %zu, %zu are held behind %zu",
+              len, room, behind.held, standing.held);
     return len;
 }
 

@@ -536,8 +536,9 @@ static cost cost_of(const input *in) {
  * the sanitizers takes its pages anew for each large block, so that memory takes time too. */
 enum { TIMES = 6, LEAST_MEMORY = 1 << 14 };
 static const double MORE_MEMORY = 1.5, MORE_TIME = 12, LEAST_TIME = 1e6, PAGES_TIME = 2;
-/* A byte of twice as many takes no more than so many times one of the half. */
-static const double GROWTH = 5, MEMORY_GROWTH = 2.5;
+/* A byte of eight times as many takes no more than so many times one of the others. Of a square it
+ * would take 8. */
+static const double GROWTH = 4, MEMORY_GROWTH = 2.5;
 
 static double fed_of(const input *in) {
     return (double)(in->streams[0].len + in->streams[1].len + in->streams[2].len);
@@ -571,33 +572,34 @@ static cost cost_of_times(const input *in, size_t times) {
     return (cost){(of.memory + LEAST_MEMORY) / fed, (of.nanoseconds + LEAST_TIME / 10) / fed};
 }
 
-/* What a byte costs of half as many, or of one more: a quote may be open behind an odd number. */
-static cost cost_of_half(const input *in) {
-    cost one = cost_of_times(in, in->times / 2), other = cost_of_times(in, in->times / 2 + 1);
+/* What a byte costs of an eighth as many, or of one more: behind an odd number a quote is open. */
+static cost cost_of_fewer(const input *in) {
+    cost one = cost_of_times(in, in->times / 8), other = cost_of_times(in, in->times / 8 + 1);
     if (other.memory > one.memory) one.memory = other.memory;
     if (other.nanoseconds > one.nanoseconds) one.nanoseconds = other.nanoseconds;
     return one;
 }
 
-/* A byte of an input of repetitions costs about what one costs of half as many. */
+/* A byte of an input of repetitions costs about what one costs of an eighth as many. */
 static void check_growth(const input *whole, const input *in) {
     double fed = fed_of(whole);
-    if (fed < 8000) return;
-    cost of = cost_of(whole), half = cost_of_half(in);
-    for (int i = 1; i < TIMES && of.nanoseconds / fed > GROWTH * half.nanoseconds; i++) {
-        cost again = cost_of(whole), other = cost_of_half(in);
+    if (fed < 24000 || in->times < 16) return;
+    cost of = cost_of(whole), fewer = cost_of_fewer(in);
+    for (int i = 1; i < TIMES && of.nanoseconds / fed > GROWTH * fewer.nanoseconds; i++) {
+        cost again = cost_of(whole), other = cost_of_fewer(in);
         if (again.nanoseconds < of.nanoseconds) of.nanoseconds = again.nanoseconds;
-        if (other.nanoseconds > half.nanoseconds) half.nanoseconds = other.nanoseconds;
+        if (other.nanoseconds > fewer.nanoseconds) fewer.nanoseconds = other.nanoseconds;
     }
-    double growth = of.nanoseconds / fed / half.nanoseconds;
+    double growth = of.nanoseconds / fed / fewer.nanoseconds;
     if (growth > counted->growth) counted->growth = growth;
     counted->growths++;
     if (growth > GROWTH)
-        found("a byte of twice as many takes more time", "%.0f ns of each of %.0f, %.0f before",
-              of.nanoseconds / fed, fed, half.nanoseconds);
-    if (of.memory / fed > MEMORY_GROWTH * half.memory)
-        found("a byte of twice as many takes more memory",
-              "%.1f bytes of each of %.0f, %.1f before", of.memory / fed, fed, half.memory);
+        found("a byte of eight times as many takes more time",
+              "%.0f ns of each of %.0f, %.0f before", of.nanoseconds / fed, fed,
+              fewer.nanoseconds);
+    if (of.memory / fed > MEMORY_GROWTH * fewer.memory)
+        found("a byte of eight times as many takes more memory",
+              "%.1f bytes of each of %.0f, %.1f before", of.memory / fed, fed, fewer.memory);
 }
 
 void check(const input *in) {
@@ -611,7 +613,7 @@ void check(const input *in) {
     if (heap_held() != before)
         found("memory isn't freed", "%zu bytes", heap_held() - before);
     check_cost(&whole);
-    if (in->times > 3) check_growth(&whole, in);
+    if (in->times > 1) check_growth(&whole, in);
     counted->inputs++;
     counted->fed += (uint64_t)fed_of(&whole);
     counted->readers[in->reader]++;

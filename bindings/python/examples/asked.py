@@ -98,4 +98,3 @@ def answer(query: str, told: Mapping[str, Value]) -> Optional[Dict[str, Any]]:
         return _WARNINGS
     listed = re.match(r"select\s+", text, re.I)
     return None if listed is None else _selected(text[listed.end():], told)
-

@@ -519,7 +519,7 @@ def main() -> int:
         if given.save:
             os.makedirs(given.save, exist_ok=True)
         if given.capture == "-":
-            reader.read(unpacked(sys.stdin.buffer))
+            reader.read(unpacked(cast(io.BufferedReader, sys.stdin.buffer)))
         else:
             with open(given.capture, "rb") as file:
                 reader.read(unpacked(file))
