@@ -103,7 +103,7 @@ static bytes repeated(const input *from, uint32_t stream, size_t times) {
     size_t at = 0;
     for (uint32_t i = 0; i < from->segments; i++) {
         const segment *it = &from->segment[i];
-        if (it->stream != stream || it->from < at) continue;
+        if (it->stream != stream || it->from < at || it->from + it->len > of->len) continue;
         memcpy(made.at + made.len, of->at + at, it->from - at);
         made.len += it->from - at;
         for (size_t time = 0; time < times; time++, made.len += it->len)
@@ -128,6 +128,7 @@ input expanded(const input *from, size_t times) {
     for (uint32_t i = 0; i < STREAMS; i++) made.streams[i] = repeated(from, i, times);
     for (uint32_t i = 0; i < from->patches; i++) {
         const patch *it = &from->patch[i];
+        if (it->at + it->width > from->streams[it->stream].len) continue;
         uint8_t *at = made.streams[it->stream].at + moved(from, it->stream, it->at, times);
         uint64_t number = 0;
         for (uint32_t k = 0; k < it->width; k++) number |= (uint64_t)at[k] << 8 * k;
