@@ -132,8 +132,8 @@ def check_slow_ends(executable):
 
 
 def check_last_words(executable):
-    """What a server said before it went is passed on, also where a client speaks to it once more. By
-    that TCP loses what the proxy's machine hasn't received, which is little then."""
+    """What a server said before it went is passed on, also where a client speaks to it once more.
+    Then it is little, since TCP loses what the proxy's machine hasn't received."""
     with Program(executable) as proxy:
         for is_asked in (False, True):
             pair = Pair(proxy)

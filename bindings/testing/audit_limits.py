@@ -180,7 +180,8 @@ def check_grace(executable):
                 wait_for(lambda: is_refused(proxy), "an end of the listener")
             check(True, pair.is_over(), "the end of what still runs")
             check(0, proxy.process.wait(SECONDS), "the status")
-            records = proxy.printed()
+            # Those who asked whether they are refused have lines, too.
+            records = [it for it in proxy.printed() if it["connection"] == 1]
             check(["login", "query", "end"], [it["kind"] for it in records], "the lines")
             check(False, records[1]["whole"], "what is told of a reply")
             pair.close()

@@ -17,7 +17,7 @@ const SIGNALS: u64 = 1;
 /// How long it waits where no client can be taken.
 const PAUSE: Duration = Duration::from_millis(20);
 /// How long the loops have behind the grace.
-const AT_LAST: Duration = Duration::from_secs(1);
+const AT_LAST: Duration = Duration::from_secs(3);
 /// How many clients are taken until signals are read again.
 const AT_ONCE: usize = 64;
 
@@ -179,7 +179,8 @@ impl Acceptor {
             self.shared.log.give_up();
             self.wait_for_loops(Instant::now() + AT_LAST);
         }
-        self.shared.log.end(latest)
+        // However late they have ended, their last lines have some time.
+        self.shared.log.end(latest.max(Instant::now()))
     }
 
     fn go_over_to(&self, course: Course) {

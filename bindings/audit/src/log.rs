@@ -19,7 +19,7 @@ const PAUSE: Duration = Duration::from_millis(2);
 /// How long it is waited for room until it is looked whether that is given up.
 const GLANCE: Duration = Duration::from_millis(50);
 /// How long the last lines have behind the time that they are given.
-const AT_LAST: Duration = Duration::from_secs(1);
+const AT_LAST: Duration = Duration::from_secs(3);
 /// A buffer with more room isn't kept.
 const SPARE: usize = 1 << 20;
 
