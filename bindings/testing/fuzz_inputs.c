@@ -206,7 +206,7 @@ static input make_connection(void) {
         else change_input(&in, 2);
     }
     choose_limits(&in);
-    if (in.times == 1 && chance(100)) {
+    if (in.segments == 0 && chance(100)) {
         bytes client = in.streams[CLIENT];
         in.streams[CLIENT] = in.streams[SERVER];
         in.streams[SERVER] = client;
@@ -472,7 +472,10 @@ input make_input(uint64_t seed) {
                : way < 17 ? make_reply()
                : way < 18 ? make_packets()
                           : make_payload();
-    if (in.times == 0) in.times = 1;
+    if (in.times < 2) {
+        in.times = 1;
+        in.segments = in.patches = in.numbered = 0;
+    }
     in.cuts = next_random();
     return in;
 }
