@@ -12,35 +12,35 @@ ghost use Rattle.mysql_fields.specs.Wire.{TellsPart};
 ghost use Rattle.mysql_fields.specs.declared.error.WireError.TheVariants as wire;
 ghost use Rattle.mysql_columns.specs.ColumnLaws.{column_at-back};
 ghost use Rattle.mysql_columns.specs.Columns.{ColumnDefinition, IsColumn, column, column_at, column_fields};
-ghost use Rattle.mysql_columns.specs.Columns.{column_fields_at, column_names, column_names_at, column_with, fields_in};
+ghost use Rattle.mysql_columns.specs.Columns.{column_fields_at, column_with, fields_in};
 ghost use Rattle.mysql_columns.specs.Columns.{names_in};
 ghost use Rattle.mysql_columns.specs.Views.{column_view, fields_view, names_view};
 
 use crate::headers::{ColumnDefinitionCatalog, FixedLengthFieldsLen};
+use crate::names::{Names, SharedNames, names_of};
 use bitflags::Flags;
 use mysql_buf::ParseBuf;
 use mysql_const::{ColumnFlags, ColumnType};
 use mysql_field_constants::{Const, Skip};
 use mysql_fields::{
-    LeU16, LeU32, LenEnc, MyDeserialize, MySerialize, ParseExt, RawBytes, RawInt, Readable,
-    ReadsBack, WireError, in_order, lossy_text, read_lenenc_text,
+    LeU16, LeU32, MyDeserialize, MySerialize, ParseExt, RawInt, Readable, ReadsBack, WireError,
+    in_order, lossy_text,
 };
 use std::alloc::{AllocError, Global};
 use std::borrow::CowStr;
+use std::fmt;
 
 /// A column of a result set, or a parameter or a column of a prepared statement.
+///
+/// Its names stand in one piece of memory. [`Column::clone`] shares it and copies no name.
 ///
 /// Promise: `serialize` appends exactly the column's bytes. Reading answers exactly what the layout
 /// gives of any bytes, or its refusal. A refusal leaves all bytes (`column`, `column_at`).
 ///
 /// MySQL: Client/Server Protocol, "Column Definition".
-#[derive(Debug, PartialEq, Eq, Drop)]
+#[derive(PartialEq, Eq, Drop)]
 pub struct Column {
-    schema: Vec<u8>,
-    table: Vec<u8>,
-    org_table: Vec<u8>,
-    name: Vec<u8>,
-    org_name: Vec<u8>,
+    names: SharedNames,
     character_set: u16,
     column_length: u32,
     column_type: ColumnType,
@@ -65,11 +65,7 @@ impl Column {
         } }
     {
         Column {
-            schema: Vec::new(alloc),
-            table: Vec::new(alloc),
-            org_table: Vec::new(alloc),
-            name: Vec::new(alloc),
-            org_name: Vec::new(alloc),
+            names: SharedNames::new(alloc),
             character_set: 0,
             column_length: 0,
             column_type,
@@ -85,8 +81,11 @@ impl Column {
     pub fn with_schema(mut self, schema: &[u8]) -> Result<Column, AllocError>
         ensures { IfOk result (λ column. column_view column ≡ record (column_view self) { schema = schema.now }) }
     {
-        self.schema.clear();
-        self.schema.extend_from_slice(schema)?;
+        let names = Names {
+            schema,
+            ..self.names()
+        };
+        self.names = self.names.replaced(&names)?;
         Ok(self)
     }
 
@@ -97,8 +96,11 @@ impl Column {
     pub fn with_table(mut self, table: &[u8]) -> Result<Column, AllocError>
         ensures { IfOk result (λ column. column_view column ≡ record (column_view self) { table = table.now }) }
     {
-        self.table.clear();
-        self.table.extend_from_slice(table)?;
+        let names = Names {
+            table,
+            ..self.names()
+        };
+        self.names = self.names.replaced(&names)?;
         Ok(self)
     }
 
@@ -109,8 +111,11 @@ impl Column {
     pub fn with_org_table(mut self, org_table: &[u8]) -> Result<Column, AllocError>
         ensures { IfOk result (λ column. column_view column ≡ record (column_view self) { org_table = org_table.now }) }
     {
-        self.org_table.clear();
-        self.org_table.extend_from_slice(org_table)?;
+        let names = Names {
+            org_table,
+            ..self.names()
+        };
+        self.names = self.names.replaced(&names)?;
         Ok(self)
     }
 
@@ -121,8 +126,11 @@ impl Column {
     pub fn with_name(mut self, name: &[u8]) -> Result<Column, AllocError>
         ensures { IfOk result (λ column. column_view column ≡ record (column_view self) { name = name.now }) }
     {
-        self.name.clear();
-        self.name.extend_from_slice(name)?;
+        let names = Names {
+            name,
+            ..self.names()
+        };
+        self.names = self.names.replaced(&names)?;
         Ok(self)
     }
 
@@ -133,8 +141,11 @@ impl Column {
     pub fn with_org_name(mut self, org_name: &[u8]) -> Result<Column, AllocError>
         ensures { IfOk result (λ column. column_view column ≡ record (column_view self) { org_name = org_name.now }) }
     {
-        self.org_name.clear();
-        self.org_name.extend_from_slice(org_name)?;
+        let names = Names {
+            org_name,
+            ..self.names()
+        };
+        self.names = self.names.replaced(&names)?;
         Ok(self)
     }
 
@@ -174,7 +185,7 @@ impl Column {
     pub fn schema_ref(&self) -> &[u8]
         ensures { result.now ≡ (column_view self.now).schema }
     {
-        self.schema.as_slice()
+        self.names().schema
     }
 
     /// The name of the column's schema, as text, where bytes that aren't UTF-8 are replaced.
@@ -193,7 +204,7 @@ impl Column {
     pub fn table_ref(&self) -> &[u8]
         ensures { result.now ≡ (column_view self.now).table }
     {
-        self.table.as_slice()
+        self.names().table
     }
 
     /// The name of its table in the query, as text, where bytes that aren't UTF-8 are replaced.
@@ -212,7 +223,7 @@ impl Column {
     pub fn org_table_ref(&self) -> &[u8]
         ensures { result.now ≡ (column_view self.now).org_table }
     {
-        self.org_table.as_slice()
+        self.names().org_table
     }
 
     /// The name of its table in the schema, as text, where bytes that aren't UTF-8 are replaced.
@@ -231,7 +242,7 @@ impl Column {
     pub fn name_ref(&self) -> &[u8]
         ensures { result.now ≡ (column_view self.now).name }
     {
-        self.name.as_slice()
+        self.names().name
     }
 
     /// Its name in the query, as text, where bytes that aren't UTF-8 are replaced.
@@ -250,7 +261,7 @@ impl Column {
     pub fn org_name_ref(&self) -> &[u8]
         ensures { result.now ≡ (column_view self.now).org_name }
     {
-        self.org_name.as_slice()
+        self.names().org_name
     }
 
     /// Its name in the table, as text, where bytes that aren't UTF-8 are replaced.
@@ -300,27 +311,28 @@ impl Column {
         self.decimals
     }
 
-    /// A copy.
+    /// A copy, which shares the names.
     ///
     /// # Errors
     /// - `AllocError` for want of memory.
     pub fn clone(&self, alloc: Global) -> Result<Column, AllocError>
         ensures { IfOk result (λ copy. column_view copy ≡ column_view self.now) }
     {
-        copied(alloc, &self.names(), self.fields())
+        Ok(Column {
+            names: self.names.share(alloc)?,
+            character_set: self.character_set,
+            column_length: self.column_length,
+            column_type: self.column_type,
+            flags: self.flags,
+            decimals: self.decimals,
+        })
     }
 
     // Its names.
     pub(crate) fn names(&self) -> Names<'_>
         ensures { names_view result ≡ names_in (column_view self.now) }
     {
-        Names {
-            schema: self.schema.as_slice(),
-            table: self.table.as_slice(),
-            org_table: self.org_table.as_slice(),
-            name: self.name.as_slice(),
-            org_name: self.org_name.as_slice(),
-        }
+        self.names.lent()
     }
 
     // Its fields of a fixed length.
@@ -337,46 +349,22 @@ impl Column {
     }
 }
 
-// The names of a column.
-#[derive(Clone, Copy)]
-pub(crate) struct Names<'a> {
-    schema: &'a [u8],
-    table: &'a [u8],
-    org_table: &'a [u8],
-    name: &'a [u8],
-    org_name: &'a [u8],
-}
-
-#[tactic(auto, unfolding(crate::specs::Columns::column_names))]
-impl<'a> MySerialize for Names<'a> {
-    ghost written = { λ n. column_names (names_view n) };
-
-    fn serialize(&self, buf: &mut Vec<u8>) -> Result<(), AllocError> {
-        let schema: RawBytes<LenEnc> = RawBytes::from(self.schema);
-        let table: RawBytes<LenEnc> = RawBytes::from(self.table);
-        let org_table: RawBytes<LenEnc> = RawBytes::from(self.org_table);
-        let name: RawBytes<LenEnc> = RawBytes::from(self.name);
-        let org_name: RawBytes<LenEnc> = RawBytes::from(self.org_name);
-        in_order!(schema, table, org_table, name, org_name).serialize(buf)
+impl fmt::Debug for Column {
+    fn fmt<W: fmt::Write>(&self, f: &mut fmt::Formatter<W>) -> fmt::Result {
+        let names = self.names();
+        f.debug_struct("Column")
+            .field("schema", &names.schema)
+            .field("table", &names.table)
+            .field("org_table", &names.org_table)
+            .field("name", &names.name)
+            .field("org_name", &names.org_name)
+            .field("character_set", &self.character_set)
+            .field("column_length", &self.column_length)
+            .field("column_type", &self.column_type)
+            .field("flags", &self.flags)
+            .field("decimals", &self.decimals)
+            .finish()
     }
-}
-
-#[tactic(auto, unfolding(crate::specs::Columns::column_names_at))]
-pub(crate) fn names_of<'a>(buf: &mut ParseBuf<'a>) -> Result<Names<'a>, WireError>
-    ensures { TellsPart names_view buf.new.0.now result (column_names_at buf.old.0.now) }
-{
-    let schema = read_lenenc_text(buf)?;
-    let table = read_lenenc_text(buf)?;
-    let org_table = read_lenenc_text(buf)?;
-    let name = read_lenenc_text(buf)?;
-    let org_name = read_lenenc_text(buf)?;
-    Ok(Names {
-        schema,
-        table,
-        org_table,
-        name,
-        org_name,
-    })
 }
 
 // The fields of a column that have a fixed length.
@@ -450,11 +438,7 @@ pub(crate) fn copied(
     ensures { IfOk result (λ column. column_view column ≡ column_with (names_view names.now) (fields_view fields)) }
 {
     Ok(Column {
-        schema: Vec::from_slice(alloc, names.schema)?,
-        table: Vec::from_slice(alloc, names.table)?,
-        org_table: Vec::from_slice(alloc, names.org_table)?,
-        name: Vec::from_slice(alloc, names.name)?,
-        org_name: Vec::from_slice(alloc, names.org_name)?,
+        names: SharedNames::of(alloc, names)?,
         character_set: fields.character_set,
         column_length: fields.column_length,
         column_type: fields.column_type,

@@ -13,8 +13,9 @@ ghost use Rattle.mysql_columns.specs.Extended.{first_of_kind, listed_column, lis
 ghost use Rattle.mysql_columns.specs.Extended.{metadata_bytes, metadata_value, metadata_value_at, value_of_kind};
 ghost use Rattle.mysql_columns.specs.Views.{column_view, extended_view, listed_view, text_view};
 
-use crate::column::{Column, copied, fixed_fields_of, names_of};
+use crate::column::{Column, copied, fixed_fields_of};
 use crate::headers::ColumnDefinitionCatalog;
+use crate::names::names_of;
 use bitflags::Flags;
 use mysql_buf::{BufMutExt, ParseBuf};
 use mysql_const::MariadbCapabilities;

@@ -5,6 +5,7 @@ pub mod column;
 pub mod extended;
 pub mod headers;
 pub mod laws;
+mod names;
 
 pub use column::Column;
 pub use extended::{ExtendedColumn, ListedColumn};

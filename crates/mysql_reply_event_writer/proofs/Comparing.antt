@@ -10,8 +10,8 @@ use Rattle.std.proofs.lemmas.Slice.Eq.{bytes_eq-Decides, slice_eq-Decides}
 use Rattle.mysql_cells.specs.declared.value.Value.{Value}
 use Rattle.mysql_cells.specs.contracts.value.ValuePartialEq as values
 use Rattle.std.specs.Rc.{rc_slice_items}
-use Rattle.mysql_columns.specs.Columns.{ColumnDefinition}
-use Rattle.mysql_columns.specs.Views.{column_view}
+use Rattle.mysql_columns.specs.Columns.{ColumnDefinition, ColumnNames}
+use Rattle.mysql_columns.specs.Views.{column_view, same_names, shared_view}
 use Rattle.mysql_const.specs.declared.column_flags.ColumnFlags.{ColumnFlags}
 use Rattle.mysql_const.specs.contracts.column_flags.ColumnFlagsPartialEq as flags
 use Rattle.mysql_const.specs.declared.column_type.ColumnType.{ColumnType}
@@ -40,35 +40,42 @@ type_decides a b = search rules
 flags_decide : (a b : ColumnFlags) → Decides (flags.TheImpl.eq-value.it a b) (a ≡ b)
 flags_decide a b = search rules
 
+-- Five names of each are the same.
+abbrev NamesAgree : ColumnNames → ColumnNames → Type 0
+NamesAgree a b =
+    (a.schema ≡ b.schema) × ((a.table ≡ b.table) × ((a.org_table ≡ b.org_table) × ((a.name ≡ b.name) × (a.org_name ≡ b.org_name))))
+
+names_decide : (a b : ColumnNames) → Decides (same_names a b) (NamesAgree a b)
+names_decide a b =
+    Decides-and _ _ (bytes_eq-Decides a.schema b.schema) (Decides-and _ _ (bytes_eq-Decides a.table b.table)
+    (Decides-and _ _ (bytes_eq-Decides a.org_table b.org_table) (Decides-and _ _ (bytes_eq-Decides a.name b.name)
+    (bytes_eq-Decides a.org_name b.org_name))))
+
 -- The fields of two columns are the same.
 abbrev FieldsAgree : Column → Column → Type 0
 FieldsAgree a b =
-    (a.schema.items ≡ b.schema.items) × ((a.table.items ≡ b.table.items) × ((a.org_table.items ≡ b.org_table.items) ×
-    ((a.name.items ≡ b.name.items) × ((a.org_name.items ≡ b.org_name.items) × ((a.character_set ≡ b.character_set) ×
-    ((a.column_length ≡ b.column_length) × ((a.column_type ≡ b.column_type) × ((a.flags ≡ b.flags) × (a.decimals ≡ b.decimals)))))))))
+    NamesAgree (shared_view a.names) (shared_view b.names) × ((a.character_set ≡ b.character_set) ×
+    ((a.column_length ≡ b.column_length) × ((a.column_type ≡ b.column_type) × ((a.flags ≡ b.flags) × (a.decimals ≡ b.decimals)))))
 
 fields_agree : (a b : Column) → column_view a ≡ column_view b → FieldsAgree a b
 fields_agree a b h = (
-  ap (λ (v : ColumnDefinition). v.schema) h,
   (
-    ap (λ (v : ColumnDefinition). v.table) h,
+    ap (λ (v : ColumnDefinition). v.schema) h,
     (
-      ap (λ (v : ColumnDefinition). v.org_table) h,
+      ap (λ (v : ColumnDefinition). v.table) h,
       (
-        ap (λ (v : ColumnDefinition). v.name) h,
-        (
-          ap (λ (v : ColumnDefinition). v.org_name) h,
-          (
-            ap (λ (v : ColumnDefinition). v.character_set) h,
-            (
-              ap (λ (v : ColumnDefinition). v.column_length) h,
-              (
-                ap (λ (v : ColumnDefinition). v.column_type) h,
-                (ap (λ (v : ColumnDefinition). v.flags) h, ap (λ (v : ColumnDefinition). v.decimals) h),
-              ),
-            ),
-          ),
-        ),
+        ap (λ (v : ColumnDefinition). v.org_table) h,
+        (ap (λ (v : ColumnDefinition). v.name) h, ap (λ (v : ColumnDefinition). v.org_name) h),
+      ),
+    ),
+  ),
+  (
+    ap (λ (v : ColumnDefinition). v.character_set) h,
+    (
+      ap (λ (v : ColumnDefinition). v.column_length) h,
+      (
+        ap (λ (v : ColumnDefinition). v.column_type) h,
+        (ap (λ (v : ColumnDefinition). v.flags) h, ap (λ (v : ColumnDefinition). v.decimals) h),
       ),
     ),
   ),
@@ -77,11 +84,9 @@ fields_agree a b h = (
 pub column_decides : (a b : Column) → Decides (columns.TheImpl.eq-value.it a b) (column_view a ≡ column_view b)
 column_decides a b =
     Decides-like (columns.TheImpl.eq-value.it a b) (λ (h : FieldsAgree a b). cc) (fields_agree a b)
-    (Decides-and _ _ (bytes_eq-Decides a.schema.items b.schema.items) (Decides-and _ _ (bytes_eq-Decides a.table.items b.table.items)
-    (Decides-and _ _ (bytes_eq-Decides a.org_table.items b.org_table.items) (Decides-and _ _ (bytes_eq-Decides a.name.items b.name.items)
-    (Decides-and _ _ (bytes_eq-Decides a.org_name.items b.org_name.items) (Decides-and _ _ (Decides-eqb a.character_set b.character_set)
+    (Decides-and _ _ (names_decide (shared_view a.names) (shared_view b.names)) (Decides-and _ _ (Decides-eqb a.character_set b.character_set)
     (Decides-and _ _ (Decides-eqb a.column_length b.column_length) (Decides-and _ _ (type_decides a.column_type b.column_type)
-    (Decides-and _ _ (flags_decide a.flags b.flags) (Decides-eqb a.decimals b.decimals))))))))))
+    (Decides-and _ _ (flags_decide a.flags b.flags) (Decides-eqb a.decimals b.decimals))))))
 
 pub columns_decide : (a b : List Column) → Decides (pointwise columns.TheImpl.eq-value.it a b) (map column_view a ≡ map column_view b)
 columns_decide a b = pointwise_by columns.TheImpl.eq-value.it column_view column_decides a b
