@@ -123,7 +123,7 @@ places c Fields columns payload = or_errors c _ payload _ (fields c _ payload)
 places c FileData columns payload = tt
 places c Nothing columns payload = tt
 
-leads_on : (c : Context) (s : ReplySoFar) (payload : Payload) → LeadsOn c s (event_at c s payload)
+pub leads_on : (c : Context) (s : ReplySoFar) (payload : Payload) → LeadsOn c s (event_at c s payload)
 leads_on c s payload =
     by_test c s (is_due s.awaited && has_report_form c payload) _ _ (by_read c s (report payload) _ (λ report. refl))
     (places c s.awaited s.columns payload)

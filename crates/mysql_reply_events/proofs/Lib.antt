@@ -1,6 +1,5 @@
 mod BinaryRows
 mod RowsInPlace
-mod Peeking
-mod PeekedParts
 mod LeadingOn
+mod Peeking
 mod NextRows

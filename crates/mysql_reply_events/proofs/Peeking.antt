@@ -1,100 +1,65 @@
--- Which event a payload is doesn't depend on the columns that came before.
-use Rattle.std.proofs.Common.{◌≡◌, ℕ, List, [], Bool, true, false, Option, Result, Ok, Err, refl, ap, sym, subst, ◌∙◌}
-use Rattle.std.specs.Prelude.{if◌then◌else◌}
-use Rattle.mysql_columns.specs.Columns.{ColumnDefinition}
-use Rattle.mysql_columns.specs.Extended.{ExtendedDefinition}
-use Rattle.mysql_fields.specs.Wire.{◌>>=◌}
-use Rattle.mysql_server_packets.specs.Packets.{ProgressReport}
+-- What a payload says is its event, and what it leads to is what its event leads to.
+use Rattle.std.proofs.Common.{◌≡◌, Result, Ok, Err, refl, ap, sym, ◌∙◌}
 use Rattle.mysql_reply_events.specs.declared.context.Context.{Context}
 use Rattle.mysql_reply_events.specs.declared.event.ReplyEvent.{ReplyEvent}
 use Rattle.mysql_reply_events.specs.declared.fault.ReplyFault.{ReplyFault}
 use Rattle.mysql_reply_events.specs.declared.fault.ReplyFault.TheVariants as faults
-use Rattle.mysql_reply_events.specs.Events.{Awaited, Event, Group, Payload, ReplySoFar}
-use Rattle.mysql_reply_events.specs.Events.Awaited.{Columns, ColumnsEnd, Fields, FileData, First, Nothing, Rows}
-use Rattle.mysql_reply_events.specs.Events.Event.{ColumnEvent, ProgressEvent}
-use Rattle.mysql_reply_events.specs.Readings.{column, has_report_form, report}
 use Rattle.mysql_reply_events.specs.declared.state.ReplyState.{ReplyState}
-use Rattle.mysql_reply_events.specs.Due.{bare}
-use Rattle.mysql_reply_events.specs.States.{PeeksStep, Steps, bare_reply, so_far}
-use Rattle.mysql_reply_events.specs.Table.{Step, column_came, event_at, with_column}
+use Rattle.mysql_reply_events.specs.Behind.{behind}
+use Rattle.mysql_reply_events.specs.Events.{Event, Payload, ReplySoFar}
+use Rattle.mysql_reply_events.specs.Reader.{Peeks, ReaderState}
+use Rattle.mysql_reply_events.specs.States.{Says, Steps, said}
+use Rattle.mysql_reply_events.specs.Table.{Step, event_at}
 use Rattle.mysql_reply_events.specs.Views.{event_view}
+use Rattle.mysql_reply_events.proofs.LeadingOn.{LeadsOn, leads_on}
 
--- Two steps are of the same event, or have the same fault.
-abbrev pub IsAlike : Step → Step → Type 0
-IsAlike (Ok x) (Ok y) = x.0 ≡ y.0
-IsAlike (Ok x) (Err fault) = ⊥
-IsAlike (Err fault) (Ok y) = ⊥
-IsAlike (Err fault) (Err other) = fault ≡ other
+-- A step that says an event is a step of it.
+event_of : (step : Step) (event : Event) → said step ≡ Ok event → (next : ReplySoFar) × (step ≡ Ok (event, next))
+event_of (Ok x) event e = let same : x.0 ≡ event = cc in (x.1, ap (λ (event : Event). let step : Step = Ok (event, x.1) in step) same)
+event_of (Err fault) event e = absurd cc
 
-same : (step : Step) → IsAlike step step
-same (Ok x) = refl
-same (Err fault) = refl
+-- A step that says a fault is that fault.
+fault_of : (step : Step) (fault : ReplyFault) → said step ≡ Err fault → step ≡ Err fault
+fault_of (Ok x) fault e = absurd cc
+fault_of (Err found) fault e = let same : found ≡ fault = cc in ap (λ (fault : ReplyFault). let step : Step = Err fault in step) same
 
-columns_alike : (c : Context) (standing : Option (List ColumnDefinition)) (group : Group) (n : ℕ) (earlier : List ColumnDefinition)
-    (b : Bool) (r : Result ProgressReport ReplyFault) (x : Result ExtendedDefinition ReplyFault) →
-    IsAlike
-    (if b then (r >>= λ report. Ok (ProgressEvent report, record { awaited = Columns group n []; columns = standing }))
-    else (x >>= λ column. Ok (ColumnEvent column, column_came c (record { awaited = Columns group n []; columns = standing }) group n (with_column group [] column.column))))
-    (if b then (r >>= λ report. Ok (ProgressEvent report, record { awaited = Columns group n earlier; columns = standing }))
-    else (x >>= λ column. Ok (ColumnEvent column, column_came c (record { awaited = Columns group n earlier; columns = standing }) group n (with_column group earlier column.column))))
-columns_alike c standing group n earlier true (Ok report) x = refl
-columns_alike c standing group n earlier true (Err fault) x = refl
-columns_alike c standing group n earlier false r (Ok column) = refl
-columns_alike c standing group n earlier false r (Err fault) = refl
+-- What a payload says is what reading it would answer.
+pub peeks : (reader : ReaderState) (payload : Payload) (r : Result ReplyEvent ReplyFault) →
+    Says (event_at reader.context reader.so_far payload) r → Peeks reader payload r
+peeks reader payload (Ok event) h = event_of (event_at reader.context reader.so_far payload) (event_view event) h
+peeks reader payload (Err faults.Memory) h = tt
+peeks reader payload (Err faults.BadHeader) h = fault_of (event_at reader.context reader.so_far payload) faults.BadHeader h
+peeks reader payload (Err faults.BadCount) h = fault_of (event_at reader.context reader.so_far payload) faults.BadCount h
+peeks reader payload (Err faults.BadColumn) h = fault_of (event_at reader.context reader.so_far payload) faults.BadColumn h
+peeks reader payload (Err faults.BadOk) h = fault_of (event_at reader.context reader.so_far payload) faults.BadOk h
+peeks reader payload (Err faults.BadError) h = fault_of (event_at reader.context reader.so_far payload) faults.BadError h
+peeks reader payload (Err faults.BadRow) h = fault_of (event_at reader.context reader.so_far payload) faults.BadRow h
+peeks reader payload (Err faults.BadTerminator) h = fault_of (event_at reader.context reader.so_far payload) faults.BadTerminator h
+peeks reader payload (Err faults.BadPrepare) h = fault_of (event_at reader.context reader.so_far payload) faults.BadPrepare h
+peeks reader payload (Err faults.NotDue) h = fault_of (event_at reader.context reader.so_far payload) faults.NotDue h
 
-alike : (c : Context) (awaited : Awaited) (columns : Option (List ColumnDefinition)) (payload : Payload) →
-    IsAlike (event_at c (record { awaited = bare awaited; columns = columns }) payload) (event_at c (record { awaited = awaited; columns = columns }) payload)
-alike c First columns payload = same _
-alike c (Columns group n earlier) columns payload = columns_alike c columns group n earlier (has_report_form c payload) (report payload) (column c payload)
-alike c (ColumnsEnd group known) columns payload = same _
-alike c (Rows known) columns payload = same _
-alike c Fields columns payload = same _
-alike c FileData columns payload = refl
-alike c Nothing columns payload = refl
+-- Who is behind the event that a payload says is behind the payload.
+behind_said : (c : Context) (s : ReplySoFar) (step : Step) (event : Event) (next : ReplySoFar) → LeadsOn c s step →
+    said step ≡ Ok event → next ≡ behind c s event → step ≡ Ok (event, next)
+behind_said c s (Ok x) event next leads e h =
+    let same : x.0 ≡ event = cc in
+    ap (λ (event : Event). let step : Step = Ok (event, x.1) in step) same
+    ∙ ap (λ (next : ReplySoFar). let step : Step = Ok (event, next) in step) (leads ∙ ap (behind c s) same ∙ sym h)
+behind_said c s (Err fault) event next leads e h = absurd cc
 
--- The event of one is that of the other.
-found : (step other : Step) (event : Event) (next : ReplySoFar) → IsAlike step other → step ≡ Ok (event, next) → (behind : ReplySoFar) × (other ≡ Ok (event, behind))
-found (Ok x) (Ok y) event next h e = (y.1, ap (λ event. let step : Step = Ok (event, y.1) in step) (sym h ∙ ap first_of e))
-  where
-    first_of : Step → Event
-    first_of (Ok z) = z.0
-    first_of (Err f) = x.0
-found (Ok x) (Err fault) event next h e = absurd h
-found (Err fault) other event next h e = absurd cc
+pub reads_on : (c : Context) (s : ReplySoFar) (payload : Payload) (event : Event) (next : ReplySoFar) →
+    said (event_at c s payload) ≡ Ok event → next ≡ behind c s event → event_at c s payload ≡ Ok (event, next)
+reads_on c s payload event next e h = behind_said c s (event_at c s payload) event next (leads_on c s payload) e h
 
-refused : (step other : Step) (fault : ReplyFault) → IsAlike step other → step ≡ Err fault → other ≡ Err fault
-refused (Ok x) other fault h e = absurd cc
-refused (Err f) (Ok y) fault h e = absurd h
-refused (Err f) (Err g) fault h e = ap (λ fault. let step : Step = Err fault in step) (sym h) ∙ e
-
-peeked : (c : Context) (s : ReplySoFar) (payload : Payload) (event : Event) (next : ReplySoFar) →
-    event_at c (bare_reply s) payload ≡ Ok (event, next) → (behind : ReplySoFar) × (event_at c s payload ≡ Ok (event, behind))
-peeked c s payload event next e = found _ _ event next (alike c s.awaited s.columns payload) e
-
-peek_fails : (c : Context) (s : ReplySoFar) (payload : Payload) (fault : ReplyFault) →
-    event_at c (bare_reply s) payload ≡ Err fault → event_at c s payload ≡ Err fault
-peek_fails c s payload fault e = refused _ _ fault (alike c s.awaited s.columns payload) e
-
-pub peek_is : (c : Context) (s other : ReplySoFar) (payload : Payload) (r : Result ReplyEvent ReplyFault) (new : ReplyState) →
-    other ≡ bare_reply s → Steps (event_at c other payload) r new → PeeksStep (event_at c s payload) r
-peek_is c s other payload (Ok event) new e h =
-    peeked c s payload (event_view event) (so_far new) (subst (λ (x : ReplySoFar). event_at c x payload ≡ Ok (event_view event, so_far new)) e h)
-peek_is c s other payload (Err faults.Memory) new e h = tt
-peek_is c s other payload (Err faults.BadHeader) new e h =
-    peek_fails c s payload faults.BadHeader (subst (λ (x : ReplySoFar). event_at c x payload ≡ Err faults.BadHeader) e h)
-peek_is c s other payload (Err faults.BadCount) new e h =
-    peek_fails c s payload faults.BadCount (subst (λ (x : ReplySoFar). event_at c x payload ≡ Err faults.BadCount) e h)
-peek_is c s other payload (Err faults.BadColumn) new e h =
-    peek_fails c s payload faults.BadColumn (subst (λ (x : ReplySoFar). event_at c x payload ≡ Err faults.BadColumn) e h)
-peek_is c s other payload (Err faults.BadOk) new e h =
-    peek_fails c s payload faults.BadOk (subst (λ (x : ReplySoFar). event_at c x payload ≡ Err faults.BadOk) e h)
-peek_is c s other payload (Err faults.BadError) new e h =
-    peek_fails c s payload faults.BadError (subst (λ (x : ReplySoFar). event_at c x payload ≡ Err faults.BadError) e h)
-peek_is c s other payload (Err faults.BadRow) new e h =
-    peek_fails c s payload faults.BadRow (subst (λ (x : ReplySoFar). event_at c x payload ≡ Err faults.BadRow) e h)
-peek_is c s other payload (Err faults.BadTerminator) new e h =
-    peek_fails c s payload faults.BadTerminator (subst (λ (x : ReplySoFar). event_at c x payload ≡ Err faults.BadTerminator) e h)
-peek_is c s other payload (Err faults.BadPrepare) new e h =
-    peek_fails c s payload faults.BadPrepare (subst (λ (x : ReplySoFar). event_at c x payload ≡ Err faults.BadPrepare) e h)
-peek_is c s other payload (Err faults.NotDue) new e h =
-    peek_fails c s payload faults.NotDue (subst (λ (x : ReplySoFar). event_at c x payload ≡ Err faults.NotDue) e h)
+-- What is refused is the step's fault.
+pub refuses : (step : Step) (fault : ReplyFault) (new : ReplyState) → Says step (Err fault) → Steps step (Err fault) new
+refuses step faults.Memory new h = tt
+refuses step faults.BadHeader new h = fault_of step faults.BadHeader h
+refuses step faults.BadCount new h = fault_of step faults.BadCount h
+refuses step faults.BadColumn new h = fault_of step faults.BadColumn h
+refuses step faults.BadOk new h = fault_of step faults.BadOk h
+refuses step faults.BadError new h = fault_of step faults.BadError h
+refuses step faults.BadRow new h = fault_of step faults.BadRow h
+refuses step faults.BadTerminator new h = fault_of step faults.BadTerminator h
+refuses step faults.BadPrepare new h = fault_of step faults.BadPrepare h
+refuses step faults.NotDue new h = fault_of step faults.NotDue h

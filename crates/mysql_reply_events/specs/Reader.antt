@@ -10,7 +10,7 @@ use Rattle.mysql_reply_events.specs.declared.event.ReplyEvent.{ReplyEvent}
 use Rattle.mysql_reply_events.specs.declared.fault.ReplyFault.{ReplyFault}
 use Rattle.mysql_reply_events.specs.declared.fault.ReplyFault.TheVariants.{Memory}
 use Rattle.mysql_reply_events.specs.Events.{Awaited, Payload, ReplySoFar}
-use Rattle.mysql_reply_events.specs.Events.Awaited.{Columns, First, Nothing, Rows}
+use Rattle.mysql_reply_events.specs.Events.Awaited.{First, Nothing, Rows}
 use Rattle.mysql_reply_events.specs.Events.Event.{RowEvent}
 use Rattle.mysql_reply_events.specs.Readings.{deprecate_eof, has_report_form}
 use Rattle.mysql_reply_events.specs.Table.{event_at, file_data_at, fresh, is_fetch}
@@ -87,12 +87,3 @@ awaits_rows c s awaited = false
 abbrev pub is_row_due : Context → ReplySoFar → Payload → Bool
 is_row_due c s payload =
     awaits_rows c s s.awaited && not (has_report_form c payload) && is_row (deprecate_eof c) payload
-
--- A column is due.
-abbrev pub awaits_column : Awaited → Bool
-awaits_column (Columns group n earlier) = true
-awaits_column awaited = false
-
--- The payload is one in a column's place, and no progress report.
-abbrev pub is_column_due : Context → ReplySoFar → Payload → Bool
-is_column_due c s payload = awaits_column s.awaited && not (has_report_form c payload)

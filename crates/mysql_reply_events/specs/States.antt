@@ -5,10 +5,9 @@ use Rattle.mysql_reply_events.specs.declared.event.ReplyEvent.{ReplyEvent}
 use Rattle.mysql_reply_events.specs.declared.fault.ReplyFault.{ReplyFault}
 use Rattle.mysql_reply_events.specs.declared.fault.ReplyFault.TheVariants.{Memory}
 use Rattle.mysql_reply_events.specs.declared.state.ReplyState.{ReplyState}
-use Rattle.mysql_reply_events.specs.Due.{bare}
-use Rattle.mysql_reply_events.specs.Events.{ReplySoFar}
+use Rattle.mysql_reply_events.specs.Events.{Event, ReplySoFar}
 use Rattle.mysql_reply_events.specs.Table.{Step}
-use Rattle.mysql_reply_events.specs.Views.{awaited_view, event_view}
+use Rattle.mysql_reply_events.specs.Views.{Gives, awaited_view, event_view}
 
 abbrev pub so_far : ReplyState → ReplySoFar
 so_far state = record { awaited = awaited_view state.awaited; columns = state.standing.columns }
@@ -19,12 +18,11 @@ Steps step (Ok event) new = step ≡ Ok (event_view event, so_far new)
 Steps step (Err Memory) new = Unit {0}
 Steps step (Err fault) new = step ≡ Err fault
 
--- A reply so far, without the columns of a group that came before.
-abbrev pub bare_reply : ReplySoFar → ReplySoFar
-bare_reply s = record s { awaited = bare s.awaited }
+-- What a step says: its event.
+abbrev pub said : Step → Result Event ReplyFault
+said (Ok x) = Ok x.0
+said (Err fault) = Err fault
 
 -- A function answered the step's event, or its fault, unless memory ran out.
-abbrev pub PeeksStep : Step → Result ReplyEvent ReplyFault → Type 0
-PeeksStep step (Ok event) = (next : ReplySoFar) × (step ≡ Ok (event_view event, next))
-PeeksStep step (Err Memory) = Unit {0}
-PeeksStep step (Err fault) = step ≡ Err fault
+abbrev pub Says : Step → Result ReplyEvent ReplyFault → Type 0
+Says step result = Gives event_view result (said step)

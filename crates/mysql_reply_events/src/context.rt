@@ -48,7 +48,7 @@ pub struct Context {
 }
 
 impl Context {
-    /// No EOF packet stands behind columns, and an OK packet ends rows.
+    /// No EOF packet comes behind columns, and an OK packet ends rows.
     #[tactic(auto, unfolding(bitflags::proofs::OnLiterals::bitflags_on_literals))]
     pub fn deprecates_eof(self) -> bool
         ensures { result ≡ deprecate_eof self }

@@ -6,13 +6,12 @@ ghost use Rattle.mysql_row_refs.specs.RowRefs.{row_ref_view};
 ghost use Rattle.mysql_rows.specs.Rows.{Row};
 ghost use Rattle.mysql_rows.specs.Views.{shared_columns};
 ghost use Rattle.mysql_reply_events.specs.Behind.{behind, is_column};
-ghost use Rattle.mysql_reply_events.specs.Events.{ReplySoFar};
 ghost use Rattle.mysql_reply_events.specs.Events.Event.{ColumnEvent};
 ghost use Rattle.mysql_reply_events.specs.NextRows.{LendsRow, TakesRow, is_next_row};
 ghost use Rattle.mysql_reply_events.specs.Reader.{GoesOn, HasFailed, Peeks, ReadsInPlace, ReadsOn, TakesFileData};
-ghost use Rattle.mysql_reply_events.specs.Reader.{awaits_rows, fresh_reader, is_column_due, is_row_due};
+ghost use Rattle.mysql_reply_events.specs.Reader.{awaits_rows, fresh_reader, is_row_due};
 ghost use Rattle.mysql_reply_events.specs.Standing.{RowAt, columns_of, format_of};
-ghost use Rattle.mysql_reply_events.specs.States.{PeeksStep, Steps, bare_reply, so_far};
+ghost use Rattle.mysql_reply_events.specs.States.{Says, Steps, so_far};
 ghost use Rattle.mysql_reply_events.specs.Table as table;
 ghost use Rattle.mysql_reply_events.specs.Views.{awaited_view, event_view, turn_of};
 
@@ -22,11 +21,10 @@ use crate::context::{Context, ReplyKind};
 use crate::event::ReplyEvent;
 use crate::fault::ReplyFault;
 use crate::forms::is_report_like;
-use crate::packets::{column_packet, report_packet};
-use crate::rows::row_packet;
+use crate::packets::report_packet;
 use crate::standing::StandingColumns;
 use crate::state::ReplyState;
-use crate::steps::place_step;
+use crate::steps::{place_event, take_column};
 use mysql_columns::{Column, ExtendedColumn};
 use mysql_const::Capabilities;
 use mysql_row_refs::{RowFormat, RowRef, is_row};
@@ -44,7 +42,24 @@ fn is_due(awaited: &Awaited) -> bool
     }
 }
 
-/// What a payload of the server leads to. After an `Err` nothing is awaited.
+/// What a payload of the server says.
+fn says(
+    alloc: Global,
+    context: Context,
+    state: &ReplyState,
+    payload: &[u8],
+) -> Result<ReplyEvent, ReplyFault>
+    ensures { Says (table.event_at context (so_far state.now) payload.now) result }
+{
+    if is_due(&state.awaited) && is_report_like(context, payload) {
+        let report = report_packet(alloc, payload)?;
+        Ok(ReplyEvent::Progress(report))
+    } else {
+        place_event(alloc, context, state, payload)
+    }
+}
+
+/// What a payload of the server leads to: what it says, and what is awaited behind that.
 pub fn step(
     alloc: Global,
     context: Context,
@@ -55,45 +70,16 @@ pub fn step(
     ensures kept { OnErr result (state.new.standing ≡ state.old.standing) }
     ensures format { state.new.standing.format ≡ state.old.standing.format }
 {
-    if is_due(&state.awaited) && is_report_like(context, payload) {
-        let report = report_packet(alloc, payload)?;
-        Ok(ReplyEvent::Progress(report))
-    } else {
-        place_step(alloc, context, state, payload)
+    match says(alloc, context, state, payload)? {
+        ReplyEvent::Column(column) => {
+            take_column(alloc, context, state, column.column())?;
+            Ok(ReplyEvent::Column(column))
+        }
+        event => {
+            pass(alloc, context, state, &event);
+            Ok(event)
+        }
     }
-}
-
-/// What a payload would be to a state, by another one that is the same but for earlier columns.
-fn peek_step(
-    alloc: Global,
-    context: Context,
-    bare_state: &mut ReplyState,
-    state: &ReplyState,
-    payload: &[u8],
-) -> Result<ReplyEvent, ReplyFault>
-    requires { so_far bare_state.old ≡ bare_reply (so_far state.now) }
-    ensures { PeeksStep (table.event_at context (so_far state.now) payload.now) result }
-{
-    step(alloc, context, bare_state, payload)
-}
-
-/// What a payload would be to a state, by a state of its own that goes then.
-fn peek_apart(
-    alloc: Global,
-    context: Context,
-    state: &ReplyState,
-    payload: &[u8],
-) -> Result<ReplyEvent, ReplyFault>
-    ensures { PeeksStep (table.event_at context (so_far state.now) payload.now) result }
-{
-    let Ok(standing) = state.standing.share() else {
-        return Err(ReplyFault::Memory);
-    };
-    let mut bare_state = ReplyState {
-        awaited: Awaited::of(alloc, state.awaited.due()),
-        standing,
-    };
-    peek_step(alloc, context, &mut bare_state, state, payload)
 }
 
 /// The command is a fetch.
@@ -124,66 +110,6 @@ fn is_row_due(context: Context, state: &ReplyState, payload: &[u8]) -> bool
     awaits_rows(context, state)
         && !is_report_like(context, payload)
         && is_row(payload, context.deprecates_eof())
-}
-
-/// What a payload would be that is read as a row.
-fn peek_row(
-    alloc: Global,
-    context: Context,
-    state: &ReplyState,
-    payload: &[u8],
-) -> Result<ReplyEvent, ReplyFault>
-    requires { is_row_due context (so_far state.now) payload.now ≡ true }
-    ensures { PeeksStep (table.event_at context (so_far state.now) payload.now) result }
-{
-    match state.standing.columns() {
-        Some(columns) => {
-            let row = row_packet(alloc, context, columns, payload)?;
-            Ok(ReplyEvent::Row(row))
-        }
-        None => peek_apart(alloc, context, state, payload),
-    }
-}
-
-/// A column is due, and the payload is no progress report.
-fn is_column_due(context: Context, state: &ReplyState, payload: &[u8]) -> bool
-    ensures { result ≡ is_column_due context (so_far state.now) payload.now }
-{
-    match &state.awaited {
-        Awaited::Columns {
-            group: _,
-            left: _,
-            columns: _,
-        } => !is_report_like(context, payload),
-        _ => false,
-    }
-}
-
-/// What a payload would be that is read as a column. It isn't kept.
-fn peek_column(alloc: Global, context: Context, payload: &[u8]) -> Result<ReplyEvent, ReplyFault>
-    ensures { (s : ReplySoFar) → is_column_due context s payload.now ≡ true →
-        PeeksStep (table.event_at context s payload.now) result }
-{
-    let column = column_packet(alloc, context, payload)?;
-    Ok(ReplyEvent::Column(column))
-}
-
-/// What a payload would be to a state. A row or a column needs no other state.
-fn peek_payload(
-    alloc: Global,
-    context: Context,
-    state: &ReplyState,
-    payload: &[u8],
-) -> Result<ReplyEvent, ReplyFault>
-    ensures { PeeksStep (table.event_at context (so_far state.now) payload.now) result }
-{
-    if is_row_due(context, state, payload) {
-        peek_row(alloc, context, state, payload)
-    } else if is_column_due(context, state, payload) {
-        peek_column(alloc, context, payload)
-    } else {
-        peek_apart(alloc, context, state, payload)
-    }
 }
 
 /// A row is due behind another one, and the payload begins as one.
@@ -318,7 +244,7 @@ impl EventReader {
         if let Some(fault) = self.fault {
             return Err(fault);
         }
-        peek_payload(self.alloc, self.context, &self.state, payload)
+        says(self.alloc, self.context, &self.state, payload)
     }
 
     /// Takes a payload of the client's file; an empty one ends the file.
@@ -464,7 +390,7 @@ impl EventReader {
         }
     }
 
-    /// Reads a row that is due where it lies, a first one too. `false` says nothing of the payload:
+    /// Reads a row where it lies, if it comes next, a first one too. `false` says nothing of the payload:
     /// [`EventReader::read`] reads it then.
     ///
     /// Memory is asked for at the first row of a result alone; without it the answer is `false`.

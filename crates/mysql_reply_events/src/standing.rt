@@ -159,18 +159,4 @@ impl StandingColumns {
             None => Ok(None),
         }
     }
-
-    /// The same columns, shared.
-    ///
-    /// # Errors
-    /// - `AllocError` for want of memory.
-    pub fn share(&self) -> Result<StandingColumns, AllocError>
-        ensures { IfOk result (λ same. same ≡ record self.now { reader = None }) }
-    {
-        Ok(StandingColumns {
-            columns: self.share_columns()?,
-            format: self.format,
-            reader: None,
-        })
-    }
 }

@@ -1,4 +1,4 @@
-//! What each payload leads to, by what is awaited.
+//! What each payload says, and what is awaited behind it.
 //!
 //!     00 ..         OK: affected rows, last insert id, status, warnings, info
 //!     ff ..         ERR: code, state, message
@@ -9,17 +9,20 @@
 //! MySQL: Client/Server Protocol, "COM_QUERY Response", "Text Resultset" and "COM_STMT_PREPARE
 //! Response".
 
-ghost use Rattle.std.specs.Prelude.{◌≡◌, IfOk, IsOkUnless, OnErr, OnOk};
+ghost use Rattle.std.specs.Prelude.{◌≡◌, Bool, IfOk, IsOkUnless, List, Ok, OnErr, OnOk, ℕ};
+ghost use Rattle.mysql_columns.specs.Columns.{ColumnDefinition};
 ghost use Rattle.mysql_columns.specs.Views.{column_view};
 ghost use Rattle.mysql_ok_packets.specs.Views.{ok_packet_view};
 ghost use Rattle.mysql_rows.specs.Views.{column_views};
 ghost use Rattle.mysql_reply_events.specs.declared.fault.ReplyFault.TheVariants.{Memory};
 ghost use Rattle.mysql_reply_events.specs.Behind as behind;
+ghost use Rattle.mysql_reply_events.specs.Events.{Group, ReplySoFar};
+ghost use Rattle.mysql_reply_events.specs.Events.Event.{LineEvent};
 ghost use Rattle.mysql_reply_events.specs.Standing.{columns_of};
 ghost use Rattle.mysql_reply_events.specs.Table as table;
 ghost use Rattle.mysql_reply_events.specs.Due.{column_due};
 ghost use Rattle.mysql_reply_events.specs.Views.{Gives, Tells, awaited_view, due_view, event_view, group_view};
-ghost use Rattle.mysql_reply_events.specs.States.{Steps, so_far};
+ghost use Rattle.mysql_reply_events.specs.States.{Says, so_far};
 
 use crate::awaited::{Awaited, ColumnGroup, Due};
 use crate::context::{Context, ReplyKind};
@@ -154,66 +157,40 @@ pub fn after_columns_end(
 }
 
 /// Reads an error, which ends the reply.
-fn error_step(
-    alloc: Global,
-    context: Context,
-    state: &mut ReplyState,
-    payload: &[u8],
-) -> Result<ReplyEvent, ReplyFault>
-    ensures step { Steps (table.error_step context (so_far state.old) payload.now) result state.new }
-    ensures kept { OnErr result (state.new.standing ≡ state.old.standing) }
-    ensures format { state.new.standing.format ≡ state.old.standing.format }
+fn error_event(alloc: Global, context: Context, payload: &[u8]) -> Result<ReplyEvent, ReplyFault>
+    ensures { (s : ReplySoFar) → Says (table.error_step context s payload.now) result }
 {
     let error = error_packet(alloc, context, payload)?;
-    state.awaited = Awaited::Nothing;
     Ok(ReplyEvent::Error(error))
 }
 
 /// Reads what ends rows and columns of a table, and stands in an OK packet's place.
-fn end_step(
-    alloc: Global,
-    context: Context,
-    state: &mut ReplyState,
-    payload: &[u8],
-) -> Result<ReplyEvent, ReplyFault>
-    ensures step { Steps (table.in_end context (so_far state.old) payload.now) result state.new }
-    ensures kept { OnErr result (state.new.standing ≡ state.old.standing) }
-    ensures format { state.new.standing.format ≡ state.old.standing.format }
+fn end_event(alloc: Global, context: Context, payload: &[u8]) -> Result<ReplyEvent, ReplyFault>
+    ensures { (s : ReplySoFar) → Says (table.in_end context s payload.now) result }
 {
     let ok = terminator_packet(alloc, context, payload)?;
-    state.awaited = after_result(context, &ok);
     Ok(ReplyEvent::RowsEnd(ok))
 }
 
 /// Reads an OK packet, which is a result.
-fn ok_step(
-    alloc: Global,
-    context: Context,
-    state: &mut ReplyState,
-    payload: &[u8],
-) -> Result<ReplyEvent, ReplyFault>
-    ensures step { Steps (table.ok_step context (so_far state.old) payload.now) result state.new }
-    ensures kept { OnErr result (state.new.standing ≡ state.old.standing) }
-    ensures format { state.new.standing.format ≡ state.old.standing.format }
+fn ok_event(alloc: Global, context: Context, payload: &[u8]) -> Result<ReplyEvent, ReplyFault>
+    ensures { (s : ReplySoFar) → Says (table.ok_step context s payload.now) result }
 {
     let ok = ok_packet(alloc, context, payload)?;
-    state.awaited = after_result(context, &ok);
     Ok(ReplyEvent::Ok(ok))
 }
 
 /// Reads a count of columns.
-fn count_step(
+fn count_event(
     alloc: Global,
     context: Context,
-    state: &mut ReplyState,
+    state: &ReplyState,
     payload: &[u8],
 ) -> Result<ReplyEvent, ReplyFault>
-    ensures step { Steps (table.count_step context (so_far state.old) payload.now) result state.new }
-    ensures kept { OnErr result (state.new.standing ≡ state.old.standing) }
-    ensures format { state.new.standing.format ≡ state.old.standing.format }
+    ensures { Says (table.count_step context (so_far state.now) payload.now) result }
 {
     let (count, columns_follow) = count_packet(context, payload)?;
-    state.awaited = after_count(alloc, context, &state.standing, count, columns_follow)?;
+    after_count(alloc, context, &state.standing, count, columns_follow)?;
     Ok(ReplyEvent::ColumnCount {
         count,
         columns_follow,
@@ -261,26 +238,23 @@ fn after_count(
 }
 
 /// Reads the first payload of a result that is no error.
-fn result_step(
+fn result_event(
     alloc: Global,
     context: Context,
-    state: &mut ReplyState,
+    state: &ReplyState,
     payload: &[u8],
 ) -> Result<ReplyEvent, ReplyFault>
-    ensures step { Steps (table.first_of_result context (so_far state.old) payload.now) result state.new }
-    ensures kept { OnErr result (state.new.standing ≡ state.old.standing) }
-    ensures format { state.new.standing.format ≡ state.old.standing.format }
+    ensures { Says (table.first_of_result context (so_far state.now) payload.now) result }
 {
     if begins_ok(context, payload) {
-        ok_step(alloc, context, state, payload)
+        ok_event(alloc, context, payload)
     } else if starts_with(payload, 251) {
         let file = file_packet(alloc, payload)?;
-        state.awaited = Awaited::FileData;
         Ok(ReplyEvent::FileRequest(file))
     } else if payload.is_empty() {
         Err(ReplyFault::BadHeader)
     } else {
-        count_step(alloc, context, state, payload)
+        count_event(alloc, context, state, payload)
     }
 }
 
@@ -309,23 +283,17 @@ pub fn after_statement(
 }
 
 /// Reads the first payload of the answer to a prepare that is no error.
-fn statement_step(
+fn statement_event(
     alloc: Global,
     context: Context,
-    state: &mut ReplyState,
     payload: &[u8],
 ) -> Result<ReplyEvent, ReplyFault>
-    ensures step { Steps (table.first_of_statement context (so_far state.old) payload.now) result state.new }
-    ensures kept { OnErr result (state.new.standing ≡ state.old.standing) }
-    ensures format { state.new.standing.format ≡ state.old.standing.format }
+    ensures { (s : ReplySoFar) → Says (table.first_of_statement context s payload.now) result }
 {
     if !starts_with(payload, 0) {
         return Err(ReplyFault::BadHeader);
     }
     let (statement, columns_follow) = prepared_packet(alloc, context, payload)?;
-    let parameters = statement.num_params();
-    let columns = statement.num_columns();
-    state.awaited = after_statement(alloc, context, parameters, columns, columns_follow);
     Ok(ReplyEvent::Prepared {
         statement,
         columns_follow,
@@ -333,51 +301,40 @@ fn statement_step(
 }
 
 /// Reads the answer to a command without a result that is no error.
-fn plain_step(
-    alloc: Global,
-    context: Context,
-    state: &mut ReplyState,
-    payload: &[u8],
-) -> Result<ReplyEvent, ReplyFault>
-    ensures step { Steps (table.plain context (so_far state.old) payload.now) result state.new }
-    ensures kept { OnErr result (state.new.standing ≡ state.old.standing) }
-    ensures format { state.new.standing.format ≡ state.old.standing.format }
+fn plain_event(alloc: Global, context: Context, payload: &[u8]) -> Result<ReplyEvent, ReplyFault>
+    ensures { (s : ReplySoFar) → Says (table.plain context s payload.now) result }
 {
     if starts_with(payload, 0) {
-        ok_step(alloc, context, state, payload)
+        ok_event(alloc, context, payload)
     } else if begins_terminator(context, payload) {
-        end_step(alloc, context, state, payload)
+        end_event(alloc, context, payload)
     } else {
         Err(ReplyFault::BadHeader)
     }
 }
 
 /// Reads a text, or the first payload of what goes on in a form of its own.
-fn line_step(
-    alloc: Global,
-    state: &mut ReplyState,
-    payload: &[u8],
-) -> Result<ReplyEvent, ReplyFault>
-    ensures step { Steps (table.line (so_far state.old) payload.now) result state.new }
-    ensures kept { OnErr result (state.new.standing ≡ state.old.standing) }
-    ensures format { state.new.standing.format ≡ state.old.standing.format }
+fn line_event(alloc: Global, payload: &[u8]) -> Result<ReplyEvent, ReplyFault>
+    ensures { Gives event_view result (Ok (LineEvent payload.now)) }
 {
     let bytes = bytes_of(alloc, payload)?;
-    state.awaited = Awaited::Nothing;
     Ok(ReplyEvent::Line(bytes))
 }
 
-/// Reads a row.
-fn row_event(
+/// Reads a row or a terminator.
+fn rows_event(
     alloc: Global,
     context: Context,
+    state: &ReplyState,
     known: bool,
-    standing: &StandingColumns,
     payload: &[u8],
 ) -> Result<ReplyEvent, ReplyFault>
-    ensures { Gives event_view result (table.row_event context known standing.now.columns payload.now) }
+    ensures { Says (table.in_rows context (so_far state.now) known payload.now) result }
 {
-    match standing.columns() {
+    if begins_terminator(context, payload) {
+        return end_event(alloc, context, payload);
+    }
+    match state.standing.columns() {
         Some(columns) if known => {
             let row = row_packet(alloc, context, columns, payload)?;
             Ok(ReplyEvent::Row(row))
@@ -393,63 +350,28 @@ fn row_event(
     }
 }
 
-/// Reads a row or a terminator.
-fn rows_step(
-    alloc: Global,
-    context: Context,
-    state: &mut ReplyState,
-    known: bool,
-    payload: &[u8],
-) -> Result<ReplyEvent, ReplyFault>
-    ensures step { Steps (table.in_rows context (so_far state.old) known payload.now) result state.new }
-    ensures kept { OnErr result (state.new.standing ≡ state.old.standing) }
-    ensures format { state.new.standing.format ≡ state.old.standing.format }
-{
-    if begins_terminator(context, payload) {
-        end_step(alloc, context, state, payload)
-    } else {
-        let event = row_event(alloc, context, known, &state.standing, payload)?;
-        state.awaited = Awaited::Rows { known };
-        Ok(event)
-    }
-}
-
 /// Reads a column of a table or what ends them.
-fn fields_step(
-    alloc: Global,
-    context: Context,
-    state: &mut ReplyState,
-    payload: &[u8],
-) -> Result<ReplyEvent, ReplyFault>
-    ensures step { Steps (table.in_fields context (so_far state.old) payload.now) result state.new }
-    ensures kept { OnErr result (state.new.standing ≡ state.old.standing) }
-    ensures format { state.new.standing.format ≡ state.old.standing.format }
+fn fields_event(alloc: Global, context: Context, payload: &[u8]) -> Result<ReplyEvent, ReplyFault>
+    ensures { (s : ReplySoFar) → Says (table.in_fields context s payload.now) result }
 {
     if begins_terminator(context, payload) {
-        end_step(alloc, context, state, payload)
+        end_event(alloc, context, payload)
     } else {
         let field = field_packet(alloc, context, payload)?;
-        state.awaited = Awaited::Fields;
         Ok(ReplyEvent::Field(field))
     }
 }
 
 /// Reads the EOF behind columns.
-fn columns_end_step(
+fn columns_end_event(
     alloc: Global,
     context: Context,
-    state: &mut ReplyState,
-    group: ColumnGroup,
-    known: bool,
     payload: &[u8],
 ) -> Result<ReplyEvent, ReplyFault>
-    ensures step { Steps (table.in_columns_end context (so_far state.old) (group_view group) known payload.now) result
-        state.new }
-    ensures kept { OnErr result (state.new.standing ≡ state.old.standing) }
-    ensures format { state.new.standing.format ≡ state.old.standing.format }
+    ensures { (s : ReplySoFar) (group : Group) (known : Bool) →
+        Says (table.in_columns_end context s group known payload.now) result }
 {
     let ok = eof_packet(alloc, context, payload)?;
-    state.awaited = after_columns_end(alloc, context, group, known, &ok);
     Ok(ReplyEvent::ColumnsEnd(ok))
 }
 
@@ -547,91 +469,101 @@ fn column_came(
     Ok(())
 }
 
-/// Reads a column of a group, which has so many more behind it and these before it.
-fn column_step(
+/// Keeps a column that was read with those of its group. After an `Err` nothing is awaited.
+pub fn take_column(
     alloc: Global,
     context: Context,
     state: &mut ReplyState,
-    group: ColumnGroup,
-    left: u16,
-    mut columns: Vec<Column>,
-    payload: &[u8],
-) -> Result<ReplyEvent, ReplyFault>
-    ensures step { Steps (table.in_columns context (so_far state.old) (group_view group) left
-        (column_views columns.items) payload.now) result state.new }
+    column: &Column,
+) -> Result<(), ReplyFault>
+    ensures taken { OnOk result (so_far state.new ≡ behind.behind_column context (so_far state.old)
+        (so_far state.old).awaited (column_view column.now)) }
+    ensures memory { IsOkUnless result Memory }
     ensures kept { OnErr result (state.new.standing ≡ state.old.standing) }
     ensures format { state.new.standing.format ≡ state.old.standing.format }
 {
-    let column = column_packet(alloc, context, payload)?;
-    if keep_column(alloc, group, &mut columns, column.column()).is_err() {
-        return Err(ReplyFault::Memory);
+    match mem::replace(&mut state.awaited, Awaited::Nothing) {
+        Awaited::Columns {
+            group,
+            left,
+            mut columns,
+        } => {
+            if keep_column(alloc, group, &mut columns, column).is_err() {
+                return Err(ReplyFault::Memory);
+            }
+            column_came(alloc, context, state, group, left, columns)
+        }
+        awaited => {
+            state.awaited = awaited;
+            Ok(())
+        }
     }
-    column_came(alloc, context, state, group, left, columns)?;
+}
+
+/// Reads a column of a group.
+fn column_event(alloc: Global, context: Context, payload: &[u8]) -> Result<ReplyEvent, ReplyFault>
+    ensures { (s : ReplySoFar) (group : Group) (left : ℕ) (earlier : List ColumnDefinition) →
+        Says (table.in_columns context s group left earlier payload.now) result }
+{
+    let column = column_packet(alloc, context, payload)?;
     Ok(ReplyEvent::Column(column))
 }
 
 /// Reads the first payload of a reply or of a further result that is no error, by the kind of the
 /// command.
-fn first_step(
+fn first_event(
     alloc: Global,
     context: Context,
-    state: &mut ReplyState,
+    state: &ReplyState,
     payload: &[u8],
 ) -> Result<ReplyEvent, ReplyFault>
-    ensures step { Steps (table.first context (so_far state.old) context.kind payload.now) result state.new }
-    ensures kept { OnErr result (state.new.standing ≡ state.old.standing) }
-    ensures format { state.new.standing.format ≡ state.old.standing.format }
+    ensures { Says (table.first context (so_far state.now) context.kind payload.now) result }
 {
     match context.kind {
-        ReplyKind::Text | ReplyKind::Binary => result_step(alloc, context, state, payload),
-        ReplyKind::Prepare => statement_step(alloc, context, state, payload),
-        ReplyKind::Plain => plain_step(alloc, context, state, payload),
-        ReplyKind::Line => line_step(alloc, state, payload),
-        ReplyKind::FieldList => fields_step(alloc, context, state, payload),
-        ReplyKind::Fetch => rows_step(alloc, context, state, true, payload),
+        ReplyKind::Text | ReplyKind::Binary => result_event(alloc, context, state, payload),
+        ReplyKind::Prepare => statement_event(alloc, context, payload),
+        ReplyKind::Plain => plain_event(alloc, context, payload),
+        ReplyKind::Line => line_event(alloc, payload),
+        ReplyKind::FieldList => fields_event(alloc, context, payload),
+        ReplyKind::Fetch => rows_event(alloc, context, state, true, payload),
     }
 }
 
-/// Reads a payload that is no progress report, by what is awaited. After an `Err` nothing is.
-pub fn place_step(
+/// Reads a payload that is no progress report, by what is awaited.
+pub fn place_event(
     alloc: Global,
     context: Context,
-    state: &mut ReplyState,
+    state: &ReplyState,
     payload: &[u8],
 ) -> Result<ReplyEvent, ReplyFault>
-    ensures step { Steps (table.in_place context (so_far state.old) (so_far state.old).awaited payload.now) result
-        state.new }
-    ensures kept { OnErr result (state.new.standing ≡ state.old.standing) }
-    ensures format { state.new.standing.format ≡ state.old.standing.format }
+    ensures { Says (table.in_place context (so_far state.now) (so_far state.now).awaited payload.now) result }
 {
-    match mem::replace(&mut state.awaited, Awaited::Nothing) {
+    match &state.awaited {
         Awaited::First => {
             if starts_with(payload, 255) {
-                error_step(alloc, context, state, payload)
+                error_event(alloc, context, payload)
             } else {
-                first_step(alloc, context, state, payload)
+                first_event(alloc, context, state, payload)
             }
         }
         Awaited::Columns {
-            group,
-            left,
-            columns,
-        } => column_step(alloc, context, state, group, left, columns, payload),
-        Awaited::ColumnsEnd { group, known } => {
-            columns_end_step(alloc, context, state, group, known, payload)
-        }
+            group: _,
+            left: _,
+            columns: _,
+        } => column_event(alloc, context, payload),
+        Awaited::ColumnsEnd { group: _, known: _ } => columns_end_event(alloc, context, payload),
         Awaited::Rows { known } => {
             if starts_with(payload, 255) {
-                error_step(alloc, context, state, payload)
+                error_event(alloc, context, payload)
             } else {
-                rows_step(alloc, context, state, known, payload)
+                rows_event(alloc, context, state, *known, payload)
             }
         }
         Awaited::Fields => {
             if starts_with(payload, 255) {
-                error_step(alloc, context, state, payload)
+                error_event(alloc, context, payload)
             } else {
-                fields_step(alloc, context, state, payload)
+                fields_event(alloc, context, payload)
             }
         }
         Awaited::FileData | Awaited::Nothing => Err(ReplyFault::NotDue),
