@@ -18,8 +18,11 @@ import subprocess
 import threading
 import time
 
+import audit_addresses
+import audit_counts
 import audit_limits
 import audit_log
+import audit_settings
 import audit_skipping
 import recorded
 from audit_support import COLUMN, EOF, ERROR, OFFERED, OK, Pair, Program, greeting, log_file, \
@@ -154,6 +157,23 @@ def check_last_words(executable):
         check([("server", "unfinished")] * 2, ends, "the ends")
 
 
+def check_users(executable):
+    """A change of user that is laid out as none is told of what follows where the server takes it."""
+    with Program(executable) as proxy:
+        pair, cut = Pair(proxy), b"\x11bob\0\x02xybooks\0\x2d"
+        for reply in (ERROR, OK):
+            pair.client.sendall(packet(0, cut))
+            receive(pair.server, len(cut) + 4)
+            pair.answer(packet(1, reply))
+            pair.say("SELECT 1")
+        pair.close()
+        proxy.stop()
+        records = proxy.printed()
+        found = [(it["user"], it["database"]) for it in records if it["kind"] == "query"]
+        check([("ann", "shop"), ("bob", "books")], found, "whose queries they are")
+        check(["unknown"] * 2, [it["kind"] for it in records if "bytes" in it], "changes of user")
+
+
 def check_plain(executable):
     """TLS and compression are taken out of a greeting, in however small pieces it comes."""
     with Program(executable, "--plain") as proxy:
@@ -261,10 +281,11 @@ def main():
               ("secrets", lambda it: recorded.check_secrets(
                   it, words.recordings / "php-execute.events", at)),
               ("bytes as they come", check_bytes_as_they_come), ("slow ends", check_slow_ends),
-              ("last words", check_last_words),
+              ("last words", check_last_words), ("changes of user", check_users),
               ("a plain greeting", check_plain),
               ("settings", check_settings), ("the manual", check_manual),
               *audit_limits.checks(), *audit_log.checks(), *audit_skipping.checks(),
+              *audit_settings.checks(), *audit_addresses.checks(), *audit_counts.checks(),
               ("idle connections", lambda it: measure_idle(it, words.idle))]
     if words.load:
         for name in ("mysqldb-text", "perl-execute"):

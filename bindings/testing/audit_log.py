@@ -248,6 +248,10 @@ def check_filters(executable):
     for options, at, wanted in ((["--user", "ann"], 0, "ann"),
                                 (["--user", "ann", "--user", "bob", "--database", "books"], 1, "books")):
         check([it for it in every if it[at] == wanted], fields(told(executable, *options)), options)
+    for host, wanted in (("127.0.0.0/8", every), ("10.0.0.0/8", []), ("127.0.0.1", every)):
+        check(wanted, fields(told(executable, "--host", host)), f"lines of {host}")
+    found = fields(told(executable, "--kind", "login", "--kind", "end"))
+    check([it for it in every if it[2] != "query"], found, "kinds of lines")
     wanted = [it for it in every if it[2] == "end" or it[3] == "SELECT nothing"]
     check(wanted, fields(told(executable, "--errors")), "errors")
     for options in (["--slower", "0.2"], ["--errors", "--slower", "0.2"]):

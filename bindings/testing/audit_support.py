@@ -67,7 +67,9 @@ class Program(recorded.Proxy):
             [executable, "127.0.0.1:0", upstream, "--json", "--grace", "30", "--threads", "2",
              *options], stdout=subprocess.PIPE, stderr=subprocess.PIPE, text=True, **how)
         self.first = line = self.process.stderr.readline()
+        self.before = ""
         while "listening at" not in line:
+            self.before += line
             check(None, self.process.poll(), "the status at the start")
             line = self.process.stderr.readline()
         self.port = int(line.rpartition(":")[2])
@@ -90,6 +92,19 @@ class Program(recorded.Proxy):
         """Returns all that was said on standard error, once the program has ended."""
         return self.process.stderr.read()
 
+    def hears(self, wanted):
+        """Reads standard error to a line with these words, and returns it."""
+        line = self.process.stderr.readline()
+        while wanted not in line:
+            check(False, line == "", f"the end of what is said, before: {wanted}")
+            line = self.process.stderr.readline()
+        return line.rstrip("\n")
+
+    def signal(self, number, wanted):
+        """Sends a signal, and waits for what is said of it."""
+        self.process.send_signal(number)
+        return self.hears(wanted)
+
     def memory(self):
         """Returns how many bytes of memory it has."""
         status = pathlib.Path(f"/proc/{self.process.pid}/status").read_text()
@@ -104,10 +119,13 @@ class Program(recorded.Proxy):
 class Pair:
     """A client and its server, between which the program is, logged in."""
 
-    def __init__(self, proxy, user="ann", database="shop", logs_in=True):
+    def __init__(self, proxy, user="ann", database="shop", logs_in=True, says=b"", hears=0):
+        """Before all else the client says some bytes, and the server hears so many."""
         self.client = proxy.ask()
+        self.client.sendall(says)
         self.server, _ = proxy.listener.accept()
         self.server.settimeout(SECONDS)
+        self.heard = receive(self.server, hears)
         for it in (self.client, self.server):
             it.setsockopt(socket.IPPROTO_TCP, socket.TCP_NODELAY, 1)
         if logs_in:

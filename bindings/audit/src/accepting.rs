@@ -1,9 +1,12 @@
 //! The first thread: it takes clients, hands them to the loops, and reads signals.
 
-use crate::file::say;
-use crate::shared::{Client, Course, Door, Shared};
+use crate::file::{say, Place};
+use crate::handing::{tell_systemd, Heir, Own};
+use crate::metrics::Stop;
+use crate::options::Options;
+use crate::shared::{Client, Course, Door, Settings, Shared};
 use crate::sys::{open_socket, Poll, Ready, SignalFile, Waker};
-use crate::sys::{EPOLLIN, SIGHUP, SIGINT, SIGTERM, SIGUSR1};
+use crate::sys::{EPOLLIN, SIGHUP, SIGINT, SIGTERM, SIGUSR1, SIGUSR2};
 use std::io::{self, ErrorKind};
 use std::net::{SocketAddr, TcpListener, TcpStream};
 use std::os::fd::{AsRawFd, OwnedFd};
@@ -14,6 +17,7 @@ use std::time::{Duration, Instant};
 
 const LISTENER: u64 = 0;
 const SIGNALS: u64 = 1;
+const HEIR: u64 = 2;
 /// How long it waits where no client can be taken.
 const PAUSE: Duration = Duration::from_millis(20);
 /// How long the loops have behind the grace.
@@ -28,13 +32,40 @@ pub fn door() -> io::Result<Arc<Door>> {
     }))
 }
 
+/// At most as many clients are served as the settings say, and as there are descriptors for.
+pub fn most_of(options: &Options, possible: usize) -> usize {
+    let most = options.connections.unwrap_or(possible);
+    if most > possible {
+        say(&format!(
+            "there are descriptors for {possible} connections, not for {most}"
+        ));
+    }
+    most
+}
+
+/// What the first thread begins with.
+pub struct Post {
+    pub own: Own,
+    pub listener: TcpListener,
+    /// The listener of those who ask for counts, and what has its thread end.
+    pub metrics: Option<(TcpListener, Arc<Stop>)>,
+    pub signals: SignalFile,
+    /// For how many connections there are descriptors.
+    pub possible: usize,
+}
+
 pub struct Acceptor {
     shared: Arc<Shared>,
     doors: Vec<Arc<Door>>,
+    own: Own,
     listener: Option<TcpListener>,
+    metrics: Option<(TcpListener, Arc<Stop>)>,
     signals: SignalFile,
+    possible: usize,
     /// The most clients that are served.
     most: usize,
+    /// A new process, until it is ready.
+    heir: Option<Heir>,
     /// By which the server of the next client is asked. It is opened before that is taken, so that
     /// none is taken for whose server no descriptor is left.
     socket: Option<OwnedFd>,
@@ -46,22 +77,20 @@ pub struct Acceptor {
 }
 
 impl Acceptor {
-    pub fn new(
-        shared: Arc<Shared>,
-        doors: Vec<Arc<Door>>,
-        listener: TcpListener,
-        signals: SignalFile,
-        most: usize,
-    ) -> io::Result<Acceptor> {
+    pub fn new(shared: Arc<Shared>, doors: Vec<Arc<Door>>, post: Post) -> io::Result<Acceptor> {
         let poll = Poll::new()?;
-        poll.change(listener.as_raw_fd(), LISTENER, 0, EPOLLIN)?;
-        poll.change(signals.file(), SIGNALS, 0, EPOLLIN)?;
+        poll.change(post.listener.as_raw_fd(), LISTENER, 0, EPOLLIN)?;
+        poll.change(post.signals.file(), SIGNALS, 0, EPOLLIN)?;
         Ok(Acceptor {
+            most: most_of(&shared.settings().options, post.possible),
             shared,
             doors,
-            listener: Some(listener),
-            signals,
-            most,
+            own: post.own,
+            listener: Some(post.listener),
+            metrics: post.metrics,
+            signals: post.signals,
+            possible: post.possible,
+            heir: None,
             socket: None,
             poll,
             number: 0,
@@ -70,14 +99,18 @@ impl Acceptor {
         })
     }
 
-    /// Takes clients until a signal ends that.
-    pub fn serve(&mut self) -> io::Result<()> {
-        let mut room = [Ready { bits: 0, token: 0 }; 2];
+    /// Takes clients, whose numbers are behind this one, until a signal ends that.
+    pub fn serve(&mut self, number: u64) -> io::Result<()> {
+        self.number = number;
+        let mut room = [Ready { bits: 0, token: 0 }; 3];
         loop {
             let most = self.paused.then_some(PAUSE);
             let count = self.poll.wait(&mut room, most).len();
             let is_signal = |event: &Ready| event.token == SIGNALS;
             if room[..count].iter().any(is_signal) && self.read_signals() {
+                return Ok(());
+            }
+            if room[..count].iter().any(|event| event.token == HEIR) && self.is_succeeded() {
                 return Ok(());
             }
             if self.paused {
@@ -89,17 +122,95 @@ impl Acceptor {
     }
 
     /// Reads the signals that came. Says whether the program is to end.
-    fn read_signals(&self) -> bool {
+    fn read_signals(&mut self) -> bool {
         let mut ends = false;
         while let Some(signal) = self.signals.take() {
             match signal {
-                SIGHUP | SIGUSR1 => self.shared.log.reopen(),
+                SIGHUP => self.read_settings(),
+                SIGUSR1 => self.shared.log.reopen(),
+                SIGUSR2 => self.hand_over(),
                 SIGINT | SIGTERM => ends = true,
                 // A write says that a file takes no more.
                 _ => {}
             }
         }
         ends
+    }
+
+    /// Reads the settings anew. Where they can't be taken all stay as they were.
+    fn read_settings(&mut self) {
+        if let Err(why) = self.change_settings() {
+            say(&format!("the settings stay as they were: {why}"));
+            self.shared.log.reopen();
+        }
+    }
+
+    fn change_settings(&mut self) -> Result<(), String> {
+        let mut options = Options::of(self.own.words.iter().cloned())?;
+        for name in options.keep(&self.shared.settings().options) {
+            say(&format!("--{name} changes by a USR2 or a new start only"));
+        }
+        let settings = Settings::of(options)?;
+        let place = Place::open(settings.options.log.clone());
+        let place = place.map_err(|error| format!("the log: {error}"))?;
+        self.most = most_of(&settings.options, self.possible);
+        // The next server may have an address of another kind.
+        self.socket = None;
+        self.shared.log.change(&settings.options, place);
+        self.shared.change(settings);
+        self.doors.iter().for_each(|door| door.waker.wake());
+        say("the settings were read");
+        Ok(())
+    }
+
+    /// Begins a new process, which takes the listeners once it is ready.
+    fn hand_over(&mut self) {
+        if self.heir.is_some() || self.listener.is_none() {
+            return say("there is a new process already");
+        }
+        let metrics = self.metrics.as_ref().map(|(listener, _)| listener);
+        let listeners = [self.listener.as_ref(), metrics];
+        let heir = Heir::begin(&self.own, listeners, &self.shared.settings().options);
+        let polled = heir.and_then(|heir| {
+            self.poll.change(heir.file(), HEIR, 0, EPOLLIN)?;
+            Ok(heir)
+        });
+        match polled {
+            Ok(heir) => self.heir = Some(heir),
+            Err(error) => say(&format!("no new process can begin: {error}")),
+        }
+    }
+
+    /// Whether the new process has the listeners. Where it ended this one goes on.
+    fn is_succeeded(&mut self) -> bool {
+        let Some(heir) = &mut self.heir else {
+            return false;
+        };
+        match heir.is_ready() {
+            Ok(false) => false,
+            Ok(true) => {
+                if let Some(heir) = self.heir.take() {
+                    self.leave();
+                    heir.go(self.number);
+                    say("a new process takes the clients from now on");
+                }
+                true
+            }
+            Err(error) => {
+                say(&format!("the new process isn't ready: {error}"));
+                self.heir = None;
+                false
+            }
+        }
+    }
+
+    /// Leaves listeners and the log's older files to the new process.
+    fn leave(&mut self) {
+        self.listener = None;
+        if let Some((_, stop)) = self.metrics.take() {
+            stop.stop();
+        }
+        self.shared.log.rotate_no_more();
     }
 
     /// Waits no more for clients, or again.
@@ -136,8 +247,13 @@ impl Acceptor {
     }
 
     fn next_client(&mut self) -> io::Result<(TcpStream, SocketAddr)> {
-        if let (None, Some(upstream)) = (&self.socket, self.shared.upstream.first()) {
-            self.socket = Some(open_socket(*upstream)?);
+        if self.socket.is_none() {
+            let settings = self.shared.settings();
+            self.socket = settings
+                .upstream
+                .first()
+                .map(|it| open_socket(*it))
+                .transpose()?;
         }
         match &self.listener {
             Some(listener) => listener.accept(),
@@ -168,9 +284,14 @@ impl Acceptor {
 
     /// Lets what runs end, within the grace. Says whether all lines were written.
     pub fn end(mut self) -> bool {
-        // Who connects from now on is refused.
-        self.listener = None;
-        let latest = Instant::now() + self.shared.options.grace;
+        if self.listener.take().is_some() {
+            // Who connects from now on is refused.
+            tell_systemd("STOPPING=1\n");
+            if let Some(heir) = self.heir.take() {
+                heir.stop();
+            }
+        }
+        let latest = Instant::now() + self.shared.settings().options.grace;
         self.go_over_to(Course::Drains);
         self.wait_for_loops(latest);
         self.go_over_to(Course::Ends);
@@ -189,7 +310,7 @@ impl Acceptor {
     }
 
     /// Waits until all loops have ended. A second signal has them end all.
-    fn wait_for_loops(&self, latest: Instant) {
+    fn wait_for_loops(&mut self, latest: Instant) {
         while self.shared.loops.load(Ordering::Acquire) > 0 && Instant::now() < latest {
             if self.read_signals() {
                 self.go_over_to(Course::Ends);

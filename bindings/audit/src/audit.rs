@@ -64,6 +64,11 @@ impl<S: Sink> Audit<S> {
         })
     }
 
+    #[allow(dead_code)] // (the example has one for all)
+    pub fn change(&mut self, on_fault: OnFault) {
+        self.on_fault = on_fault;
+    }
+
     /// Takes bytes of a side, as many as there is room for, and tells what they say.
     pub fn feed(&mut self, side: Side, bytes: &[u8]) -> usize {
         if self.follows != Follows::Reads {
@@ -75,14 +80,19 @@ impl<S: Sink> Audit<S> {
             self.give_up_stuck();
             return bytes.len();
         }
-        let taken = bytes.len().min(room);
-        if let Err(error) = self.connection.feed(side, &bytes[..taken]) {
-            self.give_up(&error);
-            return bytes.len();
+        self.feed_within(side, &bytes[..bytes.len().min(room)])
+    }
+
+    /// Takes bytes of a side for which there is room, and tells what they say.
+    pub fn feed_within(&mut self, side: Side, bytes: &[u8]) -> usize {
+        match self.connection.feed(side, bytes) {
+            Ok(()) => {
+                self.teller.take_bytes(side, bytes.len());
+                self.read();
+            }
+            Err(error) => self.give_up(&error),
         }
-        self.teller.take_bytes(side, taken);
-        self.read();
-        taken
+        bytes.len()
     }
 
     /// Whether a side waits for the other one's turn, which comes no more.
@@ -124,10 +134,13 @@ impl<S: Sink> Audit<S> {
 
     /// Tells the events that stand whole.
     fn read(&mut self) {
+        let mut phase = self.connection.phase();
         loop {
-            // The mode in which the server reads the text that may come next.
-            let mode = self.connection.mode().unwrap_or_default();
-            self.teller.telling.escapes = !mode.no_backslash_escapes;
+            if phase == Phase::Command {
+                // The mode in which the server reads the text that may come next.
+                let mode = self.connection.mode().unwrap_or_default();
+                self.teller.telling.escapes = !mode.no_backslash_escapes;
+            }
             match self.connection.next_event() {
                 Ok(Some(event)) => self.teller.take(&event),
                 Ok(None) => break,
@@ -137,14 +150,15 @@ impl<S: Sink> Audit<S> {
                     return self.give_up(&format_args!("{side}, byte {byte}: {code}"));
                 }
             }
-            match self.connection.phase() {
+            phase = self.connection.phase();
+            match phase {
                 Phase::Command => self.finish_command(true),
                 Phase::Over(reason) => return self.pass_over(reason),
                 _ => {}
             }
         }
-        let due = self.connection.turn();
-        if due == Some(Side::Server) && self.ended.contains(&Side::Server) {
+        let has_ended = self.ended.contains(&Side::Server);
+        if has_ended && self.connection.turn() == Some(Side::Server) {
             // It doesn't come any more, and nothing behind it can be read.
             self.follows = Follows::Passes;
         }

@@ -77,15 +77,20 @@ pub fn asked(telling: Telling, event: &Event) -> Option<Told> {
         } => {
             let told = telling.about("execute", text).with("statement", statement);
             let is_secret = told.is_secret;
-            let list = format.list((0..).zip(values.iter()).map(|(place, value)| {
-                if is_secret {
-                    format.value(HIDDEN.into())
-                } else if values.is_unclear(place) {
-                    format.unclear()
-                } else {
-                    format.value(value)
-                }
-            }));
+            let mut list = String::new();
+            format.list(
+                &mut list,
+                (0..).zip(values.iter()),
+                |list, (place, value)| {
+                    if is_secret {
+                        format.value(list, HIDDEN.into());
+                    } else if values.is_unclear(place) {
+                        list.push_str(format.unclear());
+                    } else {
+                        format.value(list, value);
+                    }
+                },
+            );
             let mut told = told.with_values(list);
             if *nameless_flags != 0 {
                 told = told.with("flags", nameless_flags);
@@ -109,19 +114,20 @@ pub fn asked(telling: Telling, event: &Event) -> Option<Told> {
                 .about("bulk execute", text)
                 .with("statement", statement);
             let is_secret = told.is_secret;
-            let row = |row: BulkRow| {
-                format.list((0..).zip(row.iter()).map(|(place, value)| {
+            let row = |list: &mut String, row: BulkRow| {
+                format.list(list, (0..).zip(row.iter()), |list, (place, value)| {
                     if is_secret {
-                        format.value(HIDDEN.into())
+                        format.value(list, HIDDEN.into());
                     } else if row.is_unclear(place) {
-                        format.unclear()
+                        list.push_str(format.unclear());
                     } else {
-                        format.bulk_value(value)
+                        format.bulk_value(list, value);
                     }
-                }))
+                });
             };
-            let values = format.list(rows.iter().map(row));
-            let told = with_rest(told.with_values(values), format, rest);
+            let mut list = String::new();
+            format.list(&mut list, rows.iter(), row);
+            let told = with_rest(told.with_values(list), format, rest);
             with_unclear(told, format, rows.unclear_cells())
         }
         Event::Fetch { statement, rows } => Told::new("fetch")
@@ -166,15 +172,19 @@ fn with_attributes(
     if attributes.is_empty() {
         return told;
     }
-    let pairs = (0..).zip(attributes.iter()).map(|(number, (name, value))| {
-        let value = if is_unclear(number) {
-            format.unclear()
-        } else {
-            format.value(value)
-        };
-        format.list([format.value(name.into()), value].into_iter())
-    });
-    told.with("attributes", format.list(pairs))
+    let mut list = String::new();
+    format.list(
+        &mut list,
+        (0..).zip(attributes.iter()),
+        |list, (number, (name, value))| {
+            let pair = [Some(name.into()), (!is_unclear(number)).then_some(value)];
+            format.list(list, pair.into_iter(), |list, value| match value {
+                Some(value) => format.value(list, value),
+                None => list.push_str(format.unclear()),
+            });
+        },
+    );
+    told.with("attributes", list)
 }
 
 /// A command that has no event of its own.

@@ -3,7 +3,7 @@
 
 use crate::lines::Format;
 use crate::options::LogFull;
-use crate::texts::now;
+use crate::texts::push_now;
 use std::fmt::Display;
 use std::fs::{self, File, OpenOptions};
 use std::io::{self, ErrorKind, Write};
@@ -11,8 +11,8 @@ use std::os::fd::AsFd;
 use std::os::unix::fs::OpenOptionsExt;
 use std::path::{Path, PathBuf};
 use std::process::exit;
-use std::sync::atomic::{AtomicBool, Ordering};
-use std::sync::Arc;
+use std::sync::atomic::{AtomicBool, AtomicU64, Ordering};
+use std::sync::{Arc, Mutex, PoisonError};
 use std::thread::sleep;
 use std::time::Duration;
 
@@ -25,6 +25,34 @@ pub struct Asked {
     pub reopens: AtomicBool,
     /// Nothing is tried again.
     pub gives_up: AtomicBool,
+    /// Another process begins other files.
+    pub rotates_no_more: AtomicBool,
+    /// What the file is written by from then on.
+    next: Mutex<Option<(Place, Manner)>>,
+    /// How many lines were lost, by whomever.
+    pub lost_in_all: AtomicU64,
+}
+
+impl Asked {
+    /// Has the file be another one, or be written otherwise.
+    pub fn change(&self, place: Place, manner: Manner) {
+        let next = self.next.lock();
+        *next.unwrap_or_else(PoisonError::into_inner) = Some((place, manner));
+        self.reopens.store(true, Ordering::Relaxed);
+    }
+}
+
+/// A file that is open, and its name; standard output has none.
+pub struct Place {
+    path: Option<PathBuf>,
+    file: File,
+}
+
+impl Place {
+    pub fn open(path: Option<PathBuf>) -> io::Result<Place> {
+        let file = open(path.as_deref())?;
+        Ok(Place { path, file })
+    }
 }
 
 /// How it is written.
@@ -77,9 +105,8 @@ fn front(lines: &[u8], room: u64) -> usize {
 }
 
 impl LogFile {
-    pub fn open(path: Option<PathBuf>, manner: Manner, asked: Arc<Asked>) -> io::Result<LogFile> {
-        let file = open(path.as_deref())?;
-        Ok(LogFile {
+    pub fn new(Place { path, file }: Place, manner: Manner, asked: Arc<Asked>) -> LogFile {
+        LogFile {
             size: file.metadata().map_or(0, |it| it.len()),
             path,
             file,
@@ -88,14 +115,19 @@ impl LogFile {
             torn: Vec::new(),
             lost: 0,
             is_failing: false,
-        })
+        }
+    }
+
+    fn count_lost(&mut self, lines: u64) {
+        self.lost += lines;
+        self.asked.lost_in_all.fetch_add(lines, Ordering::Relaxed);
     }
 
     /// Writes lines, or loses them. Before them it tells how many were lost.
     pub fn write(&mut self, mut lines: &[u8]) {
         self.reopen_if_asked();
         if self.lost > 0 && !self.tell_lost() {
-            self.lost += count_lines(lines);
+            self.count_lost(count_lines(lines));
             return;
         }
         while !lines.is_empty() {
@@ -103,7 +135,7 @@ impl LogFile {
             let (piece, rest) = lines.split_at(count);
             if let Err(done) = self.put(piece) {
                 self.lose(&piece[done..], done > 0 && piece[done - 1] != b'\n');
-                self.lost += count_lines(rest);
+                self.count_lost(count_lines(rest));
                 return;
             }
             lines = rest;
@@ -112,7 +144,8 @@ impl LogFile {
 
     /// Tells how many lines were lost. Where it can't be told, the number stays.
     fn tell_lost(&mut self) -> bool {
-        let (time, lost) = (now(), self.lost);
+        let (mut time, lost) = (String::new(), self.lost);
+        push_now(&mut time);
         let line = match self.manner.format {
             Format::Json => format!("{{\"time\":\"{time}\",\"kind\":\"lost\",\"lines\":{lost}}}\n"),
             Format::Text => format!("{time} lost lines={lost}\n"),
@@ -135,7 +168,7 @@ impl LogFile {
     fn lose(&mut self, unwritten: &[u8], is_torn: bool) {
         let torn = if is_torn { front(unwritten, 0) } else { 0 };
         self.torn.extend_from_slice(&unwritten[..torn]);
-        self.lost += count_lines(&unwritten[torn..]);
+        self.count_lost(count_lines(&unwritten[torn..]));
     }
 
     /// Writes bytes behind the rest of a torn line. The answer is how many of them were written,
@@ -191,17 +224,27 @@ impl LogFile {
         }
     }
 
-    /// Opens the file anew, which may have been moved away.
+    /// Opens the file anew, which may have been moved away, or goes over to another one.
     pub fn reopen_if_asked(&mut self) {
-        if !self.asked.reopens.swap(false, Ordering::Relaxed) || self.path.is_none() {
+        if !self.asked.reopens.swap(false, Ordering::Relaxed) {
             return;
         }
-        self.lost += u64::from(!self.torn.is_empty());
-        self.torn.clear();
-        match open(self.path.as_deref()) {
-            Ok(file) => {
+        let next = self.asked.next.lock();
+        let next = next.unwrap_or_else(PoisonError::into_inner).take();
+        let place = match next {
+            Some((place, manner)) => {
+                self.manner = manner;
+                Ok(place)
+            }
+            None if self.path.is_none() => return,
+            None => Place::open(self.path.clone()),
+        };
+        match place {
+            Ok(Place { path, file }) => {
+                self.count_lost(u64::from(!self.torn.is_empty()));
+                self.torn.clear();
                 self.size = file.metadata().map_or(0, |it| it.len());
-                self.file = file;
+                (self.path, self.file) = (path, file);
             }
             Err(error) => say(&format!("the log can't be opened anew: {error}")),
         }
@@ -209,7 +252,8 @@ impl LogFile {
 
     /// How many of these bytes go into the file, another one where it has its size.
     fn make_room(&mut self, lines: &[u8]) -> usize {
-        if self.manner.rotate == 0 || self.path.is_none() {
+        let rotates_no_more = self.asked.rotates_no_more.load(Ordering::Relaxed);
+        if self.manner.rotate == 0 || self.path.is_none() || rotates_no_more {
             return lines.len();
         }
         let first = front(lines, 0) as u64;
@@ -268,7 +312,7 @@ fn is_there(done: io::Result<()>) -> io::Result<()> {
 
 #[cfg(test)]
 mod tests {
-    use super::{front, Arc, Asked, Format, LogFile, LogFull, Manner};
+    use super::{front, Arc, Asked, Format, LogFile, LogFull, Manner, Place};
     use std::fs;
     use std::path::PathBuf;
 
@@ -282,9 +326,11 @@ mod tests {
             rotate,
             keep,
         };
-        let path = Some(folder.join("log"));
-        let file = LogFile::open(path, manner, Arc::new(Asked::default()));
-        (folder, file.expect("a log"))
+        let place = Place::open(Some(folder.join("log"))).expect("a log");
+        (
+            folder,
+            LogFile::new(place, manner, Arc::new(Asked::default())),
+        )
     }
 
     #[test]
@@ -321,6 +367,23 @@ mod tests {
             ("one\ntwo\nthree\nfour\nfive\n", "six\n"),
             (&*text("log.1"), &*text("log"))
         );
+        fs::remove_dir_all(folder).expect("the folder");
+    }
+
+    #[test]
+    fn it_goes_over_to_another_file() {
+        let (folder, mut log) = log("changes", 0, 2);
+        log.write(b"one\n");
+        let manner = Manner {
+            rotate: 5,
+            ..log.manner.clone()
+        };
+        let place = Place::open(Some(folder.join("other"))).expect("another log");
+        log.asked.change(place, manner);
+        log.write(b"two\nthree\n");
+        let text = |name| fs::read_to_string(folder.join(name)).expect("a file");
+        assert_eq!("one\n", text("log"));
+        assert_eq!(("two\n", "three\n"), (&*text("other.1"), &*text("other")));
         fs::remove_dir_all(folder).expect("the folder");
     }
 

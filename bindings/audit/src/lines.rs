@@ -5,9 +5,10 @@
 //! that isn't UTF-8 is an object with its digits: `{"hex":"ff00"}`.
 
 use crate::commands::HIDDEN;
-use crate::texts::{date_digits, json_text, now, quoted, readable, time_digits};
+use crate::texts::{date_digits, push_json, push_now, push_number, push_quoted, push_readable};
+use crate::texts::{push_seconds, time_digits};
 use mysql_session::{BulkValue, ErrorPacket, Event, OkPacket, Value};
-use std::fmt::Write;
+use std::fmt::{Display, Write};
 use std::time::Duration;
 
 /// How lines are written.
@@ -57,8 +58,11 @@ pub enum Outcome {
 }
 
 /// The connection that a line is about.
+#[derive(Clone, Copy)]
 pub struct Heading<'a> {
     pub connection: u64,
+    /// Of how many commands this one is told.
+    pub sample: u32,
     /// The client's address. Where there is none, nor is told when a reply began, and its bytes.
     pub client: Option<&'a str>,
     pub user: &'a [u8],
@@ -158,156 +162,204 @@ impl Outcome {
 }
 
 impl Format {
-    /// A line, without its end.
-    pub fn line(self, heading: &Heading, told: &Told, answer: Option<&Answer>) -> String {
+    /// Writes a line, without its end.
+    pub fn line(self, line: &mut String, heading: &Heading, told: &Told, answer: Option<&Answer>) {
         match self {
-            Format::Text => text_line(heading, told, answer),
-            Format::Json => json_line(heading, told, answer),
+            Format::Text => text_line(line, heading, told, answer),
+            Format::Json => json_line(line, heading, told, answer),
         }
     }
 
     /// A text of a peer.
     pub fn text(self, bytes: &[u8]) -> String {
+        let mut text = String::with_capacity(bytes.len() + 2);
         match self {
-            Format::Text => readable(bytes),
-            Format::Json => json_text(bytes),
+            Format::Text => push_readable(&mut text, bytes),
+            Format::Json => push_json(&mut text, bytes),
         }
+        text
     }
 
-    /// A value that a client sent.
-    pub fn value(self, value: Value) -> String {
+    /// Writes a value that a client sent.
+    pub fn value(self, text: &mut String, value: Value) {
         match value {
-            Value::Null if self == Format::Json => "null".to_string(),
-            Value::Null => "NULL".to_string(),
-            Value::Int(number) => number.to_string(),
-            Value::UInt(number) => number.to_string(),
-            Value::Float(number) => self.float(number.is_finite(), format!("{number:?}")),
-            Value::Double(number) => self.float(number.is_finite(), format!("{number:?}")),
-            Value::Bytes(bytes) if self == Format::Json => json_text(bytes),
-            Value::Bytes(bytes) => quoted(bytes),
-            Value::Date(date) => self.digits(date_digits(date)),
-            Value::Time(time) => self.digits(time_digits(time)),
+            Value::Null if self == Format::Json => text.push_str("null"),
+            Value::Null => text.push_str("NULL"),
+            Value::Int(number) => {
+                if number < 0 {
+                    text.push('-');
+                }
+                push_number(text, number.unsigned_abs());
+            }
+            Value::UInt(number) => push_number(text, number),
+            Value::Float(number) => {
+                self.digits(text, !number.is_finite(), format_args!("{number:?}"))
+            }
+            Value::Double(number) => {
+                self.digits(text, !number.is_finite(), format_args!("{number:?}"))
+            }
+            Value::Bytes(bytes) if self == Format::Json => push_json(text, bytes),
+            Value::Bytes(bytes) => push_quoted(text, bytes),
+            Value::Date(date) => self.digits(text, true, date_digits(date)),
+            Value::Time(time) => self.digits(text, true, time_digits(time)),
         }
     }
 
-    /// A value of a bulk execution.
-    pub fn bulk_value(self, value: BulkValue) -> String {
-        match (value, self) {
-            (BulkValue::Value(value), _) => self.value(value),
-            (BulkValue::Default, Format::Text) => "DEFAULT".to_string(),
-            (BulkValue::Ignore, Format::Text) => "IGNORE".to_string(),
-            (BulkValue::Default, Format::Json) => r#"{"indicator":"default"}"#.to_string(),
-            (BulkValue::Ignore, Format::Json) => r#"{"indicator":"ignore"}"#.to_string(),
-        }
+    /// Writes a value of a bulk execution.
+    pub fn bulk_value(self, text: &mut String, value: BulkValue) {
+        text.push_str(match (value, self) {
+            (BulkValue::Value(value), _) => return self.value(text, value),
+            (BulkValue::Default, Format::Text) => "DEFAULT",
+            (BulkValue::Ignore, Format::Text) => "IGNORE",
+            (BulkValue::Default, Format::Json) => r#"{"indicator":"default"}"#,
+            (BulkValue::Ignore, Format::Json) => r#"{"indicator":"ignore"}"#,
+        });
     }
 
     /// A value that servers read each their way.
-    pub fn unclear(self) -> String {
+    pub fn unclear(self) -> &'static str {
         match self {
-            Format::Text => "?".to_string(),
-            Format::Json => r#"{"unclear":true}"#.to_string(),
+            Format::Text => "?",
+            Format::Json => r#"{"unclear":true}"#,
         }
     }
 
-    /// What is written already, as a list.
-    pub fn list(self, items: impl Iterator<Item = String>) -> String {
+    /// Writes a list, each item by `write`.
+    pub fn list<T>(
+        self,
+        text: &mut String,
+        items: impl Iterator<Item = T>,
+        mut write: impl FnMut(&mut String, T),
+    ) {
         let between = if self == Format::Json { "," } else { ", " };
-        format!("[{}]", items.collect::<Vec<_>>().join(between))
+        text.push('[');
+        for (number, item) in items.enumerate() {
+            text.push_str(if number > 0 { between } else { "" });
+            write(text, item);
+        }
+        text.push(']');
     }
 
-    /// A float. JSON has none that isn't finite.
-    fn float(self, finite: bool, digits: String) -> String {
-        match self {
-            Format::Json if !finite => format!("\"{digits}\""),
-            _ => digits,
-        }
-    }
-
-    /// A date or a duration.
-    fn digits(self, digits: String) -> String {
-        match self {
-            Format::Text => digits,
-            Format::Json => format!("\"{digits}\""),
-        }
+    /// Writes digits of a date or a duration, or a float. JSON has no float that isn't finite.
+    fn digits(self, text: &mut String, in_quotes: bool, digits: impl Display) {
+        let _ = match self {
+            Format::Json if in_quotes => write!(text, "\"{digits}\""),
+            _ => write!(text, "{digits}"),
+        };
     }
 }
 
-fn text_line(heading: &Heading, told: &Told, answer: Option<&Answer>) -> String {
-    let (user, database) = (readable(heading.user), readable(heading.database));
-    let mut line = format!("{} #{} ", now(), heading.connection);
+fn text_line(line: &mut String, heading: &Heading, told: &Told, answer: Option<&Answer>) {
+    push_now(line);
+    let _ = write!(line, " #{} ", heading.connection);
     if let Some(client) = heading.client {
         let _ = write!(line, "{client} ");
     }
-    let _ = write!(line, "{user}@{database} {}", told.kind);
+    push_readable(line, heading.user);
+    line.push('@');
+    push_readable(line, heading.database);
+    let _ = write!(line, " {}", told.kind);
     for (name, what) in &told.fields {
         let _ = write!(line, " {name}={what}");
     }
-    if let Some(text) = &told.text {
-        let _ = write!(line, ": {text}");
-    }
-    if let Some(values) = &told.values {
-        let _ = write!(line, " {values}");
+    for (before, what) in [(": ", &told.text), (" ", &told.values)] {
+        if let Some(what) = what {
+            line.push_str(before);
+            line.push_str(what);
+        }
     }
     if let Some(answer) = answer {
-        let mut outcomes: Vec<String> = answer.outcomes.iter().map(text_outcome).collect();
-        if !answer.whole {
-            outcomes.push("no whole reply".to_string());
-        }
-        let seconds = answer.took.as_secs_f64();
-        let _ = write!(line, " -> {} ({seconds:.6} s", outcomes.join("; "));
-        if heading.client.is_some() {
-            if let Some(first) = answer.first {
-                let _ = write!(line, ", first {:.6} s", first.as_secs_f64());
-            }
-            let [client, server] = answer.traffic;
-            let _ = write!(line, ", {client} + {server} bytes");
-        }
-        line.push(')');
+        text_answer(line, heading, answer);
     }
-    line
 }
 
-fn text_outcome(outcome: &Outcome) -> String {
+fn text_answer(line: &mut String, heading: &Heading, answer: &Answer) {
+    line.push_str(" -> ");
+    for (number, outcome) in answer.outcomes.iter().enumerate() {
+        line.push_str(if number > 0 { "; " } else { "" });
+        text_outcome(line, outcome);
+    }
+    if !answer.whole {
+        line.push_str(if answer.outcomes.is_empty() { "" } else { "; " });
+        line.push_str("no whole reply");
+    }
+    line.push_str(" (");
+    push_seconds(line, answer.took);
+    line.push_str(" s");
+    if heading.client.is_some() {
+        if let Some(first) = answer.first {
+            line.push_str(", first ");
+            push_seconds(line, first);
+            line.push_str(" s");
+        }
+        let [client, server] = answer.traffic;
+        let _ = write!(line, ", {client} + {server} bytes");
+    }
+    if heading.sample > 1 {
+        let _ = write!(line, ", one of {}", heading.sample);
+    }
+    line.push(')');
+}
+
+fn text_outcome(line: &mut String, outcome: &Outcome) {
     match outcome {
-        Outcome::Rows { rows, warnings } => counted(*rows, "row") + &and_warnings(*warnings),
+        Outcome::Rows { rows, warnings } => {
+            line.push_str(&counted(*rows, "row"));
+            push_warnings(line, *warnings);
+        }
         Outcome::Done {
             affected,
             insert_id,
             warnings,
         } => {
-            let mut text = match affected {
-                0 => "OK".to_string(),
-                _ => format!("{} affected", counted(*affected, "row")),
+            let _ = match affected {
+                0 => write!(line, "OK"),
+                _ => write!(line, "{} affected", counted(*affected, "row")),
             };
             if *insert_id > 0 {
-                let _ = write!(text, ", id {insert_id}");
+                let _ = write!(line, ", id {insert_id}");
             }
-            text + &and_warnings(*warnings)
+            push_warnings(line, *warnings);
         }
         Outcome::Error {
             code,
             state,
             message,
-        } => {
-            let state = state.map_or(String::new(), |state| format!(" ({})", readable(&state)));
-            format!("error {code}{state}: {}", readable(message))
-        }
+        } => text_error(line, *code, state.as_ref(), message),
         Outcome::Prepared {
             statement,
             parameters,
             columns,
-        } => format!("statement={statement} parameters={parameters} columns={columns}"),
-        Outcome::File { name, bytes } => {
-            format!("file {} of {}", quoted(name), counted(*bytes, "byte"))
+        } => {
+            let _ = write!(
+                line,
+                "statement={statement} parameters={parameters} columns={columns}"
+            );
         }
-        Outcome::Line(text) => readable(text),
+        Outcome::File { name, bytes } => {
+            line.push_str("file ");
+            push_quoted(line, name);
+            let _ = write!(line, " of {}", counted(*bytes, "byte"));
+        }
+        Outcome::Line(text) => push_readable(line, text),
     }
 }
 
-fn and_warnings(number: u16) -> String {
-    match number {
-        0 => String::new(),
-        _ => format!(", {}", counted(u64::from(number), "warning")),
+fn text_error(line: &mut String, code: u16, state: Option<&[u8; 5]>, message: &[u8]) {
+    let _ = write!(line, "error {code}");
+    if let Some(state) = state {
+        line.push_str(" (");
+        push_readable(line, state);
+        line.push(')');
+    }
+    line.push_str(": ");
+    push_readable(line, message);
+}
+
+fn push_warnings(line: &mut String, number: u16) {
+    if number > 0 {
+        line.push_str(", ");
+        line.push_str(&counted(u64::from(number), "warning"));
     }
 }
 
@@ -317,72 +369,133 @@ fn counted(number: u64, name: &str) -> String {
     format!("{number} {name}{end}")
 }
 
-fn json_line(heading: &Heading, told: &Told, answer: Option<&Answer>) -> String {
-    let mut line = format!(
-        r#"{{"time":"{}","connection":{}"#,
-        now(),
-        heading.connection
-    );
+fn json_line(line: &mut String, heading: &Heading, told: &Told, answer: Option<&Answer>) {
+    line.push_str(r#"{"time":""#);
+    push_now(line);
+    line.push('"');
+    json_number(line, "connection", heading.connection);
     if let Some(client) = heading.client {
-        let _ = write!(line, r#","client":"{client}""#);
+        json_field(line, "client", client.as_bytes());
     }
-    let (user, database) = (json_text(heading.user), json_text(heading.database));
-    let _ = write!(
-        line,
-        r#","user":{user},"database":{database},"kind":"{}""#,
-        told.kind
-    );
+    json_field(line, "user", heading.user);
+    json_field(line, "database", heading.database);
+    json_field(line, "kind", told.kind.as_bytes());
     let texts = told.text.iter().map(|text| ("text", text));
     let values = told.values.iter().map(|values| ("values", values));
     let fields = told.fields.iter().map(|(name, what)| (*name, what));
     for (name, what) in fields.chain(texts).chain(values) {
-        let _ = write!(line, r#","{name}":{what}"#);
+        json_name(line, name);
+        line.push_str(what);
     }
     if let Some(answer) = answer {
-        let outcomes = Format::Json.list(answer.outcomes.iter().map(json_outcome));
-        let (whole, seconds) = (answer.whole, answer.took.as_secs_f64());
-        let _ = write!(
-            line,
-            r#","results":{outcomes},"whole":{whole},"seconds":{seconds:.6}"#
-        );
-        if heading.client.is_some() {
-            if let Some(first) = answer.first {
-                let _ = write!(line, r#","first":{:.6}"#, first.as_secs_f64());
-            }
-            let _ = write!(line, r#","traffic":{:?}"#, answer.traffic);
-        }
+        json_answer(line, heading, answer);
     }
-    line + "}"
+    line.push('}');
 }
 
-fn json_outcome(outcome: &Outcome) -> String {
+/// Writes a field's name behind another field.
+fn json_name(line: &mut String, name: &str) {
+    line.push_str(",\"");
+    line.push_str(name);
+    line.push_str("\":");
+}
+
+fn json_field(line: &mut String, name: &str, bytes: &[u8]) {
+    json_name(line, name);
+    push_json(line, bytes);
+}
+
+fn json_number(line: &mut String, name: &str, number: u64) {
+    json_name(line, name);
+    push_number(line, number);
+}
+
+fn json_answer(line: &mut String, heading: &Heading, answer: &Answer) {
+    json_name(line, "results");
+    Format::Json.list(line, answer.outcomes.iter(), json_outcome);
+    json_name(line, "whole");
+    line.push_str(if answer.whole { "true" } else { "false" });
+    json_name(line, "seconds");
+    push_seconds(line, answer.took);
+    if heading.client.is_some() {
+        if let Some(first) = answer.first {
+            json_name(line, "first");
+            push_seconds(line, first);
+        }
+        json_name(line, "traffic");
+        Format::Json.list(line, answer.traffic.into_iter(), push_number);
+    }
+    if heading.sample > 1 {
+        json_number(line, "sample", u64::from(heading.sample));
+    }
+}
+
+/// Writes an object of numbers by their names.
+fn json_numbers(line: &mut String, numbers: &[(&str, u64)]) {
+    for (at, (name, number)) in numbers.iter().enumerate() {
+        line.push_str(if at == 0 { "{\"" } else { ",\"" });
+        line.push_str(name);
+        line.push_str("\":");
+        push_number(line, *number);
+    }
+    line.push('}');
+}
+
+fn json_outcome(line: &mut String, outcome: &Outcome) {
     match outcome {
-        Outcome::Rows { rows, warnings: 0 } => format!(r#"{{"rows":{rows}}}"#),
-        Outcome::Rows { rows, warnings } => format!(r#"{{"rows":{rows},"warnings":{warnings}}}"#),
+        Outcome::Rows { rows, warnings: 0 } => json_numbers(line, &[("rows", *rows)]),
+        Outcome::Rows { rows, warnings } => {
+            json_numbers(line, &[("rows", *rows), ("warnings", u64::from(*warnings))]);
+        }
         Outcome::Done {
             affected,
             insert_id,
             warnings,
-        } => format!(r#"{{"affected":{affected},"insert_id":{insert_id},"warnings":{warnings}}}"#),
+        } => {
+            let numbers = [
+                ("affected", *affected),
+                ("insert_id", *insert_id),
+                ("warnings", u64::from(*warnings)),
+            ];
+            json_numbers(line, &numbers);
+        }
         Outcome::Error {
             code,
             state,
             message,
-        } => {
-            let state = state.map_or("null".to_string(), |state| json_text(&state));
-            let message = json_text(message);
-            format!(r#"{{"error":{code},"state":{state},"message":{message}}}"#)
-        }
+        } => json_error(line, *code, state.as_ref(), message),
         Outcome::Prepared {
             statement,
             parameters,
             columns,
         } => {
-            format!(r#"{{"statement":{statement},"parameters":{parameters},"columns":{columns}}}"#)
+            let numbers = [
+                ("statement", u64::from(*statement)),
+                ("parameters", u64::from(*parameters)),
+                ("columns", u64::from(*columns)),
+            ];
+            json_numbers(line, &numbers);
         }
         Outcome::File { name, bytes } => {
-            format!(r#"{{"file":{},"bytes":{bytes}}}"#, json_text(name))
+            line.push_str(r#"{"file":"#);
+            push_json(line, name);
+            json_number(line, "bytes", *bytes);
+            line.push('}');
         }
-        Outcome::Line(text) => format!(r#"{{"line":{}}}"#, json_text(text)),
+        Outcome::Line(text) => {
+            line.push_str(r#"{"line":"#);
+            push_json(line, text);
+            line.push('}');
+        }
     }
+}
+
+fn json_error(line: &mut String, code: u16, state: Option<&[u8; 5]>, message: &[u8]) {
+    let _ = write!(line, r#"{{"error":{code}"#);
+    match state {
+        Some(state) => json_field(line, "state", state),
+        None => line.push_str(r#","state":null"#),
+    }
+    json_field(line, "message", message);
+    line.push('}');
 }

@@ -1,15 +1,12 @@
 //! Lines on their way to the log. A thread of its own writes them, so that no client waits for a
 //! slow file. With `--strict` the loop that has a line writes it.
 
-use crate::file::{say, Asked, LogFile, Manner};
-use crate::lines::{Answer, Format, Heading, Outcome, Sink, Told};
+use crate::file::{say, Asked, LogFile, Manner, Place};
 use crate::options::{LogFull, Options};
-use std::cell::RefCell;
 use std::io;
 use std::mem;
 use std::process::exit;
-use std::rc::Rc;
-use std::sync::atomic::Ordering;
+use std::sync::atomic::{AtomicBool, Ordering};
 use std::sync::{Arc, Condvar, Mutex, MutexGuard, PoisonError};
 use std::thread;
 use std::time::{Duration, Instant};
@@ -31,9 +28,35 @@ pub struct Log {
     goes: Condvar,
     file: Mutex<LogFile>,
     asked: Arc<Asked>,
-    strict: bool,
+    /// Whether the loops write their lines themselves.
+    strict: AtomicBool,
+    course: Mutex<Course>,
+}
+
+/// What is done with lines that have no room.
+#[derive(Clone, Copy)]
+struct Course {
     full: LogFull,
+    /// How many bytes may wait.
     most: usize,
+}
+
+impl Course {
+    fn of(options: &Options) -> Course {
+        Course {
+            full: options.log_full(),
+            most: options.log_held,
+        }
+    }
+}
+
+fn manner_of(options: &Options) -> Manner {
+    Manner {
+        format: options.telling().format,
+        full: options.log_full(),
+        rotate: options.rotate,
+        keep: options.keep,
+    }
 }
 
 #[derive(Default)]
@@ -51,24 +74,26 @@ fn locked<T>(mutex: &Mutex<T>) -> MutexGuard<'_, T> {
 
 impl Log {
     pub fn open(options: &Options) -> io::Result<Log> {
-        let manner = Manner {
-            format: options.telling().format,
-            full: options.log_full(),
-            rotate: options.rotate,
-            keep: options.keep,
-        };
         let asked = Arc::new(Asked::default());
-        let file = LogFile::open(options.log.clone(), manner, asked.clone())?;
+        let place = Place::open(options.log.clone())?;
+        let file = LogFile::new(place, manner_of(options), asked.clone());
         Ok(Log {
             queue: Mutex::default(),
             comes: Condvar::new(),
             goes: Condvar::new(),
             file: Mutex::new(file),
             asked,
-            strict: options.strict,
-            full: options.log_full(),
-            most: options.log_held,
+            strict: AtomicBool::new(options.strict),
+            course: Mutex::new(Course::of(options)),
         })
+    }
+
+    /// Goes over to other settings, with the file that they name.
+    pub fn change(&self, options: &Options, place: Place) {
+        *locked(&self.course) = Course::of(options);
+        self.strict.store(options.strict, Ordering::Relaxed);
+        self.asked.change(place, manner_of(options));
+        self.reopen();
     }
 
     /// Takes lines, of which none stay.
@@ -76,7 +101,7 @@ impl Log {
         if lines.is_empty() {
             return;
         }
-        if self.strict {
+        if self.strict.load(Ordering::Relaxed) {
             locked(&self.file).write(lines);
         } else {
             self.line_up(lines);
@@ -87,8 +112,12 @@ impl Log {
 
     fn line_up(&self, lines: &[u8]) {
         let mut queue = locked(&self.queue);
-        while !queue.lines.is_empty() && queue.lines.len() + lines.len() > self.most {
-            match self.full {
+        loop {
+            let Course { full, most } = *locked(&self.course);
+            if queue.lines.is_empty() || queue.lines.len() + lines.len() <= most {
+                break;
+            }
+            match full {
                 LogFull::Wait if !self.asked.gives_up.load(Ordering::Relaxed) => {
                     let waited = self.goes.wait_timeout(queue, GLANCE);
                     queue = waited.unwrap_or_else(PoisonError::into_inner).0;
@@ -98,7 +127,9 @@ impl Log {
                     exit(1);
                 }
                 _ => {
-                    queue.lost += lines.iter().filter(|byte| **byte == b'\n').count() as u64;
+                    let lost = lines.iter().filter(|byte| **byte == b'\n').count() as u64;
+                    queue.lost += lost;
+                    self.asked.lost_in_all.fetch_add(lost, Ordering::Relaxed);
                     return;
                 }
             }
@@ -158,6 +189,21 @@ impl Log {
         self.comes.notify_one();
     }
 
+    /// How many lines were lost since the program began.
+    pub fn lost_in_all(&self) -> u64 {
+        self.asked.lost_in_all.load(Ordering::Relaxed)
+    }
+
+    /// How many bytes wait to be written.
+    pub fn waiting(&self) -> usize {
+        locked(&self.queue).lines.len()
+    }
+
+    /// Leaves it to another process to begin other files.
+    pub fn rotate_no_more(&self) {
+        self.asked.rotates_no_more.store(true, Ordering::Relaxed);
+    }
+
     /// What can't be written isn't tried again.
     pub fn give_up(&self) {
         self.asked.gives_up.store(true, Ordering::Relaxed);
@@ -185,72 +231,6 @@ impl Log {
                 say(&format!("{lost} lines were lost"));
                 false
             }
-        }
-    }
-}
-
-/// Which lines are written.
-pub struct Filter {
-    users: Vec<String>,
-    databases: Vec<String>,
-    slower: Option<Duration>,
-    errors: bool,
-}
-
-impl Filter {
-    pub fn of(options: &Options) -> Filter {
-        Filter {
-            users: options.users.clone(),
-            databases: options.databases.clone(),
-            slower: options.slower,
-            errors: options.errors,
-        }
-    }
-
-    /// What can't be audited is always told.
-    fn takes(&self, heading: &Heading, told: &Told, answer: Option<&Answer>) -> bool {
-        let is_among = |names: &[String], name: &[u8]| {
-            names.is_empty() || names.iter().any(|it| it.as_bytes() == name)
-        };
-        if matches!(told.kind, "cut" | "unread" | "skipped" | "refused") {
-            return true;
-        }
-        is_among(&self.users, heading.user)
-            && is_among(&self.databases, heading.database)
-            && answer.is_none_or(|answer| self.takes_answer(answer))
-    }
-
-    fn takes_answer(&self, answer: &Answer) -> bool {
-        let is_error = |outcome: &Outcome| matches!(outcome, Outcome::Error { .. });
-        let fails = || !answer.whole || answer.outcomes.iter().any(is_error);
-        match self.slower {
-            None => !self.errors || fails(),
-            Some(least) => answer.took >= least || self.errors && fails(),
-        }
-    }
-}
-
-/// The lines of a loop's connections, until the log has them.
-#[derive(Clone)]
-pub struct Lines(Rc<(Filter, RefCell<Vec<u8>>)>);
-
-impl Lines {
-    pub fn new(filter: Filter) -> Lines {
-        Lines(Rc::new((filter, RefCell::default())))
-    }
-
-    /// Hands them to the log.
-    pub fn hand_to(&self, log: &Log) {
-        log.take(&mut self.0 .1.borrow_mut());
-    }
-}
-
-impl Sink for Lines {
-    fn tell(&mut self, format: Format, heading: &Heading, told: &Told, answer: Option<&Answer>) {
-        if self.0 .0.takes(heading, told, answer) {
-            let mut lines = self.0 .1.borrow_mut();
-            lines.extend_from_slice(format.line(heading, told, answer).as_bytes());
-            lines.push(b'\n');
         }
     }
 }

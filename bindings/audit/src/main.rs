@@ -3,14 +3,20 @@
 
 mod accepting;
 mod audit;
+mod choosing;
 mod commands;
+mod counts;
 mod file;
+mod handing;
 mod lines;
 mod log;
 mod masking;
+mod metrics;
+mod network;
 mod options;
 mod passage;
 mod plain;
+mod proxy_header;
 mod refusing;
 mod serving;
 mod shared;
@@ -21,21 +27,23 @@ mod teller;
 mod texts;
 mod way;
 
-use accepting::{door, Acceptor};
+use accepting::{door, Acceptor, Post};
 use file::say;
+use handing::{tell_ready, Handed, Own};
 use log::Log;
+use metrics::Stop;
 use options::Options;
 use serving::Loop;
-use shared::{Door, Shared};
+use shared::{Door, Settings, Shared};
 use std::env;
 use std::io::{self, Write};
-use std::net::{SocketAddr, TcpListener, ToSocketAddrs};
+use std::net::TcpListener;
 use std::os::fd::AsRawFd;
 use std::process::{exit, ExitCode};
 use std::sync::Arc;
 use std::thread;
 use sys::{let_wait, raise_descriptors, Poll, SignalFile};
-use sys::{SIGHUP, SIGINT, SIGTERM, SIGUSR1, SIGXFSZ};
+use sys::{SIGHUP, SIGINT, SIGTERM, SIGUSR1, SIGUSR2, SIGXFSZ};
 
 const HELP: &str = include_str!("help.txt");
 /// Clients that wait until they are taken.
@@ -55,9 +63,12 @@ fn main() -> ExitCode {
             return ExitCode::from(2);
         }
     };
-    match begin(options) {
+    let mut handed = Handed::new(&options);
+    match begin(options, &mut handed) {
         Ok(mut acceptor) => {
-            let served = acceptor.serve();
+            let number = handed.take_over();
+            tell_ready();
+            let served = acceptor.serve(number);
             if let Err(error) = &served {
                 say(&format!("no clients can be taken any more: {error}"));
             }
@@ -71,52 +82,78 @@ fn main() -> ExitCode {
     }
 }
 
+/// What went wrong with something, as it is said.
+fn said(what: &str) -> impl FnOnce(io::Error) -> String {
+    let what = what.to_string();
+    move |error| format!("{what}: {error}")
+}
+
+/// The listener at an address: the one that was handed over, or a new one.
+fn listen(handed: Option<TcpListener>, address: &str) -> Result<TcpListener, String> {
+    let listener = handed.map_or_else(|| TcpListener::bind(address), Ok);
+    let listener = listener.map_err(said(address))?;
+    listener.set_nonblocking(true).map_err(said(address))?;
+    Ok(listener)
+}
+
 /// Opens the log and the listener, and starts the loops.
-fn begin(options: Options) -> Result<Acceptor, String> {
-    let said = |what: &str| {
-        let what = what.to_string();
-        move |error: io::Error| format!("{what}: {error}")
-    };
+fn begin(options: Options, handed: &mut Handed) -> Result<Acceptor, String> {
+    let own = Own::new().map_err(said("the program"))?;
     // The threads that are started have the signals blocked, too.
-    let taken = [SIGHUP, SIGINT, SIGTERM, SIGUSR1, SIGXFSZ];
+    let taken = [SIGHUP, SIGINT, SIGTERM, SIGUSR1, SIGUSR2, SIGXFSZ];
     let signals = SignalFile::new(&taken).map_err(said("signals"))?;
     let descriptors = raise_descriptors();
-    let upstream = options.upstream.to_socket_addrs();
-    let upstream: Vec<SocketAddr> = upstream.map_err(said(&options.upstream))?.collect();
-    if upstream.is_empty() {
-        return Err(format!("{}: it has no address", options.upstream));
-    }
-    let listener = TcpListener::bind(&options.listen).map_err(said(&options.listen))?;
-    listener
-        .set_nonblocking(true)
-        .map_err(said("the listener"))?;
+    let settings = Settings::of(options)?;
+    let options = &settings.options;
+    let listener = listen(handed.listener.take(), &options.listen)?;
     let_wait(listener.as_raw_fd(), BACKLOG);
-    let log = Log::open(&options).map_err(said("the log"))?;
+    let asked = options.metrics.as_deref();
+    let metrics = asked.map(|address| listen(handed.metrics.take(), address));
+    let log = Log::open(options).map_err(said("the log"))?;
 
-    let own = OWN_DESCRIPTORS + 2 * options.threads as u64;
-    let possible = (descriptors.saturating_sub(own) / 2).max(1) as usize;
-    let most = options.connections.unwrap_or(possible);
-    if most > possible {
-        say(&format!(
-            "there are descriptors for {possible} connections, not for {most}"
-        ));
-    }
-    let shared = Arc::new(Shared::new(options, upstream, log));
+    let kept = OWN_DESCRIPTORS + 2 * options.threads as u64;
+    let possible = (descriptors.saturating_sub(kept) / 2).max(1) as usize;
+    let shared = Arc::new(Shared::new(settings, log));
+    let metrics = metrics.transpose()?;
+    let metrics = metrics.map(|listener| start_metrics(&shared, listener));
+    let metrics = metrics.transpose().map_err(said("the counts"))?;
     let doors = start(&shared).map_err(said("threads"))?;
     let address = listener.local_addr().map_err(said("the listener"))?;
+    let post = Post {
+        own,
+        listener,
+        metrics,
+        signals,
+        possible,
+    };
+    let acceptor = Acceptor::new(shared, doors, post).map_err(said("the listener"))?;
     say(&format!("listening at {address}"));
-    Acceptor::new(shared, doors, listener, signals, most).map_err(said("the listener"))
+    Ok(acceptor)
+}
+
+/// Starts the thread that tells the counts.
+fn start_metrics(
+    shared: &Arc<Shared>,
+    listener: TcpListener,
+) -> io::Result<(TcpListener, Arc<Stop>)> {
+    let address = listener.local_addr()?;
+    let (stop, own, shared) = (Stop::new()?, listener.try_clone()?, shared.clone());
+    let stopped = stop.clone();
+    let named = thread::Builder::new().name("counts".to_string());
+    named.spawn(move || metrics::serve(&shared, own, &stopped))?;
+    say(&format!("counts at {address}"));
+    Ok((listener, stop))
 }
 
 /// Starts the loops, and the thread that writes the log.
 fn start(shared: &Arc<Shared>) -> io::Result<Vec<Arc<Door>>> {
     let mut doors = Vec::new();
-    for number in 0..shared.options.threads {
+    for (number, counts) in shared.counts.iter().enumerate() {
         // Clients may take all descriptors before the thread begins.
         let (door, poll) = (door()?, Poll::new()?);
-        let (shared, own) = (shared.clone(), door.clone());
+        let (counts, shared, own) = (counts.clone(), shared.clone(), door.clone());
         let named = thread::Builder::new().name(format!("loop {number}"));
-        named.spawn(move || match Loop::new(shared, own, poll) {
+        named.spawn(move || match Loop::new(shared, counts, own, poll) {
             Ok(serving) => serving.run(),
             Err(error) => {
                 say(&format!("a loop can't begin: {error}"));

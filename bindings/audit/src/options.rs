@@ -2,7 +2,10 @@
 
 use crate::audit::OnFault;
 use crate::commands::Telling;
+use crate::counts::KINDS;
 use crate::lines::Format;
+use crate::network::Network;
+use crate::proxy_header::Version;
 use mysql_session::Limits;
 use std::fs;
 use std::path::PathBuf;
@@ -38,11 +41,18 @@ pub struct Options {
     pub idle_timeout: Duration,
     pub keepalive: Duration,
     pub grace: Duration,
+    pub proxy_from: Vec<Network>,
+    pub proxy_to: Option<Version>,
+    pub metrics: Option<String>,
     pub log: Option<PathBuf>,
     pub users: Vec<String>,
     pub databases: Vec<String>,
+    pub hosts: Vec<Network>,
+    pub kinds: Vec<String>,
     pub slower: Option<Duration>,
     pub errors: bool,
+    /// Of so many commands one is told.
+    pub sample: u32,
     pub rotate: u64,
     pub keep: u16,
     pub log_full: Option<LogFull>,
@@ -68,11 +78,17 @@ impl Default for Options {
             idle_timeout: Duration::ZERO,
             keepalive: Duration::from_secs(60),
             grace: Duration::from_secs(10),
+            proxy_from: Vec::new(),
+            proxy_to: None,
+            metrics: None,
             log: None,
             users: Vec::new(),
             databases: Vec::new(),
+            hosts: Vec::new(),
+            kinds: Vec::new(),
             slower: None,
             errors: false,
+            sample: 1,
             rotate: 0,
             keep: 5,
             log_full: None,
@@ -161,6 +177,15 @@ impl Options {
             "idle-timeout" => self.idle_timeout = seconds(value)?,
             "keepalive" => self.keepalive = seconds(value)?,
             "grace" => self.grace = seconds(value)?,
+            "proxy-from" => self.proxy_from.push(value.parse()?),
+            "proxy-to" => {
+                self.proxy_to = match value {
+                    "v1" => Some(Version::Text),
+                    "v2" => Some(Version::Binary),
+                    _ => return Err(format!("{value} is neither v1 nor v2")),
+                }
+            }
+            "metrics" => self.metrics = Some(value.to_string()),
             _ => return self.set_log(name, value),
         }
         Ok(())
@@ -176,7 +201,11 @@ impl Options {
             "log" => self.log = Some(value.into()),
             "user" => self.users.push(value.to_string()),
             "database" => self.databases.push(value.to_string()),
+            "host" => self.hosts.push(value.parse()?),
+            "kind" if KINDS.contains(&value) => self.kinds.push(value.to_string()),
+            "kind" => return Err(format!("no line is of the kind {value}")),
             "slower" => self.slower = Some(seconds(value)?),
+            "sample" => self.sample = number::<u32>(value)?.max(1),
             "rotate" => self.rotate = number(value)?,
             "keep" => self.keep = number(value)?,
             "log-held" => self.log_held = number(value)?,
@@ -212,6 +241,21 @@ impl Options {
             server: self.longest,
             held: self.held.unwrap_or(self.longest.saturating_mul(4)),
         }
+    }
+
+    /// Takes of others what can't change while the program runs, and names what differed.
+    pub fn keep(&mut self, old: &Options) -> Vec<&'static str> {
+        let differ = [
+            ("listen", self.listen != old.listen),
+            ("metrics", self.metrics != old.metrics),
+            ("threads", self.threads != old.threads),
+            ("json", self.json != old.json),
+        ];
+        self.listen.clone_from(&old.listen);
+        self.metrics.clone_from(&old.metrics);
+        (self.threads, self.json) = (old.threads, old.json);
+        let names = differ.into_iter().filter(|(_, differs)| *differs);
+        names.map(|(name, _)| name).collect()
     }
 
     pub fn log_full(&self) -> LogFull {
@@ -276,6 +320,15 @@ mod tests {
     }
 
     #[test]
+    fn some_settings_stay() {
+        let old = of("a:1 b:2 --threads 3").expect("options");
+        let mut new = of("c:1 d:2 --threads 3 --json --longest 5").expect("options");
+        assert_eq!(vec!["listen", "json"], new.keep(&old));
+        assert_eq!(("a:1", "d:2"), (&*new.listen, &*new.upstream));
+        assert_eq!((false, 5), (new.json, new.longest));
+    }
+
+    #[test]
     fn what_is_unknown_is_refused() {
         for words in [
             "a:1",
@@ -291,6 +344,9 @@ mod tests {
             "a:1 b:2 --grace",
             "a:1 b:2 --on-fault what",
             "a:1 b:2 --config /",
+            "a:1 b:2 --kind what",
+            "a:1 b:2 --host what",
+            "a:1 b:2 --proxy-to v3",
         ] {
             assert!(of(words).is_err(), "{words}");
         }

@@ -2,18 +2,20 @@
 //! the other yet.
 
 use crate::audit::Audit;
-use crate::log::Lines;
-use crate::refusing;
-use crate::shared::{Client, Shared};
+use crate::choosing::Lines;
+use crate::options::Options;
+use crate::proxy_header::{self, Ends, Header};
+use crate::refusing::Refused;
+use crate::shared::{Client, Settings, Shared};
 use crate::skipping::Skipping;
 use crate::stage::Stage;
 use crate::sys::{begin_to_connect, open_socket, set_up, Poll, EPOLLIN, EPOLLOUT};
 use crate::teller::Origin;
 use crate::way::{is_not_yet, is_plain, keep, Means, Way};
-use mysql_session::Side;
+use mysql_session::{Limits, Side};
 use std::io::{self, ErrorKind, Read, Write};
 use std::mem;
-use std::net::{Shutdown, TcpStream};
+use std::net::{Shutdown, SocketAddr, TcpStream};
 use std::os::fd::{AsRawFd, OwnedFd};
 use std::sync::atomic::Ordering;
 use std::time::{Duration, Instant};
@@ -31,11 +33,20 @@ const RENEWED: usize = 1 << 14;
 /// How long a client may stay behind the server's end.
 const LINGER: Duration = Duration::from_secs(10);
 
+/// What came of a client whose balancer says first whose connection it is.
+struct Introduction {
+    bytes: Vec<u8>,
+    /// By which the server is asked behind it.
+    socket: OwnedFd,
+}
+
 pub struct Passage {
     number: u64,
+    /// The client's address, which its balancer may have said.
     address: Box<str>,
     client: TcpStream,
     server: Option<TcpStream>,
+    introduction: Option<Introduction>,
     /// Which address of the server is asked, as long as it doesn't answer.
     asks: Option<usize>,
     ways: [Way; 2],
@@ -44,6 +55,8 @@ pub struct Passage {
     /// Whether the greeting is to come, and to be changed.
     is_greeting: bool,
     audit: Audit<Lines>,
+    limits: Limits,
+    lines: Lines,
     skipping: Skipping,
     began: Instant,
     last: Instant,
@@ -55,11 +68,19 @@ pub struct Passage {
 
 impl Passage {
     /// A connection that asks the server. None where the client was refused.
-    pub fn new(client: Client, lines: Lines, shared: &Shared) -> Option<Passage> {
-        let (options, number, now) = (&shared.options, client.number, Instant::now());
+    pub fn new(client: Client, lines: Lines, settings: &Settings) -> Option<Passage> {
+        let (options, number) = (&settings.options, client.number);
         let address: Box<str> = client.address.to_string().into();
+        lines.counts().connections.add(1);
+        let refused = |address| Refused {
+            number,
+            address,
+            client: &client.stream,
+            format: options.telling().format,
+            lines: lines.clone(),
+        };
         let Some(socket) = client.socket else {
-            refusing::too_many(shared, number, &address, &client.stream);
+            refused(&address).too_many();
             return None;
         };
         let origin = Origin {
@@ -67,52 +88,133 @@ impl Passage {
             client: Some(address.clone()),
         };
         let (telling, limits) = (options.telling(), options.limits());
-        let audit = match Audit::new(origin, telling, limits, options.on_fault, lines) {
+        let audit = match Audit::new(origin, telling, limits, options.on_fault, lines.clone()) {
             Ok(audit) => audit,
             Err(why) => {
-                refusing::unreached(shared, number, &address, &client.stream, &why.to_string());
+                refused(&address).unreached(&why.to_string());
                 return None;
             }
         };
-        let mut passage = Passage {
-            number,
-            address,
-            client: client.stream,
-            server: None,
-            asks: None,
-            ways: Default::default(),
-            waits: [0; 2],
-            is_greeting: options.plain,
-            audit,
-            skipping: Skipping::new(options.longest),
-            began: now,
-            last: now,
-            peak: 0,
-            counted: 0,
-        };
-        match passage.begin(socket, shared) {
+        let mut passage = Passage::of(client.stream, address, number, audit, lines, options);
+        match passage.begin(socket, client.address, settings) {
             Ok(()) => Some(passage),
             Err(why) => {
-                passage.refuse(shared, &why.to_string());
+                passage.refused().unreached(&why.to_string());
                 None
             }
         }
     }
 
-    /// Begins to ask the server by this socket.
-    fn begin(&mut self, socket: OwnedFd, shared: &Shared) -> io::Result<()> {
+    fn of(
+        client: TcpStream,
+        address: Box<str>,
+        number: u64,
+        audit: Audit<Lines>,
+        lines: Lines,
+        options: &Options,
+    ) -> Passage {
+        let now = Instant::now();
+        Passage {
+            number,
+            address,
+            client,
+            server: None,
+            introduction: None,
+            asks: None,
+            ways: Default::default(),
+            waits: [0; 2],
+            is_greeting: options.plain,
+            audit,
+            limits: options.limits(),
+            lines,
+            skipping: Skipping::new(options.longest),
+            began: now,
+            last: now,
+            peak: 0,
+            counted: 0,
+        }
+    }
+
+    /// Begins to ask the server by this socket, or waits for what a balancer says before.
+    fn begin(
+        &mut self,
+        socket: OwnedFd,
+        address: SocketAddr,
+        settings: &Settings,
+    ) -> io::Result<()> {
+        let options = &settings.options;
         self.client.set_nonblocking(true)?;
-        set_up(&self.client, shared.options.keepalive)?;
-        self.ask(0, Some(socket), shared)
+        set_up(&self.client, options.keepalive)?;
+        if options.proxy_from.iter().any(|it| it.has(address.ip())) {
+            let bytes = Vec::new();
+            self.introduction = Some(Introduction { bytes, socket });
+            return Ok(());
+        }
+        self.introduce(None, options)?;
+        self.ask(0, Some(socket), settings)
+    }
+
+    /// Takes what came of a balancer's header, and asks the server once it is whole.
+    fn hear(&mut self, means: &mut Means) -> Result<(), String> {
+        let Some(heard) = &mut self.introduction else {
+            return Ok(());
+        };
+        let room = proxy_header::MOST - heard.bytes.len().min(proxy_header::MOST - 1);
+        match (&self.client).read(&mut means.piece[..room]) {
+            Ok(0) => return Err("it has gone".to_string()),
+            Ok(count) => heard.bytes.extend_from_slice(&means.piece[..count]),
+            Err(error) if is_not_yet(&error) => return Ok(()),
+            Err(error) => return Err(error.to_string()),
+        }
+        let (length, ends) = match proxy_header::read(&heard.bytes) {
+            Header::Part => return Ok(()),
+            Header::Whole(length, ends) => (length, ends),
+            Header::Unread => return Err("it can't be read".to_string()),
+        };
+        let Some(Introduction { bytes, socket }) = self.introduction.take() else {
+            return Ok(());
+        };
+        if let Some((from, _)) = ends {
+            let balancer = mem::replace(&mut self.address, from.to_string().into());
+            self.audit.teller.come_by(self.address.clone(), balancer);
+        }
+        let settings = means.settings;
+        let asked = self.introduce(ends, &settings.options);
+        self.ways[Side::Client as usize]
+            .bytes
+            .extend_from_slice(&bytes[length..]);
+        let asked = asked.and_then(|()| self.ask(0, Some(socket), settings));
+        asked.map_err(|why| why.to_string())
+    }
+
+    /// Has the server be told whose connection it is, where it is to be.
+    fn introduce(&mut self, ends: Option<Ends>, options: &Options) -> io::Result<()> {
+        let Some(version) = options.proxy_to else {
+            return Ok(());
+        };
+        let ends = match ends {
+            Some(ends) => ends,
+            None => (self.client.peer_addr()?, self.client.local_addr()?),
+        };
+        // It is passed on before all that the client says, and isn't read.
+        let way = &mut self.ways[Side::Client as usize];
+        way.bytes = proxy_header::header(ends, version);
+        way.fed = way.bytes.len();
+        Ok(())
     }
 
     /// Asks the server at its addresses from this one on, at the first of them by this socket.
-    fn ask(&mut self, from: usize, mut socket: Option<OwnedFd>, shared: &Shared) -> io::Result<()> {
+    fn ask(
+        &mut self,
+        from: usize,
+        mut socket: Option<OwnedFd>,
+        settings: &Settings,
+    ) -> io::Result<()> {
         let mut why = ErrorKind::AddrNotAvailable.into();
         // Its descriptor may be the only one that is left.
         self.server = None;
         self.waits[1] = 0;
-        for (number, address) in shared.upstream.iter().enumerate().skip(from) {
+        for (number, address) in settings.upstream.iter().enumerate().skip(from) {
             let opened = socket.take().map_or_else(|| open_socket(*address), Ok);
             match opened.and_then(|socket| begin_to_connect(socket, *address)) {
                 Ok(stream) => {
@@ -125,21 +227,34 @@ impl Passage {
         Err(why)
     }
 
-    fn refuse(&self, shared: &Shared, why: &str) {
-        refusing::unreached(shared, self.number, &self.address, &self.client, why);
+    fn refused(&self) -> Refused<'_> {
+        Refused {
+            number: self.number,
+            address: &self.address,
+            client: &self.client,
+            format: self.audit.teller.telling.format,
+            lines: self.lines.clone(),
+        }
     }
 
     /// Goes on where a side is ready in this way. Says whether it goes on behind that.
     pub fn ready(&mut self, side: Side, bits: u32, means: &mut Means) -> bool {
         self.last = means.now;
+        self.audit.teller.came_at = Some(means.now);
+        if self.introduction.is_some() {
+            let heard = self.hear(means);
+            return heard
+                .map_err(|why| self.refused().unintroduced(&why))
+                .is_ok();
+        }
         if let Some(number) = self.asks {
-            return self.answered(number, means.shared);
+            return self.answered(number, means.settings);
         }
         if bits & !EPOLLOUT != 0 && self.reads(side) {
             self.read(side, means);
         }
         self.go_on(means);
-        self.count(means.shared);
+        self.count(means);
         if self.audit.is_cut() {
             self.audit.close(side);
             return false;
@@ -153,20 +268,20 @@ impl Passage {
     }
 
     /// The server answered, or it refused.
-    fn answered(&mut self, number: usize, shared: &Shared) -> bool {
+    fn answered(&mut self, number: usize, settings: &Settings) -> bool {
         let Some(server) = &self.server else {
             return false;
         };
         let refused = match server.take_error() {
-            Ok(None) => set_up(server, shared.options.keepalive).err(),
+            Ok(None) => set_up(server, settings.options.keepalive).err(),
             Ok(error) => error,
             Err(error) => Some(error),
         };
         self.asks = None;
-        match refused.map(|why| (self.ask(number + 1, None, shared), why)) {
+        match refused.map(|why| (self.ask(number + 1, None, settings), why)) {
             None | Some((Ok(()), _)) => true,
             Some((Err(_), why)) => {
-                self.refuse(shared, &why.to_string());
+                self.refused().unreached(&why.to_string());
                 false
             }
         }
@@ -187,6 +302,9 @@ impl Passage {
 
     /// What is waited for of a side's socket.
     fn wants(&self, side: Side, is_strict: bool) -> u32 {
+        if self.introduction.is_some() {
+            return if side == Side::Client { EPOLLIN } else { 0 };
+        }
         if self.asks.is_some() {
             return if side == Side::Server { EPOLLOUT } else { 0 };
         }
@@ -222,6 +340,7 @@ impl Passage {
             // A socket that fails has ended.
             Err(_) => 0,
         };
+        self.lines.counts().take_bytes(side, count);
         let piece = mem::take(&mut means.piece);
         self.take(side, &piece[..count], means);
         means.piece = piece;
@@ -254,7 +373,7 @@ impl Passage {
         fed: &mut usize,
         means: &mut Means,
     ) {
-        let is_strict = means.shared.options.strict;
+        let is_strict = means.settings.options.strict;
         if is_strict {
             self.feed(side, bytes, fed);
             means.lines.hand_to(&means.shared.log);
@@ -358,12 +477,14 @@ impl Passage {
     }
 
     /// Counts what it holds for what all hold. Where that is too much, no more is read of it.
-    fn count(&mut self, shared: &Shared) {
+    fn count(&mut self, means: &Means) {
+        let shared = means.shared;
         let ways: usize = self.ways.iter().map(|way| way.bytes.capacity()).sum();
-        if self.peak > RENEWED && self.audit.renew(shared.options.limits()) {
+        if self.peak > RENEWED && self.audit.renew(self.limits) {
             self.peak = 0;
         }
-        let held = ways + self.peak.max(self.held());
+        // What is held now was counted when it was read.
+        let held = ways + self.peak;
         let before = mem::replace(&mut self.counted, held);
         if held == before {
             return;
@@ -373,7 +494,7 @@ impl Passage {
         if held < before || held <= SMALL {
             return;
         }
-        if all > shared.options.held_in_all {
+        if all > means.settings.options.held_in_all {
             self.audit.give_up(&"all connections hold too much");
         } else if held > LOGIN_MOST && self.audit.stage() == Stage::Login {
             self.audit.give_up(&"a login is too long");
@@ -381,9 +502,10 @@ impl Passage {
     }
 
     /// Why it has to end by now: no word where that isn't told.
-    pub fn overdue(&self, now: Instant, shared: &Shared) -> Option<&'static str> {
-        let (options, idle) = (&shared.options, now.saturating_duration_since(self.last));
-        let is_new = self.asks.is_some() || self.audit.stage() == Stage::Login;
+    pub fn overdue(&self, now: Instant, options: &Options) -> Option<&'static str> {
+        let idle = now.saturating_duration_since(self.last);
+        let is_asking = self.introduction.is_some() || self.asks.is_some();
+        let is_new = is_asking || self.audit.stage() == Stage::Login;
         let age = now.saturating_duration_since(self.began);
         let is_past = |time: Duration, most: Duration| !most.is_zero() && time >= most;
         if is_new && is_past(age, options.login_timeout) {
@@ -397,6 +519,12 @@ impl Passage {
         }
     }
 
+    /// Takes settings that hold for open connections, too.
+    pub fn change(&mut self, options: &Options) {
+        self.audit.change(options.on_fault);
+        self.audit.teller.telling.secrets = options.secrets;
+    }
+
     /// Whether it can end without a command or a transaction that is lost.
     pub fn is_between(&self) -> bool {
         let waits = self.ways.iter().any(|way| !way.bytes.is_empty());
@@ -408,10 +536,16 @@ impl Passage {
         shared
             .held
             .fetch_sub(mem::take(&mut self.counted), Ordering::Relaxed);
+        if !how.is_empty() {
+            // It ends now, and not when bytes came.
+            self.audit.teller.came_at = None;
+        }
         if how.is_empty() {
             self.audit.end();
+        } else if self.introduction.is_some() {
+            self.refused().unintroduced(how);
         } else if self.asks.is_some() {
-            self.refuse(shared, how);
+            self.refused().unreached(how);
         } else {
             self.audit.stop(how);
         }

@@ -1,35 +1,53 @@
 //! What is said to clients that aren't served, and of them in the log.
 
-use crate::lines::{Heading, Told};
-use crate::shared::Shared;
+use crate::choosing::Lines;
+use crate::lines::{Format, Heading, Sink, Told};
 use std::io::Write;
 use std::net::TcpStream;
 
-/// Refuses a client because there are too many.
-pub fn too_many(shared: &Shared, number: u64, address: &str, client: &TcpStream) {
-    tell(shared, number, address, "too many connections");
-    refuse(client, 1040, "08004", "Too many connections");
+/// A client that is refused.
+pub struct Refused<'a> {
+    pub number: u64,
+    pub address: &'a str,
+    pub client: &'a TcpStream,
+    pub format: Format,
+    pub lines: Lines,
 }
 
-/// Refuses a client because its server can't be asked.
-pub fn unreached(shared: &Shared, number: u64, address: &str, client: &TcpStream, why: &str) {
-    let what = "the server can't be reached";
-    tell(shared, number, address, &format!("{what}: {why}"));
-    refuse(client, 1105, "08S01", what);
-}
+impl Refused<'_> {
+    /// There are too many.
+    pub fn too_many(self) {
+        let stream = self.client;
+        self.tell("too many connections");
+        refuse(stream, 1040, "08004", "Too many connections");
+    }
 
-fn tell(shared: &Shared, number: u64, address: &str, why: &str) {
-    let format = shared.options.telling().format;
-    let heading = Heading {
-        connection: number,
-        client: Some(address),
-        user: b"",
-        database: b"",
-    };
-    let told = Told::new("refused").with("by", format.text(b"proxy"));
-    let told = told.with_text(format.text(why.as_bytes()));
-    let line = format.line(&heading, &told, None) + "\n";
-    shared.log.take(&mut line.into_bytes());
+    /// Its server can't be asked.
+    pub fn unreached(self, why: &str) {
+        let (stream, what) = (self.client, "the server can't be reached");
+        self.tell(&format!("{what}: {why}"));
+        refuse(stream, 1105, "08S01", what);
+    }
+
+    /// What its balancer said of it isn't known.
+    pub fn unintroduced(self, why: &str) {
+        let (stream, what) = (self.client, "no header of the PROXY protocol");
+        self.tell(&format!("{what}: {why}"));
+        refuse(stream, 1105, "08S01", what);
+    }
+
+    fn tell(mut self, why: &str) {
+        let heading = Heading {
+            connection: self.number,
+            sample: 1,
+            client: Some(self.address),
+            user: b"",
+            database: b"",
+        };
+        let told = Told::new("refused").with("by", self.format.text(b"proxy"));
+        let told = told.with_text(self.format.text(why.as_bytes()));
+        self.lines.tell(self.format, &heading, &told, None);
+    }
 }
 
 /// Sends an error in place of a greeting.

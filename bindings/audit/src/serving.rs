@@ -1,8 +1,9 @@
 //! A loop: one thread that serves many connections, each when it is ready.
 
-use crate::log::{Filter, Lines};
+use crate::choosing::{Filter, Lines};
+use crate::counts::Counts;
 use crate::passage::{Passage, SIDES};
-use crate::shared::{Course, Door, Shared};
+use crate::shared::{Course, Door, Settings, Shared};
 use crate::sys::{Poll, Ready, EPOLLIN};
 use crate::way::Means;
 use std::io;
@@ -18,6 +19,9 @@ const MOST_EVENTS: usize = 256;
 
 pub struct Loop {
     shared: Arc<Shared>,
+    settings: Arc<Settings>,
+    /// How often they had changed when they were taken.
+    version: usize,
     door: Arc<Door>,
     poll: Poll,
     lines: Lines,
@@ -32,22 +36,26 @@ pub struct Loop {
 }
 
 impl Loop {
-    pub fn new(shared: Arc<Shared>, door: Arc<Door>, poll: Poll) -> io::Result<Loop> {
+    pub fn new(
+        shared: Arc<Shared>,
+        counts: Arc<Counts>,
+        door: Arc<Door>,
+        poll: Poll,
+    ) -> io::Result<Loop> {
         poll.change(door.waker.file(), DOOR, 0, EPOLLIN)?;
-        let options = &shared.options;
-        let timeouts = [options.login_timeout, options.idle_timeout];
-        let timeouts = timeouts.into_iter().filter(|timeout| !timeout.is_zero());
-        let period = timeouts.fold(Duration::from_secs(4), Duration::min);
+        let (version, settings) = (shared.version(), shared.settings());
         Ok(Loop {
-            lines: Lines::new(Filter::of(options)),
+            lines: Lines::new(Filter::of(&settings.options), counts),
+            period: period_of(&settings),
             shared,
+            settings,
+            version,
             door,
             poll,
             passages: Vec::new(),
             free: Vec::new(),
             spare: Vec::new(),
             piece: vec![0; PIECE],
-            period: (period / 4).max(Duration::from_millis(5)),
             looked: Instant::now(),
         })
     }
@@ -59,6 +67,7 @@ impl Loop {
             let most = (!self.is_empty()).then_some(self.period);
             let count = self.poll.wait(&mut room, most).len();
             let now = Instant::now();
+            self.take_settings();
             let is_door = |event: &&Ready| event.token == DOOR;
             for event in room[..count].iter().filter(|event| !is_door(event)) {
                 self.go_on(*event, now);
@@ -77,6 +86,20 @@ impl Loop {
         self.shared.loops.fetch_sub(1, Ordering::AcqRel);
     }
 
+    /// Takes the settings where they have changed.
+    fn take_settings(&mut self) {
+        let version = self.shared.version();
+        if version == self.version {
+            return;
+        }
+        (self.version, self.settings) = (version, self.shared.settings());
+        self.period = period_of(&self.settings);
+        self.lines.change(Filter::of(&self.settings.options));
+        for passage in self.passages.iter_mut().flatten() {
+            passage.change(&self.settings.options);
+        }
+    }
+
     fn is_empty(&self) -> bool {
         self.free.len() == self.passages.len()
     }
@@ -90,12 +113,13 @@ impl Loop {
         };
         let mut means = Means {
             shared: &self.shared,
+            settings: &self.settings,
             lines: &self.lines,
             piece: &mut self.piece,
             spare: &mut self.spare,
             now,
         };
-        let is_strict = self.shared.options.strict;
+        let is_strict = self.settings.options.strict;
         if !passage.ready(side, bits, &mut means)
             || passage.wait(&self.poll, slot, is_strict).is_err()
         {
@@ -108,7 +132,7 @@ impl Loop {
         let waiting = &self.door.clients;
         let clients = mem::take(&mut *waiting.lock().unwrap_or_else(PoisonError::into_inner));
         for client in clients {
-            let Some(passage) = Passage::new(client, self.lines.clone(), &self.shared) else {
+            let Some(passage) = Passage::new(client, self.lines.clone(), &self.settings) else {
                 self.shared.open.fetch_sub(1, Ordering::Relaxed);
                 continue;
             };
@@ -117,7 +141,7 @@ impl Loop {
                 self.passages.push(None);
             }
             let passage = self.passages[slot].insert(Box::new(passage));
-            let is_strict = self.shared.options.strict;
+            let is_strict = self.settings.options.strict;
             if let Err(error) = passage.wait(&self.poll, slot, is_strict) {
                 self.end(slot, &error.to_string());
             }
@@ -139,7 +163,7 @@ impl Loop {
             let why = if stops {
                 Some("stopped")
             } else {
-                passage.overdue(now, &self.shared)
+                passage.overdue(now, &self.settings.options)
             };
             if let Some(why) = why {
                 self.end(slot, why);
@@ -154,4 +178,15 @@ impl Loop {
             self.shared.open.fetch_sub(1, Ordering::Relaxed);
         }
     }
+}
+
+/// How often it is looked for what is overdue.
+fn period_of(settings: &Settings) -> Duration {
+    let timeouts = [
+        settings.options.login_timeout,
+        settings.options.idle_timeout,
+    ];
+    let timeouts = timeouts.into_iter().filter(|timeout| !timeout.is_zero());
+    let period = timeouts.fold(Duration::from_secs(4), Duration::min);
+    (period / 4).max(Duration::from_millis(5))
 }

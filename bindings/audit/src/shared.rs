@@ -1,12 +1,13 @@
 //! What all loops share.
 
+use crate::counts::Counts;
 use crate::log::Log;
 use crate::options::Options;
 use crate::sys::Waker;
-use std::net::{SocketAddr, TcpStream};
+use std::net::{SocketAddr, TcpStream, ToSocketAddrs};
 use std::os::fd::OwnedFd;
 use std::sync::atomic::{AtomicU8, AtomicUsize, Ordering};
-use std::sync::Mutex;
+use std::sync::{Arc, Mutex, PoisonError};
 
 /// How the program goes on.
 #[derive(Clone, Copy, Debug, PartialEq, PartialOrd)]
@@ -18,11 +19,33 @@ pub enum Course {
     Ends,
 }
 
-pub struct Shared {
+/// What the words and the file say, and what came of it.
+pub struct Settings {
     pub options: Options,
     /// The addresses of the server, of which the first that answers is taken.
     pub upstream: Vec<SocketAddr>,
+}
+
+impl Settings {
+    /// Looks the server's name up.
+    pub fn of(options: Options) -> Result<Settings, String> {
+        let upstream = options.upstream.to_socket_addrs();
+        let upstream = upstream.map_err(|error| format!("{}: {error}", options.upstream))?;
+        let upstream: Vec<SocketAddr> = upstream.collect();
+        match upstream[..] {
+            [] => Err(format!("{}: it has no address", options.upstream)),
+            _ => Ok(Settings { options, upstream }),
+        }
+    }
+}
+
+pub struct Shared {
+    settings: Mutex<Arc<Settings>>,
+    /// How often they changed.
+    version: AtomicUsize,
     pub log: Log,
+    /// What each loop counts.
+    pub counts: Vec<Arc<Counts>>,
     /// How many clients are served.
     pub open: AtomicUsize,
     /// How many bytes are held of all connections.
@@ -47,16 +70,34 @@ pub struct Client {
 }
 
 impl Shared {
-    pub fn new(options: Options, upstream: Vec<SocketAddr>, log: Log) -> Shared {
+    pub fn new(settings: Settings, log: Log) -> Shared {
+        let threads = settings.options.threads;
         Shared {
-            loops: AtomicUsize::new(options.threads),
-            options,
-            upstream,
+            loops: AtomicUsize::new(threads),
+            settings: Mutex::new(Arc::new(settings)),
+            version: AtomicUsize::new(0),
             log,
+            counts: (0..threads).map(|_| Arc::default()).collect(),
             open: AtomicUsize::new(0),
             held: AtomicUsize::new(0),
             course: AtomicU8::new(Course::Serves as u8),
         }
+    }
+
+    pub fn settings(&self) -> Arc<Settings> {
+        let settings = self.settings.lock();
+        settings.unwrap_or_else(PoisonError::into_inner).clone()
+    }
+
+    /// How often the settings changed.
+    pub fn version(&self) -> usize {
+        self.version.load(Ordering::Acquire)
+    }
+
+    pub fn change(&self, new: Settings) {
+        let settings = self.settings.lock();
+        *settings.unwrap_or_else(PoisonError::into_inner) = Arc::new(new);
+        self.version.fetch_add(1, Ordering::AcqRel);
     }
 
     pub fn course(&self) -> Course {

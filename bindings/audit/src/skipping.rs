@@ -2,7 +2,7 @@
 //! the place of a row as many NULLs as it has values. The reading goes on behind it.
 
 use crate::audit::{Audit, Follows};
-use crate::log::Lines;
+use crate::choosing::Lines;
 use mysql_session::{Phase, Side};
 use std::mem;
 
@@ -87,7 +87,7 @@ impl Skipping {
         let (count, left, goes_on) = stream.plain(&bytes[..most], self.longest, self.shift);
         if count > 0 {
             (stream.left, stream.goes_on) = (left, goes_on);
-            return audit.feed(side, &bytes[..count]);
+            return audit.feed_within(side, &bytes[..count]);
         }
         if stream.left > 0 {
             // There is no room.

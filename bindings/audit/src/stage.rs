@@ -1,7 +1,7 @@
 //! How far an audited connection is, and its end by the proxy.
 
 use crate::audit::{Audit, Follows};
-use crate::log::Lines;
+use crate::choosing::Lines;
 use mysql_session::{Connection, Limits, Phase, Side};
 
 #[derive(Clone, Copy, Debug, PartialEq)]

@@ -13,6 +13,7 @@ pub const EPOLLOUT: u32 = 4;
 pub const SIGHUP: u32 = 1;
 pub const SIGINT: u32 = 2;
 pub const SIGUSR1: u32 = 10;
+pub const SIGUSR2: u32 = 12;
 pub const SIGTERM: u32 = 15;
 /// A file has its greatest size.
 pub const SIGXFSZ: u32 = 25;
@@ -37,6 +38,7 @@ const TCP_KEEPIDLE: c_int = 4;
 const TCP_KEEPINTVL: c_int = 5;
 const TCP_KEEPCNT: c_int = 6;
 const EINPROGRESS: i32 = 115;
+const F_SETFD: c_int = 2;
 
 /// `struct epoll_event`, which is packed on x86-64.
 #[repr(C, packed)]
@@ -73,6 +75,7 @@ extern "C" {
     fn eventfd(first: c_uint, flags: c_int) -> c_int;
     fn signalfd(file: c_int, signals: *const Signals, flags: c_int) -> c_int;
     fn pthread_sigmask(how: c_int, signals: *const Signals, old: *mut Signals) -> c_int;
+    fn fcntl(file: c_int, command: c_int, ...) -> c_int;
     fn getrlimit(which: c_int, limit: *mut Limit) -> c_int;
     fn setrlimit(which: c_int, limit: *const Limit) -> c_int;
     fn socket(family: c_int, kind: c_int, protocol: c_int) -> c_int;
@@ -194,6 +197,12 @@ impl SignalFile {
         let count = unsafe { read(self.file(), told.as_mut_ptr().cast(), 128) };
         (count == 128).then_some(told[0])
     }
+}
+
+/// Has a descriptor stay open where another program is begun.
+pub fn keep_open(file: RawFd) -> io::Result<()> {
+    // SAFETY: the flags are a number; none is set.
+    done(unsafe { fcntl(file, F_SETFD, 0 as c_int) })
 }
 
 /// Raises the limit of descriptors as far as it goes, and says what it is.

@@ -7,6 +7,8 @@ use std::fmt::Display;
 use std::mem;
 use std::time::{Duration, Instant};
 
+const COM_CHANGE_USER: u8 = 0x11;
+
 /// A command, or a login, whose reply isn't whole.
 struct Running {
     told: Told,
@@ -39,6 +41,8 @@ pub struct Teller<S> {
     sink: S,
     user: Vec<u8>,
     database: Vec<u8>,
+    /// The address of the balancer that handed the connection on.
+    balancer: Option<Box<str>>,
     /// The server's number of the connection.
     thread: u32,
     running: Option<Running>,
@@ -52,6 +56,8 @@ pub struct Teller<S> {
     /// How many of them were told.
     told: [u64; 2],
     began: Instant,
+    /// When the bytes came that are read, where that is known.
+    pub came_at: Option<Instant>,
 }
 
 impl<S: Sink> Teller<S> {
@@ -63,6 +69,7 @@ impl<S: Sink> Teller<S> {
             sink,
             user: Vec::new(),
             database: Vec::new(),
+            balancer: None,
             thread: 0,
             running: None,
             length: None,
@@ -71,7 +78,19 @@ impl<S: Sink> Teller<S> {
             came: [0; 2],
             told: [0; 2],
             began: Instant::now(),
+            came_at: None,
         }
+    }
+
+    /// The time by which commands and replies are measured.
+    fn now(&self) -> Instant {
+        self.came_at.unwrap_or_else(Instant::now)
+    }
+
+    /// Takes what a balancer says of the client's address.
+    pub fn come_by(&mut self, client: Box<str>, balancer: Box<str>) {
+        self.origin.client = Some(client);
+        self.balancer = Some(balancer);
     }
 
     /// Whether a command's, or a login's, reply isn't whole.
@@ -82,8 +101,10 @@ impl<S: Sink> Teller<S> {
     /// Notes that bytes of a side came.
     pub fn take_bytes(&mut self, side: Side, count: usize) {
         self.came[side as usize] += count as u64;
+        let came_at = self.came_at;
         if let (Side::Server, Some(running)) = (side, &mut self.running) {
-            running.first.get_or_insert_with(Instant::now);
+            let now = || came_at.unwrap_or_else(Instant::now);
+            running.first.get_or_insert_with(now);
         }
     }
 
@@ -91,7 +112,11 @@ impl<S: Sink> Teller<S> {
         match event {
             Event::Greeting(greeting) => self.thread = greeting.connection,
             Event::Login(login) => {
-                self.begin(Told::new("login").with("thread", self.thread));
+                let told = Told::new("login").with("thread", self.thread);
+                self.begin(match &self.balancer {
+                    Some(balancer) => told.with("balancer", self.format.text(balancer.as_bytes())),
+                    None => told,
+                });
                 // One that is refused is told by this name, too.
                 (self.user, self.database) = (login.user.to_vec(), login.database.to_vec());
             }
@@ -113,6 +138,10 @@ impl<S: Sink> Teller<S> {
                     if let Some(running) = &mut self.running {
                         running.is_binary = is_execution(event);
                     }
+                    if let Event::Other([COM_CHANGE_USER, asked @ ..]) = event {
+                        let (user, database) = user_and_database(asked);
+                        self.will_become(Some(user), database);
+                    }
                 }
                 None => self.take_reply(event),
             },
@@ -121,10 +150,12 @@ impl<S: Sink> Teller<S> {
 
     /// Takes what a server answers, or the bytes of a file that it asked for.
     fn take_reply(&mut self, event: &Event) {
+        let came_at = self.came_at;
         let Some(running) = &mut self.running else {
             return;
         };
-        running.first.get_or_insert_with(Instant::now);
+        let now = || came_at.unwrap_or_else(Instant::now);
+        running.first.get_or_insert_with(now);
         if let Event::Accepted(ok) | Event::Ok(ok) | Event::RowsEnd(ok) = event {
             self.in_transaction = ok.status & status::SERVER_STATUS_IN_TRANS != 0;
         }
@@ -211,7 +242,7 @@ impl<S: Sink> Teller<S> {
         self.commands += u64::from(told.kind != "login");
         self.running = Some(Running {
             told,
-            began: Instant::now(),
+            began: self.now(),
             first: None,
             outcomes: Vec::new(),
             rows: None,
@@ -253,8 +284,10 @@ impl<S: Sink> Teller<S> {
         }
         let answer = Answer {
             outcomes: &running.outcomes,
-            took: running.began.elapsed(),
-            first: running.first.map(|first| first - running.began),
+            took: self.now().saturating_duration_since(running.began),
+            first: running
+                .first
+                .map(|first| first.saturating_duration_since(running.began)),
             traffic: self.take_untold(unread),
             whole,
         };
@@ -264,6 +297,7 @@ impl<S: Sink> Teller<S> {
     fn tell(&mut self, told: &Told, answer: Option<&Answer>) {
         let heading = Heading {
             connection: self.origin.number,
+            sample: 1,
             client: self.origin.client.as_deref(),
             user: &self.user,
             database: &self.database,
@@ -292,6 +326,20 @@ impl<S: Sink> Teller<S> {
         }
         self.tell(&told.with_text(self.format.text(how.as_bytes())), None);
     }
+}
+
+/// The user and the database of a change of user that is laid out as none, as far as they go: some
+/// servers take one whose character set is cut off.
+fn user_and_database(asked: &[u8]) -> (&[u8], &[u8]) {
+    let text = |bytes| {
+        <[u8]>::split(bytes, |byte| *byte == 0)
+            .next()
+            .unwrap_or_default()
+    };
+    let user = text(asked);
+    let answer = asked.get(user.len() + 1..).and_then(<[u8]>::split_first);
+    let database = answer.and_then(|(length, rest)| rest.get(usize::from(*length)..));
+    (user, database.map_or(&[], text))
 }
 
 /// Whether it is an execution, also one that can't be read.

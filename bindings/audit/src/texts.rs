@@ -2,7 +2,7 @@
 
 use mysql_session::{Date, Time};
 use std::fmt::Write;
-use std::time::{SystemTime, UNIX_EPOCH};
+use std::time::{Duration, SystemTime, UNIX_EPOCH};
 
 /// Whether a character is one that a terminal doesn't show, or by which it turns what it shows.
 fn is_hidden(character: char) -> bool {
@@ -11,9 +11,11 @@ fn is_hidden(character: char) -> bool {
         || matches!(character, '\u{2028}' | '\u{2029}' | '\u{2066}'..='\u{2069}')
 }
 
-/// A text for people, on one line.
-pub fn readable(bytes: &[u8]) -> String {
-    let mut text = String::with_capacity(bytes.len());
+/// Writes a text for people, on one line.
+pub fn push_readable(text: &mut String, bytes: &[u8]) {
+    if let Some(plain) = plain(bytes, b"") {
+        return text.push_str(plain);
+    }
     for chunk in bytes.utf8_chunks() {
         for character in chunk.valid().chars() {
             match is_hidden(character) {
@@ -22,36 +24,65 @@ pub fn readable(bytes: &[u8]) -> String {
             }
         }
         for byte in chunk.invalid() {
-            let _ = write!(text, "\\x{byte:02x}");
+            text.push_str("\\x");
+            push_hexadecimal(text, &[*byte]);
         }
     }
-    text
 }
 
-/// Bytes for people: in quotes where they are a text, else by their digits.
-pub fn quoted(bytes: &[u8]) -> String {
+/// Writes bytes for people: in quotes where they are a text, else by their digits.
+pub fn push_quoted(text: &mut String, bytes: &[u8]) {
     match std::str::from_utf8(bytes) {
-        Ok(text) => {
-            let escaped = text.replace('\\', "\\\\").replace('\'', "\\'");
-            format!("'{}'", readable(escaped.as_bytes()))
+        Ok(quoted) => {
+            text.push('\'');
+            match plain(bytes, b"\\'") {
+                Some(plain) => text.push_str(plain),
+                None => {
+                    let escaped = quoted.replace('\\', "\\\\").replace('\'', "\\'");
+                    push_readable(text, escaped.as_bytes());
+                }
+            }
+            text.push('\'');
         }
-        Err(_) => format!("0x{}", hexadecimal(bytes)),
+        Err(_) => {
+            text.push_str("0x");
+            push_hexadecimal(text, bytes);
+        }
     }
 }
 
-fn hexadecimal(bytes: &[u8]) -> String {
-    bytes.iter().fold(String::new(), |mut digits, byte| {
-        let _ = write!(digits, "{byte:02x}");
-        digits
-    })
+/// The bytes as a text, where each is one of ASCII that is shown and is none of these.
+fn plain<'a>(bytes: &'a [u8], without: &[u8]) -> Option<&'a str> {
+    let is_plain = |byte: &u8| matches!(byte, b' '..=b'~') && !without.contains(byte);
+    let text = bytes
+        .iter()
+        .all(is_plain)
+        .then(|| std::str::from_utf8(bytes));
+    text?.ok()
 }
 
-/// A text as JSON has it; one that isn't UTF-8 is an object.
-pub fn json_text(bytes: &[u8]) -> String {
+fn push_hexadecimal(text: &mut String, bytes: &[u8]) {
+    const DIGITS: &[u8; 16] = b"0123456789abcdef";
+    text.reserve(2 * bytes.len());
+    for byte in bytes {
+        text.push(char::from(DIGITS[usize::from(byte >> 4)]));
+        text.push(char::from(DIGITS[usize::from(byte & 15)]));
+    }
+}
+
+/// Writes a text as JSON has it; one that isn't UTF-8 is an object.
+pub fn push_json(json: &mut String, bytes: &[u8]) {
+    if let Some(plain) = plain(bytes, b"\"\\") {
+        json.push('"');
+        json.push_str(plain);
+        return json.push('"');
+    }
     let Ok(text) = std::str::from_utf8(bytes) else {
-        return format!(r#"{{"hex":"{}"}}"#, hexadecimal(bytes));
+        json.push_str(r#"{"hex":""#);
+        push_hexadecimal(json, bytes);
+        return json.push_str("\"}");
     };
-    let mut json = String::with_capacity(text.len() + 2);
+    json.reserve(text.len() + 2);
     json.push('"');
     for character in text.chars() {
         match character {
@@ -67,7 +98,32 @@ pub fn json_text(bytes: &[u8]) -> String {
         }
     }
     json.push('"');
-    json
+}
+
+/// Writes a number in decimal digits.
+pub fn push_number(text: &mut String, number: u64) {
+    push_digits(text, number, 1);
+}
+
+/// Writes a number in decimal digits, with zeros before it up to so many.
+fn push_digits(text: &mut String, mut number: u64, least: usize) {
+    let mut digits = [b'0'; 20];
+    let mut at = digits.len();
+    while number > 0 {
+        at -= 1;
+        digits[at] += (number % 10) as u8;
+        number /= 10;
+    }
+    for digit in &digits[at.min(digits.len() - least)..] {
+        text.push(char::from(*digit));
+    }
+}
+
+/// Writes seconds with six decimals, the last one cut off.
+pub fn push_seconds(text: &mut String, time: Duration) {
+    push_number(text, time.as_secs());
+    text.push('.');
+    push_digits(text, u64::from(time.subsec_micros()), 6);
 }
 
 pub fn date_digits(date: Date) -> String {
@@ -96,15 +152,27 @@ fn micros_digits(micros: u32) -> String {
     }
 }
 
-/// The time of day, as RFC 3339 has it, in UTC.
-pub fn now() -> String {
+/// Writes the time of day, as RFC 3339 has it, in UTC.
+pub fn push_now(text: &mut String) {
     let since = SystemTime::now()
         .duration_since(UNIX_EPOCH)
         .unwrap_or_default();
     let (seconds, micros) = (since.as_secs(), since.subsec_micros());
     let (year, month, day) = civil(seconds / 86400);
     let (hour, minute, second) = (seconds / 3600 % 24, seconds / 60 % 60, seconds % 60);
-    format!("{year:04}-{month:02}-{day:02}T{hour:02}:{minute:02}:{second:02}.{micros:06}Z")
+    let parts = [
+        (year, 4, '-'),
+        (month, 2, '-'),
+        (day, 2, 'T'),
+        (hour, 2, ':'),
+        (minute, 2, ':'),
+        (second, 2, '.'),
+        (u64::from(micros), 6, 'Z'),
+    ];
+    for (part, length, end) in parts {
+        push_digits(text, part, length);
+        text.push(end);
+    }
 }
 
 /// The date so many days after 1970-01-01. Years begin with March here, so that a leap day is the
@@ -119,5 +187,51 @@ fn civil(days: u64) -> (u64, u64, u64) {
     match month {
         0..=9 => (era * 400 + year, month + 3, day),
         _ => (era * 400 + year + 1, month - 9, day),
+    }
+}
+
+#[cfg(test)]
+mod tests {
+    use super::{push_json, push_number, push_quoted, push_readable, push_seconds, Duration};
+
+    fn written<T>(write: impl Fn(&mut String, T), what: T) -> String {
+        let mut text = String::new();
+        write(&mut text, what);
+        text
+    }
+
+    #[test]
+    fn texts_are_escaped() {
+        for (bytes, json, quoted) in [
+            (&b"plain ~"[..], r#""plain ~""#, "'plain ~'"),
+            (b"it's \"\\", r#""it's \"\\""#, r#"'it\'s "\\'"#),
+            (
+                "\u{e9}\n\u{202e}".as_bytes(),
+                r#""é\n\u202e""#,
+                r"'é\n\u{202e}'",
+            ),
+            (b"\xff\0", r#"{"hex":"ff00"}"#, "0xff00"),
+            (b"", r#""""#, "''"),
+        ] {
+            assert_eq!(json, written(push_json, bytes));
+            assert_eq!(quoted, written(push_quoted, bytes));
+        }
+        let bytes = b"a\xff\x7f\xc3\xa9";
+        assert_eq!(r"a\xff\u{7f}é", written(push_readable, &bytes[..]));
+    }
+
+    #[test]
+    fn numbers_are_in_digits() {
+        for number in [0, 7, 10, 123_456, u64::MAX] {
+            assert_eq!(number.to_string(), written(push_number, number));
+        }
+        assert_eq!(
+            "0.000007",
+            written(push_seconds, Duration::from_nanos(7999))
+        );
+        assert_eq!(
+            "12.345678",
+            written(push_seconds, Duration::from_micros(12_345_678))
+        );
     }
 }

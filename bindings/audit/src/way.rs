@@ -1,8 +1,8 @@
 //! Bytes of a side that wait for the other, and the first of the server, which may be changed.
 
-use crate::log::Lines;
+use crate::choosing::Lines;
 use crate::plain::hide;
-use crate::shared::Shared;
+use crate::shared::{Settings, Shared};
 use std::io::{self, ErrorKind};
 use std::time::Instant;
 
@@ -12,6 +12,7 @@ const GREETING_MOST: usize = 1 << 16;
 /// What a loop lends to the connection that goes on.
 pub struct Means<'a> {
     pub shared: &'a Shared,
+    pub settings: &'a Settings,
     pub lines: &'a Lines,
     pub piece: &'a mut [u8],
     pub spare: &'a mut Vec<Vec<u8>>,
