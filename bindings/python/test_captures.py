@@ -353,8 +353,9 @@ class Recordings(unittest.TestCase):
 
     def test_from_a_command_on(self) -> None:
         """A capture that begins within a connection is read from the first command on, by the
-        capabilities that are told."""
-        for name in ("pipelined", "go-long-data", "java-bulk"):
+        capabilities that are told, or that are guessed."""
+        for name in ("pipelined", "go-long-data", "java-bulk", "c-change-user", "perl-execute",
+                     "pymysql-results", "sphinx-results"):
             sent = self.sent(name, 40000)
             [(client, asked), (server, said)] = sent.items()
             with ms.Connection() as machine:
@@ -376,8 +377,12 @@ class Recordings(unittest.TestCase):
             ran = self.read(written(packets), *options, "--capabilities", words)
             self.assertEqual((self.lines(ran.stdout), ran.returncode), ({1: wanted}, 0), name)
             ran = self.read(written(packets), *options)
-            self.assertEqual((self.lines(ran.stdout), ran.returncode),
-                             ({1: ["it has no greeting"]}, 1))
+            self.assertEqual((self.lines(ran.stdout), ran.returncode), ({1: wanted}, 0), name)
+        asked = Packet(client, server, 1000, 5000, ACK, b"\2\0\0\0\x1c\0")
+        said = Packet(server, client, 5000, 1006, ACK, b"\7\0\0\2" + bytes(7))
+        ran = self.read(written([asked, said]), *options)
+        self.assertIn("nothing could be read without it\n", ran.stdout)
+        self.assertEqual(ran.returncode, 1)
 
     def test_saved(self) -> None:
         """The bytes of a connection, in two files."""

@@ -21,6 +21,7 @@ import socket
 import struct
 import subprocess
 import sys
+import tempfile
 import threading
 from typing import NamedTuple
 
@@ -396,6 +397,19 @@ def check_secrets(executable, path, at):
     check("SELECT 'shown'", records[-2]["text"], "a text without a password")
 
 
+def check_records(executable, path, at):
+    """The bytes that are passed on are those of two files."""
+    client, server = (path.with_suffix(it).read_bytes() for it in (".client", ".server"))
+    for options in ([], ["--pass-first"]):
+        with tempfile.TemporaryDirectory() as room:
+            folder = pathlib.Path(room, "records")
+            with Proxy(executable, "--record", str(folder), *options) as proxy:
+                for number in ("1", "2"):
+                    check((server, client), proxy.connect(client, server, at)[:2], "what passes")
+                    files = (folder / f"{number}.{it}" for it in ("client", "server"))
+                    check([client, server], [it.read_bytes() for it in files], "a recording")
+
+
 def limit_descriptors():
     """Lets the process that is to be the proxy open few files."""
     resource.setrlimit(resource.RLIMIT_NOFILE, (DESCRIPTORS, DESCRIPTORS))
@@ -443,6 +457,7 @@ def main():
             for path in paths:
                 count += check_recording(proxy, path, at, options)
     check_secrets(executable, pathlib.Path(recordings, "php-execute.events"), at)
+    check_records(executable, pathlib.Path(recordings, "pipelined.events"), at)
     for options in ([], ["--pass-first"]):
         with Proxy(executable, "--longest", "20000", *options) as proxy:
             check_flood(proxy, pathlib.Path(recordings, "ansi_quotes.events"), at)

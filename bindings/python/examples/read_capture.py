@@ -15,11 +15,12 @@ capture, the connection is read up to there. Which end is the server is told by 
 opened the connection, else by who greets. One whose server doesn't greet as a MySQL server does is
 left out.
 
-A connection whose greeting wasn't captured, as of a pool, is read from its first command on.
---capabilities has those that both of its sides have, as a hexadecimal word, and --port the server.
-By --lines the greeting and the login of another connection of that client tell them: the bits that
-both have. MariaDB's own stand behind a comma. Statements that were prepared before the capture
-aren't known: their executions are Other.
+A connection whose greeting wasn't captured, as of a pool, is read from its first command on, where
+--port tells the server. The capabilities that both of its sides have are guessed: those by which
+what was said can be read. So its first lines come once a reply with rows is whole. --capabilities
+tells them in place of that, as a hexadecimal word. By --lines the greeting and the login of another
+connection of that client have them: the bits that both have. MariaDB's own stand behind a comma.
+Statements that were prepared before the capture aren't known: their executions are Other.
 
 Of what is said in an authentication the length alone is printed, and passwords in statements are
 masked. So are the values of a statement that has one, and what the server answers to it. --secrets
@@ -54,6 +55,7 @@ from streams import Connection, Connections, Piece
 sys.path.insert(0, os.path.join(os.path.dirname(os.path.abspath(__file__)), os.pardir))
 
 import mysql_session as ms  # noqa: E402  (found by the line above)
+from guessing import Guess  # noqa: E402  (which uses it)
 
 # How many bytes of an end are looked at before the other end is known to be no server that greets.
 FRONT = 1 << 16
@@ -68,6 +70,10 @@ LAST_COMMAND, BULK = 0x20, 0xFA
 
 # The ends of connections of which nothing more comes.
 ENDS = (ms.Reason.REJECTED, ms.Reason.DENIED, ms.Reason.QUIT, ms.Reason.FAREWELL)
+
+# Why a connection isn't read: no segment of it begins as a command, or no capabilities fit.
+NO_GREETING = "its greeting wasn't captured"
+NO_GUESS = "its greeting wasn't captured, and nothing could be read without it"
 
 # What a client says that is no command.
 NO_COMMANDS = (ms.SecureRequestEvent, ms.LoginEvent, ms.CutOffLoginEvent, ms.AnswerEvent,
@@ -294,6 +300,9 @@ class Reading:
                  capabilities: Optional[Tuple[int, int]], folder: Optional[str]) -> None:
         self.of = of
         self._capabilities, self._folder = capabilities, folder
+        self._is_within = False         # whether its greeting wasn't captured
+        self._guess: Optional[Guess] = None
+        self._looked_at = 0             # how many of the early pieces the guess has seen
         self._files: Dict[ms.Side, BinaryIO] = {}
         self.why: Optional[str] = None  # why it isn't read any further
         self.user, self.commands, self.rows, self.errors = b"", 0, 0, 0
@@ -309,8 +318,9 @@ class Reading:
         """Whether it is a connection with a MySQL server, or to a port that was asked for."""
         return self.machine is not None or self._server.is_asked
 
-    def take(self, piece: Piece) -> Iterator[ms.Event]:
-        """Takes the next bytes of an end; gives the events that stand whole by them."""
+    def take(self, piece: Piece) -> Iterator[Tuple[int, ms.Event]]:
+        """Takes the next bytes of an end; gives the events that stand whole by them, and when the
+        last byte of each was captured."""
         self.last = piece.time
         if self.why is not None or not self._server.is_possible:
             return
@@ -323,18 +333,57 @@ class Reading:
             if self.machine is None:
                 return
         pieces, self._early = self._early or [piece], []
-        for it in pieces:
-            yield from self._feed(self.machine, it)
+        yield from self._read(self.machine, pieces)
+
+    def take_waiting(self) -> Iterator[Tuple[int, ms.Event]]:
+        """Ends the wait for what tells the capabilities; gives the events of what came so far."""
+        if not self._is_within or self.machine is not None or self.why is not None:
+            return
+        self._capabilities = self._guess.words() if self._guess else None
+        self.machine = self._within() if self._capabilities else None
+        if self.machine is None:
+            self.why = NO_GUESS if self._guess else NO_GREETING
+            return
+        yield from self._read(self.machine, self._early)
+
+    def _read(self, machine: ms.Connection, pieces: Sequence[Piece]
+              ) -> Iterator[Tuple[int, ms.Event]]:
+        """The events of pieces, and when each came."""
+        for piece in pieces:
+            for event in self._feed(machine, piece):
+                yield piece.time, event
 
     def _within(self) -> Optional[ms.Connection]:
-        """What reads it from a command on; what came before the first one is let go."""
-        if self._capabilities is None or self._server.end is None:
-            self.why = "its greeting wasn't captured"
+        """What reads it from a command on; what came before the first one is let go. None where that
+        can't be said, or not yet."""
+        self._is_within = True
+        if self._server.end is None or not (self._capabilities or self._server.is_asked):
+            self.why = NO_GREETING
             return None
         while self._early and (self._early[0].sender == self._server.end
                                or not begins_command(self._early[0].data)):
             del self._early[0]
-        return ms.Connection.after_login(*self._capabilities) if self._early else None
+        if self._early and self._capabilities is None:
+            self._look_at_early()
+        if not self._early or self._capabilities is None:
+            return None
+        return ms.Connection.after_login(*self._capabilities)
+
+    def _look_at_early(self) -> None:
+        """Knows the capabilities, or that none fit, once the early pieces tell them."""
+        if self._guess is None:
+            self._guess = Guess()
+        for piece in self._early[self._looked_at:]:
+            side = self._side(piece)
+            if self._guess.feed(side, piece.data):
+                self._capabilities = self._guess.words()
+                self.why = None if self._capabilities else NO_GUESS
+                return
+        self._looked_at = len(self._early)
+
+    def _side(self, piece: Piece) -> ms.Side:
+        """Whose bytes a piece has."""
+        return ms.Side.SERVER if piece.sender == self._server.end else ms.Side.CLIENT
 
     def _save(self, side: ms.Side, data: bytes) -> None:
         """Writes the next bytes of a side to its file."""
@@ -345,14 +394,15 @@ class Reading:
             self._files[side].write(data)
 
     def close(self) -> None:
-        """Ends the files."""
+        """Ends the files, and frees what a guess holds."""
         for file in self._files.values():
             file.close()
+        if self._guess is not None:
+            self._guess.close()
 
     def _feed(self, machine: ms.Connection, piece: Piece) -> Iterator[ms.Event]:
         """Feeds the machine bytes of an end, or that it has ended."""
-        side = ms.Side.SERVER if piece.sender == self._server.end else ms.Side.CLIENT
-        data = piece.data
+        side, data = self._side(piece), piece.data
         self._save(side, data)
         try:
             while data and machine.phase is not ms.Phase.OVER:
@@ -413,6 +463,8 @@ class Reading:
         if self.machine is not None:
             words.append(f"user {shown(self.user)}, {self.commands} commands, {self.rows} rows, "
                          f"{self.errors} errors")
+            if self._guess is not None and self._capabilities is not None:
+                words.append("read by the capabilities {:x},{:x}".format(*self._capabilities))
         for sender, direction in self.of.directions.items():
             if direction.repeated:
                 words.append(f"{direction.repeated} bytes of {sender} came again")
@@ -454,15 +506,20 @@ class Reader:
             self._readings[number] = Reading(piece.connection, self._ports, self._capabilities,
                                              self._folder)
         reading = self._readings[number]
-        for event in reading.take(piece):
-            line = reading.shown(event, self._lines, self._secrets)
-            print(shown_time(piece.time), f"#{number}", line, flush=True)
+        self._print(reading, reading.take(piece))
         if piece.connection.ended:
             self._end(reading)
+
+    def _print(self, reading: Reading, events: Iterator[Tuple[int, ms.Event]]) -> None:
+        """Prints events as they are taken."""
+        for time, event in events:
+            line = reading.shown(event, self._lines, self._secrets)
+            print(shown_time(time), f"#{reading.of.number}", line, flush=True)
 
     def _end(self, reading: Reading) -> None:
         """Prints how a connection stands that has ended, or with which the capture ends."""
         del self._readings[reading.of.number]
+        self._print(reading, reading.take_waiting())
         reading.close()
         if not reading.is_ours:
             self._others += not reading.is_unknown
@@ -502,7 +559,8 @@ def options() -> argparse.Namespace:
                         help="events as the library writes them, with bytes in hexadecimal")
     parser.add_argument("--secrets", action="store_true", help="passwords, too")
     parser.add_argument("--capabilities", metavar="WORD[,WORD]", type=capability_words,
-                        help="of connections whose greeting wasn't captured: those of both sides")
+                        help="of connections whose greeting wasn't captured: those of both sides, "
+                        "which are guessed else")
     parser.add_argument("--save", metavar="FOLDER", help="where the bytes of connections go")
     return parser.parse_args()
 

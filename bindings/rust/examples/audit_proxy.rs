@@ -3,7 +3,7 @@
 //!
 //! ```text
 //! audit_proxy LISTEN UPSTREAM [--json] [--secrets] [--on-fault pass|cut] [--pass-first] [--plain]
-//!             [--longest BYTES] [--held BYTES]
+//!             [--longest BYTES] [--held BYTES] [--record FOLDER]
 //! ```
 //!
 //! - A line has the time, the connection's number, its user and database, and what was asked, with
@@ -21,6 +21,8 @@
 //!   goes over to them, and a client that insists on one ends by itself.
 //! - `--longest` is the longest payload of either side. `--held` is how much is held of a
 //!   connection in all, by default four times that.
+//! - With `--record` the bytes that are passed on go to NUMBER.client and NUMBER.server in a folder
+//!   too, as replays and other examples take them. A connection ends where they can't be written.
 
 // What both this example and the program `bindings/audit` do stands there.
 #[path = "../../audit/src/audit.rs"]
@@ -47,18 +49,21 @@ use commands::Telling;
 use common::{write_packet, Failure, Unread, LIMIT};
 use lines::{Answer, Format, Heading, Sink, Told};
 use mysql_session::{Limits, PacketReader};
-use passing::Passage;
+use passing::{Passage, Records};
 use plain::hide;
 use std::env;
+use std::fs::{self, File};
 use std::io::{self, ErrorKind, Write};
 use std::net::{SocketAddr, TcpListener, TcpStream, ToSocketAddrs};
+use std::path::PathBuf;
 use std::process::{exit, ExitCode};
 use std::thread;
 use std::time::Duration;
 use teller::Origin;
 
 const USAGE: &str = "usage: audit_proxy LISTEN UPSTREAM [--json] [--secrets] \
-                     [--on-fault pass|cut] [--pass-first] [--plain] [--longest BYTES] [--held BYTES]";
+                     [--on-fault pass|cut] [--pass-first] [--plain] [--longest BYTES] [--held BYTES] \
+                     [--record FOLDER]";
 
 /// How long it waits until what it has no descriptor for is tried again.
 const PAUSE: Duration = Duration::from_millis(20);
@@ -81,6 +86,7 @@ struct Options {
     plain: bool,
     longest: usize,
     held: Option<usize>,
+    record: Option<PathBuf>,
 }
 
 impl Options {
@@ -96,6 +102,7 @@ impl Options {
             plain: false,
             longest: 1 << 26,
             held: None,
+            record: None,
         };
         while let Some(word) = words.next() {
             match word.as_str() {
@@ -105,6 +112,7 @@ impl Options {
                 "--plain" => options.plain = true,
                 "--longest" => options.longest = words.next()?.parse().ok()?,
                 "--held" => options.held = Some(words.next()?.parse().ok()?),
+                "--record" => options.record = Some(words.next()?.into()),
                 "--on-fault" => {
                     options.on_fault = match words.next()?.as_str() {
                         "pass" => OnFault::Pass,
@@ -125,6 +133,15 @@ impl Options {
             escapes: true,
             has_secrets: false,
         }
+    }
+
+    /// Where the bytes of a connection go.
+    fn records(&self, number: u64) -> io::Result<Records> {
+        let Some(folder) = &self.record else {
+            return Ok([None, None]);
+        };
+        let file = |side: &str| File::create(folder.join(format!("{number}.{side}")));
+        Ok([Some(file("client")?), Some(file("server")?)])
     }
 
     fn limits(&self) -> Limits {
@@ -155,7 +172,8 @@ pub struct Printer;
 
 impl Sink for Printer {
     fn tell(&mut self, format: Format, heading: &Heading, told: &Told, answer: Option<&Answer>) {
-        let line = format.line(heading, told, answer);
+        let mut line = String::new();
+        format.line(&mut line, heading, told, answer);
         if let Err(error) = writeln!(io::stdout(), "{line}") {
             eprintln!("what passes can't be printed: {error}");
             exit(1);
@@ -170,6 +188,9 @@ impl Sink for Printer {
 /// descriptor that another one waits for.
 fn listen(options: &Options) -> io::Result<()> {
     let upstream: Vec<SocketAddr> = options.upstream.to_socket_addrs()?.collect();
+    if let Some(folder) = &options.record {
+        fs::create_dir_all(folder)?;
+    }
     let listener = TcpListener::bind(&options.listen)?;
     eprintln!("listening at {}", listener.local_addr()?);
     for number in 1.. {
@@ -240,6 +261,7 @@ fn serve(
 ) -> Result<(), Failure> {
     client.set_nodelay(true)?;
     server.set_nodelay(true)?;
+    let records = options.records(number)?;
     let audit = Audit::new(
         Origin {
             number,
@@ -254,7 +276,7 @@ fn serve(
         true => plain_greeting(&mut server)?,
         false => Vec::new(),
     };
-    Passage::new(audit, options.pass_first).pass(&client, &server, came)?;
+    Passage::new(audit, options.pass_first).pass(&client, &server, came, records)?;
     Ok(())
 }
 

@@ -4,13 +4,26 @@ use crate::bytes::Bytes;
 use crate::codes::{answer, certain, in_range, shown_code, At, Code, Error};
 use crate::events::Event;
 use crate::handle::check_interface;
+use crate::login::Greeting;
 use crate::modes::Mode;
+use crate::phase::{Capabilities, Limits, Phase, Reason};
 use crate::raw;
 use crate::readable::debug_with_texts;
 use std::cell::UnsafeCell;
 use std::error;
 use std::fmt;
 use std::ptr::null_mut;
+
+/// A packet of this size goes on in the next one.
+const LONGEST_PACKET: usize = 0xff_ffff;
+
+/// Both parts of the scramble of a payload, where that is a greeting.
+fn scramble_of(payload: &[u8]) -> Vec<u8> {
+    match Greeting::read(payload) {
+        Ok(greeting) => [greeting.scramble_1, greeting.scramble_2].concat(),
+        Err(_) => Vec::new(),
+    }
+}
 
 /// One of the calls that show an event as a line.
 type LineCall = unsafe extern "C" fn(*mut raw::Connection, *mut *const u8, *mut usize) -> u32;
@@ -48,114 +61,6 @@ impl fmt::Display for Side {
             Side::Client => "client",
             Side::Server => "server",
         })
-    }
-}
-
-/// How much of a connection is held at most, in bytes.
-#[derive(Clone, Copy, Debug, PartialEq, Eq, Hash)]
-pub struct Limits {
-    /// The longest payload of the client.
-    pub client: usize,
-    /// The longest payload of the server.
-    pub server: usize,
-    /// All that is held. Of each side as much waits unread as its longest payload takes with its
-    /// headers. What this leaves beside both is for what is kept of statements, columns and long
-    /// data. Where nothing is left, no statement is prepared and no column is read:
-    /// [`Code::CONNECTION_KEPT`].
-    ///
-    /// It counts payloads, not memory. `docs/COSTS.md` has how much memory was measured for each
-    /// byte that is counted, and for each byte of an event.
-    pub held: usize,
-}
-
-impl Limits {
-    /// Payloads of at most so many bytes of either side, and four times as much in all.
-    ///
-    /// ```
-    /// use mysql_session::Limits;
-    ///
-    /// assert_eq!(Limits::of(1 << 24), Limits::default());
-    /// ```
-    pub fn of(longest: usize) -> Limits {
-        Limits {
-            client: longest,
-            server: longest,
-            held: longest.saturating_mul(4),
-        }
-    }
-}
-
-impl Default for Limits {
-    /// Payloads of 2^24 bytes of either side, and 2^26 in all.
-    fn default() -> Limits {
-        Limits::of(1 << 24)
-    }
-}
-
-/// Capabilities, in bits, as [`capability`](crate::capability) has them.
-#[derive(Clone, Copy, Debug, Default, PartialEq, Eq, Hash)]
-pub struct Capabilities {
-    /// Those of the protocol.
-    pub protocol: u32,
-    /// MariaDB's own.
-    pub mariadb: u32,
-}
-
-/// What is due on a connection.
-#[derive(Clone, Copy, Debug, PartialEq, Eq, Hash)]
-pub enum Phase {
-    /// The server's first payload.
-    Greeting,
-    /// The client's answer to it.
-    Response,
-    /// A payload of the server's by which a user is logged in or changed.
-    Authentication,
-    /// The client's answer to such a one.
-    Answer,
-    /// A command.
-    Command,
-    /// A payload of a reply.
-    Reply,
-    /// Bytes of a file of the client's.
-    FileData,
-    /// Nothing: what follows isn't read here.
-    Over(Reason),
-}
-
-/// Why a connection is over: what follows isn't read here.
-#[derive(Clone, Copy, Debug, PartialEq, Eq, Hash)]
-pub enum Reason {
-    /// The server refused the connection in place of a greeting.
-    Rejected,
-    /// TLS follows.
-    Secure,
-    /// The login was denied.
-    Denied,
-    /// Compressed packets follow.
-    Compressed,
-    /// The client quit.
-    Quit,
-    /// A binary log or a table's bytes follow.
-    Dump,
-    /// A server's data follow.
-    Clone,
-    /// The server said an error that answers nothing.
-    Farewell,
-}
-
-impl Reason {
-    fn of(number: u32) -> Reason {
-        match number {
-            0 => Reason::Rejected,
-            1 => Reason::Secure,
-            2 => Reason::Denied,
-            3 => Reason::Compressed,
-            4 => Reason::Quit,
-            5 => Reason::Dump,
-            6 => Reason::Clone,
-            7 => Reason::Farewell,
-            _ => panic!("the header has no reason {number}"),
-        }
     }
 }
 
@@ -299,6 +204,10 @@ pub struct Connection {
     handle: ConnectionHandle,
     /// The event that was told last, or one of kind 0.
     shown: Shown,
+    /// Both parts of the greeting's scramble, which the library's event doesn't show.
+    scramble: Vec<u8>,
+    /// Whether the first payload came.
+    is_greeted: bool,
 }
 
 /// An event as the library shows it. Its pointers are good as long as the connection doesn't
@@ -337,7 +246,7 @@ impl Connection {
         let handle = ConnectionHandle::made(|connection| unsafe {
             raw::mysql_session_connection_new(connection, client, server, held)
         })?;
-        Ok(Connection::of(handle))
+        Ok(Connection::of(handle, false))
     }
 
     /// A connection behind a login that was made elsewhere, as by TLS or by a pool. A command is
@@ -372,13 +281,15 @@ impl Connection {
                 connection, protocol, mariadb, client, server, held,
             )
         })?;
-        Ok(Connection::of(handle))
+        Ok(Connection::of(handle, true))
     }
 
-    fn of(handle: ConnectionHandle) -> Connection {
+    fn of(handle: ConnectionHandle, is_greeted: bool) -> Connection {
         Connection {
             handle,
             shown: Shown(raw::Event::default()),
+            scramble: Vec::new(),
+            is_greeted,
         }
     }
 
@@ -411,6 +322,9 @@ impl Connection {
     /// before it stand.
     pub fn next_event(&mut self) -> Result<Option<Event<'_>>, ConnectionFault> {
         self.forget();
+        if !self.is_greeted {
+            self.look_at_greeting();
+        }
         // SAFETY: "Handles": by `ConnectionHandle::get`; "Results go out": a field of this object.
         let code =
             unsafe { raw::mysql_session_connection_next(self.handle.get(), &mut self.shown.0) };
@@ -463,6 +377,9 @@ impl Connection {
     /// The connection and `out` are as they were then, but that [`Connection::event`] shows none.
     pub fn put(&mut self, side: Side, payload: &[u8], out: &mut Bytes) -> Result<Event<'_>, Error> {
         self.forget();
+        if !self.is_greeted {
+            self.scramble = scramble_of(payload);
+        }
         // SAFETY: "Handles": by `ConnectionHandle::get` and `Handle::get`, which are different ones
         // of objects of two kinds; "Bytes go in": the payload is a slice, and none of `out`, which
         // is borrowed to be changed; "Results go out": a field of this object.
@@ -480,6 +397,7 @@ impl Connection {
             self.forget();
             return Err(code.into());
         }
+        self.is_greeted = true;
         Ok(self.event().expect("what was put is an event"))
     }
 
@@ -556,7 +474,8 @@ impl Connection {
     pub fn event(&self) -> Option<Event<'_>> {
         // SAFETY: the library wrote the fields; the texts are "good until the next call on it" that
         // takes its `&mut self`, which forgets the event.
-        (self.shown.0.kind != 0).then(|| unsafe { Event::of(&self.handle, &self.shown.0) })
+        (self.shown.0.kind != 0)
+            .then(|| unsafe { Event::of(&self.handle, &self.shown.0, &self.scramble) })
     }
 
     /// The changes of the session's state of the event that was told or put last, as its OK packet
@@ -757,6 +676,23 @@ impl Connection {
             }),
             4 => ConnectionEnd::Unread,
             kind => panic!("the header has no kind {kind} of a connection's end"),
+        }
+    }
+
+    /// Reads the scramble of the next greeting, once all of it came.
+    fn look_at_greeting(&mut self) {
+        let unread = self.rest(Side::Server);
+        let Some(([low, middle, high, _], behind)) = unread.split_first_chunk() else {
+            return;
+        };
+        let length = u32::from_le_bytes([*low, *middle, *high, 0]) as usize;
+        if let Some(payload) = behind.get(..length) {
+            self.scramble = match length {
+                // A greeting of several packets is that of no server.
+                LONGEST_PACKET => Vec::new(),
+                _ => scramble_of(payload),
+            };
+            self.is_greeted = true;
         }
     }
 

@@ -3,8 +3,9 @@
 //! All that is shown borrows from the connection. Its bytes stay as they are until a call that
 //! takes the connection's `&mut self`, which ends the borrow.
 
-use crate::connection::{Capabilities, ConnectionHandle, Side};
+use crate::connection::{ConnectionHandle, Side};
 use crate::event_values::{column_of, Attributes, BulkRows, EventRow, Values};
+use crate::phase::Capabilities;
 use crate::raw;
 use crate::readable::{debug_with_texts, Readable, Secret};
 use crate::results::{Column, ErrorPacket, OkPacket};
@@ -215,9 +216,12 @@ pub struct ServerGreeting<'a> {
     pub collation: u16,
     /// The plugin that it asks for.
     pub plugin: &'a [u8],
+    /// What a password is hashed with: both parts of the scramble, 20 bytes of a server.
+    pub scramble: &'a [u8],
 }
 
-debug_with_texts!(ServerGreeting: connection, capabilities, status, collation; version, plugin);
+debug_with_texts!(ServerGreeting: connection, capabilities, status, collation; version, plugin,
+    scramble);
 
 /// The front of a client's answer to a greeting.
 #[derive(Clone, Copy, Debug, PartialEq, Eq)]
@@ -297,8 +301,16 @@ impl<'a> Event<'a> {
     ///
     /// # Safety
     /// The library wrote the fields, and the texts stay as they are for `'a`.
-    pub(crate) unsafe fn of(handle: &'a ConnectionHandle, shown: &raw::Event) -> Event<'a> {
-        let part = Part { handle, shown };
+    pub(crate) unsafe fn of(
+        handle: &'a ConnectionHandle,
+        shown: &raw::Event,
+        scramble: &'a [u8],
+    ) -> Event<'a> {
+        let part = Part {
+            handle,
+            shown,
+            scramble,
+        };
         // SAFETY: by this call's condition.
         unsafe {
             match shown.kind {
@@ -535,6 +547,8 @@ impl Event<'_> {
 struct Part<'a, 'b> {
     handle: &'a ConnectionHandle,
     shown: &'b raw::Event,
+    /// That of the greeting.
+    scramble: &'a [u8],
 }
 
 impl<'a> Part<'a, '_> {
@@ -726,6 +740,7 @@ impl<'a> Part<'a, '_> {
             status: self.shown.status,
             collation: self.shown.charset,
             plugin,
+            scramble: self.scramble,
         }
     }
 

@@ -57,6 +57,7 @@ mod login;
 mod modes;
 mod names;
 mod packets;
+mod phase;
 mod raw;
 mod readable;
 mod receiver;
@@ -75,10 +76,7 @@ mod writer;
 
 pub use bytes::Bytes;
 pub use codes::{At, Code, End, Error, Fault};
-pub use connection::{
-    Capabilities, Connection, ConnectionEnd, ConnectionFault, Limits, Phase, Reason, Side,
-    Statement,
-};
+pub use connection::{Connection, ConnectionEnd, ConnectionFault, Side, Statement};
 pub use conversions::{FromRow, FromValue, RowError};
 pub use event_values::{Attributes, BulkRow, BulkRows, BulkValue, EventRow, Values};
 pub use events::{ClientChange, ClientLogin, ClientRequest, Event, OtherCommand, ServerGreeting};
@@ -87,6 +85,7 @@ pub use login::{Greeting, Login};
 pub use modes::{is_safe_to_quote, Mode, Spelling};
 pub use names::{NameError, NamedQuery};
 pub use packets::{put_packet, PacketReader, Payloads};
+pub use phase::{Capabilities, Limits, Phase, Reason};
 pub use receiver::{Audit, Receiver, Set};
 pub use recoder::{recode, recode_in, Recoder};
 pub use replication::{BinlogDump, BinlogDumpGtid, RegisterReplica, BINLOG_DUMP_NON_BLOCK};

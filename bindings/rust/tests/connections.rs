@@ -2,8 +2,8 @@
 //! bytes come.
 
 use mysql_session::{
-    Capabilities, Code, Connection, ConnectionEnd, ConnectionFault, Event, Limits, Phase, Reason,
-    Side, Value,
+    Capabilities, Code, Connection, ConnectionEnd, ConnectionFault, Event, Greeting, Limits, Phase,
+    Reason, Side, Value,
 };
 use std::fs;
 use std::path::{Path, PathBuf};
@@ -281,6 +281,10 @@ fn a_login_and_a_greeting_are_shown() {
         panic!("a server greets first");
     };
     assert!(!greeting.version.is_empty() && !greeting.plugin.is_empty());
+    let length = it.server[0] as usize;
+    let read = Greeting::read(&it.server[4..][..length]).expect("it is a greeting");
+    let both = [read.scramble_1, read.scramble_2].concat();
+    assert_eq!((greeting.scramble, both.len()), (&both[..], 20));
     assert_eq!(
         (connection.turn(), connection.phase()),
         (Some(Side::Client), Phase::Response)

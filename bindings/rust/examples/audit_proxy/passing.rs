@@ -3,6 +3,7 @@
 use crate::audit::{Audit, Follows};
 use crate::Printer;
 use mysql_session::Side;
+use std::fs::File;
 use std::io::{self, Read, Write};
 use std::net::{Shutdown, TcpStream};
 use std::sync::{Condvar, Mutex, MutexGuard};
@@ -18,11 +19,16 @@ pub struct Passage {
     pass_first: bool,
 }
 
+/// Where the bytes of each side go that are passed on, the client's first.
+pub type Records = [Option<File>; 2];
+
 /// The bytes of a side that weren't passed on yet; with `--pass-first` those that the audit hasn't.
 struct Waiting {
     bytes: Vec<u8>,
     /// How many of them the audit has.
     fed: usize,
+    /// Where they go too.
+    record: Option<File>,
 }
 
 impl Passage {
@@ -39,11 +45,17 @@ impl Passage {
     ///
     /// # Errors
     /// No thread can be had for the second direction. Nothing was passed on then.
-    pub fn pass(self, client: &TcpStream, server: &TcpStream, came: Vec<u8>) -> io::Result<()> {
+    pub fn pass(
+        self,
+        client: &TcpStream,
+        server: &TcpStream,
+        came: Vec<u8>,
+        [said, answered]: Records,
+    ) -> io::Result<()> {
         thread::scope(|scope| {
-            thread::Builder::new()
-                .spawn_scoped(scope, || self.pass_side(Side::Server, came, server, client))?;
-            self.pass_side(Side::Client, Vec::new(), client, server);
+            let answers = || self.pass_side(Side::Server, came, server, client, answered);
+            thread::Builder::new().spawn_scoped(scope, answers)?;
+            self.pass_side(Side::Client, Vec::new(), client, server, said);
             io::Result::Ok(())
         })?;
         self.audit().end();
@@ -57,9 +69,21 @@ impl Passage {
     }
 
     /// Passes the bytes of a side on to the other, which ends as this one does, also by an error.
-    fn pass_side(&self, side: Side, came: Vec<u8>, from: &TcpStream, to: &TcpStream) {
-        // A socket that fails has ended: what came of it is told.
-        let passed = self.pass_bytes(side, came, from, to);
+    fn pass_side(
+        &self,
+        side: Side,
+        came: Vec<u8>,
+        from: &TcpStream,
+        to: &TcpStream,
+        record: Option<File>,
+    ) {
+        let waiting = Waiting {
+            bytes: Vec::new(),
+            fed: 0,
+            record,
+        };
+        // A socket that fails has ended: what came of it is told. So has one whose recording fails.
+        let passed = self.pass_bytes(side, came, from, to, waiting);
         let mut audit = self.audit();
         audit.close(side);
         let both = passed.is_err() || audit.is_cut();
@@ -82,12 +106,9 @@ impl Passage {
         came: Vec<u8>,
         mut from: &TcpStream,
         to: &TcpStream,
+        mut waiting: Waiting,
     ) -> io::Result<()> {
         let mut piece = vec![0; PIECE];
-        let mut waiting = Waiting {
-            bytes: Vec::new(),
-            fed: 0,
-        };
         self.pass_piece(side, &came, &mut waiting, to)?;
         while !self.audit().is_cut() {
             let count = from.read(&mut piece)?;
@@ -105,15 +126,15 @@ impl Passage {
         side: Side,
         piece: &[u8],
         waiting: &mut Waiting,
-        mut to: &TcpStream,
+        to: &TcpStream,
     ) -> io::Result<()> {
         if self.pass_first {
-            to.write_all(piece)?;
+            pass_on(piece, to, &mut waiting.record)?;
         }
         waiting.bytes.extend_from_slice(piece);
         while let Some(count) = self.read_on(side, waiting) {
             if !self.pass_first {
-                to.write_all(&waiting.bytes[..count])?;
+                pass_on(&waiting.bytes[..count], to, &mut waiting.record)?;
             }
             waiting.bytes.drain(..count);
             waiting.fed -= count;
@@ -148,6 +169,14 @@ impl Passage {
                 .expect("no thread panics while it has the audit");
         }
     }
+}
+
+/// Writes bytes to where they go.
+fn pass_on(bytes: &[u8], mut to: &TcpStream, record: &mut Option<File>) -> io::Result<()> {
+    if let Some(file) = record {
+        file.write_all(bytes)?;
+    }
+    to.write_all(bytes)
 }
 
 impl Audit<Printer> {

@@ -2,8 +2,8 @@
 
 use crate::passwords::Secret;
 use mysql_session::{
-    bind_text_in, capability, command, Bytes, Capabilities, Connection, Event, Greeting, Limits,
-    Login, Mode, ParameterSets, Side, Spelling,
+    bind_text_in, capability, command, Bytes, Capabilities, Connection, Event, Limits, Login, Mode,
+    ParameterSets, ServerGreeting, Side, Spelling,
 };
 use std::error::Error;
 use std::io::{self, Read, Write};
@@ -195,30 +195,11 @@ impl Client {
 
     /// Answers the greeting, and what the server asks for behind it.
     fn log_in(&mut self, account: &Account<'_>) -> Result<(), Failure> {
-        let payload = self.greeting()?;
-        if let Event::Rejected(error) = self.next()? {
-            return Err(error.to_string().into());
-        }
-        let greeting = Greeting::read(&payload)?;
-        let nonce = [greeting.scramble_1, greeting.scramble_2].concat();
-        let (plugin, response) = match response(account, greeting.plugin, &nonce) {
-            Some(response) => (greeting.plugin, response),
-            None => (
-                NATIVE,
-                response(account, NATIVE, &nonce).unwrap_or_default(),
-            ),
+        let login = match self.next()? {
+            Event::Greeting(greeting) => login(account, &greeting)?,
+            Event::Rejected(error) => return Err(error.to_string().into()),
+            event => return Err(format!("the server doesn't greet: {event:?}").into()),
         };
-        let mut login = Bytes::new()?;
-        Login {
-            capabilities: account.capabilities.protocol & greeting.capabilities & !HIDDEN,
-            mariadb_capabilities: account.capabilities.mariadb & greeting.mariadb_capabilities,
-            user: account.user,
-            response: &response,
-            database: account.database,
-            plugin,
-            ..Login::default()
-        }
-        .put(LIMIT as u32, &mut login)?;
         self.send(&login)?;
         self.authenticate(account)
     }
@@ -248,20 +229,27 @@ impl Client {
             self.send(&response)?;
         }
     }
+}
 
-    /// The payload of the server's greeting, which isn't taken as an event yet.
-    fn greeting(&mut self) -> Result<Vec<u8>, Failure> {
-        loop {
-            let unread = self.connection.rest(Side::Server);
-            if let Some(([low, middle, high, _], payload)) = unread.split_first_chunk() {
-                let length = u32::from_le_bytes([*low, *middle, *high, 0]) as usize;
-                if let Some(payload) = payload.get(..length) {
-                    return Ok(payload.to_vec());
-                }
-            }
-            self.receive()?;
-        }
+/// The payload that answers a greeting.
+fn login(account: &Account<'_>, greeting: &ServerGreeting<'_>) -> Result<Bytes, Failure> {
+    let nonce = greeting.scramble;
+    let (plugin, response) = match response(account, greeting.plugin, nonce) {
+        Some(response) => (greeting.plugin, response),
+        None => (NATIVE, response(account, NATIVE, nonce).unwrap_or_default()),
+    };
+    let mut payload = Bytes::new()?;
+    Login {
+        capabilities: account.capabilities.protocol & greeting.capabilities.protocol & !HIDDEN,
+        mariadb_capabilities: account.capabilities.mariadb & greeting.capabilities.mariadb,
+        user: account.user,
+        response: &response,
+        database: account.database,
+        plugin,
+        ..Login::default()
     }
+    .put(LIMIT as u32, &mut payload)?;
+    Ok(payload)
 }
 
 /// What a client answers to a nonce by a plugin: nothing where the password is empty, and none where the

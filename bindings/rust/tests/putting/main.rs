@@ -6,7 +6,7 @@ mod said;
 
 use mysql_session::{
     bulk_executions, command, executions, put_packet, Bytes, Capabilities, Connection,
-    ConnectionEnd, Error, ParameterSets, Phase, Reason, ReplyKind, Side, Value,
+    ConnectionEnd, Error, Event, ParameterSets, Phase, Reason, ReplyKind, Side, Value,
 };
 use said::{
     error, greeting, login, prepared, rows, Payloads, CAPABILITIES, INSERT, LIMIT, LIMITS, OK,
@@ -170,6 +170,26 @@ impl Three {
 fn names(lines: &[String]) -> Vec<String> {
     let front = |line: &String| line.split(' ').take(2).collect::<Vec<_>>().join(" ");
     lines.iter().map(front).collect()
+}
+
+#[test]
+fn a_greeting_that_is_put_shows_its_scramble_at_both_ends() -> Result<(), Error> {
+    let (mut server, mut client) = (Connection::new(LIMITS)?, Connection::new(LIMITS)?);
+    let mut out = Bytes::new()?;
+    let Event::Greeting(put) = server.put(Side::Server, &greeting(), &mut out)? else {
+        panic!("a greeting was put");
+    };
+    assert_eq!(put.scramble, b"abcdefghijklmnopqrst");
+    for (number, byte) in out.iter().enumerate() {
+        client.feed(Side::Server, &[*byte])?;
+        let scramble = match client.next_event()? {
+            Some(Event::Greeting(read)) => Some(read.scramble.to_vec()),
+            _ => None,
+        };
+        let whole = (number + 1 == out.len()).then(|| b"abcdefghijklmnopqrst".to_vec());
+        assert_eq!(scramble, whole, "byte {number}");
+    }
+    Ok(())
 }
 
 #[test]
