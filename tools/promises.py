@@ -85,7 +85,7 @@ def public_items(home):
 def calls_of(home):
     """Each item and each call of a crate, by its name, that has a promise; and each law."""
     for module in modules(crate(home)):
-        is_laws = module.path.stem in ('laws', 'fronts') or module.path.parent.name == 'laws'
+        is_laws = module.path.stem.endswith('laws') or module.path.stem == 'fronts' or module.path.parent.name == 'laws'
         for item in module.items.values():
             yield item.name, item, is_laws and item.kind == 'fn'
             for part in item.parts:

@@ -141,9 +141,14 @@ def filled(lines, mark):
                          break_long_words=False, break_on_hyphens=False)
 
 
+# An import of one name has no place to break, and `rt fmt` keeps an attribute in one line.
+WHOLE = re.compile(r' *(?:pub |ghost )?use [^\s{}]+(?: as \w+)?;?$| *#\[tactic\(.*\)\]$')
+
+
 def too_long(text):
-    """The numbers of the lines that are too long."""
-    return [number for number, line in enumerate(text.split('\n'), 1) if len(line) > MOST]
+    """The numbers of the lines that are too long and can be broken."""
+    lines = enumerate(text.split('\n'), 1)
+    return [number for number, line in lines if len(line) > MOST and not WHOLE.match(line)]
 
 
 def wrapped_source(text, rust):

@@ -18,9 +18,9 @@ use mysql_connection::{
 
 mod laws {
     use mysql_connection::laws::{
-        connection_executions_are_received, events_lead_on, kept_lists_are_counted,
-        packets_are_spoken, payloads_are_in_turn, read_commands_are_put, read_events_are_put,
-        sent_packets_are_put, stored_is_the_sum,
+        all_see_the_same, connection_executions_are_received, events_lead_on,
+        kept_lists_are_counted, packets_are_spoken, payloads_are_in_turn, read_commands_are_put,
+        read_events_are_put, sent_packets_are_put, stored_is_the_sum,
     };
 
     mod agreement {

@@ -13,7 +13,7 @@ use mysql_values::{
 mod bind {
     use mysql_values::bind::{
         BindError, ParsedQuery, bind_query, bind_query_onto, bind_text, bind_text_at, bind_text_in,
-        bind_text_onto, bind_text_over, names_among,
+        names_among,
     };
 }
 

@@ -4,15 +4,15 @@
 use mysql_wire::{
     BareBytes, BareU8Bytes, BareU16Bytes, Binary, BufMutExt, BytesRepr, ChunkDecoder, ChunkHeader,
     ChunkInfo, Const, ConstBytes, ConstBytesValue, ConstU8, ConstU32, ConstValue,
-    DEFAULT_MAX_ALLOWED_PACKET, Either, EofBytes, FixedLengthText, IntRepr,
+    DEFAULT_MAX_ALLOWED_PACKET, Either, EofBytes, FirstPacket, FixedLengthText, IntRepr,
     InvalidLengthEncodedInteger, LeI16, LeI24, LeI32, LeI56, LeI64, LeU16, LeU24, LeU32,
     LeU32LowerHalf, LeU32UpperHalf, LeU48, LeU56, LeU64, LenEnc, MAX_PAYLOAD_LEN, MyDeserialize,
     MySerialize, NullBytes, PacketCodec, PacketCodecError, PacketReader, Packets, ParseBuf,
     ParseExt, PartialHeader, RawBytes, RawConst, RawFlags, RawInt, RawSeq, ReadMysqlExt, Readable,
     ReadsBack, Seq, SeqRepr, Skip, Text, U8Bytes, U32Bytes, UTF8_GENERAL_CI, UTF8MB4_GENERAL_CI,
-    Unknown, VarLen, WireError, WriteMysqlExt, feed_all, frame_in_place, lenenc_int_len,
-    lenenc_str_len, packet_header, packet_to_chunks, read_varlen_uint, varlen_uint_size,
-    write_varlen_uint,
+    Unknown, VarLen, WireError, WriteMysqlExt, feed_all, first_packet, frame_in_place, framed,
+    is_short, lenenc_int_len, lenenc_str_len, one_chunk, packet_header, packet_to_chunks,
+    read_varlen_uint, varlen_uint_size, write_varlen_uint,
 };
 
 mod codec {
@@ -36,6 +36,12 @@ mod constants {
     };
 }
 
+mod first_packet_laws {
+    use mysql_wire::first_packet_laws::{
+        framings_are_found, packets_stay, packets_take_bytes, rests_follow, room_is_enough,
+    };
+}
+
 mod laws {
     use mysql_wire::laws::{
         answer_grows, between_goes_on, between_holds_src, fault_stays, framed_come_first,
@@ -51,4 +57,8 @@ mod laws {
             signed_numbers_read_back, texts_read_back, varlen_reads_back,
         };
     }
+}
+
+mod packet {
+    use mysql_wire::packet::{FirstPacket, first_packet, framed, is_short};
 }

@@ -9,7 +9,7 @@ use Rattle.bitflags.proofs.OnLiterals.{bitflags_on_literals}
 use Rattle.bitflags.specs.Sets.{known_bits}
 use Rattle.byteorder.specs.Numbers.{little_from-lt}
 use Rattle.mysql_auth.specs.Plugins.{Plugin, plugin_named, without_zero}
-use Rattle.mysql_connect_attributes.proofs.AttributesHeld.{attributes_held, bytes_behind, some_same, taken_bytes, text_takes}
+use Rattle.mysql_handshake_response.proofs.AttributesHeld.{attributes_held, bytes_behind, some_same, taken_bytes, text_takes}
 use Rattle.mysql_authentication.proofs.GreetingsPut.{length_own}
 use Rattle.mysql_authentication.proofs.ResponsesPut.{null_rest, number_own}
 use Rattle.mysql_authentication.specs.Statements.{HoldsAttributes, HoldsError, HoldsHandshake, HoldsLogin, HoldsRequest, HoldsState}
@@ -17,8 +17,8 @@ use Rattle.mysql_buf.specs.Bytes.{AreBytes}
 use Rattle.mysql_buf.specs.FirstBytes.{first-some}
 use Rattle.mysql_buf.specs.Reading.{bytes_at as buffer_bytes_at, is_zero, little_at, then_at}
 use Rattle.mysql_buf.specs.Writing.{lenenc_int}
-use Rattle.mysql_connect_attributes.specs.Attributes.{Attribute, attributes_at}
-use Rattle.mysql_connect_attributes.specs.Parts.{if_there, plugin_to_zero_at}
+use Rattle.mysql_handshake_response.specs.Attributes.{Attribute, attributes_at}
+use Rattle.mysql_handshake_response.specs.Parts.{if_there, plugin_to_zero_at}
 use Rattle.mysql_const.specs.MariadbCapabilities.{mariadb_capabilities}
 use Rattle.mysql_const.specs.declared.status.StatusFlags.{StatusFlags}
 use Rattle.mysql_field_constants.specs.ConstantLaws.{constant_at-sized, skipped_at-sized}

@@ -11,7 +11,7 @@ use Rattle.mysql_authentication.proofs.Packets.{both-hold}
 use Rattle.mysql_authentication.proofs.Zeros.{front_whole}
 use Rattle.mysql_authentication.specs.Written.{has_no_zero, is_other, names_itself}
 use Rattle.mysql_buf.specs.Reading.{is_zero}
-use Rattle.mysql_connect_attributes.specs.Parts.{plugin_text, plugin_to_zero_at}
+use Rattle.mysql_handshake_response.specs.Parts.{plugin_text, plugin_to_zero_at}
 use Rattle.mysql_fields.specs.Laws.{done, ok_same}
 use Rattle.mysql_fields.specs.TextLaws.{null_text_at-back}
 use Rattle.mysql_fields.specs.Texts.{null_text_at}

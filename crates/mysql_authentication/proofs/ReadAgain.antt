@@ -16,7 +16,7 @@ use Rattle.mysql_authentication.specs.Statements.{AuthenticationsReadAgain, Gree
 use Rattle.mysql_authentication.specs.declared.fault.LoginFault.TheVariants.{BadError, BadGreeting, BadOk, BadSwitch, OldProtocol}
 use Rattle.mysql_auth.specs.Packets.{next_factor_at, switch_at}
 use Rattle.mysql_buf.specs.Bytes.{AreBytes}
-use Rattle.mysql_connect_attributes.proofs.AttributesHeld.{bytes_behind}
+use Rattle.mysql_handshake_response.proofs.AttributesHeld.{bytes_behind}
 use Rattle.mysql_field_constants.specs.Flags.{contains}
 use Rattle.mysql_fields.specs.Forms.{fixed_number_at}
 use Rattle.mysql_fields.specs.Laws.{bind_ok, eaten_first, ok_same}

@@ -9,7 +9,7 @@ use Rattle.bitflags.proofs.OnLiterals.{bitflags_on_literals}
 use Rattle.byteorder.specs.Endian.{little_number}
 use Rattle.mysql_auth.specs.Plugins.{Plugin}
 use Rattle.mysql_authentication.proofs.FirstCause.{fields_passed, none_of_two, passed, three_passed}
-use Rattle.mysql_connect_attributes.proofs.AttributesBack.{attributes-back}
+use Rattle.mysql_handshake_response.proofs.AttributesBack.{attributes-back}
 use Rattle.mysql_authentication.proofs.PluginsBack.{plugin-back}
 use Rattle.mysql_authentication.proofs.Zeros.{front_whole}
 use Rattle.mysql_authentication.specs.Events.{CutOff, LoggedIn, SecureRequest, Whole}
@@ -19,8 +19,8 @@ use Rattle.mysql_authentication.specs.Written.{fields_cause, has_no_zero, if_som
 use Rattle.mysql_authentication.specs.declared.refusal.LoginRefusal.TheVariants.{NamelessFlags, NotAgreed, ReadsOtherwise, TooLong, ZeroByte}
 use Rattle.mysql_buf.specs.FirstBytes.{first-enough}
 use Rattle.mysql_buf.specs.Writing.{front, lenenc_str, u8_str}
-use Rattle.mysql_connect_attributes.specs.Attributes.{Attribute, attributes, attributes_at}
-use Rattle.mysql_connect_attributes.specs.Parts.{if_held, if_there, plugin_text, plugin_to_zero_at}
+use Rattle.mysql_handshake_response.specs.Attributes.{Attribute, attributes, attributes_at}
+use Rattle.mysql_handshake_response.specs.Parts.{if_held, if_there, plugin_text, plugin_to_zero_at}
 use Rattle.mysql_const.specs.MariadbCapabilities.{mariadb_capabilities}
 use Rattle.mysql_field_constants.specs.Flags.{are_named, contains}
 use Rattle.mysql_fields.specs.Forms.{fixed_number_at}

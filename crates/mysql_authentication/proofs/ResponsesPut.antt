@@ -23,9 +23,9 @@ use Rattle.mysql_authentication.specs.declared.refusal.LoginRefusal.TheVariants.
 use Rattle.mysql_buf.specs.Bytes.{AreBytes}
 use Rattle.mysql_buf.specs.FirstBytes.{first-enough, first-short}
 use Rattle.mysql_buf.specs.Reading.{bytes_at as buffer_bytes_at, is_zero, little_at, then_at}
-use Rattle.mysql_connect_attributes.proofs.AttributesHeld.{bytes_behind}
-use Rattle.mysql_connect_attributes.specs.Attributes.{Attribute, attributes_at}
-use Rattle.mysql_connect_attributes.specs.Parts.{if_there, plugin_to_zero_at}
+use Rattle.mysql_handshake_response.proofs.AttributesHeld.{bytes_behind}
+use Rattle.mysql_handshake_response.specs.Attributes.{Attribute, attributes_at}
+use Rattle.mysql_handshake_response.specs.Parts.{if_there, plugin_to_zero_at}
 use Rattle.mysql_const.specs.MariadbCapabilities.{mariadb_capabilities}
 use Rattle.mysql_field_constants.specs.Constants.{skipped_at}
 use Rattle.mysql_field_constants.specs.Flags.{are_named, contains}

@@ -9,7 +9,7 @@ use Rattle.mysql_authentication.specs.Written.{authentication_bytes, authenticat
 use Rattle.mysql_authentication.specs.Written.{greeting_cause, response_bytes, response_cause}
 use Rattle.mysql_authentication.specs.declared.refusal.LoginRefusal.{LoginRefusal}
 use Rattle.mysql_buf.specs.Bytes.{AreBytes}
-use Rattle.mysql_connect_attributes.specs.Attributes.{Attribute, attribute}
+use Rattle.mysql_handshake_response.specs.Attributes.{Attribute, attribute}
 use Rattle.mysql_handshake.specs.Handshakes.{HandshakeFields}
 use Rattle.mysql_handshake_response.specs.Responses.{ResponseFields}
 use Rattle.mysql_handshake_response.specs.SslRequests.{SslRequestFields}

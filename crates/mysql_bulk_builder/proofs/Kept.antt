@@ -11,9 +11,9 @@ use Rattle.std.specs.Prelude.{◌&&◌, nat_eq, option_copied}
 use Rattle.mysql_values.specs.Params.{names_given}
 use Rattle.mysql_bulk_builder.specs.SameBuilder.{same_builder, values_held}
 use Rattle.std.specs.declared.alloc.Global.{Global}
-use Rattle.mysql_bulk.specs.Bulk.{BulkExecution, all_values, column_types_of, param_value_of, sends_types}
-use Rattle.mysql_bulk.specs.declared.param_type.StmtBulkExecuteParamType.{StmtBulkExecuteParamType}
-use Rattle.mysql_bulk.specs.declared.param_value.StmtBulkExecuteParamValue.{StmtBulkExecuteParamValue}
+use Rattle.mysql_bulk_builder.specs.Bulk.{BulkExecution, all_values, column_types_of, param_value_of, sends_types}
+use Rattle.mysql_bulk_builder.specs.declared.param_type.StmtBulkExecuteParamType.{StmtBulkExecuteParamType}
+use Rattle.mysql_bulk_builder.specs.declared.param_value.StmtBulkExecuteParamValue.{StmtBulkExecuteParamValue}
 use Rattle.mysql_bulk_builder.specs.RequestView.{bulk_flags, execution_of}
 use Rattle.mysql_cells.specs.declared.value.Value.{Value}
 use Rattle.mysql_bulk_builder.specs.Cut.{Row, row_size}

@@ -15,3 +15,7 @@ pub mod TypedTight
 pub mod Kept
 pub mod Filling
 pub mod Iterating
+pub mod Columns
+pub mod ColumnsOfRows
+pub mod Each
+pub mod RequestRows

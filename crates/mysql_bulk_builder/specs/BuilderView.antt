@@ -1,7 +1,7 @@
 -- What a builder's fields stand for, and what they keep.
 use Rattle.std.specs.Prelude.{◌≡◌, ◌*◌, List, length, map, option_copied, sum_by, unwrap_or}
-use Rattle.mysql_bulk.specs.Bulk.{param_value_of}
-use Rattle.mysql_bulk.specs.declared.param_value.StmtBulkExecuteParamValue.{StmtBulkExecuteParamValue}
+use Rattle.mysql_bulk_builder.specs.Bulk.{param_value_of}
+use Rattle.mysql_bulk_builder.specs.declared.param_value.StmtBulkExecuteParamValue.{StmtBulkExecuteParamValue}
 use Rattle.mysql_cells.specs.declared.value.Value.{Value}
 use Rattle.mysql_values.specs.Params.{names_given}
 use Rattle.mysql_bulk_builder.specs.declared.builder.ComStmtBulkExecuteRequestBuilder.TheInside.{Inside}

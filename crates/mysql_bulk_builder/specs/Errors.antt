@@ -1,10 +1,10 @@
 -- Errors within errors: want of memory is that of the whole.
 use Rattle.std.specs.Prelude.{◌≡◌}
-use Rattle.mysql_bulk.specs.Errors.{refusal_parts}
+use Rattle.mysql_bulk_builder.specs.RequestErrors.{refusal_parts}
 use Rattle.mysql_values.specs.declared.params.ParamsError.{ParamsError}
 use Rattle.mysql_values.specs.declared.params.ParamsError.TheVariants.{Missing, Confusion, Memory}
-use Rattle.mysql_bulk.specs.declared.error.BulkExecuteRequestError.{BulkExecuteRequestError}
-use Rattle.mysql_bulk.specs.declared.error.BulkExecuteRequestError.TheVariants as request_error
+use Rattle.mysql_bulk_builder.specs.declared.request_error.BulkExecuteRequestError.{BulkExecuteRequestError}
+use Rattle.mysql_bulk_builder.specs.declared.request_error.BulkExecuteRequestError.TheVariants as request_error
 use Rattle.mysql_bulk_builder.specs.declared.error.BulkExecuteRequestBuilderError.{BulkExecuteRequestBuilderError}
 use Rattle.mysql_bulk_builder.specs.declared.error.BulkExecuteRequestBuilderError.TheVariants as builder_error
 

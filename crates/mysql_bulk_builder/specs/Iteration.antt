@@ -6,8 +6,8 @@ use Rattle.std.specs.declared.alloc.Global.{Global}
 use Rattle.mysql_cells.specs.declared.value.Value.{Value}
 use Rattle.mysql_bulk_builder.specs.declared.error.BulkExecuteRequestBuilderError.{BulkExecuteRequestBuilderError}
 use Rattle.mysql_bulk_builder.specs.declared.error.BulkExecuteRequestBuilderError.TheVariants as builder_error
-use Rattle.mysql_bulk.specs.Views.{bulk_view}
-use Rattle.mysql_bulk.specs.declared.request.ComStmtBulkExecuteRequest.{ComStmtBulkExecuteRequest}
+use Rattle.mysql_bulk_builder.specs.Views.{bulk_view}
+use Rattle.mysql_bulk_builder.specs.declared.request.ComStmtBulkExecuteRequest.{ComStmtBulkExecuteRequest}
 use Rattle.mysql_bulk_builder.specs.Adds.{IsRefused}
 use Rattle.mysql_bulk_builder.specs.Builder.{Builder, Request, HasArity, LacksRoom, IsFilled, after_build, request_of}
 use Rattle.mysql_bulk_builder.specs.Cut.{Row}

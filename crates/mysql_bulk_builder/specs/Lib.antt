@@ -21,3 +21,9 @@ pub mod Given
 pub mod Iteration
 pub mod IteratorView
 pub mod IterationLaws
+pub mod Bulk
+pub mod RequestErrors
+pub mod Laws
+pub mod Reading
+pub mod ReadingLaws
+pub mod Views

@@ -1,7 +1,7 @@
 -- A request as it is sent.
 -- MariaDB: Client/Server Protocol, "COM_STMT_BULK_EXECUTE".
 use Rattle.std.specs.Prelude.{ℕ, Bool, true, false, if◌then◌else◌, [], length, map}
-use Rattle.mysql_bulk.specs.Bulk.{BulkExecution, all_values, column_types_of, param_value_of}
+use Rattle.mysql_bulk_builder.specs.Bulk.{BulkExecution, all_values, column_types_of, param_value_of}
 use Rattle.mysql_bulk_builder.specs.Builder.{Request, columns_of}
 
 -- 64 asks for the result of each row, 128 says that types are sent

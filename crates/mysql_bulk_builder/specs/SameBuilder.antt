@@ -6,8 +6,8 @@ use Rattle.std.specs.Cmp.{IsPartialEquivalence, and_per, bool_eq_equiv, nat_eq_e
 use Rattle.std.specs.Cmp.Lexicographic.{lists_per, options_equiv, pointwise}
 use Rattle.std.specs.Option.{option_eq}
 use Rattle.std.specs.Ordering.{eq_of_both, on}
-use Rattle.mysql_bulk.specs.Bulk.{all_values, param_value_of}
-use Rattle.mysql_bulk.specs.declared.param_value.StmtBulkExecuteParamValue.{StmtBulkExecuteParamValue}
+use Rattle.mysql_bulk_builder.specs.Bulk.{all_values, param_value_of}
+use Rattle.mysql_bulk_builder.specs.declared.param_value.StmtBulkExecuteParamValue.{StmtBulkExecuteParamValue}
 use Rattle.mysql_bulk_builder.specs.Builder.{Builder}
 
 -- the values of the rows held, one row after another, each as it is sent

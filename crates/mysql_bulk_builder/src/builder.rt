@@ -17,7 +17,7 @@ ghost use Rattle.mysql_bulk_builder.specs.RequestView.{bulk_flags as flags_of};
 use crate::error::BulkExecuteRequestBuilderError;
 use crate::flat::{append_row, copies_of};
 use crate::row_size::row_size_within;
-use mysql_bulk::{BulkExecuteRequestError, ComStmtBulkExecuteRequest, StmtBulkExecuteParamValue};
+use crate::{BulkExecuteRequestError, ComStmtBulkExecuteRequest, StmtBulkExecuteParamValue};
 use mysql_cells::Value;
 use mysql_const::StmtBulkExecuteFlags;
 use mysql_values::{Params, ParamsError};
@@ -136,8 +136,8 @@ impl<'a> ComStmtBulkExecuteRequestBuilder<'a> {
     ghost use Rattle.mysql_values.specs.Params.{names_given, values_over};
     ghost use Rattle.mysql_bulk_builder.specs.Builder.{after_build, request_of, HasOneMore, IsFilled};
     ghost use Rattle.mysql_bulk_builder.specs.RequestView.{execution_of};
-    ghost use Rattle.mysql_bulk.specs.Views.{bulk_view};
-    ghost use Rattle.mysql_bulk.specs.declared.error.BulkExecuteRequestError.TheVariants as request_error;
+    ghost use Rattle.mysql_bulk_builder.specs.Views.{bulk_view};
+    ghost use Rattle.mysql_bulk_builder.specs.declared.request_error.BulkExecuteRequestError.TheVariants as request_error;
     ghost use Rattle.mysql_bulk_builder.specs.Adds.{Adds, AddsGiven, GivesBack};
 
     /// A builder of requests of at most `max_allowed_packet - 4` bytes for a prepared statement.
@@ -361,7 +361,7 @@ impl<'a> ComStmtBulkExecuteRequestBuilder<'a> {
 /// Builders are equal where their statement, limit, names, flags and number of values in a row are,
 /// and they hold the same rows.
 impl<'a> PartialEq for ComStmtBulkExecuteRequestBuilder<'a> {
-    ghost use Rattle.mysql_bulk.specs.contracts.param_value.StmtBulkExecuteParamValuePartialEq.TheImpl.Laws.{
+    ghost use Rattle.mysql_bulk_builder.specs.contracts.param_value.StmtBulkExecuteParamValuePartialEq.TheImpl.Laws.{
       laws-law as values_per,
     };
     ghost use Rattle.mysql_bulk_builder.specs.SameBuilder.{same_builder, same_builder_per};

@@ -4,7 +4,7 @@ ghost use Rattle.std.specs.Prelude.{◌≡◌, IfOk};
 ghost use Rattle.mysql_bulk_builder.specs.declared.error.BulkExecuteRequestBuilderError.TheVariants as builder_error;
 ghost use Rattle.mysql_bulk_builder.specs.Errors.{IsSameError, error_of_params, error_of_request};
 
-use mysql_bulk::BulkExecuteRequestError;
+use crate::BulkExecuteRequestError;
 use mysql_values::ParamsError;
 use std::alloc::{AllocError, Global};
 use thiserror::Error;

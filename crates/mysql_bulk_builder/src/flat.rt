@@ -1,9 +1,9 @@
 //! Rows appended to one flat list.
 
 ghost use Rattle.std.specs.Prelude.{◌≡◌, ◌++◌, IfOk, OnErr, OnOk, map};
-ghost use Rattle.mysql_bulk.specs.Bulk.{param_value_of};
+ghost use Rattle.mysql_bulk_builder.specs.Bulk.{param_value_of};
 
-use mysql_bulk::StmtBulkExecuteParamValue;
+use crate::StmtBulkExecuteParamValue;
 use mysql_cells::Value;
 use std::alloc::{AllocError, Global};
 

@@ -5,10 +5,10 @@ ghost use Rattle.std.specs.Iterator.{at_most};
 ghost use Rattle.mysql_bulk_builder.specs.Given.{giving};
 ghost use Rattle.mysql_bulk_builder.specs.Iteration.{Fills};
 
+use crate::ComStmtBulkExecuteRequest;
 use crate::builder::ComStmtBulkExecuteRequestBuilder;
 use crate::error::BulkExecuteRequestBuilderError;
 use crate::given::{Given, Rest};
-use mysql_bulk::ComStmtBulkExecuteRequest;
 use mysql_cells::Value;
 use mysql_values::Params;
 

@@ -3,20 +3,20 @@
 ghost use Rattle.std.specs.Prelude.{◌≡◌, ◌≢◌, ◌++◌, ◌∷◌, []};
 ghost use Rattle.mysql_wire.specs.Incoming.{incoming_at};
 ghost use Rattle.mysql_c_handles.specs.Bytes.{OfBytes};
-ghost use Rattle.mysql_c_login.specs.Greetings.{Greeting, ReadsGreeting, greeting_payload, is_greeting};
-ghost use Rattle.mysql_c_login.specs.Gtids.{PutsBySids};
-ghost use Rattle.mysql_c_login.specs.Logins.{Login, ReadsLogin, is_login, login_payload};
-ghost use Rattle.mysql_c_login.specs.Packets.{FramesIn, IsPackets, IsReadOnIn, OfPackets, RestartsIn, ShowsPayload};
-ghost use Rattle.mysql_c_login.specs.Putting.{Puts, PutsIf};
-ghost use Rattle.mysql_c_login.specs.Replication.{Dump, Replica, dump_payload, is_replica, replica_payload};
-ghost use Rattle.mysql_c_login.specs.Replication.{sids_payload};
+ghost use Rattle.mysql_c_commands.specs.Greetings.{Greeting, ReadsGreeting, greeting_payload, is_greeting};
+ghost use Rattle.mysql_c_commands.specs.Gtids.{PutsBySids};
+ghost use Rattle.mysql_c_commands.specs.Logins.{Login, ReadsLogin, is_login, login_payload};
+ghost use Rattle.mysql_c_commands.specs.Packets.{FramesIn, IsPackets, IsReadOnIn, OfPackets, RestartsIn, ShowsPayload};
+ghost use Rattle.mysql_c_commands.specs.Putting.{Puts, PutsIf};
+ghost use Rattle.mysql_c_commands.specs.Replication.{Dump, Replica, dump_payload, is_replica, replica_payload};
+ghost use Rattle.mysql_c_commands.specs.Replication.{sids_payload};
 
-use mysql_c_handles::Handle;
-use mysql_c_login::{
+use mysql_c_commands::{
     ShownGreeting, ShownLogin, binlog_dump_gtid_put, binlog_dump_put, greeting_put, greeting_read,
     login_put, login_read, packet_put, packets_feed, packets_new, packets_payload, packets_restart,
     register_replica_put,
 };
+use mysql_c_handles::Handle;
 use std::alloc::Global;
 
 /// Makes the handle stand for a reader of packets, of which the first chunk has this number.

@@ -9,7 +9,7 @@ ghost use Rattle.mysql_c_replies.specs.Finding.{ShowsChangeIn, cell_in, column_i
 ghost use Rattle.mysql_c_replies.specs.Finding.{param_in, unlisted_code};
 ghost use Rattle.mysql_c_replies.specs.Shown.{ShowsColumn, ShowsOutcome, ShowsValue, UnlessMemory};
 ghost use Rattle.mysql_const.specs.ColumnTypes.{column_type_named};
-ghost use Rattle.mysql_reply_rules.specs.Written.{ColumnsStep, EndStep, ErrorStep, OkStep, PreparedStep};
+ghost use Rattle.mysql_reply_writer.specs.Written.{ColumnsStep, EndStep, ErrorStep, OkStep, PreparedStep};
 ghost use Rattle.mysql_c_handles.specs.Sets.{unheld_code, values_held};
 ghost use Rattle.mysql_c_replies.specs.Steps.{IsWriter, WritesFrom, columns_given, lacks_columns};
 ghost use Rattle.mysql_c_replies.specs.Writing.{BothStay, EndsWriting, GivesColumn, HasNoSuchType, IsNewWriter};

@@ -1,1 +1,4 @@
 mod FirstError
+pub mod Behind
+pub mod Fields
+pub mod Scrambles

@@ -7,3 +7,11 @@ pub mod Sending
 pub mod Sets
 pub mod Shown
 pub mod Texts
+pub mod Greetings
+pub mod Gtids
+pub mod Logins
+pub mod Packets
+pub mod Putting
+pub mod Reading
+pub mod Replication
+pub mod LoginTexts

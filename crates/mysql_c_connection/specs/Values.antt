@@ -8,7 +8,7 @@ use Rattle.mysql_authentication.specs.Events.{Response as ResponseSaid}
 use Rattle.mysql_cells.specs.declared.value.Value.{Value}
 use Rattle.mysql_commands.specs.Commands as asked
 use Rattle.mysql_commands.specs.Commands.{Command}
-use Rattle.mysql_connect_attributes.specs.Attributes.{Attribute as Pair}
+use Rattle.mysql_handshake_response.specs.Attributes.{Attribute as Pair}
 use Rattle.mysql_connection_rules.specs.Events as said
 use Rattle.mysql_connection_rules.specs.Events.{Event}
 use Rattle.mysql_connection_state.specs.Views.{event_view}

@@ -3,7 +3,7 @@
 ghost use Rattle.std.specs.Prelude.{◌≡◌, MatchOption, MatchResult, None, Some, option_map, slice_get};
 ghost use Rattle.std.specs.Option.{option_and_then, option_copied};
 ghost use Rattle.mysql_commands.specs.Views.{command_view};
-ghost use Rattle.mysql_connect_attributes.specs.AttributeViews.{attributes_view};
+ghost use Rattle.mysql_handshake_response.specs.AttributeViews.{attributes_view};
 ghost use Rattle.mysql_connection_state.specs.Views.{event_view};
 ghost use Rattle.mysql_executions.specs.Views.{bulk_of};
 ghost use Rattle.mysql_reply_events.specs.Views.{event_view as reply_view};
@@ -22,8 +22,8 @@ use mysql_c_handles::start_of;
 use mysql_c_replies::{ShownValue, show_value};
 use mysql_cells::Value;
 use mysql_commands::{Attribute, BulkExecution, BulkValue, Command};
-use mysql_connect_attributes::ConnectAttributes;
 use mysql_connection_state::Event;
+use mysql_handshake_response::ConnectAttributes;
 use mysql_reply_events::ReplyEvent;
 use std::alloc::Global;
 

@@ -3,7 +3,7 @@
 use Rattle.std.specs.Prelude.{ℕ, List, [], Option, Some, None, length}
 use Rattle.mysql_auth.specs.Plugins.{Plugin, plugin_name}
 use Rattle.mysql_authentication.specs.Events as said
-use Rattle.mysql_connect_attributes.specs.Attributes.{Attribute}
+use Rattle.mysql_handshake_response.specs.Attributes.{Attribute}
 use Rattle.mysql_handshake.specs.Capabilities.{offered}
 use Rattle.mysql_handshake.specs.Handshakes.{HandshakeFields}
 use Rattle.mysql_handshake_response.specs.Responses.{ResponseFields}

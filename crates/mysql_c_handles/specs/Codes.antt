@@ -8,8 +8,8 @@ use Rattle.mysql_receive.specs.declared.fault.StreamFault.TheVariants.{NoTypes, 
 use Rattle.mysql_receive.specs.declared.fault.StreamFault.TheVariants.{Indicator, NoRows, PiecesBeforeBulk, Memory}
 use Rattle.mysql_replies.specs.declared.fault.ReplyFault.{ReplyFault}
 use Rattle.mysql_replies.specs.declared.fault.ReplyFault.TheVariants as reply
-use Rattle.mysql_reply_rules.specs.declared.refusal.ReplyRefusal.{ReplyRefusal}
-use Rattle.mysql_reply_rules.specs.declared.refusal.ReplyRefusal.TheVariants as refusal
+use Rattle.mysql_reply_writer.specs.declared.refusal.ReplyRefusal.{ReplyRefusal}
+use Rattle.mysql_reply_writer.specs.declared.refusal.ReplyRefusal.TheVariants as refusal
 use Rattle.mysql_c_handles.specs.declared.code.Code.{Code}
 use Rattle.mysql_c_handles.specs.declared.code.Code.TheVariants as code
 use Rattle.mysql_c_handles.specs.declared.object.Object.{Object}

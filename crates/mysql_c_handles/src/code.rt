@@ -5,7 +5,7 @@ ghost use Rattle.mysql_c_handles.specs.Codes.{code_number, fault_number, refusal
 
 use mysql_receive::StreamFault;
 use mysql_replies::ReplyFault;
-use mysql_reply_rules::ReplyRefusal;
+use mysql_reply_writer::ReplyRefusal;
 
 /// What a call answers: that it is done, or why it isn't.
 #[derive(Clone, Copy)]

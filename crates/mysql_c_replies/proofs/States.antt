@@ -14,9 +14,9 @@ use Rattle.mysql_fields.specs.Texts.{lenenc_text_at}
 use Rattle.mysql_field_constants.specs.ConstantLaws.{named_at-sized}
 use Rattle.mysql_field_constants.specs.Constants.{named_at}
 use Rattle.mysql_field_lists.specs.Lists.{elements_at}
-use Rattle.mysql_session_states.specs.Reading.{EatsBytes, at_most_at, to_end_at}
-use Rattle.mysql_session_states.specs.SessionStates.{State, state_at}
-use Rattle.mysql_session_states.specs.StateLaws.{state_at-eats}
+use Rattle.mysql_ok_packets.specs.Reading.{EatsBytes, at_most_at, to_end_at}
+use Rattle.mysql_ok_packets.specs.SessionStates.{State, state_at}
+use Rattle.mysql_ok_packets.specs.StateLaws.{state_at-eats}
 use Rattle.mysql_c_replies.specs.States.{IsPositionOf, ShowsChange, ShowsChangeAt, ShowsNumbered}
 
 -- the bytes behind the first so many of a list

@@ -7,7 +7,7 @@ use Rattle.mysql_columns.specs.Columns.{ColumnDefinition}
 use Rattle.mysql_ok_packets.specs.OkPackets.{OkPacket, all_states_at}
 use Rattle.mysql_ok_packets.specs.Written.{or_empty, or_zero}
 use Rattle.mysql_fields.specs.Wire.{Reading}
-use Rattle.mysql_session_states.specs.SessionStates.{State}
+use Rattle.mysql_ok_packets.specs.SessionStates.{State}
 use Rattle.mysql_replies.specs.declared.results.ReplyEnd.{ReplyEnd}
 use Rattle.mysql_replies.specs.declared.results.ReplyEnd.TheVariants as ending
 use Rattle.mysql_replies.specs.Grammar as grammar

@@ -1,7 +1,7 @@
 -- Where writing is refused, as C sees it.
 use Rattle.std.specs.Prelude.{ℕ}
-use Rattle.mysql_reply_rules.specs.declared.refusal.ReplyRefusal.{ReplyRefusal}
-use Rattle.mysql_reply_rules.specs.declared.refusal.ReplyRefusal.TheVariants as refusal
+use Rattle.mysql_reply_writer.specs.declared.refusal.ReplyRefusal.{ReplyRefusal}
+use Rattle.mysql_reply_writer.specs.declared.refusal.ReplyRefusal.TheVariants as refusal
 use Rattle.mysql_c_replies.specs.declared.spot.ShownSpot.{ShownSpot}
 
 -- the spot of these numbers

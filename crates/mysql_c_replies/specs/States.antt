@@ -7,7 +7,7 @@ use Rattle.mysql_ok_packets.specs.OkPackets.{all_states_at}
 use Rattle.mysql_ok_packets.specs.Written.{or_empty}
 use Rattle.mysql_fields.specs.Wire.{Reading}
 use Rattle.mysql_field_lists.specs.Lists.{elements_at}
-use Rattle.mysql_session_states.specs.SessionStates.{State, state_at}
+use Rattle.mysql_ok_packets.specs.SessionStates.{State, state_at}
 use Rattle.mysql_c_handles.specs.declared.code.Code.TheVariants as code
 use Rattle.mysql_c_handles.specs.Codes.{code_number}
 

@@ -5,8 +5,8 @@ use Rattle.mysql_ok_packets.specs.Views.{ok_packet_view}
 use Rattle.mysql_server_packets.specs.Views.{prepare_ok_view, server_error_view}
 use Rattle.mysql_replies.specs.Views.{column_views}
 use Rattle.mysql_rows.specs.Views.{row_view}
-use Rattle.mysql_reply_rules.specs.declared.refusal.ReplyRefusal.{ReplyRefusal}
-use Rattle.mysql_reply_rules.specs.Written.{ColumnsStep, EndStep, ErrorStep, OkStep, PreparedStep, RowStep, Step}
+use Rattle.mysql_reply_writer.specs.declared.refusal.ReplyRefusal.{ReplyRefusal}
+use Rattle.mysql_reply_writer.specs.Written.{ColumnsStep, EndStep, ErrorStep, OkStep, PreparedStep, RowStep, Step}
 use Rattle.mysql_reply_writer.specs.Writer.{Refuses, Wrote, columns_of}
 use Rattle.mysql_c_handles.specs.declared.object.Object.{Object}
 use Rattle.mysql_c_handles.specs.declared.object.Object.TheVariants as object

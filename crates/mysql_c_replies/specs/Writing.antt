@@ -6,8 +6,8 @@ use Rattle.mysql_const.specs.declared.column_type.ColumnType.{ColumnType}
 use Rattle.mysql_ok_packets.specs.OkPackets.{OkPacket, unless_empty, unless_zero}
 use Rattle.mysql_server_packets.specs.Packets.{PrepareOk, ServerError}
 use Rattle.mysql_rows.specs.Rows.{Row}
-use Rattle.mysql_reply_rules.specs.Refusals.{end_cause}
-use Rattle.mysql_reply_rules.specs.Written.{RowStep}
+use Rattle.mysql_reply_writer.specs.Refusals.{end_cause}
+use Rattle.mysql_reply_writer.specs.Written.{RowStep}
 use Rattle.mysql_reply_writer.specs.Writer.{columns_of, fresh_writer}
 use Rattle.mysql_c_handles.specs.declared.code.Code.{Code}
 use Rattle.mysql_c_handles.specs.declared.code.Code.TheVariants as code

@@ -19,10 +19,9 @@ use mysql_c_handles::{Code, ShownEnd, number_of_reply_fault, start_of};
 use mysql_cells::Value;
 use mysql_columns::Column;
 use mysql_fields::{ParseExt, WireError};
-use mysql_ok_packets::OkPacket;
+use mysql_ok_packets::{OkPacket, SessionStateInfo};
 use mysql_replies::{ReplyEnd, ReplyResult};
 use mysql_server_packets::{ServerError, StmtPacket};
-use mysql_session_states::SessionStateInfo;
 use std::alloc::Global;
 
 /// A result: its kind, and what that kind has.

@@ -5,7 +5,7 @@ ghost use Rattle.mysql_c_handles.specs.declared.code.Code.TheVariants as code;
 ghost use Rattle.mysql_c_replies.specs.Spots.{spot_at, spot_of};
 
 use mysql_c_handles::Code;
-use mysql_reply_rules::ReplyRefusal;
+use mysql_reply_writer::ReplyRefusal;
 
 /// The result, the row and the cell that are refused, or the number of the payload, all from 0.
 #[repr(C)]

@@ -2,7 +2,7 @@
 
 ghost use Rattle.std.specs.Prelude.{◌≡◌, ◌∷◌, ◌≤◌, [], false, IfErr, OnErr, OnOk, length, take, drop};
 ghost use Rattle.mysql_server_packets.specs.Views.{prepare_ok_view};
-ghost use Rattle.mysql_reply_rules.specs.Written.{ColumnsStep, PreparedStep};
+ghost use Rattle.mysql_reply_writer.specs.Written.{ColumnsStep, PreparedStep};
 ghost use Rattle.mysql_reply_writer.specs.Writer.{Refuses, Wrote};
 ghost use Rattle.mysql_c_handles.specs.Codes.{code_number};
 ghost use Rattle.mysql_c_handles.specs.declared.object.Object.TheVariants as object;
@@ -12,7 +12,7 @@ ghost use Rattle.mysql_c_replies.specs.Steps.{lacks_columns, step_given};
 use crate::given::Given;
 use crate::spot::{ShownSpot, show_refusal};
 use mysql_c_handles::{Code, Handle, Object, WrittenReply};
-use mysql_reply_rules::ReplyRefusal;
+use mysql_reply_writer::ReplyRefusal;
 use mysql_server_packets::StmtPacket;
 use std::alloc::Global;
 use std::mem::replace;

@@ -6,7 +6,7 @@ ghost use Rattle.std.specs.Rc.{rc_slice_items};
 ghost use Rattle.mysql_columns.specs.Views.{column_view};
 ghost use Rattle.mysql_const.specs.ColumnTypes.{column_type_named};
 ghost use Rattle.mysql_server_packets.specs.Views.{sql_state_view};
-ghost use Rattle.mysql_reply_rules.specs.Written.{ColumnsStep, EndStep, ErrorStep, OkStep, PreparedStep};
+ghost use Rattle.mysql_reply_writer.specs.Written.{ColumnsStep, EndStep, ErrorStep, OkStep, PreparedStep};
 ghost use Rattle.mysql_rows.specs.Views.{row_view};
 ghost use Rattle.mysql_c_handles.specs.Codes.{code_number};
 ghost use Rattle.mysql_c_handles.specs.Sets.{unheld_code, values_held};

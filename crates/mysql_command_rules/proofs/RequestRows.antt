@@ -11,7 +11,7 @@ use Rattle.mysql_values.specs.Content.TheVariants as content
 use Rattle.mysql_values.specs.Value.{Value}
 use Rattle.mysql_values.specs.Value.TheVariants.{NULL, Bytes, Int, UInt, Float, Double, Date, Time}
 use Rattle.mysql_values.specs.Values.{content_of}
-use Rattle.mysql_bulk.specs.Bulk.{all_values, param_value_bytes, param_value_of}
+use Rattle.mysql_bulk_builder.specs.Bulk.{all_values, param_value_bytes, param_value_of}
 use Rattle.mysql_bulk_builder.specs.Cut.{Row}
 use Rattle.mysql_bulk_builder.specs.ValueTypes.{is_null, sent_type}
 use Rattle.mysql_receive.specs.declared.fault.StreamFault.TheVariants.{BadBulk}

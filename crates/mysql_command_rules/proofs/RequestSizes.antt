@@ -8,7 +8,7 @@ use Rattle.byteorder.specs.Numbers.{length-bytes_low_first}
 use Rattle.mysql_values.specs.CellLaws.{CellLength}
 use Rattle.mysql_values.specs.Cells.{bin_len, cell}
 use Rattle.mysql_values.specs.Value.{Value}
-use Rattle.mysql_bulk.specs.Bulk.{bulk_execution, param_type_bytes, type_of_value}
+use Rattle.mysql_bulk_builder.specs.Bulk.{bulk_execution, param_type_bytes, type_of_value}
 use Rattle.mysql_bulk_builder.specs.Cut.{Row, row_size, rows_of, rows_size}
 use Rattle.mysql_bulk_builder.specs.TypedCut.{Typed, Untyped}
 use Rattle.mysql_bulk_builder.specs.ValueTypes.{first_in_column}

@@ -11,7 +11,7 @@ use Rattle.mysql_const.specs.FlagSets.{contains}
 use Rattle.mysql_wire.specs.Wire.{◌>>=◌}
 use Rattle.mysql_values.specs.Value.{Value}
 use Rattle.mysql_values.specs.Value.TheVariants.{NULL, Bytes, Int, UInt, Float, Double, Date, Time}
-use Rattle.mysql_bulk.specs.Bulk.{bulk_execution, param_type_bytes, type_of_value}
+use Rattle.mysql_bulk_builder.specs.Bulk.{bulk_execution, param_type_bytes, type_of_value}
 use Rattle.mysql_bulk_builder.specs.Cut.{Row, rows_of}
 use Rattle.mysql_bulk_builder.specs.InForce.{TypesServe, covered}
 use Rattle.mysql_bulk_builder.specs.TypedCut.{PartFits, Typed, Typing, Untyped}

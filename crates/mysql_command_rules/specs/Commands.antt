@@ -8,7 +8,7 @@ use Rattle.mysql_const.specs.declared.command.Command.TheVariants.{COM_QUERY, CO
 use Rattle.mysql_cells.specs.declared.value.Value.{Value}
 use Rattle.mysql_cells.specs.declared.value.Value.TheVariants.{Bytes}
 use Rattle.mysql_stmt.specs.Commands.{long_data}
-use Rattle.mysql_bulk.specs.Bulk.{bulk_execution, param_value_of, type_of_value}
+use Rattle.mysql_bulk_builder.specs.Bulk.{bulk_execution, param_value_of, type_of_value}
 use Rattle.mysql_bulk_builder.specs.Cut.{Row, rows_of}
 use Rattle.mysql_bulk_builder.specs.TypedCut.{Typed, Typing, Untyped}
 use Rattle.mysql_bulk_builder.specs.ValueTypes.{first_in_column}

@@ -22,8 +22,8 @@ use Rattle.mysql_fields.specs.Texts.{u32_text_at}
 use Rattle.mysql_fields.specs.Wire.{Reading, ◌>>=◌}
 use Rattle.mysql_fields.specs.declared.error.WireError.{WireError}
 use Rattle.mysql_fields.specs.declared.error.WireError.TheVariants.{UnknownValue}
-use Rattle.mysql_gtid.specs.Blocks.{IsSid, block_at, block_bytes}
-use Rattle.mysql_gtid.specs.Sids.{SidParts}
+use Rattle.mysql_replication.specs.Blocks.{IsSid, block_at, block_bytes}
+use Rattle.mysql_replication.specs.Sids.{SidParts}
 use Rattle.mysql_replication.specs.PacketLaws.{binlog_dump_gtid_at-back}
 use Rattle.mysql_replication.specs.Packets as replica
 use Rattle.mysql_replication.specs.Packets.{IsBinlogDumpGtid, binlog_dump_gtid, binlog_dump_gtid_at}

@@ -6,14 +6,14 @@ use Rattle.mysql_buf.specs.FirstBytes.{first-some}
 use Rattle.mysql_buf.specs.Reading as buffer
 use Rattle.mysql_buf.specs.Reading.{little_at}
 use Rattle.mysql_const.specs.BinlogDumpFlags.{binlog_dump_flags}
-use Rattle.mysql_connect_attributes.proofs.AttributesHeld.{taken_bytes}
+use Rattle.mysql_handshake_response.proofs.AttributesHeld.{taken_bytes}
 use Rattle.mysql_field_constants.specs.Constants.{constant_at, named_at}
 use Rattle.mysql_field_constants.specs.Flags.{are_named, binlog_dump_named}
 use Rattle.mysql_fields.specs.Forms.{fixed_number_at}
 use Rattle.mysql_fields.specs.Laws.{bind_ok, ok_same}
 use Rattle.mysql_fields.specs.Texts.{u32_text_at}
 use Rattle.mysql_fields.specs.Wire.{or_end}
-use Rattle.mysql_gtid.specs.Blocks.{block_at, block_bytes}
+use Rattle.mysql_replication.specs.Blocks.{block_at, block_bytes}
 use Rattle.mysql_login.proofs.FieldsRead.{constant_read, left_bytes, number_read, stands}
 use Rattle.mysql_replication.specs.Packets as replica
 use Rattle.mysql_replication.specs.Packets.{BinlogDumpGtidStart, binlog_dump_gtid_at, binlog_dump_gtid_fields_at}

@@ -20,14 +20,14 @@ use Rattle.mysql_fields.specs.Laws.{bind_ok, ok_same}
 use Rattle.mysql_fields.specs.Texts.{varlen_text, varlen_text_at}
 use Rattle.mysql_fields.specs.Wire.{Reading, or_end}
 use Rattle.mysql_fields.specs.declared.error.WireError.TheVariants.{UnknownValue}
-use Rattle.mysql_gtid.proofs.Blocks.{tag_bytes_len, tag_is_short}
-use Rattle.mysql_gtid.specs.BlockLaws.{Keeps}
-use Rattle.mysql_gtid.specs.Blocks.{IsInterval, IsSid, IsTagOrNone, any_tag, block_at, block_bytes, block_number}
-use Rattle.mysql_gtid.specs.Blocks.{count_said, interval_at, interval_bytes, is_tag, says_tagged, sid_at, sid_bytes}
-use Rattle.mysql_gtid.specs.Blocks.{tag_at, tag_bytes, tag_named}
-use Rattle.mysql_gtid.specs.Sids.{SidParts}
-use Rattle.mysql_gtid.specs.Tags.{tag_fault}
-use Rattle.mysql_gtid.specs.declared.interval.GnoInterval.{GnoInterval}
+use Rattle.mysql_replication.proofs.Blocks.{tag_bytes_len, tag_is_short}
+use Rattle.mysql_replication.specs.BlockLaws.{Keeps}
+use Rattle.mysql_replication.specs.Blocks.{IsInterval, IsSid, IsTagOrNone, any_tag, block_at, block_bytes, block_number}
+use Rattle.mysql_replication.specs.Blocks.{count_said, interval_at, interval_bytes, is_tag, says_tagged, sid_at, sid_bytes}
+use Rattle.mysql_replication.specs.Blocks.{tag_at, tag_bytes, tag_named}
+use Rattle.mysql_replication.specs.Sids.{SidParts}
+use Rattle.mysql_replication.specs.Tags.{tag_fault}
+use Rattle.mysql_replication.specs.declared.interval.GnoInterval.{GnoInterval}
 use Rattle.mysql_login.proofs.FieldsRead.{left_bytes, stands}
 
 -- so many bytes are written at most of what was read, and bytes are left

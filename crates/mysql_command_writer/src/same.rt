@@ -2,11 +2,11 @@
 
 ghost use Rattle.std.specs.Prelude.{◌≡◌, ◌↔◌, IsTrue, length, option_map, slice_get};
 ghost use Rattle.mysql_auth.specs.Views.{plugin_view};
-ghost use Rattle.mysql_connect_attributes.specs.AttributeViews.{attributes_view};
+ghost use Rattle.mysql_handshake_response.specs.AttributeViews.{attributes_view};
 ghost use Rattle.mysql_login.specs.ChangedUserViews.{change_user_view, more_view};
 
 use mysql_auth::AuthPlugin;
-use mysql_connect_attributes::ConnectAttributes;
+use mysql_handshake_response::ConnectAttributes;
 use mysql_login::{ComChangeUser, ComChangeUserMoreData};
 
 /// Two plugins of the same kind, with the same parts.

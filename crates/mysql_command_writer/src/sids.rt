@@ -2,10 +2,10 @@
 
 ghost use Rattle.std.specs.Prelude.{map};
 ghost use Rattle.std.specs.List.{AllByRecursion};
-ghost use Rattle.mysql_gtid.specs.Blocks.{IsInterval, IsSid, IsTagOrNone};
-ghost use Rattle.mysql_gtid.specs.Sids.{sid_view};
+ghost use Rattle.mysql_replication.specs.Blocks.{IsInterval, IsSid, IsTagOrNone};
+ghost use Rattle.mysql_replication.specs.Sids.{sid_view};
 
-use mysql_gtid::{GnoInterval, Sid};
+use mysql_replication::{GnoInterval, Sid};
 
 /// An interval's numbers have eight bytes.
 fn interval_is(interval: &GnoInterval)

@@ -6,7 +6,7 @@ ghost use Rattle.std.specs.Option.{option_copied};
 ghost use Rattle.mysql_buf.specs.Reading.{is_zero};
 ghost use Rattle.mysql_const.specs.BinlogDumpFlags.{binlog_dump_flags};
 ghost use Rattle.mysql_field_constants.specs.Flags.{are_named};
-ghost use Rattle.mysql_gtid.specs.Blocks.{block_bytes};
+ghost use Rattle.mysql_replication.specs.Blocks.{block_bytes};
 ghost use Rattle.mysql_login.specs.ChangedUserViews.{change_user_view};
 ghost use Rattle.mysql_login.specs.ChangedUsers.{change_in_force_at};
 ghost use Rattle.mysql_replication.specs.Views.{binlog_dump_gtid_view, binlog_dump_view, register_slave_view};
@@ -26,9 +26,10 @@ use mysql_buf::ParseBuf;
 use mysql_commands::{Capabilities, Command, StatementParameters};
 use mysql_const::BinlogDumpFlags;
 use mysql_fields::{MySerialize, WireError};
-use mysql_gtid::SidBlock;
 use mysql_login::ComChangeUser;
-use mysql_replication::{ComBinlogDump, ComBinlogDumpGtid, ComRegisterSlave, ComTableDump};
+use mysql_replication::{
+    ComBinlogDump, ComBinlogDumpGtid, ComRegisterSlave, ComTableDump, SidBlock,
+};
 use std::alloc::{AllocError, Global};
 use std::borrow::CowSlice;
 

@@ -16,7 +16,7 @@ use Rattle.mysql_connection_statements.specs.Statements.{Statement, change_at, c
 use Rattle.mysql_executions.specs.After.{after_execution, after_long_data, after_reset, bulk_types, execution_types}
 use Rattle.mysql_executions.specs.InForce.{InForce}
 use Rattle.mysql_executions.specs.Types.{has_bulk_operations, unnamed}
-use Rattle.mysql_execution_contents.specs.Agreement.{after_bulk, is_about_parameters, with_data}
+use Rattle.mysql_connection_recoding.specs.Agreement.{after_bulk, is_about_parameters, with_data}
 use Rattle.mysql_connection_contents.specs.Contents.{Stands, is_id, is_logged_in}
 use Rattle.mysql_connection_contents.proofs.Statements.{OwnIds, changed_elsewhere, changed_own, closed_elsewhere, put_elsewhere, put_own}
 

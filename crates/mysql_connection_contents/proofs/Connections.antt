@@ -9,7 +9,7 @@ use Rattle.mysql_connection_rules.specs.Steps.{id_in_question, step}
 use Rattle.mysql_connection_rules.specs.Streams.{numbered}
 use Rattle.mysql_executions.specs.InForce.{InForce}
 use Rattle.mysql_executions.specs.Types.{has_bulk_operations, has_query_attributes}
-use Rattle.mysql_execution_contents.specs.Agreement.{Agree, BulksInForce, EachIsRead, after_payload, all_there, is_about_parameters, is_bulk, sets_of}
+use Rattle.mysql_connection_recoding.specs.Agreement.{Agree, BulksInForce, EachIsRead, after_payload, all_there, is_about_parameters, is_bulk, sets_of}
 use Rattle.mysql_receive.specs.Audit.{Reads}
 use Rattle.mysql_receive.specs.Audit.Reads.{next}
 use Rattle.mysql_receive.specs.InForce.{StatementState}

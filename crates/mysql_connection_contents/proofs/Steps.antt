@@ -16,8 +16,8 @@ use Rattle.mysql_connection_rules.specs.Steps.{after_authentication, after_comma
 use Rattle.mysql_connection_rules.specs.Steps.{of_login, of_reply, parameters_in_question, says, statement_in_question, step, turn_in_reply}
 use Rattle.mysql_connection_statements.specs.Statements.{Statement, counted, is_reset, statement_at, with_long_data}
 use Rattle.mysql_executions.specs.InForce.{InForce}
-use Rattle.mysql_execution_contents.specs.Agreement.{after_payload, is_about_parameters, sets_of}
-use Rattle.mysql_execution_contents.proofs.Commands.{about_by}
+use Rattle.mysql_connection_recoding.specs.Agreement.{after_payload, is_about_parameters, sets_of}
+use Rattle.mysql_connection_recoding.proofs.Commands.{about_by}
 use Rattle.mysql_reply_events.specs.Events.{Event as ReplySaid, ReplySoFar}
 use Rattle.mysql_reply_events.specs.Table.{event_at, file_data_at}
 use Rattle.mysql_connection_contents.specs.Contents.{CommandLeaves, EventLeaves, IsSettled, LeavesIn, Stands, is_due, is_id, is_logged_in, sets_said}

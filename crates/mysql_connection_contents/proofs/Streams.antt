@@ -4,7 +4,7 @@ use Rattle.mysql_connection_rules.specs.Steps.{step}
 use Rattle.mysql_connection_rules.specs.Streams.{World, moved, numbered, start}
 use Rattle.mysql_executions.specs.After.{freshly_prepared}
 use Rattle.mysql_executions.specs.Types.{has_bulk_operations, has_query_attributes}
-use Rattle.mysql_execution_contents.specs.Agreement.{EachIsRead, PreparedAgree}
+use Rattle.mysql_connection_recoding.specs.Agreement.{EachIsRead, PreparedAgree}
 use Rattle.mysql_receive.specs.InForce as receive
 use Rattle.mysql_receive.specs.Query.{place_count}
 use Rattle.mysql_connection_contents.specs.Contents.{Heard, IdsAreOwn, IsSettled, Spoke, Spoken, StreamsAreReceived}

@@ -4,7 +4,7 @@
 use Rattle.std.specs.Prelude.{◌≡◌, ◌≢◌, ℕ, Bool, true, false, not, ◌==◌, ◌&&◌, List, []}
 use Rattle.std.specs.Prelude.{◌∷◌, ◌++◌, ◌⊎◌, map, Option, Some, None, Ok}
 use Rattle.std.specs.List.{AllByRecursion, filter, list_all}
-use Rattle.mysql_connection_packets.specs.FirstPacket.{Whole, first_packet}
+use Rattle.mysql_wire.specs.FirstPacket.{Whole, first_packet}
 use Rattle.mysql_connection_rules.specs.declared.limits.Limits.{Limits}
 use Rattle.mysql_connection_rules.specs.declared.side.Side.{Side}
 use Rattle.mysql_connection_rules.specs.Events.{Event}
@@ -20,8 +20,8 @@ use Rattle.mysql_connection_rules.specs.Streams.{start, stream_of}
 use Rattle.mysql_connection_statements.specs.Statements.{IsOrdered, Statement, Statements}
 use Rattle.mysql_connection_statements.specs.Statements.{no_statements, statement_at}
 use Rattle.mysql_const.specs.declared.capabilities.Capabilities.{Capabilities}
-use Rattle.mysql_execution_contents.specs.Agreement.{Agree, BulksInForce, all_there}
-use Rattle.mysql_execution_contents.specs.Agreement.{is_about_parameters, sets_of}
+use Rattle.mysql_connection_recoding.specs.Agreement.{Agree, BulksInForce, all_there}
+use Rattle.mysql_connection_recoding.specs.Agreement.{is_about_parameters, sets_of}
 use Rattle.mysql_executions.specs.After.{freshly_prepared, is_disputed, malformed_packet}
 use Rattle.mysql_executions.specs.After.{unsupported_command}
 use Rattle.mysql_executions.specs.InForce.{InForce}

@@ -1,1 +1,6 @@
 pub mod Contents
+pub mod Records
+pub mod Deliveries
+pub mod PacketLaws
+pub mod Calls
+pub mod Promise

@@ -7,8 +7,10 @@ ghost use Rattle.mysql_connection_contents.specs.Contents.{HeardIsSpoken, IdsBeg
 ghost use Rattle.mysql_connection_contents.specs.Contents.{PreparedStatementsStand, RunsAreHeard};
 ghost use Rattle.mysql_connection_contents.specs.Contents.{StreamsAreReceived};
 
+use mysql_connection_recoding::content_laws::{
+    prepared_statements_agree, received_commands_are_read,
+};
 use mysql_connection_rules::laws::last_words_are_last;
-use mysql_execution_contents::laws::{prepared_statements_agree, received_commands_are_read};
 
 /// What `receive` reads of commands about one prepared statement, a connection's events say.
 ///
@@ -17,9 +19,9 @@ use mysql_execution_contents::laws::{prepared_statements_agree, received_command
 /// have the contents that it reads, in the same order, and there is nothing between. Whatever else
 /// is said on the connection doesn't matter, as long as
 ///
-/// - the statement stands, and what is in force of its parameters is what `receive` has in force, as
+/// - the statement is prepared, and what is in force of its parameters is what `receive` has in force, as
 ///   it is behind a prepare;
-/// - it goes on to stand: it isn't closed, the user isn't changed, the session doesn't begin anew,
+/// - it stays prepared: it isn't closed, the user isn't changed, the session doesn't begin anew,
 ///   and no other statement gets its id;
 /// - an execution of it that is refused was read by the server, whose error is neither 1835 nor
 ///   1295;
@@ -37,14 +39,14 @@ pub fn connection_executions_are_received()
     received_commands_are_read();
 }
 
-/// Behind the server's answer to a prepare the statement stands, with no types in force.
+/// Behind the server's answer to a prepare the statement is known, with no types in force.
 pub fn prepared_statements_stand()
     ensures { PreparedStatementsStand }
 {}
 
 /// The ids of a connection's statements ascend, at first and whatever is said.
 ///
-/// So each statement has an id of its own. At the greeting, and behind a login, there is none.
+/// So no two statements have the same id. At the greeting, and behind a login, there is none.
 pub fn statements_keep_own_ids()
     ensures none { BothBeginWithNone }
     ensures begins { IdsBeginOwn }

@@ -1,7 +1,7 @@
 -- Where a whole packet stands first, something comes next.
 use Rattle.std.proofs.Common.{◌≢◌, refl, ℕ, Bool, true, false, List, Ok, Err, if◌then◌else◌}
-use Rattle.mysql_connection_packets.specs.FirstPacket.{Found, OutOfSync, Short, TooLarge, Whole}
-use Rattle.mysql_connection_packets.specs.Views.{HasManyChunks}
+use Rattle.mysql_wire.specs.FirstPacket.{Found, OutOfSync, Short, TooLarge, Whole}
+use Rattle.mysql_wire.specs.Views.{HasManyChunks}
 use Rattle.mysql_connection_rules.specs.Events.{Event}
 use Rattle.mysql_connection_rules.specs.Steps.{Step}
 use Rattle.mysql_connection_rules.specs.Streams.{Failure, Fails, Says, Waits, World, said_by}

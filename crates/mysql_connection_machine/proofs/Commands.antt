@@ -2,11 +2,11 @@
 use Rattle.std.proofs.Common.{◌≡◌, ◌≤◌, ◌+◌, ◌-◌, ℕ, List, ◌++◌, Option, Some, None, Ok, Err, true, length, take, drop, refl, sym, ap, subst, ◌∙◌, arith}
 use Rattle.std.proofs.lemmas.List.{drop-drop, drop_at}
 use Rattle.std.specs.Prelude.{slice_index_or}
-use Rattle.mysql_connection_agreement.specs.Puts.{is_free, number_for, packets_for}
-use Rattle.mysql_connection_packets.specs.FirstPacket.{first_packet, next_number}
-use Rattle.mysql_connection_packets.specs.OneChunk.{IsOneChunk}
-use Rattle.mysql_connection_peek.specs.Laws.{PayloadsAreInTurn}
-use Rattle.mysql_connection_peek.specs.Peeks.{said_in}
+use Rattle.mysql_connection_rules.specs.Puts.{is_free, number_for, packets_for}
+use Rattle.mysql_wire.specs.FirstPacket.{first_packet, next_number}
+use Rattle.mysql_wire.specs.OneChunk.{IsOneChunk}
+use Rattle.mysql_connection_state.specs.Laws.{PayloadsAreInTurn}
+use Rattle.mysql_connection_state.specs.Peeks.{said_in}
 use Rattle.mysql_connection_rules.specs.Events.{Event}
 use Rattle.mysql_connection_rules.specs.Standing.{Phase, Standing}
 use Rattle.mysql_connection_rules.specs.Standing as phases

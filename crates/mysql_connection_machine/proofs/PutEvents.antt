@@ -1,9 +1,9 @@
 -- What is put, by what was written of it.
 use Rattle.std.proofs.Common.{◌<◌, ℕ, List, OnOk, Option, Some, None, Result, Ok, Err, refl, subst, sym}
-use Rattle.mysql_connection_agreement.specs.Laws.{PutsAreRead}
-use Rattle.mysql_connection_agreement.specs.Machines.{Puts}
-use Rattle.mysql_connection_agreement.specs.Puts.{packets_for}
-use Rattle.mysql_connection_agreement.specs.Refusals.{IsUnsaid, Written}
+use Rattle.mysql_connection_rules.specs.AgreementLaws.{PutsAreRead}
+use Rattle.mysql_connection_rules.specs.PuttingMachines.{Puts}
+use Rattle.mysql_connection_rules.specs.Puts.{packets_for}
+use Rattle.mysql_connection_rules.specs.Refusals.{IsUnsaid, Written}
 use Rattle.mysql_connection_rules.specs.Events.{Event, side_of}
 use Rattle.mysql_connection_rules.specs.Streams.{World}
 use Rattle.mysql_connection_writer.specs.Writes.{IsUnread, Says}

@@ -2,9 +2,9 @@
 use Rattle.std.proofs.Common.{◌≡◌, ◌+◌, ◌-◌, ◌≤◌, ◌++◌, ◌∷◌, [], ℕ, true, List, Option, Some, None, Ok, drop, take, length, refl, subst, sym, ap, ◌∙◌, arith, length-drop}
 use Rattle.std.proofs.lemmas.List.{drop-drop, take_rest}
 use Rattle.std.specs.Prelude.{◌&&◌, slice_index_or}
-use Rattle.mysql_connection_agreement.specs.Puts.{is_free, is_turn}
-use Rattle.mysql_connection_packets.specs.FirstPacket.{Whole, first_packet}
-use Rattle.mysql_connection_packets.specs.Laws.{PacketsTakeBytes, TakesBytes}
+use Rattle.mysql_connection_rules.specs.Puts.{is_free, is_turn}
+use Rattle.mysql_wire.specs.FirstPacket.{Whole, first_packet}
+use Rattle.mysql_wire.specs.FirstPacketLaws.{PacketsTakeBytes, TakesBytes}
 use Rattle.mysql_connection_rules.specs.Standing.{Phase}
 use Rattle.mysql_connection_rules.specs.Streams.{Failure, Stream, World, limit_of}
 use Rattle.mysql_connection_rules.specs.declared.limits.Limits.{Limits}

@@ -1,10 +1,10 @@
 -- What is put by its payload.
 use Rattle.std.proofs.Common.{◌≡◌, ◌<◌, ◌≤◌, ℕ, Bool, true, false, List, Option, None, Ok, Err, length, refl, subst, sym, ap, ◌∙◌}
 use Rattle.std.specs.Prelude.{◌&&◌}
-use Rattle.mysql_connection_agreement.specs.Laws.{PutsAreRead}
-use Rattle.mysql_connection_agreement.specs.Puts.{has_place, is_due, is_free, is_turn, same_side, step_for}
-use Rattle.mysql_connection_peek.specs.Laws.{IsInTurn, PayloadsAreInTurn}
-use Rattle.mysql_connection_peek.specs.Peeks.{said_in}
+use Rattle.mysql_connection_rules.specs.AgreementLaws.{PutsAreRead}
+use Rattle.mysql_connection_rules.specs.Puts.{has_place, is_due, is_free, is_turn, same_side, step_for}
+use Rattle.mysql_connection_state.specs.Laws.{IsInTurn, PayloadsAreInTurn}
+use Rattle.mysql_connection_state.specs.Peeks.{said_in}
 use Rattle.mysql_connection_rules.specs.Events.{Event, side_of}
 use Rattle.mysql_connection_rules.specs.Standing.{Standing}
 use Rattle.mysql_connection_rules.specs.Steps.{Step, step, turn}

@@ -3,9 +3,9 @@ use Rattle.std.proofs.Common.{◌≡◌, ◌≤◌, ℕ, Bool, true, false, List
 use Rattle.std.proofs.lemmas.Bool.Decides.{nat_tests}
 use Rattle.std.specs.Prelude.{if◌then◌else◌, nat_le}
 use Rattle.mysql_authentication.specs.Readings.{early_error_at}
-use Rattle.mysql_connection_agreement.specs.Puts.{step_for, words_at}
-use Rattle.mysql_connection_peek.specs.Laws.{PayloadsAreInTurn}
-use Rattle.mysql_connection_peek.specs.Peeks.{or_bad_error, said_in, words_step}
+use Rattle.mysql_connection_rules.specs.Puts.{step_for, words_at}
+use Rattle.mysql_connection_state.specs.Laws.{PayloadsAreInTurn}
+use Rattle.mysql_connection_state.specs.Peeks.{or_bad_error, said_in, words_step}
 use Rattle.mysql_connection_rules.specs.Events.{Event}
 use Rattle.mysql_connection_rules.specs.Events as events
 use Rattle.mysql_connection_rules.specs.Standing.{Standing, kept}

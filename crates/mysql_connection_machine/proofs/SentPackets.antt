@@ -5,8 +5,8 @@ use Rattle.std.specs.Prelude.{slice_index_or}
 use Rattle.std.specs.List.{AllByRecursion, flat_map, range_with_len}
 use Rattle.mysql_wire.specs.Framing.{max_payload_len, chunk, slice, chunks, framing, chunk_count, number_after}
 use Rattle.mysql_wire.specs.Stream.{Numbering, first_number, after, after_all, framings}
-use Rattle.mysql_connection_packets.specs.FirstPacket.{Short, Whole, first_packet, packet_by}
-use Rattle.mysql_connection_packets.specs.Laws.{FramingsAreFound}
+use Rattle.mysql_wire.specs.FirstPacket.{Short, Whole, first_packet, packet_by}
+use Rattle.mysql_wire.specs.FirstPacketLaws.{FramingsAreFound}
 use Rattle.mysql_connection_rules.specs.Streams.{limit_of}
 use Rattle.mysql_connection_rules.specs.declared.limits.Limits.{Limits}
 use Rattle.mysql_connection_rules.specs.declared.side.Side.{Side}

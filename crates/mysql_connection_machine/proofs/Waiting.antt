@@ -1,8 +1,8 @@
 -- Whether a connection waits, by whether less than a packet stands first of a stream.
 use Rattle.std.proofs.Common.{◌≡◌, ℕ, Bool, true, false, not, ◌&&◌, ◌||◌, List, Ok, Err}
 use Rattle.std.proofs.Common.{refl, ap, ◌∙◌, if◌then◌else◌, slice_index_or, nat_le}
-use Rattle.mysql_connection_packets.specs.FirstPacket.{Found, OutOfSync, Short, TooLarge, Whole}
-use Rattle.mysql_connection_packets.specs.FirstPacket.{first_packet, is_short}
+use Rattle.mysql_wire.specs.FirstPacket.{Found, OutOfSync, Short, TooLarge, Whole}
+use Rattle.mysql_wire.specs.FirstPacket.{first_packet, is_short}
 use Rattle.mysql_connection_rules.specs.declared.fault.Fault.TheVariants as faults
 use Rattle.mysql_connection_rules.specs.declared.side.Side.{Side}
 use Rattle.mysql_connection_rules.specs.declared.side.Side.TheVariants.{Client, Server}
@@ -14,7 +14,7 @@ use Rattle.mysql_connection_rules.specs.Streams.{has_number, is_early}
 use Rattle.mysql_connection_rules.specs.Streams.{moved, of_server, room_to_keep, said_by, server_by}
 use Rattle.mysql_connection_rules.specs.Streams.{words, words_by}
 use Rattle.mysql_connection_machine.specs.Endings.{is_waiting, server_number}
-use Rattle.mysql_connection_peek.specs.Peeks.{words_step}
+use Rattle.mysql_connection_state.specs.Peeks.{words_step}
 use Rattle.mysql_connection_machine.proofs.Words.{words_said}
 
 led : (b : Bool) (w new : World) (side : Side) (event : Event) →

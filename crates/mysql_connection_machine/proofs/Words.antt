@@ -10,7 +10,7 @@ use Rattle.mysql_connection_rules.specs.Events as events
 use Rattle.mysql_connection_rules.specs.Steps.{over, says}
 use Rattle.mysql_connection_rules.specs.Streams.{World, begins_error, fails, farewell, said_by}
 use Rattle.mysql_connection_rules.specs.Streams.{words_or}
-use Rattle.mysql_connection_peek.specs.Peeks.{or_bad_error, words_step}
+use Rattle.mysql_connection_state.specs.Peeks.{or_bad_error, words_step}
 
 -- by whether the payload begins as an error, and by what is read of it
 said : (w : World) (number : ℕ) (rest : List ℕ) (begins : Bool) (read : Reading ServerError) →

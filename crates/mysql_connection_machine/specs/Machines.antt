@@ -4,7 +4,7 @@ use Rattle.std.specs.Prelude.{◌≡◌, ◌≢◌, ◌+◌, ◌-◌, ◌≤◌,
 use Rattle.std.specs.Prelude.{if◌then◌else◌}
 use Rattle.std.specs.Prelude.{Option, Some, None, Result, Ok, Err}
 use Rattle.std.specs.Option.{option_and_then}
-use Rattle.mysql_connection_packets.specs.FirstPacket.{Found, Whole, first_packet}
+use Rattle.mysql_wire.specs.FirstPacket.{Found, Whole, first_packet}
 use Rattle.mysql_connection_rules.specs.Laws.{WithinLimits, unread_length}
 use Rattle.mysql_connection_rules.specs.declared.fault.Fault.TheVariants as faults
 use Rattle.mysql_connection_rules.specs.declared.side.Side.{Side}

@@ -1,7 +1,7 @@
 -- A row behind another one, taken where it lies.
 -- MySQL: Client/Server Protocol, "Text Resultset Row" and "Binary Protocol Resultset Row".
 use Rattle.std.specs.Prelude.{◌≡◌, Bool, true, false, Some, Ok}
-use Rattle.mysql_connection_packets.specs.FirstPacket.{first_packet}
+use Rattle.mysql_wire.specs.FirstPacket.{first_packet}
 use Rattle.mysql_connection_rules.specs.declared.limits.Limits.{Limits}
 use Rattle.mysql_connection_rules.specs.declared.side.Side.TheVariants.{Server}
 use Rattle.mysql_connection_rules.specs.Standing.{Standing}

@@ -1,8 +1,8 @@
 -- Commands that are put by their payloads, of which no event is made: words of the code's own.
 -- MySQL: Client/Server Protocol, "Command Phase" and "MySQL Packets".
 use Rattle.std.specs.Prelude.{◌≡◌, ◌≤◌, ℕ, true, List, drop, length, Option, Some, None, Ok}
-use Rattle.mysql_connection_agreement.specs.Puts.{is_free}
-use Rattle.mysql_connection_packets.specs.FirstPacket.{Whole}
+use Rattle.mysql_connection_rules.specs.Puts.{is_free}
+use Rattle.mysql_wire.specs.FirstPacket.{Whole}
 use Rattle.mysql_connection_rules.specs.Events.{Event}
 use Rattle.mysql_connection_rules.specs.Events.Event.{Asked}
 use Rattle.mysql_connection_rules.specs.Standing as phases

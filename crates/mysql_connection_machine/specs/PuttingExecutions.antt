@@ -4,7 +4,7 @@ use Rattle.std.specs.Prelude.{◌≡◌, ◌≤◌, ℕ, List, ◌++◌, length,
 use Rattle.std.specs.Option.{option_map}
 use Rattle.std.specs.declared.alloc.AllocError.{AllocError}
 use Rattle.mysql_cells.specs.declared.value.Value.{Value}
-use Rattle.mysql_connection_agreement.specs.Puts.{step_for}
+use Rattle.mysql_connection_rules.specs.Puts.{step_for}
 use Rattle.mysql_connection_rules.specs.Standing.{Standing}
 use Rattle.mysql_connection_state.specs.Follows.{after_settled}
 use Rattle.mysql_connection_writer.specs.Executions.{execution_said}

@@ -2,8 +2,8 @@
 -- MySQL: Client/Server Protocol, "MySQL Packets" and "Sequence ID".
 use Rattle.std.specs.Prelude.{◌≡◌, ◌⊎◌, ℕ, ◌≤◌, true, false, List, [], ◌∷◌, drop, length, slice_index_or}
 use Rattle.std.specs.Prelude.{Option, Some, None, Result, Ok, Err}
-use Rattle.mysql_connection_packets.specs.FirstPacket.{Found, OutOfSync, Short, TooLarge, Whole}
-use Rattle.mysql_connection_packets.specs.FirstPacket.{first_packet}
+use Rattle.mysql_wire.specs.FirstPacket.{Found, OutOfSync, Short, TooLarge, Whole}
+use Rattle.mysql_wire.specs.FirstPacket.{first_packet}
 use Rattle.mysql_connection_rules.specs.Streams.{limit_of}
 use Rattle.mysql_connection_rules.specs.declared.fault.Fault.TheVariants as faults
 use Rattle.mysql_connection_rules.specs.declared.side.Side.{Side}

@@ -2,8 +2,8 @@
 -- MySQL: Client/Server Protocol, "Connection Lifecycle" and "MySQL Packets".
 use Rattle.std.specs.Prelude.{◌≡◌, ◌≤◌, ◌<◌, ◌&&◌, ℕ, Bool, true, false, List, length}
 use Rattle.std.specs.Prelude.{None, Result, Ok, Err}
-use Rattle.mysql_connection_agreement.specs.Puts.{is_free, is_turn}
-use Rattle.mysql_connection_agreement.specs.Refusals.{Written}
+use Rattle.mysql_connection_rules.specs.Puts.{is_free, is_turn}
+use Rattle.mysql_connection_rules.specs.Refusals.{Written}
 use Rattle.mysql_connection_rules.specs.Events.{Event, side_of}
 use Rattle.mysql_connection_rules.specs.Standing.{Standing, kept}
 use Rattle.mysql_connection_rules.specs.Steps.{step, turn}

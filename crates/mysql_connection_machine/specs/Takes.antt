@@ -5,8 +5,8 @@ use Rattle.std.specs.Prelude.{Option, Some, None, Result, Ok, Err}
 use Rattle.std.specs.Cow.{cow_slice_items}
 use Rattle.std.specs.declared.borrow.CowSlice.{CowSlice}
 use Rattle.std.specs.declared.borrow.CowSlice.TheVariants as slice
-use Rattle.mysql_connection_packets.specs.FirstPacket.{Found, OutOfSync, Short, TooLarge, Whole}
-use Rattle.mysql_connection_packets.specs.FirstPacket.{first_packet}
+use Rattle.mysql_wire.specs.FirstPacket.{Found, OutOfSync, Short, TooLarge, Whole}
+use Rattle.mysql_wire.specs.FirstPacket.{first_packet}
 use Rattle.mysql_connection_rules.specs.declared.fault.Fault.{Fault}
 use Rattle.mysql_connection_rules.specs.declared.fault.Fault.TheVariants as faults
 use Rattle.mysql_connection_rules.specs.declared.limits.Limits.{Limits}

@@ -1,10 +1,10 @@
 -- What a call that puts an event on a connection answers.
 -- MySQL: Client/Server Protocol, "Connection Lifecycle" and "MySQL Packets".
 use Rattle.std.specs.Prelude.{◌≡◌, ◌+◌, ◌≤◌, ◌<◌, ℕ, List, ◌∷◌, ◌++◌, drop, length, take, Some, None, Result, Ok, Err}
-use Rattle.mysql_connection_agreement.specs.Machines.{Puts}
-use Rattle.mysql_connection_agreement.specs.Puts.{packets_for, passed, put_on, step_for}
-use Rattle.mysql_connection_agreement.specs.Refusals as refusals
-use Rattle.mysql_connection_agreement.specs.Refusals.{Refuses, Written}
+use Rattle.mysql_connection_rules.specs.PuttingMachines.{Puts}
+use Rattle.mysql_connection_rules.specs.Puts.{packets_for, passed, put_on, step_for}
+use Rattle.mysql_connection_rules.specs.Refusals as refusals
+use Rattle.mysql_connection_rules.specs.Refusals.{Refuses, Written}
 use Rattle.mysql_connection_rules.specs.Events.{Event, side_of}
 use Rattle.mysql_connection_rules.specs.Standing.{Standing, kept}
 use Rattle.mysql_connection_rules.specs.Streams.{World, numbered, room_to_keep, stream_of, with_stream}

@@ -29,7 +29,7 @@ use crate::put_refusal::PutRefusal;
 use crate::room::{limit_of, room};
 use crate::streams_reader::StreamsReader;
 use mysql_cells::Value;
-use mysql_connection_agreement::laws::puts_are_read;
+use mysql_connection_rules::agreement_laws::puts_are_read;
 use mysql_connection_rules::laws::{events_take_bytes, held_stays};
 use mysql_connection_rules::{Limits, Side};
 use mysql_connection_state::{Event, Phase, State};
@@ -172,7 +172,7 @@ impl Connection {
     /// - `Memory`, which is asked for only where the next packet is complete (`FindsFault`).
     ///
     /// After an error it has failed: each call answers that error from then on. Nothing else has
-    /// changed: what stood before that payload is still told, and what is unread stays.
+    /// changed: the state before that payload is still told, and what is unread stays.
     ///
     /// MySQL: Client/Server Protocol, "Connection Phase", "Command Phase" and "Sequence ID".
     pub fn next_event(&mut self) -> Result<Option<Event>, ConnectionFault>
@@ -202,8 +202,8 @@ impl Connection {
     /// The next event, as [`Connection::next_event`] tells it, but a row stays where it lies.
     ///
     /// [`Connection::row`] then lends it. None of it is copied, and memory is asked for at the first
-    /// row of a result alone. A row of more than one packet's chunk is no row that is lent, but an
-    /// event as any other.
+    /// row of a result alone. If it is refused, that row is an event as any other. So is a row of more than
+    /// one packet's chunk.
     ///
     ///     while let Some(event) = connection.next_event_lent()? {
     ///         match event {

@@ -1,16 +1,16 @@
 //! Whether an event may be put, and in which packets.
 
 ghost use Rattle.std.specs.Prelude.{◌≡◌};
-ghost use Rattle.mysql_connection_agreement.specs.Puts.{is_free, may_end as may_end_by};
-ghost use Rattle.mysql_connection_agreement.specs.Puts.{has_ended, has_place, is_due, number_for};
+ghost use Rattle.mysql_connection_rules.specs.Puts.{is_free, may_end as may_end_by};
+ghost use Rattle.mysql_connection_rules.specs.Puts.{has_ended, has_place, is_due, number_for};
 ghost use Rattle.mysql_connection_rules.specs.Steps.{turn};
 ghost use Rattle.mysql_connection_state.specs.Views.{event_view};
 
 use crate::stream_buffer::StreamBuffer;
 use crate::streams_reader::StreamsReader;
-use mysql_connection_packets::is_short;
 use mysql_connection_rules::Side;
 use mysql_connection_state::Event;
+use mysql_wire::is_short;
 
 /// The stream is open, and nothing of it waits unread.
 pub fn is_free(stream: &StreamBuffer) -> bool

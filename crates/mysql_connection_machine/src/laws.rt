@@ -3,7 +3,7 @@
 
 ghost use Rattle.mysql_connection_machine.specs.Laws.{SentPacketsArePut};
 
-use mysql_connection_packets::laws::framings_are_found;
+use mysql_wire::first_packet_laws::framings_are_found;
 
 /// Of packets that were sent the first payloads are put, up to one whose turn hasn't come.
 ///

@@ -7,9 +7,9 @@ ghost use Rattle.mysql_connection_rules.specs.Standing.{kept};
 ghost use Rattle.mysql_connection_rules.specs.Streams.{room_to_keep};
 
 use crate::stream_buffer::StreamBuffer;
-use mysql_connection_packets::one_chunk;
 use mysql_connection_rules::{Limits, Side};
 use mysql_connection_state::State;
+use mysql_wire::one_chunk;
 
 /// A row of the server's behind another one, whose packet has one chunk, is lent. `false` says nothing
 /// of the payload that is due.

@@ -1,7 +1,7 @@
 //! Events that are put: written, framed, and gone on behind.
 
 ghost use Rattle.std.specs.Prelude.{◌≡◌, ◌+◌, ◌≤◌, ◌<◌, drop, length, true};
-ghost use Rattle.mysql_connection_agreement.specs.Puts.{is_due};
+ghost use Rattle.mysql_connection_rules.specs.Puts.{is_due};
 ghost use Rattle.mysql_connection_machine.specs.Machines.{lending_none};
 ghost use Rattle.mysql_connection_machine.specs.PuttingRows.{is_row};
 ghost use Rattle.mysql_connection_machine.specs.Writing.{GoesOnBehind, PutsBehind, PutsDue, PutsEvent};

@@ -13,11 +13,10 @@ use crate::put_refusal::PutRefusal;
 use crate::putting::behind;
 use crate::room::{limit_of, room_to_keep};
 use crate::streams_reader::StreamsReader;
-use mysql_connection_packets::one_chunk;
-use mysql_connection_peek::laws::payloads_are_in_turn;
 use mysql_connection_rules::Side;
 use mysql_connection_state::FollowRefusal;
-use mysql_wire::{frame_in_place, packet_to_chunks};
+use mysql_connection_state::laws::payloads_are_in_turn;
+use mysql_wire::{frame_in_place, one_chunk, packet_to_chunks};
 
 impl StreamsReader {
     // A command is due, and this side says it.

@@ -2,7 +2,7 @@
 
 ghost use Rattle.std.specs.Prelude.{◌≡◌, ◌≤◌, IfOk, IsTrue, true};
 ghost use Rattle.std.specs.Option.{option_map};
-ghost use Rattle.mysql_connection_agreement.specs.Puts.{is_free};
+ghost use Rattle.mysql_connection_rules.specs.Puts.{is_free};
 ghost use Rattle.mysql_connection_machine.specs.PuttingExecutions.{AppendsExecution};
 ghost use Rattle.mysql_connection_machine.specs.PuttingRows.{PutsOrStays};
 ghost use Rattle.mysql_connection_machine.specs.Writing.{PutsEvent};

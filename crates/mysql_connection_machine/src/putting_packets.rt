@@ -6,9 +6,9 @@ use crate::connection::Connection;
 use crate::last_words::number_of;
 use crate::packets_refusal::PacketsRefusal;
 use crate::payload_refusal::PayloadRefusal;
-use mysql_connection_packets::laws::packets_take_bytes;
-use mysql_connection_packets::{FirstPacket, first_packet};
 use mysql_connection_rules::{Fault, Side};
+use mysql_wire::first_packet_laws::packets_take_bytes;
+use mysql_wire::{FirstPacket, first_packet};
 
 impl Connection {
     // Puts the payload of the packet that stands first, and answers how many bytes that takes. `None`

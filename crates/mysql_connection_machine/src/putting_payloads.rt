@@ -9,10 +9,9 @@ use crate::payload_refusal::PayloadRefusal;
 use crate::put_refusal::PutRefusal;
 use crate::room::limit_of;
 use crate::streams_reader::StreamsReader;
-use mysql_connection_peek::laws::payloads_are_in_turn;
-use mysql_connection_peek::peek_event;
 use mysql_connection_rules::{Fault, Side};
-use mysql_connection_state::Event;
+use mysql_connection_state::laws::payloads_are_in_turn;
+use mysql_connection_state::{Event, peek_event};
 
 impl StreamsReader {
     /// Whether a payload of a side is due: it is its turn, and its stream is open and all read.

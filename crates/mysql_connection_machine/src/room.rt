@@ -1,7 +1,7 @@
 //! How much of a connection is held.
 
 ghost use Rattle.std.specs.Prelude.{◌≡◌, ◌*◌};
-ghost use Rattle.mysql_connection_packets.specs.FirstPacket.{most_chunks};
+ghost use Rattle.mysql_wire.specs.FirstPacket.{most_chunks};
 ghost use Rattle.mysql_connection_rules.specs.Streams.{limit_of, room, room_to_keep};
 
 use mysql_connection_rules::{Limits, Side};

@@ -3,7 +3,7 @@
 ghost use Rattle.std.specs.Prelude.{◌≡◌, ◌≤◌, IfOk, OnErr};
 ghost use Rattle.std.specs.Cow.{cow_slice_items};
 ghost use Rattle.mysql_connection_machine.specs.Takes.{GoesOnBy, SaysBy, SaysInPlaceBy};
-ghost use Rattle.mysql_connection_peek.specs.Peeks.{words_step};
+ghost use Rattle.mysql_connection_state.specs.Peeks.{words_step};
 ghost use Rattle.mysql_connection_rules.specs.Standing.{kept};
 ghost use Rattle.mysql_connection_rules.specs.Steps.{step};
 ghost use Rattle.mysql_connection_rules.specs.Streams.{room_to_keep};
@@ -11,10 +11,9 @@ ghost use Rattle.mysql_connection_rules.specs.declared.side.Side.TheVariants.{Se
 ghost use Rattle.mysql_connection_state.specs.Views.{EventHasUnclear, event_view};
 
 use crate::room::room_to_keep;
-use mysql_connection_peek::laws::payloads_are_in_turn;
-use mysql_connection_peek::{peek_event, peek_farewell};
 use mysql_connection_rules::{Fault, Limits, Side};
-use mysql_connection_state::{Event, FollowRefusal, State};
+use mysql_connection_state::laws::payloads_are_in_turn;
+use mysql_connection_state::{Event, FollowRefusal, State, peek_event, peek_farewell};
 use std::alloc::Global;
 use std::borrow::CowSlice;
 

@@ -2,7 +2,7 @@
 
 ghost use Rattle.std.specs.Prelude.{◌≡◌, ◌+◌, ◌≤◌, ◌↔◌, [], length, drop, take, IsTrue, OnOk};
 ghost use Rattle.std.specs.Prelude.{OnErr};
-ghost use Rattle.mysql_connection_agreement.specs.Puts.{passed};
+ghost use Rattle.mysql_connection_rules.specs.Puts.{passed};
 ghost use Rattle.mysql_connection_machine.specs.Endings.{is_empty};
 ghost use Rattle.mysql_connection_rules.specs.Streams.{Piece, End, behind, grown, nothing_came};
 

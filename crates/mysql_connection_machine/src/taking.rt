@@ -1,10 +1,10 @@
 //! The payload that stands first of a stream, taken from it.
 
 ghost use Rattle.std.specs.Prelude.{◌≡◌, ◌≤◌, IfOk, IfSome, OnErr};
-ghost use Rattle.mysql_connection_packets.specs.FirstPacket.{first_packet};
+ghost use Rattle.mysql_wire.specs.FirstPacket.{first_packet};
 ghost use Rattle.mysql_connection_machine.specs.Machines.{FoundHasUnclear};
 ghost use Rattle.mysql_connection_machine.specs.Takes.{FindsIn, IsLentFrom, TakesBy, TakesLentBy};
-ghost use Rattle.mysql_connection_peek.specs.Peeks.{words_step};
+ghost use Rattle.mysql_connection_state.specs.Peeks.{words_step};
 ghost use Rattle.mysql_connection_rules.specs.Standing.{kept};
 ghost use Rattle.mysql_connection_rules.specs.Steps.{step};
 ghost use Rattle.mysql_connection_rules.specs.Streams.{limit_of, room_to_keep};
@@ -14,9 +14,9 @@ use crate::lent_event::LentEvent;
 use crate::room::limit_of;
 use crate::saying::{bid, say, say_bytes, say_in_place};
 use crate::stream_buffer::StreamBuffer;
-use mysql_connection_packets::{FirstPacket, first_packet, one_chunk};
 use mysql_connection_rules::{Fault, Limits, Side};
 use mysql_connection_state::{Event, State};
+use mysql_wire::{FirstPacket, first_packet, one_chunk};
 use std::alloc::Global;
 use std::borrow::CowSlice;
 

@@ -4,7 +4,7 @@ use Rattle.std.specs.Prelude.{◌==◌}
 use Rattle.std.specs.Option.{ok_or, option_map}
 use Rattle.std.proofs.lemmas.Bool.Decides.{nat_tests}
 use Rattle.mysql_commands.specs.Commands.{BulkExecute, Close, Command, Execute, Fetch, LongData, Other, ResetStatement}
-use Rattle.mysql_execution_contents.specs.Agreement.{sets_of}
+use Rattle.mysql_connection_recoding.specs.Agreement.{sets_of}
 use Rattle.mysql_executions.specs.Fields.{◌>>◌, must}
 use Rattle.mysql_executions.specs.InForce.{InForce, types_that_count}
 use Rattle.mysql_executions.specs.Types.{unnamed}

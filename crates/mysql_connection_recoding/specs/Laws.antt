@@ -2,7 +2,7 @@
 -- MySQL: Client/Server Protocol, "Prepared Statements", "COM_STMT_EXECUTE" (new_params_bind_flag).
 use Rattle.std.specs.Prelude.{◌≡◌, ◌<◌, List, Option, Some, Ok}
 use Rattle.mysql_commands.specs.Commands.{Command}
-use Rattle.mysql_execution_contents.specs.Agreement.{sets_of}
+use Rattle.mysql_connection_recoding.specs.Agreement.{sets_of}
 use Rattle.mysql_executions.specs.InForce.{InForce, types_that_count}
 use Rattle.mysql_executions.specs.declared.types.BoundType.{BoundType}
 use Rattle.mysql_executions.specs.declared.types.ParameterType.{ParameterType}

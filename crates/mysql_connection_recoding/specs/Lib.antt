@@ -1,3 +1,4 @@
+pub mod Agreement
 pub mod Recoding
 pub mod Known
 pub mod Laws

@@ -5,6 +5,7 @@
 //!     let command = ids.recode(command, types)?;  // the same command, by the other server's ids
 #![tactic(auto)]
 
+pub mod content_laws;
 pub mod laws;
 pub mod refusal;
 pub mod statement_ids;

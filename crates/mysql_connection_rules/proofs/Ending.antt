@@ -2,8 +2,8 @@
 use Rattle.std.proofs.Common.{◌≡◌, ℕ, ◌<◌, Bool, true, false, List, ◌⊎◌, inl, inr, Option, Some, None, Result, Ok, Err, length}
 use Rattle.std.proofs.Common.{refl, sym, ap, subst, ◌∙◌}
 use Rattle.std.specs.Prelude.{slice_index_or, nat_le}
-use Rattle.mysql_connection_packets.specs.FirstPacket.{Found, Short, TooLarge, OutOfSync, Whole, first_packet, framed}
-use Rattle.mysql_connection_packets.specs.Laws.{RoomIsEnough}
+use Rattle.mysql_wire.specs.FirstPacket.{Found, Short, TooLarge, OutOfSync, Whole, first_packet, framed}
+use Rattle.mysql_wire.specs.FirstPacketLaws.{RoomIsEnough}
 use Rattle.mysql_fields.specs.Wire.{Reading}
 use Rattle.mysql_server_packets.specs.Packets.{ServerError}
 use Rattle.mysql_authentication.specs.Readings.{early_error_at}

@@ -4,8 +4,8 @@ use Rattle.std.proofs.Common.{refl, subst, arith}
 use Rattle.std.specs.Prelude.{nat_le, slice_index_or}
 use Rattle.std.proofs.lemmas.Bool.Decides.{nat_tests}
 use Rattle.std.proofs.lemmas.Grind.{common_steps}
-use Rattle.mysql_connection_packets.specs.FirstPacket.{Found, Short, TooLarge, OutOfSync, Whole, first_packet}
-use Rattle.mysql_connection_packets.specs.Laws.{TakesBytes, FollowsBy}
+use Rattle.mysql_wire.specs.FirstPacket.{Found, Short, TooLarge, OutOfSync, Whole, first_packet}
+use Rattle.mysql_wire.specs.FirstPacketLaws.{TakesBytes, FollowsBy}
 use Rattle.mysql_fields.specs.Wire.{Reading}
 use Rattle.mysql_server_packets.specs.Packets.{ServerError}
 use Rattle.mysql_authentication.specs.Readings.{early_error_at}

@@ -4,8 +4,8 @@ use Rattle.std.proofs.Common.{refl, sym, ap, ◌∙◌, arith, add-one, take, dr
 use Rattle.std.specs.Prelude.{nat_le, nat_lt, slice_index_or, ◌==◌, ◌&&◌, not, ◌/◌}
 use Rattle.std.proofs.lemmas.Bool.Decides.{nat_tests}
 use Rattle.std.proofs.lemmas.Grind.{common_steps}
-use Rattle.mysql_connection_packets.specs.FirstPacket.{Found, Short, TooLarge, by_tests, announced, packet_by}
-use Rattle.mysql_connection_packets.specs.FirstPacket.{first_packet, next_number}
+use Rattle.mysql_wire.specs.FirstPacket.{Found, Short, TooLarge, by_tests, announced, packet_by}
+use Rattle.mysql_wire.specs.FirstPacket.{first_packet, next_number}
 use Rattle.mysql_wire.specs.Framing.{max_payload_len}
 use Rattle.mysql_connection_rules.specs.Standing.{Standing}
 use Rattle.mysql_connection_rules.specs.Streams.{has_number, has_no_bytes, is_early}

@@ -3,7 +3,7 @@ use Rattle.std.proofs.Common.{◌≡◌, ℕ, zero, suc, ◌<◌, Bool, true, fa
 use Rattle.std.proofs.Common.{refl, sym, subst, ◌∙◌, arith}
 use Rattle.std.specs.Prelude.{slice_index_or, nat_le, nat_lt, not, ◌==◌, ◌&&◌, ◌/◌, ◌+◌}
 use Rattle.std.proofs.lemmas.Bool.Decides.{nat_tests}
-use Rattle.mysql_connection_packets.specs.FirstPacket.{Found, Short, TooLarge, OutOfSync, Whole, announced, by_tests, first_packet, next_number, packet_by, with_chunk}
+use Rattle.mysql_wire.specs.FirstPacket.{Found, Short, TooLarge, OutOfSync, Whole, announced, by_tests, first_packet, next_number, packet_by, with_chunk}
 use Rattle.mysql_fields.specs.Wire.{Reading}
 use Rattle.mysql_wire.specs.Framing.{max_payload_len}
 use Rattle.mysql_server_packets.specs.Packets.{ServerError}

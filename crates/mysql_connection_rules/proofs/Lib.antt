@@ -9,3 +9,10 @@ pub mod Running
 pub mod Within
 pub mod Said
 pub mod LastWords
+pub mod PutHeads
+pub mod Putting
+pub mod Refusing
+pub mod Quiet
+pub mod Agreeing
+pub mod Numbers
+pub mod Pinging

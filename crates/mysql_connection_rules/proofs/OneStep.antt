@@ -3,8 +3,8 @@ use Rattle.std.proofs.Common.{◌≡◌, ℕ, ◌+◌, ◌-◌, Bool, true, fals
 use Rattle.std.proofs.Common.{refl, sym, ap, subst, ◌∙◌, arith}
 use Rattle.std.specs.Prelude.{nat_le, if◌then◌else◌, slice_index_or}
 use Rattle.std.proofs.lemmas.Grind.{common_steps}
-use Rattle.mysql_connection_packets.specs.FirstPacket.{Found, Short, TooLarge, OutOfSync, Whole, first_packet}
-use Rattle.mysql_connection_packets.specs.Laws.{PacketsStay, StaysBy}
+use Rattle.mysql_wire.specs.FirstPacket.{Found, Short, TooLarge, OutOfSync, Whole, first_packet}
+use Rattle.mysql_wire.specs.FirstPacketLaws.{PacketsStay, StaysBy}
 use Rattle.mysql_fields.specs.Wire.{Reading}
 use Rattle.mysql_server_packets.specs.Packets.{ServerError}
 use Rattle.mysql_reply_events.specs.declared.fault.ReplyFault.TheVariants.{BadError}

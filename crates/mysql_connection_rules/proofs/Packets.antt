@@ -1,5 +1,5 @@
 -- What is used of the first packet of a stream.
-use Rattle.mysql_connection_packets.specs.Laws.{PacketsStay, PacketsTakeBytes, RestsFollow}
+use Rattle.mysql_wire.specs.FirstPacketLaws.{PacketsStay, PacketsTakeBytes, RestsFollow}
 
 pub record PacketLaws : Type 0 where
   pub stay : PacketsStay

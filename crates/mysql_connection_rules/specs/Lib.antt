@@ -8,3 +8,8 @@ pub mod Streams
 pub mod Runs
 pub mod Machines
 pub mod Laws
+pub mod Puts
+pub mod PuttingMachines
+pub mod Refusals
+pub mod AgreementLaws
+pub mod Examples

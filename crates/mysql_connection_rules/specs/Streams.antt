@@ -4,8 +4,8 @@ use Rattle.std.specs.Prelude.{ℕ, ◌+◌, ◌-◌, Bool, true, false, not, ◌
 use Rattle.std.specs.Prelude.{if◌then◌else◌, bytes_eq, Option, Some, None, Result, Ok, Err}
 use Rattle.std.specs.Prelude.{List, [], ◌∷◌, ◌++◌, length, slice_index_or, take}
 use Rattle.mysql_authentication.specs.Readings.{early_error_at}
-use Rattle.mysql_connection_packets.specs.FirstPacket.{Found, OutOfSync, Short, TooLarge, Whole}
-use Rattle.mysql_connection_packets.specs.FirstPacket.{first_packet, framed}
+use Rattle.mysql_wire.specs.FirstPacket.{Found, OutOfSync, Short, TooLarge, Whole}
+use Rattle.mysql_wire.specs.FirstPacket.{first_packet, framed}
 use Rattle.mysql_const.specs.declared.capabilities.Capabilities.{Capabilities}
 use Rattle.mysql_fields.specs.Wire.{Reading}
 use Rattle.mysql_reply_events.specs.declared.fault.ReplyFault.TheVariants.{BadError}

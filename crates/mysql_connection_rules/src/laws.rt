@@ -11,7 +11,7 @@ ghost use Rattle.mysql_connection_rules.specs.Laws.{PiecesStayWithinLimits, Posi
 ghost use Rattle.mysql_connection_rules.specs.Laws.{RunExists, RunIsOne};
 ghost use Rattle.mysql_connection_rules.specs.Laws.{ServersEndChangesNothing, TurnCanCome};
 
-use mysql_connection_packets::laws::{
+use mysql_wire::first_packet_laws::{
     packets_stay, packets_take_bytes, rests_follow, room_is_enough,
 };
 

@@ -14,3 +14,5 @@ pub use fault::Fault;
 pub use limits::Limits;
 pub use reason::Reason;
 pub use side::Side;
+
+pub mod agreement_laws;

@@ -15,7 +15,7 @@ use Rattle.mysql_session_modes.specs.declared.session_mode.SessionMode.{SessionM
 use Rattle.mysql_reply_events.specs.Events.Event.{RowEvent}
 use Rattle.mysql_rows.specs.Rows.{Row}
 use Rattle.mysql_server_packets.specs.Packets.{ServerError}
-use Rattle.mysql_connection_agreement.specs.Puts.{words_at}
+use Rattle.mysql_connection_rules.specs.Puts.{words_at}
 use Rattle.mysql_connection_rules.specs.declared.reason.Reason.TheVariants as reasons
 use Rattle.mysql_connection_rules.specs.declared.fault.Fault.TheVariants.{Unasked}
 use Rattle.mysql_connection_rules.specs.Events.{Event}

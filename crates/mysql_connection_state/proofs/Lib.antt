@@ -6,3 +6,6 @@ pub mod PassedRows
 pub mod Passing
 pub mod InModes
 mod NextRows
+pub mod Phases
+pub mod Turns
+pub mod Unclear

@@ -7,7 +7,7 @@ use Rattle.mysql_commands.specs.Commands.{Command, command_at}
 use Rattle.mysql_reply_events.specs.Behind.{behind}
 use Rattle.mysql_reply_events.specs.Events.{Event as ReplySaid, ReplySoFar}
 use Rattle.mysql_reply_events.specs.Reader.{GoesOn, ReaderState}
-use Rattle.mysql_connection_agreement.specs.Puts.{step_for, words_step}
+use Rattle.mysql_connection_rules.specs.Puts.{step_for, words_step}
 use Rattle.mysql_connection_rules.specs.Events.{Event}
 use Rattle.mysql_connection_rules.specs.Events.Event.{Farewell}
 use Rattle.mysql_connection_rules.specs.SessionModes.{mode_asked}

@@ -24,3 +24,14 @@ pub use event::Event;
 pub use following::FollowRefusal;
 pub use phase::Phase;
 pub use state::State;
+
+mod command;
+mod farewell;
+pub mod laws;
+mod login_peek;
+mod owned;
+mod peeking;
+mod reply;
+
+pub use farewell::peek_farewell;
+pub use peeking::peek_event;

@@ -33,7 +33,8 @@ const LAST_PREPARED: u32 = 0xffff_ffff;
 /// The prepared statements of a connection by their ids.
 ///
 /// It also has which of them was prepared last, and how much is kept for all of them. Each call
-/// takes time that grows with the logarithm of their number, beside what it copies.
+/// takes time that grows with the logarithm of their number, beside what it copies. For long data it
+/// also grows with the logarithm of how many parameters have some.
 ///
 /// Contracts see the list of the ids with their statements, in the order of the ids, the last one's
 /// id and the sum (`Statements`). Follows "Prepared Statements" of the client/server protocol documentation, and

@@ -17,7 +17,7 @@ use Rattle.mysql_execution_writer.specs.InForce.{PutsInForce, without_types}
 use Rattle.mysql_execution_writer.specs.Laws.{ExecutionsReadBack, FitsExecution}
 use Rattle.mysql_execution_writer.specs.Written.{can_be_put, execution_as_read, execution_bytes}
 use Rattle.mysql_commands.specs.Commands.{Command, Execute, command_at, or_other}
-use Rattle.mysql_connection_agreement.specs.Puts.{step_for}
+use Rattle.mysql_connection_rules.specs.Puts.{step_for}
 use Rattle.mysql_connection_rules.specs.Events.{Event}
 use Rattle.mysql_connection_rules.specs.Events.Event.{Asked}
 use Rattle.mysql_connection_rules.specs.Standing.{Phase, Standing}

@@ -4,7 +4,7 @@ use Rattle.mysql_authentication.specs.Events.Greeting.{Greeted, Rejected}
 use Rattle.mysql_authentication.specs.Readings.{early_error_at, greeting_at, or_fault}
 use Rattle.mysql_authentication.specs.Written.{greeting_bytes, greeting_cause}
 use Rattle.mysql_authentication.specs.declared.fault.LoginFault.TheVariants.{BadError, BadGreeting}
-use Rattle.mysql_connection_agreement.specs.Puts.{words_at, words_step}
+use Rattle.mysql_connection_rules.specs.Puts.{words_at, words_step}
 use Rattle.mysql_connection_rules.specs.Events.{Event}
 use Rattle.mysql_connection_rules.specs.Events as events
 use Rattle.mysql_connection_rules.specs.Standing.{Standing}

@@ -7,7 +7,7 @@ use Rattle.mysql_cells.specs.declared.value.Value.{Value}
 use Rattle.mysql_cells.specs.declared.value.Value.TheVariants.{Bytes, Date, Double, Float, Int, NULL, Time, UInt}
 use Rattle.mysql_command_writer.specs.Refusals.{can_execute}
 use Rattle.mysql_commands.specs.Commands.{Execute}
-use Rattle.mysql_connection_agreement.specs.Puts.{step_for}
+use Rattle.mysql_connection_rules.specs.Puts.{step_for}
 use Rattle.mysql_connection_rules.specs.Events.{Event}
 use Rattle.mysql_connection_rules.specs.Events.Event.{Asked}
 use Rattle.mysql_connection_rules.specs.Standing.{Standing}

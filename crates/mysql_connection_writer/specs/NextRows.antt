@@ -4,7 +4,7 @@ use Rattle.std.specs.Prelude.{◌≡◌, ◌==◌, List, ℕ, ◌++◌, length, 
 use Rattle.std.specs.Prelude.{Option, Some, None, Result, Ok, Err}
 use Rattle.std.specs.declared.alloc.AllocError.{AllocError}
 use Rattle.mysql_columns.specs.Columns.{ColumnDefinition}
-use Rattle.mysql_connection_agreement.specs.Puts.{step_for}
+use Rattle.mysql_connection_rules.specs.Puts.{step_for}
 use Rattle.mysql_connection_rules.specs.Events.{Event}
 use Rattle.mysql_connection_rules.specs.Events.Event.{Replied}
 use Rattle.mysql_connection_rules.specs.Standing.{About, InReply, Phase, Standing}

@@ -1,7 +1,7 @@
 -- What a call that writes an event does.
 -- MySQL: Client/Server Protocol, "Connection Lifecycle".
 use Rattle.std.specs.Prelude.{◌≡◌, ℕ, List, ◌++◌, Option, Some, Result, Ok, Err}
-use Rattle.mysql_connection_agreement.specs.Puts.{step_for}
+use Rattle.mysql_connection_rules.specs.Puts.{step_for}
 use Rattle.mysql_connection_rules.specs.Events.{Event}
 use Rattle.mysql_connection_rules.specs.Standing.{Standing}
 use Rattle.mysql_connection_writer.specs.Payloads.{Payload, cause_of, payload_of}

@@ -3,3 +3,5 @@ pub mod Fractions
 pub mod IntegersReadAgain
 pub mod Utf8Texts
 pub mod DurationTexts
+pub mod Places
+pub mod Pairs

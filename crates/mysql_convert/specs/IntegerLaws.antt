@@ -14,7 +14,7 @@ use Rattle.std.proofs.lemmas.Fmt.{decimal_is_IsNumeral_wide}
 use Rattle.mysql_queries.specs.Literals.{is_digit}
 use Rattle.mysql_cells.specs.declared.value.Value.TheVariants.{Int, UInt, Bytes}
 use Rattle.mysql_convert.specs.Numbers.{HoldsNumber, signed, digits_number, signed_in, unsigned_in, text_number}
-use Rattle.mysql_to_values.specs.Contents.{integer_value}
+use Rattle.mysql_values.specs.Contents.{integer_value}
 
 -- the number that digits write behind a number; none where another byte stands
 abbrev pub digits_after : ℕ → List ℕ → Option ℕ

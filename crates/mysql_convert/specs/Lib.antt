@@ -1,5 +1,5 @@
-pub use Rattle.mysql_to_values.specs.Values
-pub use Rattle.mysql_to_values.specs.Sets
+pub mod Values
+pub mod Sets
 pub use Rattle.mysql_cells.specs.declared.value.Value
 pub mod Conversions
 pub mod Intermediates

@@ -6,11 +6,11 @@
 ghost use Rattle.std.specs.Prelude.{◌≡◌, ◌⊎◌, Err, IfErr, IfOk, IsSome, None, Ok, Option, Some};
 ghost use Rattle.mysql_cells.specs.declared.value.Value.{Value as ValueOf};
 ghost use Rattle.mysql_convert.specs.Conversions.{ReadsAgain};
-ghost use Rattle.mysql_to_values.specs.declared.errors.ToValueError.TheVariants as to_value_error;
+ghost use Rattle.mysql_convert.specs.declared.to_value_error.ToValueError.TheVariants as to_value_error;
 
 use crate::errors::FromValueError;
+use crate::to_value_error::ToValueError;
 use mysql_cells::Value;
-use mysql_to_values::ToValueError;
 use std::alloc::{AllocError, Global};
 
 /// A conversion from a value to `T` that can still be undone.

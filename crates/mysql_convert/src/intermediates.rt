@@ -15,8 +15,9 @@ ghost use Rattle.mysql_convert.specs.declared.intermediates.OptionIr2.TheVariant
 
 use crate::conversion::{FromValue, Intermediate};
 use crate::errors::FromValueError;
+use crate::to_value::ToValue;
+use crate::to_value_error::ToValueError;
 use mysql_cells::Value;
-use mysql_to_values::{ToValue, ToValueError};
 use std::alloc::{AllocError, Global};
 
 /// What was parsed from a value, and that value.

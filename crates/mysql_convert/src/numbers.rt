@@ -15,8 +15,8 @@ ghost use Rattle.mysql_convert.specs.Intermediates.{committed_of, rolled_back_of
 use crate::conversion::FromValue;
 use crate::errors::{FromValueError, read_or_refused};
 use crate::intermediates::ParseIrOpt;
+use crate::to_value::ToValue;
 use mysql_cells::Value;
-use mysql_to_values::ToValue;
 use std::alloc::{AllocError, Global};
 
 /// A whole number by its sign and its magnitude.

@@ -9,9 +9,10 @@ ghost use Rattle.mysql_convert.specs.Texts.{array_of, bytes_of, text_of as text_
 
 use crate::conversion::{FromValue, Intermediate};
 use crate::errors::{FromValueError, read_or_refused};
+use crate::to_value::ToValue;
+use crate::to_value_error::ToValueError;
 use mysql_cells::Value;
 use mysql_queries::ByteString;
-use mysql_to_values::{ToValue, ToValueError};
 use std::alloc::{AllocError, Global};
 use std::borrow::{CowSlice, CowStr};
 use std::str::from_utf8;

@@ -5,7 +5,7 @@ ghost use Rattle.std.specs.Prelude.{◌≤◌, length};
 use crate::secrets::Secrets;
 use mysql_auth::AuthPlugin;
 use mysql_cells::Value;
-use mysql_connect_attributes::ConnectAttributes;
+use mysql_handshake_response::ConnectAttributes;
 use mysql_row_refs::ValueRef;
 use std::io;
 use std::io::Write;

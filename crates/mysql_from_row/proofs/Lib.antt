@@ -1,1 +1,2 @@
 pub mod FirstCells
+pub mod Utf8Texts

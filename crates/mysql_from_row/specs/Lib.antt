@@ -1,1 +1,2 @@
 pub mod FromRow
+pub mod Answers

@@ -8,7 +8,7 @@ ghost use Rattle.mysql_rows.specs.Rows.{Row as RowOf};
 ghost use Rattle.mysql_row_refs.specs.RowRefs.{row_ref_view};
 ghost use Rattle.mysql_from_row.specs.FromRow.{cell_as};
 
-use mysql_row_conversions::FromValueRef;
+use crate::FromValueRef;
 use mysql_row_refs::RowRef;
 use mysql_rows::ColumnIndex;
 

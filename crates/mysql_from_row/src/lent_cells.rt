@@ -6,8 +6,8 @@ ghost use Rattle.mysql_rows.specs.Rows.{Row as RowOf};
 ghost use Rattle.mysql_row_refs.specs.RowRefs.{row_ref_view};
 ghost use Rattle.mysql_from_row.specs.FromRow.{both, numbered_as};
 
+use crate::FromValueRef;
 use crate::lent::from_cell_ref;
-use mysql_row_conversions::FromValueRef;
 use mysql_row_refs::RowRef;
 
 /// Values of lent cells that stand one behind another.

@@ -2,9 +2,9 @@
 
 ghost use Rattle.mysql_from_row.specs.FromRow.{both, numbered_as, of_columns};
 
+use crate::FromValueRef;
 use crate::lent::{FromRowRef, has_lent_columns};
 use crate::lent_cells::LentCells;
-use mysql_row_conversions::FromValueRef;
 use mysql_row_refs::RowRef;
 
 impl<'p, A: FromValueRef<'p> + Drop> FromRowRef<'p> for (A,) {

@@ -2,8 +2,8 @@
 
 ghost use Rattle.mysql_from_row.specs.FromRow.{numbered_as, of_columns};
 
+use crate::FromValueRef;
 use crate::lent::{FromRowRef, from_cell_ref, has_lent_columns};
-use mysql_row_conversions::FromValueRef;
 use mysql_row_refs::{RowRef, ValueRef};
 
 /// A type that a lent row of one column converts to by itself, as its only value does.

@@ -19,3 +19,14 @@ pub use errors::{FromRowError, RowConversionError};
 pub use lent::{FromRowRef, from_cell_ref, from_row_ref};
 pub use lent_values::SingleValueRef;
 pub use values::SingleValue;
+
+mod booleans;
+pub mod from_value_ref;
+mod numbers;
+pub mod row_ext;
+pub mod row_ref_ext;
+mod texts;
+
+pub use from_value_ref::FromValueRef;
+pub use row_ext::RowExt;
+pub use row_ref_ext::RowRefExt;

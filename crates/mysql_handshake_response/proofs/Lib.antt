@@ -1,1 +1,4 @@
 pub mod Rules
+pub mod AttributeReading
+pub mod AttributesBack
+pub mod AttributesHeld

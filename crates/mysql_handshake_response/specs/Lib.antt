@@ -3,3 +3,8 @@ pub mod Responses
 pub mod SslRequestLaws
 pub mod SslRequestViews
 pub mod SslRequests
+pub mod AttributeViews
+pub mod Attributes
+pub mod Laws
+pub mod Parts
+pub mod TextViews

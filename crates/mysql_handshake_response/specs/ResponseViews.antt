@@ -3,10 +3,10 @@
 use Rattle.std.specs.Prelude.{option_map}
 use Rattle.std.specs.Cow.{cow_slice_items}
 use Rattle.mysql_auth.specs.Views.{plugin_view}
-use Rattle.mysql_connect_attributes.specs.AttributeViews.{attributes_view}
+use Rattle.mysql_handshake_response.specs.AttributeViews.{attributes_view}
 use Rattle.mysql_handshake_response.specs.Responses.{ResponseFields}
 use Rattle.mysql_handshake_response.specs.SslRequestViews.{ssl_request_view}
-use Rattle.mysql_connect_attributes.specs.TextViews.{text_view}
+use Rattle.mysql_handshake_response.specs.TextViews.{text_view}
 use Rattle.mysql_handshake_response.specs.declared.handshake_response.HandshakeResponse.{HandshakeResponse}
 
 abbrev pub response_view : HandshakeResponse → ResponseFields

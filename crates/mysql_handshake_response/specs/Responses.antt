@@ -11,10 +11,10 @@ use Rattle.mysql_buf.specs.Writing.{front, lenenc_str, u8_str}
 use Rattle.mysql_fields.specs.Wire.{Reading, ◌>>=◌}
 use Rattle.mysql_fields.specs.Texts.{lenenc_text_at, null_text, null_text_at, u8_text_at}
 use Rattle.mysql_field_constants.specs.Flags.{contains}
-use Rattle.mysql_connect_attributes.specs.Attributes.{Attribute, attributes, attributes_at}
+use Rattle.mysql_handshake_response.specs.Attributes.{Attribute, attributes, attributes_at}
 use Rattle.mysql_handshake.specs.Capabilities.{connect_attrs, connect_with_db, plugin_auth}
 use Rattle.mysql_handshake.specs.Capabilities.{plugin_auth_lenenc_client_data, secure_connection}
-use Rattle.mysql_connect_attributes.specs.Parts.{if_held, if_there, marked, plugin_text, plugin_to_zero_at}
+use Rattle.mysql_handshake_response.specs.Parts.{if_held, if_there, marked, plugin_text, plugin_to_zero_at}
 use Rattle.mysql_handshake_response.specs.SslRequests.{SslRequestFields, ssl_request, ssl_request_at}
 
 -- what stands first in it, the user, the answer to the scramble, the database, the plugin, the attributes

@@ -6,8 +6,8 @@
 ghost use Rattle.std.specs.Prelude.{◌≡◌, IfOk, None, map, option_map, IsOkUnless};
 ghost use Rattle.std.specs.Cow.{cow_slice_items};
 ghost use Rattle.std.specs.Int.RustNames.{bit_and};
-ghost use Rattle.mysql_connect_attributes.specs.AttributeViews.{attributes_view, lossy_attribute, text_attribute};
-ghost use Rattle.mysql_connect_attributes.specs.Parts.{marked, or_empty};
+ghost use Rattle.mysql_handshake_response.specs.AttributeViews.{attributes_view, lossy_attribute, text_attribute};
+ghost use Rattle.mysql_handshake_response.specs.Parts.{marked, or_empty};
 ghost use Rattle.mysql_auth.specs.Views.{plugin_view};
 ghost use Rattle.mysql_buf.specs.Writing.{front};
 ghost use Rattle.mysql_handshake.specs.Capabilities.{connect_attrs, connect_with_db, plugin_auth};
@@ -21,17 +21,17 @@ ghost use Rattle.mysql_handshake_response.specs.Responses.{response_by, response
 ghost use Rattle.mysql_handshake_response.specs.Responses.{scramble_at};
 ghost use Rattle.mysql_handshake_response.specs.ResponseViews.{response_view};
 ghost use Rattle.mysql_handshake_response.specs.SslRequestViews.{ssl_request_view};
-ghost use Rattle.mysql_connect_attributes.specs.TextViews.{text_view};
+ghost use Rattle.mysql_handshake_response.specs.TextViews.{text_view};
 
 use crate::ssl_request::SslRequest;
+use crate::{
+    ConnectAttributes, IfHeld, attributes_of_texts, copied_attributes, copied_plugin, has,
+    or_no_bytes, parse_if, plugin_to_zero,
+};
 use bitflags::Flags;
 use indexmap::IndexMap;
 use mysql_auth::AuthPlugin;
 use mysql_buf::{ParseBuf, front_of};
-use mysql_connect_attributes::{
-    ConnectAttributes, IfHeld, attributes_of_texts, copied_attributes, copied_plugin, has,
-    or_no_bytes, parse_if, plugin_to_zero,
-};
 use mysql_const::{CapabilityFlags, MariadbCapabilities, UTF8_GENERAL_CI, UTF8MB4_GENERAL_CI};
 use mysql_fields::{
     BytesRepr, LenEnc, MyDeserialize, MySerialize, NullBytes, ParseExt, RawBytes, Readable,

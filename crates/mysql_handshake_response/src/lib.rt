@@ -7,3 +7,14 @@ mod ssl_request;
 
 pub use crate::handshake_response::HandshakeResponse;
 pub use crate::ssl_request::SslRequest;
+
+mod attribute_laws;
+mod attributes;
+mod parts;
+
+pub use crate::attribute_laws::attributes_read_back;
+pub use crate::attributes::{ConnectAttributes, copied_pair, owned_pair};
+pub use crate::parts::{
+    IfHeld, attributes_of_texts, copied_attributes, copied_plugin, has, or_no_bytes,
+    owned_attributes, owned_plugin, parse_if, plugin_before_zero, plugin_to_zero,
+};

@@ -7,10 +7,10 @@ use Rattle.std.specs.List.{flat_map}
 use Rattle.mysql_auth.specs.Plugins.{Plugin, plugin_name}
 use Rattle.mysql_buf.specs.Bytes.{AreBytes}
 use Rattle.mysql_buf.specs.Writing.{front, lenenc_int, u8_str}
-use Rattle.mysql_connect_attributes.proofs.AttributesBack.{attributes-back, some-byte}
-use Rattle.mysql_connect_attributes.proofs.AttributesHeld.{attributes_held}
-use Rattle.mysql_connect_attributes.specs.Attributes.{Attribute, attribute, attributes, attributes_at}
-use Rattle.mysql_connect_attributes.specs.Parts.{if_held, if_there, plugin_text, plugin_to_zero_at}
+use Rattle.mysql_handshake_response.proofs.AttributesBack.{attributes-back, some-byte}
+use Rattle.mysql_handshake_response.proofs.AttributesHeld.{attributes_held}
+use Rattle.mysql_handshake_response.specs.Attributes.{Attribute, attribute, attributes, attributes_at}
+use Rattle.mysql_handshake_response.specs.Parts.{if_held, if_there, plugin_text, plugin_to_zero_at}
 use Rattle.mysql_field_constants.specs.ConstantLaws.{constant_at-back}
 use Rattle.mysql_field_constants.specs.Constants.{constant_at}
 use Rattle.mysql_field_constants.specs.Flags.{contains}

@@ -9,7 +9,7 @@ use Rattle.std.specs.Str.{bytes_eq}
 use Rattle.mysql_auth.specs.Plugins.{Plugin, known_plugins, named_among, plugin_name, plugin_named, without_zero}
 use Rattle.mysql_buf.specs.Bytes.{AreBytes}
 use Rattle.mysql_buf.specs.Reading.{is_zero}
-use Rattle.mysql_connect_attributes.specs.Parts.{plugin_text, plugin_to_zero_at}
+use Rattle.mysql_handshake_response.specs.Parts.{plugin_text, plugin_to_zero_at}
 use Rattle.mysql_fields.specs.Laws.{done, ok_same}
 use Rattle.mysql_fields.specs.TextLaws.{null_text_at-back}
 use Rattle.mysql_fields.specs.Texts.{null_text_at}

@@ -2,9 +2,9 @@
 -- (MySQL: Client/Server Protocol, "COM_CHANGE_USER".)
 use Rattle.std.specs.Prelude.{option_map}
 use Rattle.mysql_auth.specs.Views.{plugin_view}
-use Rattle.mysql_connect_attributes.specs.AttributeViews.{attributes_view}
+use Rattle.mysql_handshake_response.specs.AttributeViews.{attributes_view}
 use Rattle.mysql_login.specs.ChangedUsers.{ChangeUserFields, MoreFields}
-use Rattle.mysql_connect_attributes.specs.TextViews.{text_view}
+use Rattle.mysql_handshake_response.specs.TextViews.{text_view}
 use Rattle.mysql_login.specs.declared.change_user.ComChangeUser.{ComChangeUser}
 use Rattle.mysql_login.specs.declared.change_user.ComChangeUserMoreData.{ComChangeUserMoreData}
 

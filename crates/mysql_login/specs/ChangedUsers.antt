@@ -13,10 +13,10 @@ use Rattle.mysql_fields.specs.Wire.{Reading, ◌>>=◌}
 use Rattle.mysql_fields.specs.Texts.{null_text, null_text_at, u8_text_at}
 use Rattle.mysql_field_constants.specs.Constants.{constant_at}
 use Rattle.mysql_field_constants.specs.Flags.{contains}
-use Rattle.mysql_connect_attributes.specs.Attributes.{Attribute, attributes, attributes_at}
+use Rattle.mysql_handshake_response.specs.Attributes.{Attribute, attributes, attributes_at}
 use Rattle.mysql_handshake.specs.Capabilities.{connect_attrs, plugin_auth, secure_connection}
-use Rattle.mysql_connect_attributes.specs.Parts.{if_held, if_there, plugin_before_zero_at, plugin_text}
-use Rattle.mysql_connect_attributes.specs.Parts.{plugin_to_zero_at}
+use Rattle.mysql_handshake_response.specs.Parts.{if_held, if_there, plugin_before_zero_at, plugin_text}
+use Rattle.mysql_handshake_response.specs.Parts.{plugin_to_zero_at}
 
 -- what may stand last: the collation, the plugin, the attributes
 pub record MoreFields : Type 0 where

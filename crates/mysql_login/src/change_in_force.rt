@@ -5,8 +5,8 @@
 
 ghost use Rattle.std.specs.Prelude.{◌≡◌, ◌==◌, not, length, option_map};
 ghost use Rattle.std.specs.Cow.{cow_slice_items};
-ghost use Rattle.mysql_connect_attributes.specs.Parts.{if_held, if_there};
-ghost use Rattle.mysql_connect_attributes.specs.TextViews.{text_view};
+ghost use Rattle.mysql_handshake_response.specs.Parts.{if_held, if_there};
+ghost use Rattle.mysql_handshake_response.specs.TextViews.{text_view};
 ghost use Rattle.mysql_fields.specs.Wire.{Appends, Gives, GivesPart, Tells};
 ghost use Rattle.mysql_login.specs.ChangedUsers.{answer, answer_at, change_in_force, change_in_force_at};
 ghost use Rattle.mysql_login.specs.ChangedUsers.{database_and_last_at, last_fields, last_fields_at, named_and_left};
@@ -14,12 +14,12 @@ ghost use Rattle.mysql_login.specs.ChangedUserViews.{change_user_view, more_view
 
 use crate::change_user::{ComChangeUser, ComChangeUserHeader, ComChangeUserMoreData};
 use mysql_buf::ParseBuf;
-use mysql_connect_attributes::{IfHeld, has, parse_if, plugin_to_zero};
 use mysql_const::CapabilityFlags;
 use mysql_fields::{
     BytesRepr, LeU16, MyDeserialize, MySerialize, NullBytes, ParseExt, RawBytes, RawInt, Readable,
     U8Bytes, WireError, in_order,
 };
+use mysql_handshake_response::{IfHeld, has, parse_if, plugin_to_zero};
 use std::alloc::{AllocError, Global};
 use std::borrow::CowSlice;
 

@@ -6,29 +6,29 @@
 
 ghost use Rattle.std.specs.Prelude.{◌≡◌, [], IfOk, None, map, option_map};
 ghost use Rattle.std.specs.Cow.{cow_slice_items};
-ghost use Rattle.mysql_connect_attributes.specs.Attributes.{attributes};
-ghost use Rattle.mysql_connect_attributes.specs.AttributeViews.{attributes_view, text_attribute};
-ghost use Rattle.mysql_connect_attributes.specs.Parts.{or_empty};
+ghost use Rattle.mysql_handshake_response.specs.Attributes.{attributes};
+ghost use Rattle.mysql_handshake_response.specs.AttributeViews.{attributes_view, text_attribute};
+ghost use Rattle.mysql_handshake_response.specs.Parts.{or_empty};
 ghost use Rattle.mysql_auth.specs.Views.{plugin_view};
 ghost use Rattle.mysql_login.specs.ChangedUsers.{ChangeUserFields, MoreFields, change_user, change_user_at};
 ghost use Rattle.mysql_login.specs.ChangedUsers.{database_and_more_at, more_data, more_data_at, or_none};
 ghost use Rattle.mysql_login.specs.ChangedUserViews.{change_user_view, more_view};
 ghost use Rattle.mysql_fields.specs.Laws.{unsized};
 ghost use Rattle.mysql_fields.specs.Wire.{GivesPart};
-ghost use Rattle.mysql_connect_attributes.specs.TextViews.{text_view};
+ghost use Rattle.mysql_handshake_response.specs.TextViews.{text_view};
 
 use indexmap::IndexMap;
 use mysql_auth::AuthPlugin;
 use mysql_buf::ParseBuf;
-use mysql_connect_attributes::{
-    ConnectAttributes, IfHeld, attributes_of_texts, copied_attributes, copied_pair, copied_plugin,
-    has, or_no_bytes, owned_attributes, owned_pair, owned_plugin, parse_if, plugin_before_zero,
-};
 use mysql_const::CapabilityFlags;
 use mysql_field_constants::ConstU8;
 use mysql_fields::{
     LeU16, MyDeserialize, MySerialize, NullBytes, ParseExt, RawBytes, RawInt, Readable, U8Bytes,
     WireError, in_order,
+};
+use mysql_handshake_response::{
+    ConnectAttributes, IfHeld, attributes_of_texts, copied_attributes, copied_pair, copied_plugin,
+    has, or_no_bytes, owned_attributes, owned_pair, owned_plugin, parse_if, plugin_before_zero,
 };
 use std::alloc::{AllocError, Global};
 use std::borrow::CowSlice;

@@ -3,9 +3,8 @@
 
 ghost use Rattle.mysql_login.specs.ChangedUserStatements.{ChangedUsersReadAgain};
 
-pub use mysql_gtid::laws as gtid;
 pub use mysql_handshake_response::laws::ssl_requests_read_back;
-pub use mysql_replication::laws as replication;
+pub use mysql_replication::{gtid_laws as gtid, laws as replication};
 
 /// A change of user that was read by the capabilities in force is read again by them.
 ///

@@ -19,12 +19,11 @@ pub use mysql_auth::{
     PublicKeyResponse, PublicKeyResponseHeader, parse_parsec_salt,
 };
 pub use mysql_buf::ParseBuf;
-pub use mysql_connect_attributes::ConnectAttributes;
 pub use mysql_const::{Capabilities, CapabilityFlags, MariadbCapabilities, StatusFlags};
 pub use mysql_field_constants::Either;
 pub use mysql_fields::{MyDeserialize, MySerialize, ParseExt, Readable, WireError};
 pub use mysql_handshake::{HandshakePacket, in_force, offered_by};
-pub use mysql_handshake_response::{HandshakeResponse, SslRequest};
+pub use mysql_handshake_response::{ConnectAttributes, HandshakeResponse, SslRequest};
 pub use mysql_replication::{
     BinlogDumpFlags, BinlogRequest, ComBinlogDump, ComBinlogDumpGtid, ComBinlogDumpGtidHeader,
     ComBinlogDumpHeader, ComRegisterSlave, ComRegisterSlaveHeader, ComTableDump,

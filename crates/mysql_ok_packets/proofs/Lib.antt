@@ -1,1 +1,3 @@
 pub mod Back
+pub mod SessionStatesBack
+pub mod Elements

@@ -4,3 +4,9 @@ pub mod OwnLaws
 pub mod Statements
 pub mod Views
 pub mod Written
+pub mod Reading
+pub mod ReadingLaws
+pub mod SessionStates
+pub mod StateLaws
+pub mod SessionStateStatements
+pub mod SessionStateViews

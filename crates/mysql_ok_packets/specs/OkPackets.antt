@@ -7,7 +7,7 @@ use Rattle.mysql_fields.specs.Wire.{Reading, ◌>>=◌}
 use Rattle.mysql_fields.specs.Texts.{lenenc_text_at}
 use Rattle.mysql_field_constants.specs.Constants.{constant_at, named_at}
 use Rattle.mysql_field_constants.specs.Flags.{contains, status_named}
-use Rattle.mysql_session_states.specs.SessionStates.{State, states_at}
+use Rattle.mysql_ok_packets.specs.SessionStates.{State, states_at}
 
 -- None for a field that holds no bytes.
 abbrev pub unless_empty : List ℕ → Option (List ℕ)

@@ -13,8 +13,17 @@ pub use deserializer::{InvalidOkPacketHeader, OkPacketDeserializer};
 pub use kind::{
     CommonOkPacket, NetworkStreamTerminator, OkPacketKind, OldEofPacket, ResultSetTerminator,
 };
-pub use mysql_session_states::{
-    Gtids, Schema, SessionStateChange, SessionStateInfo, SessionStateType, SystemVariable,
-    TransactionCharacteristics, TransactionState, Unsupported, put_states,
-};
 pub use ok_packet::{OkPacket, has_more_results, has_mysql_status, has_named_status};
+
+pub mod change;
+pub mod info;
+pub mod members;
+pub mod session_state_laws;
+mod to_end;
+pub mod variable;
+
+pub use change::SessionStateChange;
+pub use info::{SessionStateInfo, put_states, states_of};
+pub use members::{Gtids, Schema, TransactionCharacteristics, TransactionState, Unsupported};
+pub use mysql_const::{SessionStateType, UnknownSessionStateType};
+pub use variable::SystemVariable;

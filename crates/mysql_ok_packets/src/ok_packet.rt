@@ -7,7 +7,7 @@ ghost use Rattle.std.specs.Prelude.{◌≡◌, IfOk, IsOkUnless, [], map, option
 ghost use Rattle.std.specs.Cow.{cow_str_bytes};
 ghost use Rattle.mysql_fields.specs.Wire.{GivesPart};
 ghost use Rattle.mysql_fields.specs.declared.error.WireError.TheVariants as wire;
-ghost use Rattle.mysql_session_states.specs.Views.{state_view};
+ghost use Rattle.mysql_ok_packets.specs.SessionStateViews.{state_view};
 ghost use Rattle.mysql_ok_packets.specs.OkPackets.{all_states_at, more_results_exist, unless_empty};
 ghost use Rattle.mysql_fields.specs.Texts.{lossy_text};
 ghost use Rattle.mysql_ok_packets.specs.OkPackets.{unless_zero};
@@ -16,11 +16,11 @@ ghost use Rattle.mysql_ok_packets.specs.Written.{is_mysql_status, is_named_statu
 ghost use Rattle.std.specs.Int.RustNames.{bit_and};
 
 use crate::body::OkPacketBody;
+use crate::{SessionStateInfo, states_of};
 use bitflags::Flags;
 use mysql_const::{MariadbStatusFlags, StatusFlags};
 use mysql_field_constants::ConstValue;
 use mysql_fields::{WireError, copy_bytes, lossy_text, own_bytes};
-use mysql_session_states::{SessionStateInfo, states_of};
 use std::alloc::{AllocError, Global};
 use std::borrow::{CowSlice, CowStr};
 

@@ -3,12 +3,10 @@
 use crate::given::{Cells, Given, NULL, ONE, SHORT, TWO, TWO_VALUES, named, row, rows};
 use crate::support::{Asserting, assert_appended, assert_shown, is_made, is_shown};
 use mysql_buf::ParseBuf;
-use mysql_bulk::{
-    StmtBulkExecuteParamType, StmtBulkExecuteParamValue, StmtBulkExecuteParamValues, read_bulk_row,
-};
 use mysql_bulk_builder::{
     BulkExecuteRequestBuilderError, BulkExecuteRequestError, BulkRequests,
-    ComStmtBulkExecuteRequest, ComStmtBulkExecuteRequestBuilder,
+    ComStmtBulkExecuteRequest, ComStmtBulkExecuteRequestBuilder, StmtBulkExecuteParamType,
+    StmtBulkExecuteParamValue, StmtBulkExecuteParamValues, read_bulk_row,
 };
 use mysql_cells::Value;
 use mysql_const::{

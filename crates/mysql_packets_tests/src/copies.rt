@@ -3,8 +3,8 @@
 use crate::given::{SHORT, row};
 use crate::support::Asserting;
 use mysql_bulk_builder::{BulkExecuteRequestBuilderError, BulkExecuteRequestError};
+use mysql_ok_packets::{SessionStateInfo, SessionStateType};
 use mysql_packets::{ErrPacket, LocalInfilePacket, ProgressReport, ServerError, SqlState};
-use mysql_session_states::{SessionStateInfo, SessionStateType};
 use mysql_stmt::ComStmtSendLongData;
 use mysql_values::{ByteString, Content, MissingNamedParameterError, ParamsError};
 use std::borrow::CowSlice;

@@ -7,12 +7,12 @@ use crate::support::{Asserting, assert_appended, assert_behind, assert_field, fr
 use mysql_cells::Value;
 use mysql_const::{CapabilityFlags, ColumnFlags, ColumnType, MariadbCapabilities};
 use mysql_fields::WireError;
+use mysql_ok_packets::Unsupported;
 use mysql_packets::{
     Column, ComStmtClose, ComStmtReset, ComStmtSendLongData, ErrPacket, ExtendedColumn,
     ListedColumn, LocalInfilePacket, ProgressReport, ServerError, SqlState,
     StmtBulkExecuteParamType, StmtPacket,
 };
-use mysql_session_states::Unsupported;
 use mysql_stmt::{ComStmtExecuteRequestBuilder, HasValue, put_execution, size_within};
 use std::alloc::{AllocError, Global};
 use std::borrow::CowSlice;

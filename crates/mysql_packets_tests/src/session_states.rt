@@ -4,9 +4,7 @@ use crate::support::{
     Asserting, assert_appended, assert_behind, assert_field, assert_shown, front,
 };
 use mysql_const::SessionStateType;
-use mysql_session_states::{
-    SessionStateChange, SessionStateInfo, Unsupported, put_states, states_of,
-};
+use mysql_ok_packets::{SessionStateChange, SessionStateInfo, Unsupported, put_states, states_of};
 use std::alloc::Global;
 use std::borrow::CowSlice;
 use tests_support::{Assert, again, assert_copied, assert_equal, whole};

@@ -3,16 +3,16 @@
 use crate::fields::column_named;
 use crate::given::named;
 use crate::support::{Asserting, assert_behind, front};
-use mysql_bulk::InvalidComStmtBulkExecuteHeader;
+use mysql_bulk_builder::InvalidComStmtBulkExecuteHeader;
 use mysql_fields::InvalidLengthEncodedInteger;
-use mysql_ok_packets::InvalidOkPacketHeader;
+use mysql_ok_packets::{
+    Gtids, InvalidOkPacketHeader, Schema, SystemVariable, TransactionCharacteristics,
+    TransactionState, Unsupported,
+};
 use mysql_packets::{
     ErrPacket, InvalidCatalog, InvalidErrPacketHeader, InvalidFixedLengthFieldsLen,
     InvalidLocalInfileHeader, InvalidSqlStateMarker, InvalidStmtPacketStatus, LocalInfilePacket,
     ProgressReport, ServerError, SqlState,
-};
-use mysql_session_states::{
-    Gtids, Schema, SystemVariable, TransactionCharacteristics, TransactionState, Unsupported,
 };
 use mysql_stmt::{
     InvalidComStmtCloseHeader, InvalidComStmtExecuteHeader, InvalidComStmtResetHeader,

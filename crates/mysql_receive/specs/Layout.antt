@@ -143,7 +143,7 @@ are_bulk_flags flags =
     flags == 0 || flags == send_unit_results || flags == send_types_to_server
     || flags == send_unit_results + send_types_to_server
 
--- The id, the flags, and the types where they are sent. (`mysql_bulk` reads the same layout, but
+-- The id, the flags, and the types where they are sent. (`mysql_bulk_builder` reads the same layout, but
 -- takes the indicators DEFAULT and IGNORE in its rows, which have no content here.)
 unfoldable pub bulk_head : Statement → List ℕ → Result BulkHead StreamFault
 bulk_head statement body = do

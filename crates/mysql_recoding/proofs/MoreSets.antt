@@ -16,7 +16,7 @@ use Rattle.mysql_command_rules.specs.Cause.{first_of_sets, set_cause}
 use Rattle.mysql_command_rules.specs.Commands.{prepare_command}
 use Rattle.mysql_command_rules.specs.Sent.{SentPayload, as_execution, on_the_way, payloads_of, prepare_of}
 use Rattle.mysql_command_rules.specs.Sets.{Given}
-use Rattle.mysql_send_execute.specs.Executions.{execution_payloads, whole_execution}
+use Rattle.mysql_send.specs.Executions.{execution_payloads, whole_execution}
 use Rattle.mysql_recoding.specs.AsItComes.{executions, executions_cause}
 use Rattle.mysql_recoding.specs.Causes.{values_of_sets}
 use Rattle.mysql_recoding.proofs.JoinedRecodings.{framings_joined, values_joined}

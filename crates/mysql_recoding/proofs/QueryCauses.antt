@@ -13,7 +13,7 @@ use Rattle.mysql_command_rules.specs.declared.refusal.Refusal.TheVariants as ref
 use Rattle.mysql_command_rules.specs.declared.road.Road.TheVariants.{Execute}
 use Rattle.mysql_command_rules.specs.Cause.{cause_if, query_cause}
 use Rattle.mysql_command_rules.specs.Sent.{prepare_of, stream_of}
-use Rattle.mysql_send_execute.specs.Statement.{AppendsPrepare, IsStatement, RefusesPrepare}
+use Rattle.mysql_send.specs.Statement.{AppendsPrepare, IsStatement, RefusesPrepare}
 use Rattle.mysql_recoding.specs.AsItComes.{RefusesQuery}
 use Rattle.mysql_recoding.specs.Causes.{error_for}
 use Rattle.mysql_recoding.specs.Steps.{CanBePrepared}

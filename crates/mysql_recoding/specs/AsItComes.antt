@@ -25,7 +25,7 @@ use Rattle.mysql_command_rules.specs.Commands.{prepare_command}
 use Rattle.mysql_command_rules.specs.Sent.{as_execution, payloads_of, prepare_of}
 use Rattle.mysql_command_rules.specs.declared.refusal.Refusal.{Refusal}
 use Rattle.mysql_command_rules.specs.declared.road.Road.TheVariants.{Execute}
-use Rattle.mysql_send_execute.specs.Executions.{execution_payloads, whole_execution}
+use Rattle.mysql_send.specs.Executions.{execution_payloads, whole_execution}
 use Rattle.mysql_recoding.specs.declared.errors.RecodeError.{RecodeError}
 use Rattle.mysql_recoding.specs.declared.errors.RecodeError.TheVariants as recode_error
 use Rattle.mysql_recoding.specs.Causes.{ending_cause, error_for, recoding_cause, values_of_sets}

@@ -15,7 +15,7 @@ use crate::errors::RecodeError;
 use crate::whole::{refused, values_of_all};
 use mysql_receive::laws::there_is_one_audit;
 use mysql_receive::{Content, Receiver, StreamFault};
-use mysql_send_execute::{Statement, put_more_executions, put_prepare};
+use mysql_send::{Statement, put_more_executions, put_prepare};
 use mysql_values::laws::tokens_of_a_text;
 use mysql_values::{Mode, Spelling};
 use mysql_wire::laws::one_split;

@@ -20,10 +20,10 @@ use crate::errors::RecodeError;
 use mysql_buf::laws::are_bytes;
 use mysql_command_rules::Refusal;
 use mysql_command_rules::in_turn::sent_in_turn;
+use mysql_convert::ToValue;
 use mysql_receive::laws::stream_has_one_audit;
 use mysql_receive::{Audit, Content, receive_in};
-use mysql_send_execute::{Statement, put_executions_of_values};
-use mysql_to_values::ToValue;
+use mysql_send::{Statement, put_executions_of_values};
 use mysql_values::{Mode, Spelling, Value};
 use std::alloc::Global;
 

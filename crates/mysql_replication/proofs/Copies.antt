@@ -1,8 +1,8 @@
 -- Copies of sets, made one after the other, as a loop does.
 use Rattle.std.proofs.Common.{◌≡◌, ◌<◌, ◌+◌, ℕ, List, [], ◌∷◌, ◌++◌, length, get_or, take, map, append_assoc, sym, ap, ◌∙◌}
 use Rattle.std.proofs.lemmas.List.{map-append, take_more}
-use Rattle.mysql_gtid.specs.Sids.{SidParts, sid_view}
-use Rattle.mysql_gtid.specs.declared.sid.Sid.{Sid}
+use Rattle.mysql_replication.specs.Sids.{SidParts, sid_view}
+use Rattle.mysql_replication.specs.declared.sid.Sid.{Sid}
 
 -- one set more was copied
 pub one_copied : (old : List SidParts) (sids copies new : List Sid) (i : ℕ) (sid copy : Sid) → i < length sids → sid ≡ get_or sids i sid

@@ -1,2 +1,16 @@
 pub mod Back
 pub mod Copies
+pub mod Blocks
+pub mod Characters
+pub mod Equal
+pub mod Fields
+pub mod IntervalTexts
+pub mod Lacking
+pub mod Numbers
+pub mod Parsed
+pub mod ReadBack
+pub mod Reading
+pub mod TagTexts
+pub mod UuidTexts
+pub mod Uuids
+pub mod Whole

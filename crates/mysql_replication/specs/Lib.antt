@@ -2,3 +2,10 @@ pub mod Packets
 pub mod PacketLaws
 pub mod Statements
 pub mod Views
+pub mod Tags
+pub mod Refusals
+pub mod Intervals
+pub mod Sids
+pub mod Laws
+pub mod Blocks
+pub mod BlockLaws

@@ -9,8 +9,8 @@ use Rattle.mysql_const.specs.BinlogDumpFlags.{binlog_dump_flags}
 use Rattle.mysql_const.specs.Commands.{command_number}
 use Rattle.mysql_const.specs.declared.command.Command.TheVariants.{COM_REGISTER_SLAVE, COM_TABLE_DUMP, COM_BINLOG_DUMP}
 use Rattle.mysql_const.specs.declared.command.Command.TheVariants.{COM_BINLOG_DUMP_GTID}
-use Rattle.mysql_gtid.specs.BlockLaws.{block_at-back}
-use Rattle.mysql_gtid.specs.Blocks.{block_at, block_bytes}
+use Rattle.mysql_replication.specs.BlockLaws.{block_at-back}
+use Rattle.mysql_replication.specs.Blocks.{block_at, block_bytes}
 use Rattle.mysql_fields.specs.Forms.{fixed_number_at}
 use Rattle.mysql_fields.specs.Laws.{from_block-enough, fixed_number_at-back}
 use Rattle.mysql_fields.specs.TextLaws.{u8_text_at-back, u32_text_at-back}

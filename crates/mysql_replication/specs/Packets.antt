@@ -14,8 +14,8 @@ use Rattle.mysql_const.specs.BinlogDumpFlags.{binlog_dump_flags}
 use Rattle.mysql_const.specs.Commands.{command_number}
 use Rattle.mysql_const.specs.declared.command.Command.TheVariants.{COM_REGISTER_SLAVE, COM_TABLE_DUMP, COM_BINLOG_DUMP}
 use Rattle.mysql_const.specs.declared.command.Command.TheVariants.{COM_BINLOG_DUMP_GTID}
-use Rattle.mysql_gtid.specs.Blocks.{IsBlock, block_at, block_bytes}
-use Rattle.mysql_gtid.specs.Sids.{SidParts}
+use Rattle.mysql_replication.specs.Blocks.{IsBlock, block_at, block_bytes}
+use Rattle.mysql_replication.specs.Sids.{SidParts}
 use Rattle.mysql_fields.specs.Forms.{fixed_number_at}
 use Rattle.mysql_fields.specs.Wire.{Reading, from_block, ◌>>=◌}
 use Rattle.mysql_fields.specs.Texts.{u8_text_at, u32_text_at}

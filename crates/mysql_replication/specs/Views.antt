@@ -5,7 +5,7 @@ use Rattle.std.specs.declared.borrow.CowStr.{CowStr}
 use Rattle.mysql_fields.specs.Texts.{lossy_text}
 use Rattle.mysql_fields.specs.declared.error.WireError.TheVariants.{Memory}
 use Rattle.mysql_fields.specs.declared.error.WireError.{WireError}
-use Rattle.mysql_gtid.specs.Sids.{sid_view}
+use Rattle.mysql_replication.specs.Sids.{sid_view}
 use Rattle.mysql_replication.specs.Packets.{BinlogDump, BinlogDumpGtid, BinlogDumpGtidStart, RegisterSlave}
 use Rattle.mysql_replication.specs.Packets.{ReplicaNames, ReplicaNumbers, Request, SemiSyncAck, TableDump}
 use Rattle.mysql_replication.specs.declared.binlog_dump.ComBinlogDump.{ComBinlogDump}

@@ -6,7 +6,7 @@
 ghost use Rattle.std.specs.Prelude.{◌≡◌, ◌^◌, ◌-◌, ◌++◌, ◌∷◌, [], Bool, IfOk, None, map};
 ghost use Rattle.std.specs.Cow.{cow_slice_items};
 ghost use Rattle.mysql_buf.specs.Writing.{front};
-ghost use Rattle.mysql_gtid.specs.Sids.{sid_view};
+ghost use Rattle.mysql_replication.specs.Sids.{sid_view};
 ghost use Rattle.mysql_fields.specs.Laws.{unsized};
 ghost use Rattle.mysql_fields.specs.Wire.{GivesPart, TellsPart};
 ghost use Rattle.mysql_replication.specs.PacketLaws.{binlog_dump_gtid_at-back};
@@ -17,6 +17,7 @@ ghost use Rattle.mysql_replication.specs.Packets.{whole_binlog_dump_gtid};
 ghost use Rattle.mysql_replication.specs.Views.{IsLossyText, binlog_dump_gtid_view, start_view};
 
 use crate::headers::ComBinlogDumpGtidHeader;
+use crate::{Sid, SidBlock};
 use bitflags::Flags;
 use mysql_buf::{ParseBuf, front_of};
 use mysql_const::BinlogDumpFlags;
@@ -25,7 +26,6 @@ use mysql_fields::{
     LeU16, LeU32, LeU64, MyDeserialize, MySerialize, ParseExt, RawBytes, RawInt, Readable,
     ReadsBack, U32Bytes, WireError, copy_bytes, in_order, lossy_text,
 };
-use mysql_gtid::{Sid, SidBlock};
 use std::alloc::{AllocError, Global};
 use std::borrow::{CowSlice, CowStr};
 

@@ -5,18 +5,18 @@
 
 ghost use Rattle.std.specs.Prelude.{◌≡◌, [], false, IfOk, map};
 ghost use Rattle.std.specs.Cow.{cow_slice_items};
-ghost use Rattle.mysql_gtid.specs.Sids.{sid_view};
+ghost use Rattle.mysql_replication.specs.Sids.{sid_view};
 ghost use Rattle.mysql_field_constants.specs.Either.{either_shown};
 ghost use Rattle.mysql_replication.specs.Packets.{packet_of};
 ghost use Rattle.mysql_replication.specs.Views.{IsLossyText, binlog_dump_gtid_view, binlog_dump_view, request_view};
 
+use crate::Sid;
 use crate::binlog_dump::ComBinlogDump;
 use crate::binlog_dump_gtid::{ComBinlogDumpGtid, copies_of};
 use bitflags::Flags;
 use mysql_const::BinlogDumpFlags;
 use mysql_field_constants::Either;
 use mysql_fields::{WireError, copy_bytes, lossy_text};
-use mysql_gtid::Sid;
 use std::alloc::{AllocError, Global};
 use std::borrow::{CowSlice, CowStr};
 

@@ -19,7 +19,19 @@ pub use headers::{
     InvalidComTableDumpHeader, InvalidSemiSyncAckPacketPacketHeader, SemiSyncAckPacketPacketHeader,
 };
 pub use mysql_const::{BinlogDumpFlags, UnknownBinlogDumpFlags};
-pub use mysql_gtid::{GnoInterval, InvalidTag, Sid, SidBlock, SidError, Tag, UUID_LEN};
 pub use register_slave::ComRegisterSlave;
 pub use semi_sync_ack::SemiSyncAckPacket;
 pub use table_dump::ComTableDump;
+
+pub mod block;
+pub mod error;
+pub mod gtid_laws;
+pub mod interval;
+pub mod sid;
+pub mod tag;
+
+pub use block::SidBlock;
+pub use error::SidError;
+pub use interval::GnoInterval;
+pub use sid::{Sid, UUID_LEN};
+pub use tag::{InvalidTag, Tag};

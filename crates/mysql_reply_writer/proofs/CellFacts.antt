@@ -3,7 +3,7 @@ use Rattle.std.proofs.Common.{ℕ, suc, ◌<◌, List, [], ◌∷◌, length, Op
 use Rattle.std.specs.Option.{option_flatten}
 use Rattle.mysql_cells.specs.AsSql.{FitsFields}
 use Rattle.mysql_cells.specs.declared.value.Value.{Value}
-use Rattle.mysql_reply_rules.specs.Fits.{CellFits, CellsFit}
+use Rattle.mysql_reply_writer.specs.Fits.{CellFits, CellsFit}
 
 first_fits : (cell : Option Value) → IfSome cell (λ value. FitsFields value) → CellFits cell
 first_fits None h = tt

@@ -5,8 +5,8 @@ use Rattle.mysql_columns.specs.Columns.{IsColumn, column}
 use Rattle.mysql_columns.specs.Views.{column_view}
 use Rattle.mysql_columns.specs.declared.column.Column.{Column}
 use Rattle.mysql_replies.specs.Views.{column_views}
-use Rattle.mysql_reply_rules.specs.declared.refusal.ReplyRefusal.{ReplyRefusal}
-use Rattle.mysql_reply_rules.specs.Fits.{ColumnsFit}
+use Rattle.mysql_reply_writer.specs.declared.refusal.ReplyRefusal.{ReplyRefusal}
+use Rattle.mysql_reply_writer.specs.Fits.{ColumnsFit}
 use Rattle.mysql_reply_writer.specs.Puts.{Place, Puts, RefusesPayloads}
 use Rattle.mysql_reply_writer.proofs.Putting.{PutSoFar, all_put, none_put, put_on, refused_on}
 

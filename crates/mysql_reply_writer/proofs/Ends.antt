@@ -1,8 +1,8 @@
 -- The end of a reply.
 use Rattle.std.proofs.Common.{◌≡◌, ℕ, List, Option, None, Result, Ok, Err, OnOk, IfErr, sym, ap, ◌∙◌}
-use Rattle.mysql_reply_rules.specs.declared.refusal.ReplyRefusal.{ReplyRefusal}
-use Rattle.mysql_reply_rules.specs.Refusals.{Writing, after_steps, end_cause, or_cause, whole_cause}
-use Rattle.mysql_reply_rules.specs.Written.{Step}
+use Rattle.mysql_reply_writer.specs.declared.refusal.ReplyRefusal.{ReplyRefusal}
+use Rattle.mysql_reply_writer.specs.Refusals.{Writing, after_steps, end_cause, or_cause, whole_cause}
+use Rattle.mysql_reply_writer.specs.Written.{Step}
 use Rattle.mysql_reply_writer.specs.Puts.{IsCause}
 use Rattle.mysql_reply_writer.specs.Views.{cause_in}
 use Rattle.mysql_reply_writer.specs.Writer.{Refuses, Writer, Wrote}

@@ -3,7 +3,7 @@ use Rattle.std.proofs.Common.{◌≡◌, ℕ, ◌+◌, ◌<◌, ◌≤◌, List,
 use Rattle.std.proofs.lemmas.Bool.{le-leb, lt-ltb}
 use Rattle.std.proofs.lemmas.List.{drop_at, take_at}
 use Rattle.mysql_wire.specs.Framing.{framing, number_after}
-use Rattle.mysql_reply_rules.specs.Refusals.{too_large}
+use Rattle.mysql_reply_writer.specs.Refusals.{too_large}
 use Rattle.mysql_reply_writer.specs.Puts.{Place, Puts}
 
 -- one payload within the limit

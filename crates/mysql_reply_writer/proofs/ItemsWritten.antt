@@ -1,8 +1,8 @@
 -- The steps of a slice's items, written item by item.
 use Rattle.std.proofs.Common.{◌≡◌, ℕ, ◌+◌, ◌≤◌, List, [], ◌∷◌, ◌++◌, length, drop, ap, subst, ◌∙◌}
 use Rattle.std.proofs.lemmas.List.{drop_all}
-use Rattle.mysql_reply_rules.specs.declared.refusal.ReplyRefusal.{ReplyRefusal}
-use Rattle.mysql_reply_rules.specs.Written.{Step}
+use Rattle.mysql_reply_writer.specs.declared.refusal.ReplyRefusal.{ReplyRefusal}
+use Rattle.mysql_reply_writer.specs.Written.{Step}
 use Rattle.mysql_reply_writer.specs.Writer.{Refuses, Writer, Wrote}
 use Rattle.mysql_reply_writer.proofs.Steps.{WroteSoFar, all_written, refused_on, written_on}
 

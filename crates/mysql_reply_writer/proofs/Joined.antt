@@ -4,11 +4,11 @@ use Rattle.std.proofs.lemmas.List.{length-take, take-append-le, take-take}
 use Rattle.mysql_wire.specs.Framing.{framing, number_after}
 use Rattle.mysql_wire.specs.Stream.{framings}
 use Rattle.mysql_wire.specs.Stream.Numbering.{OnFrom}
-use Rattle.mysql_reply_rules.specs.declared.refusal.ReplyRefusal.{ReplyRefusal}
-use Rattle.mysql_reply_rules.specs.declared.refusal.ReplyRefusal.TheVariants.{PacketTooLarge}
-use Rattle.mysql_reply_rules.specs.Fits.{StepsFit}
-use Rattle.mysql_reply_rules.specs.Refusals.{Writing, after_step, after_steps, or_cause, step_cause, steps_cause, too_large}
-use Rattle.mysql_reply_rules.specs.Written.{Step}
+use Rattle.mysql_reply_writer.specs.declared.refusal.ReplyRefusal.{ReplyRefusal}
+use Rattle.mysql_reply_writer.specs.declared.refusal.ReplyRefusal.TheVariants.{PacketTooLarge}
+use Rattle.mysql_reply_writer.specs.Fits.{StepsFit}
+use Rattle.mysql_reply_writer.specs.Refusals.{Writing, after_step, after_steps, or_cause, step_cause, steps_cause, too_large}
+use Rattle.mysql_reply_writer.specs.Written.{Step}
 use Rattle.mysql_reply_writer.specs.Puts.{number_behind}
 
 pub number_joined : (xs ys : List (List ℕ)) (number : ℕ) → number_behind (xs ++ ys) number ≡ number_behind ys (number_behind xs number)

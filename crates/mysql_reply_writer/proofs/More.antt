@@ -4,7 +4,7 @@ use Rattle.std.proofs.lemmas.Bool.{le-ltb, lt-ltb, ltb-false, ltb-true}
 use Rattle.std.proofs.Common.{length-drop}
 use Rattle.mysql_replies.specs.declared.results.ReplyResult.{ReplyResult}
 use Rattle.mysql_replies.specs.Views.{outcome_view, outcome_views}
-use Rattle.mysql_reply_rules.specs.Written.{is_some_result, result_steps, results_steps}
+use Rattle.mysql_reply_writer.specs.Written.{is_some_result, result_steps, results_steps}
 
 some_left : (results : List ReplyResult) → is_some_result (outcome_views results) ≡ nat_lt 0 (length results)
 some_left [] = refl

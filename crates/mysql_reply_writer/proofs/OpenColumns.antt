@@ -2,8 +2,8 @@
 use Rattle.std.proofs.Common.{◌≡◌, ℕ, List, [], ◌∷◌, Option, Some, None, refl, ap, ◌∙◌}
 use Rattle.mysql_columns.specs.Columns.{ColumnDefinition}
 use Rattle.mysql_rows.specs.Rows.{Row}
-use Rattle.mysql_reply_rules.specs.Refusals.{OpenRows, Writing, one_more}
-use Rattle.mysql_reply_rules.specs.Written.{ColumnsStep, RowStep}
+use Rattle.mysql_reply_writer.specs.Refusals.{OpenRows, Writing, one_more}
+use Rattle.mysql_reply_writer.specs.Written.{ColumnsStep, RowStep}
 use Rattle.mysql_reply_writer.specs.Writer.{Writer, Wrote, columns_of}
 
 one_more_columns : (rows : Option OpenRows) → columns_of (one_more rows) ≡ columns_of rows

@@ -3,8 +3,8 @@ use Rattle.std.proofs.Common.{◌≡◌, ℕ, ◌+◌, List, [], ◌++◌, lengt
 use Rattle.std.proofs.lemmas.List.{take_all}
 use Rattle.mysql_wire.specs.Stream.{framings}
 use Rattle.mysql_wire.specs.Stream.Numbering.{OnFrom}
-use Rattle.mysql_reply_rules.specs.declared.refusal.ReplyRefusal.{ReplyRefusal}
-use Rattle.mysql_reply_rules.specs.Refusals.{too_large}
+use Rattle.mysql_reply_writer.specs.declared.refusal.ReplyRefusal.{ReplyRefusal}
+use Rattle.mysql_reply_writer.specs.Refusals.{too_large}
 use Rattle.mysql_reply_writer.specs.Puts.{Place, Puts, RefusesPayloads, number_behind, place_behind}
 use Rattle.mysql_reply_writer.proofs.Joined.{framings_joined, kept_front, large_first, large_joined, number_joined}
 

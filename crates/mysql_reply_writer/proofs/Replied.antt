@@ -8,9 +8,9 @@ use Rattle.mysql_replies.specs.Bytes.{IsReplyOf}
 use Rattle.mysql_replies.specs.Grammar.{Outcome}
 use Rattle.mysql_replies.specs.Manual.{EachFramingIsWhole, IsFramedReply}
 use Rattle.mysql_replies.specs.Reply.{Answer}
-use Rattle.mysql_reply_rules.specs.Fronts.{EachFramedFrontIsUnfinished, EachFramedReplyIsWhole}
-use Rattle.mysql_reply_rules.specs.Refusals.{refusal_of}
-use Rattle.mysql_reply_rules.specs.Written.{reports_read, results_read}
+use Rattle.mysql_reply_writer.specs.Fronts.{EachFramedFrontIsUnfinished, EachFramedReplyIsWhole}
+use Rattle.mysql_reply_writer.specs.Refusals.{refusal_of}
+use Rattle.mysql_reply_writer.specs.Written.{reports_read, results_read}
 use Rattle.mysql_reply_writer.specs.Replies.{Replies, reply_stream, whole_answer}
 use Rattle.mysql_reply_writer.specs.Writer.{AppendsReply}
 

@@ -5,10 +5,10 @@ use Rattle.std.proofs.lemmas.List.{take_all}
 use Rattle.mysql_wire.specs.Stream.{framings}
 use Rattle.mysql_wire.specs.Stream.Numbering.{OnFrom}
 use Rattle.mysql_replies.specs.declared.context.Context.{Context}
-use Rattle.mysql_reply_rules.specs.declared.refusal.ReplyRefusal.{ReplyRefusal}
-use Rattle.mysql_reply_rules.specs.Fits.{StepsFit}
-use Rattle.mysql_reply_rules.specs.Refusals.{Writing, after_steps, steps_cause}
-use Rattle.mysql_reply_rules.specs.Written.{Step, step_payloads, steps_payloads}
+use Rattle.mysql_reply_writer.specs.declared.refusal.ReplyRefusal.{ReplyRefusal}
+use Rattle.mysql_reply_writer.specs.Fits.{StepsFit}
+use Rattle.mysql_reply_writer.specs.Refusals.{Writing, after_steps, steps_cause}
+use Rattle.mysql_reply_writer.specs.Written.{Step, step_payloads, steps_payloads}
 use Rattle.mysql_reply_writer.specs.Puts.{number_behind}
 use Rattle.mysql_reply_writer.specs.Writer.{Refuses, Writer, Wrote, payloads_of}
 use Rattle.mysql_reply_writer.proofs.Joined.{after_joined, cause_first, cause_joined, fit_joined, framings_joined, kept_front, number_joined, same_context}

@@ -6,15 +6,15 @@ use Rattle.mysql_wire.specs.Stream.Numbering.{OnFrom}
 use Rattle.mysql_replies.specs.declared.context.Context.{Context}
 use Rattle.mysql_replies.specs.declared.results.ReplyResult.{ReplyResult}
 use Rattle.mysql_replies.specs.Views.{outcome_views}
-use Rattle.mysql_reply_rules.specs.declared.refusal.ReplyRefusal.{ReplyRefusal}
-use Rattle.mysql_reply_rules.specs.Laws.{WrittenRepliesAreFramed}
-use Rattle.mysql_reply_rules.specs.Refusals.{nothing_written, refusal_of, whole_cause}
-use Rattle.mysql_reply_rules.specs.Written.{reply_payloads, reply_steps, reports_read, results_read}
+use Rattle.mysql_reply_writer.specs.declared.refusal.ReplyRefusal.{ReplyRefusal}
+use Rattle.mysql_reply_writer.specs.ReplyLaws.{WrittenRepliesAreFramed}
+use Rattle.mysql_reply_writer.specs.Refusals.{nothing_written, refusal_of, whole_cause}
+use Rattle.mysql_reply_writer.specs.Written.{reply_payloads, reply_steps, reports_read, results_read}
 use Rattle.mysql_reply_writer.specs.Laws.{WholeWritingsAreReplies}
 use Rattle.mysql_reply_writer.specs.Puts.{IsCause}
 use Rattle.mysql_reply_writer.specs.Writer.{AppendsReply, Writer, Wrote, fresh_writer}
 use Rattle.mysql_reply_writer.proofs.Ends.{whole_end}
-use Rattle.mysql_reply_rules.specs.Refusals.{end_cause}
+use Rattle.mysql_reply_writer.specs.Refusals.{end_cause}
 
 -- where there is a result, what speaks against the reply speaks against its steps or their end
 pub refusal_is : (c : Context) (limit : ℕ) (results : List ReplyResult) (progress : List ProgressReport) → (length results == 0) ≡ false

@@ -4,8 +4,8 @@ use Rattle.std.specs.Prelude.{◌≡◌, ℕ, List, ◌∷◌, ◌++◌, None}
 use Rattle.mysql_server_packets.specs.Packets.{ProgressReport}
 use Rattle.mysql_replies.specs.declared.context.Context.{Context}
 use Rattle.mysql_replies.specs.Grammar.{Outcome}
-use Rattle.mysql_reply_rules.specs.Refusals.{end_cause}
-use Rattle.mysql_reply_rules.specs.Written.{Step, reply_steps, reports_read, results_read}
+use Rattle.mysql_reply_writer.specs.Refusals.{end_cause}
+use Rattle.mysql_reply_writer.specs.Written.{Step, reply_steps, reports_read, results_read}
 use Rattle.mysql_reply_writer.specs.Writer.{AppendsReply, Writer, Wrote, fresh_writer}
 
 -- What was written call by call was written at once.

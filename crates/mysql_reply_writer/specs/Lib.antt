@@ -1,3 +1,9 @@
+pub mod Written
+pub mod Refusals
+pub mod Fits
+pub mod ReplyLaws
+pub mod Own
+pub mod Fronts
 pub mod Puts
 pub mod Writer
 pub mod Views

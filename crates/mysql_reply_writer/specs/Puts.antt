@@ -4,9 +4,9 @@ use Rattle.std.specs.Prelude.{◌≡◌, ℕ, ◌+◌, List, [], ◌∷◌, ◌+
 use Rattle.mysql_wire.specs.Framing.{number_after}
 use Rattle.mysql_wire.specs.Stream.{framings}
 use Rattle.mysql_wire.specs.Stream.Numbering.{OnFrom}
-use Rattle.mysql_reply_rules.specs.declared.refusal.ReplyRefusal.{ReplyRefusal}
-use Rattle.mysql_reply_rules.specs.declared.refusal.ReplyRefusal.TheVariants.{Memory}
-use Rattle.mysql_reply_rules.specs.Refusals.{too_large}
+use Rattle.mysql_reply_writer.specs.declared.refusal.ReplyRefusal.{ReplyRefusal}
+use Rattle.mysql_reply_writer.specs.declared.refusal.ReplyRefusal.TheVariants.{Memory}
+use Rattle.mysql_reply_writer.specs.Refusals.{too_large}
 
 -- The number of the next chunk, and how many payloads were written.
 pub record Place : Type 0 where

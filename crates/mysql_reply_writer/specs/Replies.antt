@@ -10,9 +10,9 @@ use Rattle.mysql_replies.specs.declared.context.Context.{Context}
 use Rattle.mysql_replies.specs.Bytes.{IsReplyOf}
 use Rattle.mysql_replies.specs.Grammar.{Outcome}
 use Rattle.mysql_replies.specs.Reply.{Answer, Whole}
-use Rattle.mysql_reply_rules.specs.Fronts.{IsFrontAnswer}
-use Rattle.mysql_reply_rules.specs.Refusals.{refusal_of}
-use Rattle.mysql_reply_rules.specs.Written.{reply_payloads, reports_read, results_read}
+use Rattle.mysql_reply_writer.specs.Fronts.{IsFrontAnswer}
+use Rattle.mysql_reply_writer.specs.Refusals.{refusal_of}
+use Rattle.mysql_reply_writer.specs.Written.{reply_payloads, reports_read, results_read}
 
 -- The bytes of a reply: the framing of each of its payloads, whose chunks are numbered on from the first id.
 abbrev pub reply_stream : Context → ℕ → List Outcome → List ProgressReport → List ℕ

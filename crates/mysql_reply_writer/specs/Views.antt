@@ -5,10 +5,10 @@ use Rattle.mysql_rows.specs.declared.row.Row.{Row}
 use Rattle.mysql_server_packets.specs.Packets.{PrepareOk}
 use Rattle.mysql_server_packets.specs.Views.{prepare_ok_view}
 use Rattle.mysql_server_packets.specs.declared.statement.StmtPacket.{StmtPacket}
-use Rattle.mysql_reply_rules.specs.declared.refusal.ReplyRefusal.{ReplyRefusal}
-use Rattle.mysql_reply_rules.specs.Refusals as refusals
-use Rattle.mysql_reply_rules.specs.Refusals.{cells_cause_at}
-use Rattle.mysql_reply_rules.specs.Written.{cells_payload}
+use Rattle.mysql_reply_writer.specs.declared.refusal.ReplyRefusal.{ReplyRefusal}
+use Rattle.mysql_reply_writer.specs.Refusals as refusals
+use Rattle.mysql_reply_writer.specs.Refusals.{cells_cause_at}
+use Rattle.mysql_reply_writer.specs.Written.{cells_payload}
 use Rattle.mysql_reply_writer.specs.declared.packets.Packets.{Packets}
 use Rattle.mysql_reply_writer.specs.declared.writer.OpenRows.{OpenRows}
 use Rattle.mysql_reply_writer.specs.Puts.{Place, Puts, RefusesPayloads}

@@ -8,10 +8,10 @@ use Rattle.mysql_server_packets.specs.Packets.{ProgressReport}
 use Rattle.mysql_replies.specs.declared.context.Context.{Context}
 use Rattle.mysql_replies.specs.Grammar.{Outcome}
 use Rattle.mysql_replies.specs.Manual.{IsFramedReply}
-use Rattle.mysql_reply_rules.specs.declared.refusal.ReplyRefusal.{ReplyRefusal}
-use Rattle.mysql_reply_rules.specs.Fits.{StepsFit}
-use Rattle.mysql_reply_rules.specs.Refusals.{OpenRows, Writing, after_steps, nothing_written, steps_cause}
-use Rattle.mysql_reply_rules.specs.Written.{Step, steps_payloads}
+use Rattle.mysql_reply_writer.specs.declared.refusal.ReplyRefusal.{ReplyRefusal}
+use Rattle.mysql_reply_writer.specs.Fits.{StepsFit}
+use Rattle.mysql_reply_writer.specs.Refusals.{OpenRows, Writing, after_steps, nothing_written, steps_cause}
+use Rattle.mysql_reply_writer.specs.Written.{Step, steps_payloads}
 use Rattle.mysql_reply_writer.specs.Puts.{IsCause, number_behind}
 
 -- A writer: how far its reply is written, and the number of the next chunk.

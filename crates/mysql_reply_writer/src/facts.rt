@@ -7,7 +7,7 @@ ghost use Rattle.mysql_rows.specs.Rows.{cell_at};
 ghost use Rattle.mysql_columns.specs.Views.{column_view};
 ghost use Rattle.mysql_ok_packets.specs.Views.{ok_packet_view};
 ghost use Rattle.mysql_server_packets.specs.Views.{prepare_ok_view, progress_report_view, server_error_view};
-ghost use Rattle.mysql_reply_rules.specs.Fits.{CellsFit, ErrorFits, OkFits, ReportFits, StatementFits};
+ghost use Rattle.mysql_reply_writer.specs.Fits.{CellsFit, ErrorFits, OkFits, ReportFits, StatementFits};
 ghost use Rattle.mysql_rows.specs.Views.{row_view};
 
 use mysql_cells::laws::fields_fit;

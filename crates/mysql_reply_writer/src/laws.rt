@@ -2,7 +2,7 @@
 
 ghost use Rattle.mysql_reply_writer.specs.Laws.{WholeWritingsAreReplies, WritingsGoOn};
 
-use mysql_reply_rules::laws::written_replies_are_whole;
+use crate::reply_laws::written_replies_are_whole;
 
 /// What a writer wrote call by call it wrote at once: the framings of all payloads, numbered on.
 pub fn writings_go_on()

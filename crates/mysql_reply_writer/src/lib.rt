@@ -5,13 +5,16 @@
 #![tactic(auto)]
 
 mod facts;
+pub mod fronts;
 pub mod laws;
 mod made;
 mod packets;
+pub mod refusal;
 mod reply;
+pub mod reply_laws;
 mod whole;
 mod writer;
 
-pub use mysql_reply_rules::ReplyRefusal;
+pub use refusal::ReplyRefusal;
 pub use reply::write_reply;
 pub use writer::ReplyWriter;

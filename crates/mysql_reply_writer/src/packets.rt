@@ -1,27 +1,27 @@
 //! Payloads, numbered and framed.
 
 ghost use Rattle.std.specs.Prelude.{◌≡◌, ◌+◌, ◌≤◌, ◌∷◌, [], IfErr, None, OnErr, OnOk, drop, length, map, take};
-ghost use Rattle.mysql_reply_rules.specs.Refusals.{or_cause, too_large};
+ghost use Rattle.mysql_reply_writer.specs.Refusals.{or_cause, too_large};
 ghost use Rattle.mysql_rows.specs.Views.{row_view};
 ghost use Rattle.mysql_buf.specs.Writing.{lenenc_int};
 ghost use Rattle.mysql_server_packets.specs.Packets.{prepare_ok};
 ghost use Rattle.mysql_server_packets.specs.Views.{prepare_ok_view};
 ghost use Rattle.mysql_columns.specs.Columns.{column};
 ghost use Rattle.mysql_replies.specs.Views.{column_views};
-ghost use Rattle.mysql_reply_rules.specs.Fits.{CellsFit, ColumnsFit};
-ghost use Rattle.mysql_reply_rules.specs.Written.{eof_due, group_payloads, prepared_payloads};
+ghost use Rattle.mysql_reply_writer.specs.Fits.{CellsFit, ColumnsFit};
+ghost use Rattle.mysql_reply_writer.specs.Written.{eof_due, group_payloads, prepared_payloads};
 ghost use Rattle.mysql_reply_writer.specs.Puts.{IsCause, Puts, RefusesPayloads};
 ghost use Rattle.mysql_reply_writer.specs.Views.{PutsPayloads, RefusesPayload, place_view, row_cause, row_payload};
 ghost use Rattle.mysql_reply_writer.specs.Views.{with_counts};
 
 use crate::facts::{cells_fit, column_fits};
 use crate::made::{deprecates_eof, make_empty_eof, put_row_payload};
+use crate::refusal::ReplyRefusal;
 use crate::writer::OpenRows;
 use mysql_buf::BufMutExt;
 use mysql_columns::Column;
 use mysql_const::CapabilityFlags;
 use mysql_fields::MySerialize;
-use mysql_reply_rules::ReplyRefusal;
 use mysql_rows::Row;
 use mysql_server_packets::StmtPacket;
 use mysql_wire::{frame_in_place, packet_to_chunks};

@@ -2,18 +2,18 @@
 
 ghost use Rattle.std.specs.Prelude.{◌≡◌, IfErr, OnErr, OnOk};
 ghost use Rattle.mysql_replies.specs.Views.{outcome_views, report_views};
-ghost use Rattle.mysql_reply_rules.specs.Refusals.{refusal_of};
+ghost use Rattle.mysql_reply_writer.specs.Refusals.{refusal_of};
 ghost use Rattle.mysql_reply_writer.specs.Puts.{IsCause};
 ghost use Rattle.mysql_reply_writer.specs.Replies.{Replies};
 
+use crate::fronts::byte_fronts_are_unfinished;
+use crate::refusal::ReplyRefusal;
+use crate::reply_laws::written_replies_are_whole;
 use crate::whole::put_reply;
 use crate::writer::ReplyWriter;
 use mysql_const::CapabilityFlags;
 use mysql_replies::laws::whole_bytes_are_framed_results;
 use mysql_replies::{ReplyKind, ReplyResult};
-use mysql_reply_rules::ReplyRefusal;
-use mysql_reply_rules::fronts::byte_fronts_are_unfinished;
-use mysql_reply_rules::laws::written_replies_are_whole;
 use mysql_server_packets::ProgressReport;
 use std::alloc::Global;
 

@@ -8,10 +8,10 @@ ghost use Rattle.mysql_server_packets.specs.Views.{server_error_view};
 ghost use Rattle.mysql_replies.specs.Grammar.{is_prepare};
 ghost use Rattle.mysql_replies.specs.Views.{column_views};
 ghost use Rattle.mysql_rows.specs.Views.{row_view, shared_columns};
-ghost use Rattle.mysql_reply_rules.specs.Refusals.{count_cause, end_cause, error_number, first_cause, kind_cause};
-ghost use Rattle.mysql_reply_rules.specs.Refusals.{over_cause, place_cause, rows_cause, status_cause, step_checks};
-ghost use Rattle.mysql_reply_rules.specs.Written.{ColumnsStep, EndStep, ErrorStep, FileStep, OkStep, PreparedStep};
-ghost use Rattle.mysql_reply_rules.specs.Written.{ReportStep, RowStep};
+ghost use Rattle.mysql_reply_writer.specs.Refusals.{count_cause, end_cause, error_number, first_cause, kind_cause};
+ghost use Rattle.mysql_reply_writer.specs.Refusals.{over_cause, place_cause, rows_cause, status_cause, step_checks};
+ghost use Rattle.mysql_reply_writer.specs.Written.{ColumnsStep, EndStep, ErrorStep, FileStep, OkStep, PreparedStep};
+ghost use Rattle.mysql_reply_writer.specs.Written.{ReportStep, RowStep};
 ghost use Rattle.mysql_reply_writer.specs.Views.{cause_in};
 ghost use Rattle.mysql_reply_writer.specs.Writer.{Refuses, Wrote, columns_of, fresh_writer};
 
@@ -20,11 +20,11 @@ use crate::made::{
     end_room, error_packet, is_binary, make_ok, make_terminator, report_packet, tells_progress,
 };
 use crate::packets::Packets;
+use crate::refusal::ReplyRefusal;
 use mysql_columns::Column;
 use mysql_const::CapabilityFlags;
 use mysql_ok_packets::{OkPacket, has_mysql_status};
 use mysql_replies::{Context, ReplyKind};
-use mysql_reply_rules::ReplyRefusal;
 use mysql_rows::Row;
 use mysql_server_packets::{LocalInfilePacket, ProgressReport, ServerError, StmtPacket};
 use std::alloc::Global;

@@ -21,8 +21,8 @@ use Rattle.mysql_command_rules.specs.Sent.{stream_of}
 use Rattle.mysql_command_rules.specs.Sets.{Given, all_given_in_places}
 use Rattle.mysql_command_rules.specs.declared.road.Road.{Road}
 use Rattle.mysql_command_rules.specs.declared.road.Road.TheVariants.{Execute}
-use Rattle.mysql_send_execute.specs.Laws.{FurtherSetsAreSent}
-use Rattle.mysql_send_execute.specs.Executions.{AppendsMore, limits_of}
+use Rattle.mysql_send.specs.Laws.{FurtherSetsAreSent}
+use Rattle.mysql_send.specs.Executions.{AppendsMore, limits_of}
 use Rattle.mysql_recoding.specs.Causes.{values_of_sets}
 use Rattle.mysql_recoding.specs.Laws.{RecodingsAreSent}
 use Rattle.mysql_session.specs.Delivery.{Delivers, ReadsWholeAs}

@@ -13,7 +13,7 @@ use Rattle.mysql_command_rules.specs.Sets.{Given}
 use Rattle.mysql_command_rules.specs.declared.road.Road.{Road}
 use Rattle.mysql_command_rules.specs.declared.refusal.Refusal.{Refusal}
 use Rattle.mysql_command_rules.specs.declared.refusal.Refusal.TheVariants.{Memory, Mixed, TooManyPlaces}
-use Rattle.mysql_send_execute.specs.Executions.{AppendsMore, RefusesMore, limits_of}
+use Rattle.mysql_send.specs.Executions.{AppendsMore, RefusesMore, limits_of}
 
 -- its text for a server in a mode, with the spelling of byte strings by text, and the id of its statement
 pub record KeptQuery : Type 0 where

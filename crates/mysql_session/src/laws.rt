@@ -15,10 +15,11 @@ use mysql_receive::laws::{cuttings_agree, stream_has_one_audit};
 pub use mysql_recoding::laws as recoding;
 use mysql_recoding::laws::recodings_are_sent;
 pub use mysql_replies::laws as replies;
-pub use mysql_reply_rules::{fronts as reply_fronts, laws as reply_packets};
-pub use mysql_reply_writer::laws as reply_writer;
-pub use mysql_send_execute::laws as senders;
-use mysql_send_execute::laws::further_sets_are_sent;
+pub use mysql_reply_writer::{
+    fronts as reply_fronts, laws as reply_writer, reply_laws as reply_packets,
+};
+pub use mysql_send::execute::laws as senders;
+use mysql_send::execute::laws::further_sets_are_sent;
 pub use mysql_values::laws as values;
 use mysql_values::laws::tokens_of_a_text;
 pub use mysql_wire::laws as wire;

@@ -14,8 +14,8 @@ pub use mysql_convert::{
     from_value, from_value_opt,
 };
 pub use mysql_from_row::{
-    FromRow, FromRowError, FromRowRef, RowConversionError, SingleValue, SingleValueRef, from_cell,
-    from_cell_ref, from_row, from_row_opt, from_row_ref,
+    FromRow, FromRowError, FromRowRef, FromValueRef, RowConversionError, RowExt, RowRefExt,
+    SingleValue, SingleValueRef, from_cell, from_cell_ref, from_row, from_row_opt, from_row_ref,
 };
 pub use mysql_packets;
 pub use mysql_packets::{
@@ -29,7 +29,6 @@ pub use mysql_replies::{
     Reply, ReplyEnd, ReplyFault, ReplyKind, ReplyReader, ReplyResult, read_reply,
 };
 pub use mysql_reply_writer::{ReplyRefusal, ReplyWriter, write_reply};
-pub use mysql_row_conversions::{FromValueRef, RowExt, RowRefExt};
 pub use mysql_row_refs::{
     RowError, RowFormat, RowReader, RowReader as RowLender, RowRef, RowRef as LentRow, StoredRows,
     ValueRef,

@@ -22,9 +22,10 @@ use crate::laws::{further_sets_are_delivered, readable_sets_are_delivered};
 use mysql_buf::laws::are_bytes;
 use mysql_command_rules::{Refusal, Road, SendToError, flush};
 use mysql_receive::Receiver;
-use mysql_send_bulk::put_requests;
-use mysql_send_execute::{Statement, put_executions, put_more_executions, write_executions};
-use mysql_send_text::{put_queries, write_queries};
+use mysql_send::{
+    Statement, put_executions, put_more_executions, put_queries, put_requests, write_executions,
+    write_queries,
+};
 use mysql_values::bind::bind_query;
 use mysql_values::laws::{pieces_of_a_query, tokens_of_a_text};
 use mysql_values::{BindError, Mode, Params, Spelling, Value};

@@ -3,8 +3,8 @@ use Rattle.std.proofs.Common.{◌≡◌, ◌≢◌, ◌==◌, Bool, true, false,
 use Rattle.std.proofs.lemmas.Bool.{eqb-false, eqb-true}
 use Rattle.mysql_fields.specs.Wire.{Reading, ◌>>=◌}
 use Rattle.mysql_fields.specs.declared.error.WireError.{WireError}
-use Rattle.mysql_session_states.specs.Reading.{EatsBytes, at_most_at, to_end_at}
-use Rattle.mysql_session_states.specs.ReadingLaws.{before_others, same-room}
+use Rattle.mysql_ok_packets.specs.Reading.{EatsBytes, at_most_at, to_end_at}
+use Rattle.mysql_ok_packets.specs.ReadingLaws.{before_others, same-room}
 use Rattle.mysql_session_modes.specs.Told.{walked}
 
 one_more : {A Y : Type 0} (step : A → Y → A) (failed so_far : A) (y : Y) (read : Reading (List Y)) →

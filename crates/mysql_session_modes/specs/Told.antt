@@ -13,8 +13,8 @@ use Rattle.mysql_session_modes.specs.SessionModes.{agrees, fresh_mode, tracked_m
 use Rattle.mysql_session_modes.specs.declared.session_mode.SessionMode.{SessionMode}
 use Rattle.mysql_session_modes.specs.declared.session_mode.Tracking.{Tracking}
 use Rattle.mysql_session_modes.specs.declared.session_mode.Tracking.TheVariants.{Doubted, Tracked, Untracked}
-use Rattle.mysql_session_states.specs.Reading.{to_end_at}
-use Rattle.mysql_session_states.specs.SessionStates.{State, Variable, variable_at}
+use Rattle.mysql_ok_packets.specs.Reading.{to_end_at}
+use Rattle.mysql_ok_packets.specs.SessionStates.{State, Variable, variable_at}
 
 -- What is told of sql_mode: nothing, this value, or what can't be read.
 pub data Told : Type 0 where

@@ -6,7 +6,7 @@ ghost use Rattle.mysql_field_constants.specs.Constants.{named_at};
 ghost use Rattle.mysql_fields.specs.Forms.{fixed_number_at};
 ghost use Rattle.mysql_fields.specs.Wire.{Tells};
 ghost use Rattle.mysql_ok_packets.specs.Views.{ok_packet_view};
-ghost use Rattle.mysql_session_states.specs.SessionStates.{state_at, states_at, variable_at};
+ghost use Rattle.mysql_ok_packets.specs.SessionStates.{state_at, states_at, variable_at};
 ghost use Rattle.mysql_session_modes.specs.Told.{mode_begun as begun, mode_behind_ok as behind};
 ghost use Rattle.mysql_session_modes.specs.Told.{mode_told, mode_undoubted, mode_untold};
 ghost use Rattle.mysql_session_modes.specs.Told.Told.{Nothing, Unreadable};
@@ -36,7 +36,7 @@ struct State<'a> {
 }
 
 // The variable that stands first.
-#[tactic(auto, unfolding(mysql_session_states::specs::SessionStates::variable_at))]
+#[tactic(auto, unfolding(mysql_ok_packets::specs::SessionStates::variable_at))]
 fn read_variable<'a>(buf: &mut ParseBuf<'a>) -> Result<Variable<'a>, WireError>
     ensures { Tells (λ v. record { name = v.name.now; value = v.value.now }) buf.old.0.now
         buf.new.0.now result (variable_at buf.old.0.now) }
@@ -65,7 +65,7 @@ fn read_type(buf: &mut ParseBuf<'_>) -> Result<SessionStateType, WireError>
 }
 
 // The state that stands first.
-#[tactic(auto, unfolding(mysql_session_states::specs::SessionStates::state_at))]
+#[tactic(auto, unfolding(mysql_ok_packets::specs::SessionStates::state_at))]
 fn read_state<'a>(buf: &mut ParseBuf<'a>) -> Result<State<'a>, WireError>
     ensures { Tells (λ s. record { data_type = s.data_type; content = s.content.now })
         buf.old.0.now buf.new.0.now result (state_at buf.old.0.now) }

@@ -235,16 +235,14 @@ pub fn bind_query<'a>(
     bound
 }
 
-/// [`bind_text_over`] without cutting `out` back: a refusal may leave a part of the text behind.
+/// Appends the text of a set over a query as `put_text` does, for a server in the default mode.
 ///
 /// # Errors
 /// - `Params`.
 /// - `WrongCount`.
 /// - `Float` with the first such placeholder.
 /// - `Memory`.
-///
-/// What stood before stands in front of `out`.
-pub fn bind_text_onto<'a>(
+fn put_default_text<'a>(
     query: &[u8],
     places: &[Place],
     names: &[CowSlice<'_, u8>],
@@ -271,44 +269,6 @@ pub fn bind_text_onto<'a>(
         values,
         out,
     )
-}
-
-/// [`bind_text_at`] for one of many sets of a query: what doesn't depend on the set is found once.
-///
-/// The placeholders are of one kind and stand alone, and `names` are those among them, as
-/// [`names_among`] lists them. `values` keeps its room from set to set; what it held leaves it, and
-/// what it then holds isn't said. Safe for the servers that [`bind_text`] names.
-///
-/// # Errors
-/// - `Params`.
-/// - `WrongCount`.
-/// - `Float` with the first such placeholder.
-/// - `Memory`.
-///
-/// Nothing is appended then.
-pub fn bind_text_over<'a>(
-    query: &[u8],
-    places: &[Place],
-    names: &[CowSlice<'_, u8>],
-    params: &'a Params,
-    values: &mut Vec<&'a Value>,
-    out: &mut Vec<u8>,
-) -> Result<(), BindError>
-    requires places { HasPlaces (read_by_default query.now) places.now }
-    requires one_kind { has_both_kinds places.now ≡ false }
-    requires alone { first_apart places.now ≡ None }
-    requires names { map cow_slice_items names.now ≡ names_at query.now places.now }
-    ensures ok { OnOk result
-        (Binds (read_by_default query.now) params.entry.now out.old.items out.new.items) }
-    ensures err { IfErr result (RefusesBinding (read_by_default query.now) params.entry.now) }
-    ensures kept { OnErr result (out.new.items ≡ out.old.items) }
-{
-    let start = out.len();
-    let bound = bind_text_onto(query, places, names, params, values, out);
-    if bound.is_err() {
-        out.truncate(start);
-    }
-    bound
 }
 
 /// Appends the text of a query whose placeholders were found before, as [`bind_text`] does.
@@ -338,7 +298,12 @@ pub fn bind_text_at(
     check_places(places)?;
     let names = names_among(alloc, query, places)?;
     let mut values = Vec::new(alloc);
-    bind_text_over(query, places, &names, params, &mut values, out)
+    let start = out.len();
+    let bound = put_default_text(query, places, &names, params, &mut values, out);
+    if bound.is_err() {
+        out.truncate(start);
+    }
+    bound
 }
 
 /// Appends the text of a query with the literals of a set's values in the places of its

@@ -10,7 +10,7 @@ use Rattle.mysql_wire.specs.Kept.{IsKept, Stands, bytes_of, incoming_of, unfinis
 use Rattle.mysql_wire.specs.declared.codec.reader.PacketReader.TheInside.{Inside}
 use Rattle.mysql_wire.specs.declared.codec.header.ChunkHeader.{ChunkHeader}
 use Rattle.mysql_wire.proofs.Incoming.{begun_open, length-chunks}
-use Rattle.mysql_wire.proofs.Packet.{announced_begun}
+use Rattle.mysql_wire.proofs.OnePacket.{announced_begun}
 
 -- behind the whole chunks it stands at the front of the rest, which is shorter than a full chunk
 behind_chunks : (codec : Codec) (packet back piece : List ℕ) → length back < 16777219 →

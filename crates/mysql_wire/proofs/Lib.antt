@@ -7,7 +7,7 @@ pub mod Moved
 pub mod Held
 pub mod Reading
 pub mod Writing
-pub mod Packet
+pub mod OnePacket
 pub mod Steps
 pub mod Incoming
 pub mod InPlace
@@ -15,3 +15,10 @@ pub mod Due
 mod Decides
 mod Rests
 mod Fronts
+pub mod Staying
+pub mod Taking
+pub mod Follow
+pub mod Framings
+pub mod Room
+pub mod Extents
+pub mod Joins

@@ -8,7 +8,7 @@ use Rattle.mysql_wire.specs.Codec.{Begun, Codec, IsOfPacket, held, packet_number
 use Rattle.mysql_wire.specs.Moving.{begun_of, codec_of, NextChunk, EndsWithin}
 use Rattle.mysql_wire.specs.declared.codec.packet.BegunChunk.{BegunChunk}
 use Rattle.mysql_wire.specs.declared.codec.Refusal.{Refusal}
-use Rattle.mysql_wire.proofs.Packet.{Reading, waits_for_header, too_large_at, opens, waits_for_bytes, out_of_sync_at, handed_out_at, next_at}
+use Rattle.mysql_wire.proofs.OnePacket.{Reading, waits_for_header, too_large_at, opens, waits_for_bytes, out_of_sync_at, handed_out_at, next_at}
 
 -- so many bytes are of the packet once a part of the chunk was moved
 pub more_filled : (src dst dst' : List ℕ) (awaited count filled : ℕ) → filled ≡ length dst → count ≡ min awaited (length src) → dst' ≡ dst ++ take count src → filled + count ≡ length dst'

@@ -20,3 +20,8 @@ pub mod Moving
 pub mod GoingOn
 pub mod Incoming
 pub mod Kept
+pub mod FirstPacket
+pub mod FirstPacketLaws
+pub mod Chunks
+pub mod Views
+pub mod OneChunk

@@ -28,3 +28,12 @@ pub use mysql_fields::{
     NullBytes, ParseExt, RawBytes, RawInt, Readable, ReadsBack, Text, U8Bytes, U32Bytes, VarLen,
     WireError,
 };
+
+mod chunk;
+mod extent;
+pub mod first_packet_laws;
+pub mod packet;
+mod single;
+
+pub use packet::{FirstPacket, first_packet, framed, is_short};
+pub use single::one_chunk;

@@ -1,6 +1,6 @@
 use Rattle.std.proofs.Common.{◌≡◌, ◌≤◌, ◌+◌, ◌++◌, map, length, vec_len}
 use Rattle.std.specs.Vec.{vec_capacity}
-use Rattle.mysql_bulk.specs.Bulk.{param_value_of}
+use Rattle.mysql_bulk_builder.specs.Bulk.{param_value_of}
 use Rattle.mysql_bulk_builder.proofs.flat.append_row.Given as goal
 
 -- the values so far stand behind the list, and the others have room

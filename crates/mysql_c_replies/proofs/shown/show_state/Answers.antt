@@ -2,8 +2,8 @@ use Rattle.std.proofs.Common.{◌≡◌, ◌-◌, ℕ, List, Ok, Err, length, dr
 use Rattle.std.proofs.lemmas.List.{take_rest}
 use Rattle.mysql_ok_packets.specs.Views.{ok_packet_view}
 use Rattle.mysql_ok_packets.specs.Written.{or_empty}
-use Rattle.mysql_session_states.specs.SessionStates.{state_at}
-use Rattle.mysql_session_states.specs.Views.{state_view}
+use Rattle.mysql_ok_packets.specs.SessionStates.{state_at}
+use Rattle.mysql_ok_packets.specs.SessionStateViews.{state_view}
 use Rattle.mysql_c_replies.specs.States.{ShowsChangeAt}
 use Rattle.mysql_c_replies.proofs.States.{bad_shown, next_is, ok_shown, over_shown}
 use Rattle.mysql_c_replies.proofs.shown.show_state.Goals as goal

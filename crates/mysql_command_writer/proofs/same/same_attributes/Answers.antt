@@ -1,5 +1,5 @@
 use Rattle.std.proofs.Common.{◌≡◌, length, arith, refl}
-use Rattle.mysql_connect_attributes.specs.AttributeViews.{attributes_view}
+use Rattle.mysql_handshake_response.specs.AttributeViews.{attributes_view}
 use Rattle.mysql_command_writer.proofs.Lists.{same_lists}
 use Rattle.mysql_command_writer.proofs.same.same_attributes.Goals as goal
 

@@ -1,6 +1,6 @@
 use Rattle.std.proofs.Common.{◌≡◌, ℕ, ◌<◌}
 use Rattle.std.specs.Prelude.{slice_get}
-use Rattle.mysql_connect_attributes.specs.AttributeViews.{attributes_view}
+use Rattle.mysql_handshake_response.specs.AttributeViews.{attributes_view}
 use Rattle.mysql_command_writer.proofs.same.same_attributes.Given as goal
 
 abbrev pub invariant-loop-place : goal.invariant-loop-place

@@ -1,8 +1,8 @@
 use Rattle.std.proofs.Common.{◌≡◌, List, ℕ, None, Some, true, refl, sym, subst}
 use Rattle.std.proofs.lemmas.Str.{is_utf8-from_IsUtf8}
 use Rattle.std.specs.Str.{IsUtf8}
-use Rattle.mysql_gtid.specs.Blocks.{IsTagOrNone, is_tag}
-use Rattle.mysql_gtid.specs.Tags.{tag_fault}
+use Rattle.mysql_replication.specs.Blocks.{IsTagOrNone, is_tag}
+use Rattle.mysql_replication.specs.Tags.{tag_fault}
 use Rattle.mysql_command_writer.proofs.sids.tag_is.Goals as goal
 
 -- a text without a fault, in UTF-8

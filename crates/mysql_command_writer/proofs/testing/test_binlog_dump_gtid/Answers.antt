@@ -5,7 +5,7 @@ use Rattle.std.specs.List.{AllByRecursion}
 use Rattle.std.specs.Option.{option_copied}
 use Rattle.mysql_const.specs.BinlogDumpFlags.{binlog_dump_flags}
 use Rattle.mysql_field_constants.specs.Flags.{are_named}
-use Rattle.mysql_gtid.specs.Blocks.{IsSid, block_bytes}
+use Rattle.mysql_replication.specs.Blocks.{IsSid, block_bytes}
 use Rattle.mysql_replication.specs.Packets.{whole_binlog_dump_gtid}
 use Rattle.mysql_replication.specs.Views.{binlog_dump_gtid_view}
 use Rattle.mysql_command_writer.proofs.GtidDumps.{HasGtidParts, gtids_read, long_names, long_sids, nameless_gtids}

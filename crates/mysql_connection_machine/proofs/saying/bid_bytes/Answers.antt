@@ -1,4 +1,4 @@
-use Rattle.mysql_connection_peek.specs.Peeks.{words_step}
+use Rattle.mysql_connection_state.specs.Peeks.{words_step}
 use Rattle.mysql_connection_rules.specs.declared.side.Side.TheVariants.{Server}
 use Rattle.mysql_connection_machine.proofs.Said.{not_said, said_so, words_put}
 use Rattle.mysql_connection_machine.proofs.saying.bid_bytes.Goals as goal

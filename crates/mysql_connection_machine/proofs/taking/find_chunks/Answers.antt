@@ -1,6 +1,6 @@
 use Rattle.std.proofs.Common.{inr, refl}
 use Rattle.std.proofs.lemmas.Result.{err_from_is_err_and}
-use Rattle.mysql_connection_packets.specs.FirstPacket.{first_packet}
+use Rattle.mysql_wire.specs.FirstPacket.{first_packet}
 use Rattle.mysql_connection_machine.proofs.Coming.{is_whole}
 use Rattle.mysql_connection_machine.proofs.taking.find_chunks.Goals as goal
 

@@ -1,5 +1,5 @@
 use Rattle.std.proofs.Common.{map}
-use Rattle.mysql_gtid.specs.Sids.{sid_view}
+use Rattle.mysql_replication.specs.Sids.{sid_view}
 use Rattle.mysql_replication.proofs.Copies.{one_copied}
 use Rattle.mysql_replication.proofs.binlog_dump_gtid.copy_into.Goals as goal
 

@@ -1,5 +1,5 @@
 use Rattle.std.proofs.Common.{◌≡◌, ◌++◌, map, take}
-use Rattle.mysql_gtid.specs.Sids.{sid_view}
+use Rattle.mysql_replication.specs.Sids.{sid_view}
 use Rattle.mysql_replication.proofs.binlog_dump_gtid.copy_into.Given as goal
 
 abbrev pub invariant-loop-sid : goal.invariant-loop-sid

@@ -1,7 +1,7 @@
 use Rattle.std.proofs.Common.{map}
 use Rattle.std.proofs.lemmas.Result.{err_from_is_err_and}
 use Rattle.mysql_replies.specs.Views.{outcome_views, report_views}
-use Rattle.mysql_reply_rules.specs.Written.{ReportStep, reply_steps, results_steps}
+use Rattle.mysql_reply_writer.specs.Written.{ReportStep, reply_steps, results_steps}
 use Rattle.mysql_reply_writer.proofs.Ends.{end_refused, whatever, whole_refused}
 use Rattle.mysql_reply_writer.proofs.Steps.{first_refused, later_refused, two_written}
 use Rattle.mysql_reply_writer.proofs.whole.put_reply.Goals as goal

@@ -2,7 +2,7 @@ use Rattle.std.proofs.Common.{[], ◌∷◌, map, refl, arith}
 use Rattle.std.proofs.lemmas.Result.{err_from_is_err_and}
 use Rattle.mysql_server_packets.specs.Views.{progress_report_view}
 use Rattle.mysql_replies.specs.Views.{report_views}
-use Rattle.mysql_reply_rules.specs.Written.{ReportStep}
+use Rattle.mysql_reply_writer.specs.Written.{ReportStep}
 use Rattle.mysql_reply_writer.proofs.Items.{next_item}
 use Rattle.mysql_reply_writer.proofs.ItemsWritten.{all_items, item_refused, item_written}
 use Rattle.mysql_reply_writer.proofs.Steps.{none_written}

@@ -1,6 +1,6 @@
 use Rattle.std.proofs.Common.{drop, map}
 use Rattle.mysql_replies.specs.Views.{report_views}
-use Rattle.mysql_reply_rules.specs.Written.{ReportStep}
+use Rattle.mysql_reply_writer.specs.Written.{ReportStep}
 use Rattle.mysql_reply_writer.proofs.Steps.{WroteSoFar}
 use Rattle.mysql_reply_writer.proofs.whole.put_reports.Given as goal
 

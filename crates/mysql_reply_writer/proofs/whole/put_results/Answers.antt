@@ -1,7 +1,7 @@
 use Rattle.std.proofs.Common.{◌+◌, length, nat_lt, refl, arith}
 use Rattle.std.proofs.lemmas.Result.{err_from_is_err_and}
 use Rattle.mysql_replies.specs.Views.{outcome_view, outcome_views}
-use Rattle.mysql_reply_rules.specs.Written.{result_steps, results_steps}
+use Rattle.mysql_reply_writer.specs.Written.{result_steps, results_steps}
 use Rattle.mysql_reply_writer.proofs.Items.{next_item}
 use Rattle.mysql_reply_writer.proofs.ItemsWritten.{all_items, item_refused, item_written}
 use Rattle.mysql_reply_writer.proofs.More.{first_steps}

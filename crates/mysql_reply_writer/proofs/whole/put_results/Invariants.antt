@@ -1,6 +1,6 @@
 use Rattle.std.proofs.Common.{drop}
 use Rattle.mysql_replies.specs.Views.{outcome_views}
-use Rattle.mysql_reply_rules.specs.Written.{results_steps}
+use Rattle.mysql_reply_writer.specs.Written.{results_steps}
 use Rattle.mysql_reply_writer.proofs.Steps.{WroteSoFar}
 use Rattle.mysql_reply_writer.proofs.whole.put_results.Given as goal
 

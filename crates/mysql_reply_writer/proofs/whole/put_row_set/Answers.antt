@@ -4,7 +4,7 @@ use Rattle.mysql_columns.specs.Columns.{ColumnDefinition}
 use Rattle.mysql_ok_packets.specs.Views.{ok_packet_view}
 use Rattle.mysql_replies.specs.Views.{row_views}
 use Rattle.mysql_rows.specs.Views.{shared_columns}
-use Rattle.mysql_reply_rules.specs.Written.{ColumnsStep, RowStep, end_steps}
+use Rattle.mysql_reply_writer.specs.Written.{ColumnsStep, RowStep, end_steps}
 use Rattle.mysql_reply_writer.specs.Writer.{Refuses, Wrote}
 use Rattle.mysql_reply_writer.proofs.Answers.{on_err, on_ok}
 use Rattle.mysql_reply_writer.proofs.Joined.{kept_on}

@@ -3,7 +3,7 @@ use Rattle.std.proofs.lemmas.Result.{err_from_is_err_and}
 use Rattle.mysql_columns.specs.Columns.{ColumnDefinition}
 use Rattle.mysql_replies.specs.Views.{row_views}
 use Rattle.mysql_rows.specs.Views.{row_view}
-use Rattle.mysql_reply_rules.specs.Written.{RowStep}
+use Rattle.mysql_reply_writer.specs.Written.{RowStep}
 use Rattle.mysql_reply_writer.specs.Writer.{Refuses, Wrote, columns_of}
 use Rattle.mysql_reply_writer.proofs.Items.{next_item}
 use Rattle.mysql_reply_writer.proofs.ItemsWritten.{all_items, item_refused, item_written}

@@ -1,6 +1,6 @@
 use Rattle.std.proofs.Common.{◌≡◌, drop, map}
 use Rattle.mysql_replies.specs.Views.{row_views}
-use Rattle.mysql_reply_rules.specs.Written.{RowStep}
+use Rattle.mysql_reply_writer.specs.Written.{RowStep}
 use Rattle.mysql_reply_writer.specs.Writer.{columns_of}
 use Rattle.mysql_reply_writer.proofs.Steps.{WroteSoFar}
 use Rattle.mysql_reply_writer.proofs.whole.put_rows.Given as goal

@@ -1,6 +1,6 @@
 use Rattle.std.proofs.Common.{◌≡◌, ℕ, List, length}
-use Rattle.mysql_session_states.specs.Reading.{to_end_at}
-use Rattle.mysql_session_states.specs.SessionStates.{variable_at}
+use Rattle.mysql_ok_packets.specs.Reading.{to_end_at}
+use Rattle.mysql_ok_packets.specs.SessionStates.{variable_at}
 use Rattle.mysql_session_modes.specs.Told.{told_by_variable, walked}
 use Rattle.mysql_session_modes.specs.Told.Told.{Unreadable}
 use Rattle.mysql_session_modes.specs.Views.{told_view}

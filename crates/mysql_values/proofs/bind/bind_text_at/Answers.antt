@@ -22,5 +22,5 @@ returns-in_err-names-clause-err c = let p = err_from_is_err_and c.from_residual-
 pub names_among-requires : goal.names_among-requires
 names_among-requires c = c.pieces_of_a_query.ensures.order (read_by_default c.args.query.now) c.args.places.now c.requires
 
-pub bind_text_over-requires-clause-names : goal.bind_text_over-requires-clause-names
-bind_text_over-requires-clause-names c = ap (λ ns. map cow_slice_items ns) c.deref.ensures.value ∙ c.in_ok-names.ensures
+pub put_default_text-bound-requires-clause-names : goal.put_default_text-bound-requires-clause-names
+put_default_text-bound-requires-clause-names c = ap (λ ns. map cow_slice_items ns) c.deref.ensures.value ∙ c.in_ok-names.ensures

@@ -1,5 +1,5 @@
 use Rattle.std.proofs.Common.{◌∙◌, sym}
-use Rattle.mysql_bulk.specs.contracts.param_value.StmtBulkExecuteParamValuePartialEq.TheImpl.{ghosts}
+use Rattle.mysql_bulk_builder.specs.contracts.param_value.StmtBulkExecuteParamValuePartialEq.TheImpl.{ghosts}
 use Rattle.mysql_bulk_builder.specs.SameBuilder.{same_builder}
 use Rattle.mysql_bulk_builder.proofs.Kept.{same_by_fields}
 use Rattle.mysql_bulk_builder.proofs.builder.ComStmtBulkExecuteRequestBuilderPartialEq.eq.Goals as goal

@@ -1,5 +1,5 @@
 use Rattle.std.proofs.Common.{◌≡◌, ℕ, List, drop, true, ap, sym, ◌∙◌}
-use Rattle.mysql_connection_packets.specs.FirstPacket.{Whole}
+use Rattle.mysql_wire.specs.FirstPacket.{Whole}
 use Rattle.mysql_connection_machine.proofs.PutPackets.{due_unfailed, put_first_by}
 use Rattle.mysql_connection_machine.specs.PuttingPayloads.{is_due_of}
 use Rattle.mysql_connection_machine.proofs.connection.Connection.put_first_packet.Goals as goal

@@ -1,5 +1,5 @@
 use Rattle.std.proofs.Common.{◌≡◌, ◌≤◌, ◌<◌, ◌+◌, ◌-◌, ◌∙◌, ℕ, List, length, take, drop, ◌++◌, ap, arith, rules, subst, sym, length-drop, length-take-le}
-use Rattle.mysql_connection_agreement.specs.Puts.{number_for}
+use Rattle.mysql_connection_rules.specs.Puts.{number_for}
 use Rattle.mysql_connection_state.specs.Views.{event_view}
 use Rattle.mysql_connection_writer.specs.Writes.{Says}
 use Rattle.mysql_wire.specs.Framing.{framing, max_payload_len, number_after}

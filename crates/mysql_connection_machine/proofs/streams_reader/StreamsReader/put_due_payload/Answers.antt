@@ -1,5 +1,5 @@
 use Rattle.std.proofs.Common.{◌≡◌, ◌≤◌, ℕ, Ok, length, subst, sym, ◌∙◌}
-use Rattle.mysql_connection_peek.specs.Peeks.{said_in}
+use Rattle.mysql_connection_state.specs.Peeks.{said_in}
 use Rattle.mysql_connection_rules.specs.Steps.{step}
 use Rattle.mysql_connection_rules.specs.Streams.{limit_of}
 use Rattle.mysql_connection_state.specs.Views.{event_view}

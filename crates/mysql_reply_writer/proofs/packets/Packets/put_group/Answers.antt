@@ -2,7 +2,7 @@ use Rattle.std.proofs.Common.{map}
 use Rattle.std.proofs.lemmas.Result.{err_from_is_err_and}
 use Rattle.mysql_columns.specs.Columns.{column}
 use Rattle.mysql_replies.specs.Views.{column_views}
-use Rattle.mysql_reply_rules.specs.Written.{eof_due}
+use Rattle.mysql_reply_writer.specs.Written.{eof_due}
 use Rattle.mysql_reply_writer.specs.Views.{place_view}
 use Rattle.mysql_reply_writer.proofs.Answers.{on_err, on_ok}
 use Rattle.mysql_reply_writer.proofs.Putting.{first_refused, later_refused, two_put}

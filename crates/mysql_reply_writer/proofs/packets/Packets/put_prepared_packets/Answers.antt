@@ -6,7 +6,7 @@ use Rattle.mysql_columns.specs.declared.column.Column.{Column}
 use Rattle.mysql_server_packets.specs.Packets.{PrepareOk, prepare_ok}
 use Rattle.mysql_server_packets.specs.Views.{prepare_ok_view}
 use Rattle.mysql_replies.specs.Views.{column_views}
-use Rattle.mysql_reply_rules.specs.Written.{counting, group_payloads}
+use Rattle.mysql_reply_writer.specs.Written.{counting, group_payloads}
 use Rattle.mysql_reply_writer.specs.Puts.{Puts}
 use Rattle.mysql_reply_writer.specs.Views.{place_view}
 use Rattle.mysql_reply_writer.proofs.Answers.{on_err, on_ok}

@@ -1,7 +1,7 @@
 use Rattle.std.proofs.Common.{◌-◌, ◌<◌, ◌^◌, ◌∙◌, List, arith, length, map, subst, ℕ}
 use Rattle.std.specs.Prelude.{OnOk}
 use Rattle.mysql_wire.specs.Bytes.{AreBytes}
-use Rattle.mysql_send_execute.specs.Executions.{AppendsMore}
+use Rattle.mysql_send.specs.Executions.{AppendsMore}
 use Rattle.mysql_session.specs.Kept.{AppendsFurther, KeptQuery}
 use Rattle.mysql_session.proofs.OnAnswers.{on_ok}
 use Rattle.mysql_session.proofs.query.Query.send_more.Goals as goal

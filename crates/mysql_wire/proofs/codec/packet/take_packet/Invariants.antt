@@ -1,5 +1,5 @@
 use Rattle.std.proofs.Common.{◌≡◌, length}
-use Rattle.mysql_wire.proofs.Packet.{Reading}
+use Rattle.mysql_wire.proofs.OnePacket.{Reading}
 use Rattle.mysql_wire.proofs.codec.packet.take_packet.Given as goal
 
 -- what is held stays, and so does the number of the packet's first chunk

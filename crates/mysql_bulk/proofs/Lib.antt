@@ -1,4 +1,0 @@
-pub mod Columns
-pub mod ColumnsOfRows
-pub mod Each
-pub mod Rows

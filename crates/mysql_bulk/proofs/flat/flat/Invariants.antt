@@ -1,8 +1,0 @@
-use Rattle.std.proofs.Common.{◌≡◌, ◌++◌, map}
-use Rattle.mysql_bulk.specs.Bulk.{all_values, param_value_of}
-use Rattle.mysql_bulk.proofs.flat.flat.Given as goal
-
-abbrev pub invariant-loop-row : goal.invariant-loop-row
-invariant-loop-row l =
-    l.values.items ++ map param_value_of (all_values (map (λ row. row.items) l.row-iterator.rest.items))
-    ≡ map param_value_of (all_values (map (λ row. row.items) l.fn.rows.items))

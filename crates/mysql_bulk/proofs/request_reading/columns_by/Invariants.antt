@@ -1,6 +1,0 @@
-use Rattle.std.proofs.Common.{◌≡◌, take, map}
-use Rattle.mysql_bulk.specs.Reading.{column_by}
-use Rattle.mysql_bulk.proofs.request_reading.columns_by.Given as goal
-
-abbrev pub invariant-loop-sent : goal.invariant-loop-sent
-invariant-loop-sent l = l.columns.items ≡ map column_by (take l.sent-index l.types)

@@ -1,3 +1,0 @@
-pub mod AboutCommands
-pub mod AboutConnections
-pub mod AboutReplies

@@ -1,3 +1,0 @@
-pub mod AttributeReading
-pub mod AttributesBack
-pub mod AttributesHeld

@@ -1,6 +1,0 @@
-use Rattle.std.proofs.Common.{◌≡◌, map, take}
-use Rattle.mysql_connect_attributes.specs.AttributeViews.{attributes_view, shown_attribute}
-use Rattle.mysql_connect_attributes.proofs.attributes.ConnectAttributes.clone.Given as goal
-
-abbrev pub invariant-loop-key : goal.invariant-loop-key
-invariant-loop-key l = attributes_view l.all ≡ map shown_attribute (take l.key-index l.key-items)

@@ -1,8 +1,0 @@
-use Rattle.std.proofs.Common.{◌≡◌, length, map, take}
-use Rattle.std.specs.List.{flat_map}
-use Rattle.mysql_connect_attributes.specs.Attributes.{attribute}
-use Rattle.mysql_connect_attributes.specs.AttributeViews.{shown_attribute}
-use Rattle.mysql_connect_attributes.proofs.attributes.bytes_of_all.Given as goal
-
-abbrev pub invariant-loop-key : goal.invariant-loop-key
-invariant-loop-key l = l.total ≡ length (flat_map attribute (map shown_attribute (take l.key-index l.key-items)))

@@ -1,5 +1,0 @@
-use Rattle.mysql_connection_agreement.proofs.Agreeing.{puts_are_the_run}
-use Rattle.mysql_connection_agreement.proofs.laws.puts_are_the_run.Goals as goal
-
-pub returns : goal.returns
-returns c = puts_are_the_run c.pieces_are_the_run.ensures

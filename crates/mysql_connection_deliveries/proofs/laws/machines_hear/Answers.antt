@@ -1,5 +1,0 @@
-use Rattle.mysql_connection_deliveries.proofs.Hearing.{machines_hear}
-use Rattle.mysql_connection_deliveries.proofs.laws.machines_hear.Goals as goal
-
-pub returns : goal.returns
-returns c = machines_hear c.run_exists.ensures c.puts_are_the_run.ensures c.runs_are_heard.ensures.heard

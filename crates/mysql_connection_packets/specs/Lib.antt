@@ -1,5 +1,0 @@
-pub mod FirstPacket
-pub mod Laws
-pub mod Chunks
-pub mod Views
-pub mod OneChunk

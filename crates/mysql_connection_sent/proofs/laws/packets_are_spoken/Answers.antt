@@ -1,5 +1,0 @@
-use Rattle.mysql_connection_sent.proofs.Speaking.{packets_are_spoken}
-use Rattle.mysql_connection_sent.proofs.laws.packets_are_spoken.Goals as goal
-
-pub returns : goal.returns
-returns c = packets_are_spoken

@@ -1,8 +1,0 @@
-pub mod Binds
-pub mod Options
-pub mod Values
-pub mod Heads
-pub mod InForce
-pub mod Rows
-pub mod Executions
-pub mod Commands

@@ -1,7 +1,0 @@
-use Rattle.std.proofs.Common.{◌-◌, ◌^◌, ◌∙◌, ap, length, List, min, ℕ}
-use Rattle.mysql_gtid.specs.Blocks.{sid_bytes}
-use Rattle.mysql_gtid.proofs.Blocks.{all_sids}
-use Rattle.mysql_gtid.proofs.block.sids_len.Goals as goal
-
-pub returns : goal.returns
-returns c = c.loop-sid.invariant ∙ ap (λ (bytes : List ℕ). min (length bytes) (2 ^ 32 - 1)) (all_sids (sid_bytes c.args.tagged) c.args.sids.now c.loop-sid.sid-index c.loop-sid-test.false)

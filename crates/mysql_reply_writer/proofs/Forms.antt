@@ -1,0 +1,106 @@
+-- No payload of a result has the form of a progress report.
+use Rattle.std.proofs.Common.{◌≡◌, ℕ, ◌/◌, ◌%◌, ◌<◌, ◌≤◌, ◌⊎◌, ◌^◌, ◌==◌, ◌&&◌, nat_lt, Bool, true, false, if◌then◌else◌, inl, inr, List, [], ◌∷◌, map, take, bytes_eq, refl, ap, ◌∙◌, arith}
+use Rattle.std.specs.List.{AllByRecursion}
+use Rattle.std.proofs.lemmas.Bool.{lt-ltb, ltb-false, ltb-true}
+use Rattle.std.proofs.lemmas.Bool.Decides.{eqb_tells}
+use Rattle.mysql_buf.specs.Writing.{lenenc_int}
+use Rattle.mysql_columns.specs.Columns.{ColumnDefinition, column}
+use Rattle.mysql_ok_packets.specs.Written.{eof_bytes, ok_packet_bytes}
+use Rattle.mysql_ok_packets.specs.OkPackets.{OkPacket}
+use Rattle.mysql_server_packets.specs.Packets.{Error, Progress, ProgressReport, ServerError, err_packet, is_progress_code, local_infile, prepare_ok, progress_obsolete}
+use Rattle.mysql_replies.specs.declared.context.Context.{Context}
+use Rattle.mysql_replies.specs.Grammar.{begins_with, deprecate_eof, has_report_form}
+use Rattle.mysql_reply_writer.specs.Written.{eof_due, group_payloads, nothing_said, terminator_payload}
+use Rattle.mysql_reply_writer.proofs.Causes.{all_both}
+
+abbrev pub NoForm : Context → List ℕ → Type 0
+NoForm c payload = has_report_form c payload ≡ false
+
+abbrev pub NoForms : Context → List (List ℕ) → Type 0
+NoForms c payloads = AllByRecursion (λ payload. has_report_form c payload ≡ false) payloads
+
+and_false : (a : Bool) → (a && false) ≡ false
+and_false true = refl
+and_false false = refl
+
+-- a payload that begins with another byte than ff
+pub no_form : (c : Context) (payload : List ℕ) → begins_with 255 payload ≡ false → has_report_form c payload ≡ false
+no_form c [] h = and_false (progress_obsolete c.capabilities.0)
+no_form c (b ∷ rest) h = rw h (and_false (progress_obsolete c.capabilities.0))
+
+two_bytes : (low high : ℕ) → (low ≡ 255 → high ≡ 255 → ⊥) → bytes_eq (255 ∷ low ∷ high ∷ []) (255 ∷ 255 ∷ 255 ∷ []) ≡ false
+two_bytes low high other = elim (eqb_tells low 255) [
+  | inl a ↦ elim (eqb_tells high 255) [ inl b ↦ absurd (other a.1 b.1) | inr b ↦ rw (a.0, b.0) refl ]
+  | inr a ↦ rw a.0 refl
+]
+
+-- an error of another code, or of any where there are no reports
+pub error_no_form : (c : Context) (e : ServerError) → e.error_code < 2 ^ 16 → is_progress_code c.capabilities.0 e.error_code ≡ false
+    → has_report_form c (err_packet (Error e)) ≡ false
+error_no_form c e small h = elim (eqb_tells e.error_code 0xffff) [
+  | inl same ↦ let none : progress_obsolete c.capabilities.0 ≡ false = unless_code (e.error_code == 0xffff) (progress_obsolete c.capabilities.0) same.0 h in rw none refl
+  | inr other ↦ ap (λ (b : Bool). progress_obsolete c.capabilities.0 && b) (other_bytes other.1) ∙ and_false (progress_obsolete c.capabilities.0)
+] where
+  unless_code : (a b : Bool) → a ≡ true → (a && b) ≡ false → b ≡ false
+  unless_code a b ha h = rw ha at h
+
+  other_bytes : (e.error_code ≡ 0xffff → ⊥) → bytes_eq (take 3 (err_packet (Error e))) (255 ∷ 255 ∷ 255 ∷ []) ≡ false
+  other_bytes other = two_bytes (e.error_code % 256) (e.error_code / 256 % 256) (λ low high. other (omega arith))
+
+column_no_form : (c : Context) (p : ColumnDefinition) → has_report_form c (column p) ≡ false
+unfolding column
+column_no_form c p = no_form c (column p) refl
+
+columns_no_forms : (c : Context) (columns : List ColumnDefinition) → NoForms c (map column columns)
+columns_no_forms c [] = tt
+columns_no_forms c (first ∷ others) = (column_no_form c first, columns_no_forms c others)
+
+eof_no_forms : (c : Context) (columns : List ColumnDefinition) → NoForms c (eof_due c.capabilities.0 columns)
+unfolding eof_bytes
+eof_no_forms c [] = tt
+eof_no_forms c (first ∷ others) = go (deprecate_eof c.capabilities.0) where
+  go : (d : Bool) → NoForms c (if d then [] else eof_bytes nothing_said ∷ [])
+  go true = tt
+  go false = (no_form c (eof_bytes nothing_said) refl, tt)
+
+pub group_no_forms : (c : Context) (columns : List ColumnDefinition) → NoForms c (group_payloads c.capabilities.0 columns)
+group_no_forms c columns =
+    all_both (λ payload. has_report_form c payload ≡ false) (map column columns) (eof_due c.capabilities.0 columns) (columns_no_forms c columns) (eof_no_forms c columns)
+
+pub ok_no_form : (c : Context) (p : OkPacket) → has_report_form c (ok_packet_bytes 0 c.capabilities.0 p) ≡ false
+unfolding ok_packet_bytes
+ok_no_form c p = no_form c (ok_packet_bytes 0 c.capabilities.0 p) refl
+
+pub terminator_no_form : (c : Context) (p : OkPacket) → has_report_form c (terminator_payload c.capabilities.0 p) ≡ false
+unfolding ok_packet_bytes eof_bytes
+terminator_no_form c p = no_form c (terminator_payload c.capabilities.0 p) (go (deprecate_eof c.capabilities.0)) where
+  go : (d : Bool) → begins_with 255 (if d then ok_packet_bytes 254 c.capabilities.0 p else eof_bytes p) ≡ false
+  go true = refl
+  go false = refl
+
+pub file_no_form : (c : Context) (name : List ℕ) → has_report_form c (local_infile name) ≡ false
+unfolding local_infile
+file_no_form c name = no_form c (local_infile name) refl
+
+pub statement_no_form : (c : Context) (s : Rattle.mysql_server_packets.specs.Packets.PrepareOk) → has_report_form c (prepare_ok s) ≡ false
+unfolding prepare_ok
+statement_no_form c s = no_form c (prepare_ok s) refl
+
+lt_tells : (a b : ℕ) → ((nat_lt a b ≡ true) × (a < b)) ⊎ ((nat_lt a b ≡ false) × (b ≤ a))
+lt_tells a b = go (nat_lt a b) refl where
+  go : (x : Bool) → nat_lt a b ≡ x → ((nat_lt a b ≡ true) × (a < b)) ⊎ ((nat_lt a b ≡ false) × (b ≤ a))
+  go true e = inl (e, ltb-true a b e)
+  go false e = inr (e, ltb-false a b e)
+
+count_first : (n : ℕ) → n < 65536 → begins_with 255 (lenenc_int n) ≡ false
+count_first n h = elim (lt_tells n 251) [
+  | inl a ↦ elim (eqb_tells n 255) [ inl same ↦ absurd (omega (arith, a.1, same.1)) | inr other ↦ rw (a.0, other.0) refl ]
+  | inr a ↦ rw (a.0, lt-ltb n 65536 h) refl
+]
+
+pub count_no_form : (c : Context) (n : ℕ) → n < 65536 → has_report_form c (lenenc_int n) ≡ false
+count_no_form c n h = no_form c (lenenc_int n) (count_first n h)
+
+-- a report has it
+pub report_form : (c : Context) (r : ProgressReport) → progress_obsolete c.capabilities.0 ≡ true → has_report_form c (err_packet (Progress r)) ≡ true
+report_form c r h = rw h refl

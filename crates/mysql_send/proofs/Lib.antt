@@ -1,0 +1,13 @@
+pub mod Texts
+pub mod Lists
+pub mod Pieces
+pub mod PlainSizes
+pub mod Statements
+pub mod MoreSets
+pub mod FurtherSets
+pub mod BulkLists
+pub mod RequestBytes
+pub mod SetRows
+pub mod SentRequests
+pub mod AtOnce
+pub mod ListRows

@@ -1,5 +1,0 @@
-pub mod Statement
-pub mod Inside
-pub mod Executions
-pub mod Laws
-pub mod Making

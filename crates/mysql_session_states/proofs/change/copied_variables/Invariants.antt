@@ -1,6 +1,0 @@
-use Rattle.std.proofs.Common.{◌≡◌, map, take}
-use Rattle.mysql_session_states.specs.Views.{variable_view}
-use Rattle.mysql_session_states.proofs.change.copied_variables.Given as goal
-
-abbrev pub invariant-loop-one : goal.invariant-loop-one
-invariant-loop-one l = map variable_view l.copies.items ≡ map variable_view (take l.one-index l.all)

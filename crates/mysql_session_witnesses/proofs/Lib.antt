@@ -1,9 +1,0 @@
-pub mod AboutQueries
-pub mod AboutValues
-pub mod AboutWire
-pub mod AboutRows
-pub mod AboutExecutions
-pub mod AboutSending
-pub mod AboutReplies
-pub mod AboutLogins
-pub mod OnLiterals

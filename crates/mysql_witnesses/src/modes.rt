@@ -1,0 +1,56 @@
+//! The mode that a connection knows of its session.
+
+ghost use Rattle.mysql_witnesses.specs.Modes.{DoubtedModesStay, ExecutionsForgetTheMode};
+ghost use Rattle.mysql_witnesses.specs.Modes.{LoginsTellTheMode, PingsLeaveTheMode};
+ghost use Rattle.mysql_witnesses.specs.Modes.{QueriesForgetTheMode, ResetsTellTheMode};
+ghost use Rattle.mysql_witnesses.specs.Modes.{RoutinesTellNone, SetStatementsAreDoubted};
+ghost use Rattle.mysql_witnesses.specs.Modes.{StatusesContradict, StatusesTellNothing};
+ghost use Rattle.mysql_witnesses.specs.Modes.{TrackedModesStay, TrackingMayEnd};
+
+/// The status of a reply's OK tells nothing of the mode, but that a tracking was ended.
+///
+/// Excluded: the mode that a routine left there, by which a value behind it would end its literal.
+pub fn statuses_tell_nothing()
+    ensures nothing { StatusesTellNothing }
+    ensures contradict { StatusesContradict }
+{}
+
+/// Behind a statement a mode that isn't tracked isn't known.
+///
+/// Excluded: one that stays as the login told it.
+pub fn statements_forget_the_mode()
+    ensures queries { QueriesForgetTheMode }
+    ensures executions { ExecutionsForgetTheMode }
+{}
+
+/// A mode that is tracked stays behind a statement.
+///
+/// Excluded: one that each statement takes away.
+pub fn tracked_modes_stay()
+    ensures { TrackedModesStay }
+{}
+
+/// A mode that is told for one statement, or within a routine, isn't the session's.
+///
+/// Excluded: a mode that is told so, and one that stays where the tracking may have ended.
+pub fn told_modes_may_end()
+    ensures statements { SetStatementsAreDoubted }
+    ensures doubted { DoubtedModesStay }
+    ensures tracking { TrackingMayEnd }
+    ensures routines { RoutinesTellNone }
+{}
+
+/// A command that runs no statement leaves the mode.
+///
+/// Excluded: a mode that no command leaves.
+pub fn pings_leave_the_mode()
+    ensures { PingsLeaveTheMode }
+{}
+
+/// A session that begins tells its mode by the status.
+///
+/// Excluded: a mode that is never told, and one that stays tracked over a reset.
+pub fn beginnings_tell_the_mode()
+    ensures logins { LoginsTellTheMode }
+    ensures resets { ResetsTellTheMode }
+{}

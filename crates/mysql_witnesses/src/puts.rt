@@ -1,0 +1,68 @@
+//! Events and payloads that are put.
+
+ghost use Rattle.mysql_witnesses.specs.Puts.{AnswersAreNumberedOn, CommandsAreNumberedAnew};
+ghost use Rattle.mysql_witnesses.specs.Puts.{ExecutionsAreWrittenByTheirStatement, HasThatPayload};
+ghost use Rattle.mysql_witnesses.specs.Puts.{NumbersAreNotPutAsOthers, PayloadsAreOfTheirSide};
+ghost use Rattle.mysql_witnesses.specs.Puts.{RefusedEventsChangeNothing, RefusedPayloadsChangeNothing};
+ghost use Rattle.mysql_witnesses.specs.Puts.{RowsAreDueBehindColumns, ValuesMakeNoOddExecution};
+ghost use Rattle.mysql_witnesses.specs.Puts.{WhatWaitsComesFirst};
+
+/// Nothing is put before bytes that wait.
+///
+/// Excluded: an event that passes what was said before it.
+pub fn what_waits_comes_first()
+    ensures { WhatWaitsComesFirst }
+{}
+
+/// A payload is due of one side.
+///
+/// Excluded: the server's where the client's command is due.
+pub fn payloads_are_of_their_side()
+    ensures { PayloadsAreOfTheirSide }
+{}
+
+/// What is put has the number that is due.
+///
+/// Excluded: an answer that is numbered from 0, and a packet that goes on from its own number.
+#[tactic(auto, unfolding(mysql_wire::specs::Framing::framing, mysql_wire::specs::Framing::chunks))]
+pub fn what_is_put_has_the_number_due()
+    ensures answers { AnswersAreNumberedOn }
+    ensures commands { CommandsAreNumberedAnew }
+{}
+
+/// A refusal changes nothing, whatever its cause.
+///
+/// Excluded: a number, columns or statements that have gone on where memory or room was wanting.
+pub fn refusals_change_nothing()
+    ensures events { RefusedEventsChangeNothing }
+    ensures payloads { RefusedPayloadsChangeNothing }
+{}
+
+/// An execution that is made of values is no odd one.
+///
+/// Excluded: one with another iteration count than 1, a flag without a name, or bytes behind its values.
+pub fn values_make_no_odd_execution()
+    ensures { ValuesMakeNoOddExecution }
+{}
+
+/// An execution is written by what is in force of the statement that it names.
+///
+/// Excluded: the parameters of another one.
+pub fn executions_are_written_by_their_statement()
+    ensures { ExecutionsAreWrittenByTheirStatement }
+{}
+
+/// A number isn't put that is read as another value.
+///
+/// Excluded: an unsigned number below 2^63, which is read as one with a sign.
+pub fn numbers_are_not_put_as_others()
+    ensures payload { HasThatPayload }
+    ensures reading { NumbersAreNotPutAsOthers }
+{}
+
+/// A row is due behind its columns alone.
+///
+/// Excluded: one that is put behind an event which was taken for a row.
+pub fn rows_are_due_behind_columns()
+    ensures { RowsAreDueBehindColumns }
+{}
