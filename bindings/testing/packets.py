@@ -10,12 +10,13 @@ names the pages that its rows are of.
                                            each further field is a payload that was said before
     SIDE | BYTES | LINE                    that side's next payload is this event
     SIDE | BYTES | LINE | CODE RANGE .. CODE RANGE ..
-                                           and its fronts of these lengths are refused by the code,
-                                           or laid out as no command (`Other`); all others are read
+                                           and its prefixes of these lengths are refused by the
+                                           code, or laid out as no command (`Other`); all others
+                                           are read
     SIDE | BYTES | refused CODE            the payload itself is refused
 
     read CALL NUMBER .. | BYTES | FIELDS   what read_greeting or read_login finds, every field; a
-                                           last field CODE RANGE ..: its fronts that are refused
+                                           last field CODE RANGE ..: its prefixes that are refused
     put CALL | FIELDS | BYTES              what put_greeting, put_login, register_replica,
                                            binlog_dump or binlog_dump_gtid makes; or `refused CODE`
     write KIND CAPABILITIES | CALL FIELDS | .. | BYTES
@@ -27,15 +28,15 @@ names the pages that its rows are of.
     texts | VALUE | .. | BYTES             a text row, written, read and written again
     executed | VALUE | .. | BYTES          the execution of the statement 1 by which values are sent
 
-A LINE is what `Connection.line` gives, without the side; a text in double quotes and x(BYTES) stand
-for bytes there. FIELDS are words NAME=NUMBER, NAME=BYTES (without blanks). A RANGE is FIRST-LAST,
+A LINE is what `Connection.line` gives, without the side; a text in double quotes and x(BYTES) mean
+bytes there. FIELDS are words NAME=NUMBER, NAME=BYTES (without blanks). A RANGE is FIRST-LAST,
 or a length. Of values, numbers are whole ones, and bytes are texts in quotes and names. `-` is
 NULL, and `N * VALUE` a value N times. d(year,month,day,hour,minute,second,microsecond) is a date,
 and t(sign,days,hours,minutes,seconds,microseconds) a duration.
 
 Each payload of a connection is put, which has to give its packets as they are framed. It is fed
 whole and byte by byte, where the same event has to come with its last byte and nothing before. And
-each of its fronts is put, framed as if it were whole.
+each of its prefixes is put, framed as if it were whole.
 """
 
 import datetime
@@ -76,7 +77,7 @@ def fields_of(field):
 
 
 def ranges_of(words, word="BAD_PACKET"):
-    """The lengths that ranges have, each with the word that stands before its range."""
+    """The lengths that ranges have, each with the word before its range."""
     found = {}
     for it in words:
         first, _, last = it.partition("-")
@@ -96,7 +97,7 @@ def code_of(error):
 
 
 class State:
-    """How a connection stands where a row begins."""
+    """The state of a connection where a row begins."""
 
     def __init__(self, row):
         self.row = row
@@ -148,7 +149,7 @@ class State:
             compare(lines, [wanted] if at + 1 == len(packets) else [], f"fed by its byte {at}")
 
     def code_of_front(self, side, front):
-        """The code by which a front is refused, or `Other` where it is laid out as no command."""
+        """The code by which a prefix is refused, or `Other` where it is laid out as no command."""
         connection, _ = self.put()
         found = code_of(refusal(connection.put, side, front))
         return "Other" if found == "nothing" and " Other " in connection.line() else found
@@ -168,7 +169,7 @@ class State:
 
 
 def check_fronts(payload, ranges, code_of_front):
-    """Checks that the fronts of these lengths are refused by their codes, and no others."""
+    """Checks that the prefixes of these lengths are refused by their codes, and no others."""
     codes = ranges_of(ranges[0].text.split() if ranges else [])
     for length in range(len(payload)):
         compare(code_of_front(payload[:length]), codes.get(length, "nothing"),

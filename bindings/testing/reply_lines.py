@@ -62,6 +62,9 @@ def lines_of(result):
         return [f"error: {result.code}{state} {shown(result.message)}"]
     if isinstance(result, ms.File):
         return ["file: " + shown(result.name)]
+    if isinstance(result, ms.RawRows):
+        end = f" status {result.status:04x} warnings {result.warnings}" if result.ended else ""
+        return [f"raw rows: {result.count}{end}"]
     last = f" id {result.last_insert_id}" if result.last_insert_id else ""
     return [f"ok: rows {result.affected_rows}{last}" + told(result)]
 

@@ -18,6 +18,7 @@ static const struct {
     HANDED(server_error), HANDED(file),        HANDED(value_rows),  HANDED(table),
     HANDED(column_values), HANDED(date_fields), HANDED(time_fields), HANDED(bulk_default),
     HANDED(bulk_ignore), HANDED(statement),    HANDED(put),         HANDED(codecs),
+    HANDED(raw_rows),
 };
 
 static PyObject **slot_of(State *state, size_t number)

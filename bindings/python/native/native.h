@@ -40,7 +40,7 @@ typedef struct {
     PyTypeObject *types[KINDS];
     /* What `setup` hands over: classes and functions of the Python module. */
     PyObject *refused, *fault, *row_error;
-    PyObject *column, *state_change, *ok, *rows, *prepared, *server_error, *file;
+    PyObject *column, *state_change, *ok, *rows, *prepared, *server_error, *file, *raw_rows;
     PyObject *value_rows, *table, *column_values;
     PyObject *date_fields, *time_fields, *bulk_default, *bulk_ignore;
     PyObject *statement, *put;

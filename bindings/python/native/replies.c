@@ -245,6 +245,9 @@ static PyObject *shown_result(Reply *self, size_t number, enum form form, const 
     case MYSQL_SESSION_RESULT_ERROR:
         return PyObject_CallFunction(state->server_error, "HNN", r.error_code,
                                      bytes_of(r.state, r.state_len), bytes_of(r.text, r.len));
+    case MYSQL_SESSION_RESULT_RAW_ROWS:
+        return PyObject_CallFunction(state->raw_rows, "nOHH", (Py_ssize_t)r.rows,
+                                     r.ended ? Py_True : Py_False, r.status, r.warnings);
     case MYSQL_SESSION_RESULT_FILE:
         return PyObject_CallFunction(state->file, "N", bytes_of(r.text, r.len));
     default:

@@ -91,6 +91,17 @@ pub enum ReplyResult<'a> {
     Error(ErrorPacket<'a>),
     /// The server wants the file of this name, and ends the reply.
     File(&'a [u8]),
+    /// Rows whose columns the server left out, by MySQL's optional metadata.
+    RawRows(RawRows<'a>),
+}
+
+/// Rows whose columns aren't known. Their bytes aren't shown.
+#[derive(Clone, Copy, Debug)]
+pub struct RawRows<'a> {
+    /// How many there are.
+    pub count: usize,
+    /// What the packet tells that ended them, where it came.
+    pub end: Option<Done<'a>>,
 }
 
 impl fmt::Debug for ReplyResult<'_> {
@@ -104,6 +115,7 @@ impl fmt::Debug for ReplyResult<'_> {
                 .debug_tuple("File")
                 .field(&Readable(name))
                 .finish(),
+            ReplyResult::RawRows(rows) => formatter.debug_tuple("RawRows").field(rows).finish(),
         }
     }
 }
@@ -115,6 +127,7 @@ impl<'a> ReplyResult<'a> {
         match self {
             ReplyResult::Ok(done) => !done.has_more(),
             ReplyResult::Rows(rows) => rows.end().is_some_and(|done| !done.has_more()),
+            ReplyResult::RawRows(rows) => rows.end.is_some_and(|done| !done.has_more()),
             ReplyResult::Prepared(_) | ReplyResult::Error(_) | ReplyResult::File(_) => true,
         }
     }
@@ -147,6 +160,13 @@ fn result_of(of: Number<'_>) -> Result<ReplyResult<'_>, Error> {
         2 => ReplyResult::Prepared(prepared(of, &shown)),
         3 => ReplyResult::Error(error_packet(&shown, text)),
         4 => ReplyResult::File(text),
+        5 => ReplyResult::RawRows(RawRows {
+            count: shown.rows,
+            end: shown.ended.then(|| Done {
+                of,
+                packet: ok_packet(&shown, text),
+            }),
+        }),
         kind => panic!("the header has no kind {kind} of a result"),
     })
 }
@@ -569,7 +589,7 @@ pub struct ColumnType {
     pub charset: u16,
     /// The most bytes of a cell.
     pub length: u32,
-    /// How many digits stand behind the point.
+    /// How many digits are behind the point.
     pub decimals: u8,
 }
 

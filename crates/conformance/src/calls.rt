@@ -11,7 +11,7 @@ use row_fields::{Token, Trouble, bytes_of, number};
 use std::alloc::Global;
 use std::fmt::Debug;
 
-/// What stands before what is appended.
+/// What is there before something is appended.
 pub const FRONT: &[u8] = b"front";
 
 /// A query, the id of its statement and the limit of its packets.
@@ -25,13 +25,12 @@ pub fn tell<E: Debug + Drop>(answer: Result<(), E>, words: &mut String) -> Resul
     }
 }
 
-/// Whether what stands behind the front are these bytes.
+/// Whether these bytes were appended.
 fn is_behind_front(alloc: Global, out: &[u8], bytes: &[Token<'_>]) -> Result<bool, Trouble> {
     Ok(out.strip_prefix(FRONT) == Some(bytes_of(alloc, bytes)?.as_slice()))
 }
 
-/// Compares what stands behind the front, and a refusal, with what is wanted: bytes, a refusal, or
-/// both.
+/// Compares what was appended, and a refusal, with what is wanted: bytes, a refusal, or both.
 pub fn check(
     alloc: Global,
     out: &[u8],
@@ -53,7 +52,7 @@ pub fn check(
     }
 }
 
-/// The road of this name.
+/// The method of this name.
 fn road_of(token: &Token<'_>) -> Result<Road, Trouble> {
     match token {
         Token::Word("text") => Ok(Road::Text),
@@ -86,7 +85,7 @@ fn call_send(
     tell(sent, words)
 }
 
-/// Sends lists of objects, each in a box of its own.
+/// Sends lists of objects, each in a box.
 fn call_send_values(
     alloc: Global,
     road: Road,

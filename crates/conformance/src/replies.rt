@@ -14,6 +14,10 @@ fn kind_of(field: &[Token<'_>]) -> Result<ReplyKind, Trouble> {
         [Token::Word("text")] => Ok(ReplyKind::Text),
         [Token::Word("binary")] => Ok(ReplyKind::Binary),
         [Token::Word("prepare")] => Ok(ReplyKind::Prepare),
+        [Token::Word("plain")] => Ok(ReplyKind::Plain),
+        [Token::Word("line")] => Ok(ReplyKind::Line),
+        [Token::Word("field_list")] => Ok(ReplyKind::FieldList),
+        [Token::Word("fetch")] => Ok(ReplyKind::Fetch),
         _ => Err(UNKNOWN),
     }
 }

@@ -7,12 +7,12 @@ use std::alloc::Global;
 use std::collections::HashMap;
 use std::time::Duration;
 
-/// What a part of a field stands for.
+/// What a part of a field means.
 pub trait Part: Drop + Sized {
     fn of(alloc: Global, tokens: &[Token<'_>]) -> Result<Self, Trouble>;
 }
 
-/// What the parts stand for between which this word stands. Before a first word there may be none.
+/// What the parts mean between which this word is. Before a first word there may be none.
 pub fn parts_of<T: Part>(
     alloc: Global,
     tokens: &[Token<'_>],
@@ -62,7 +62,7 @@ impl Part for Content {
     }
 }
 
-/// The set of values behind their names, each `:` and the name; of none where `:` stands alone.
+/// The set of values behind their names, each `:` and the name; of none where `:` is alone.
 fn named_set(alloc: Global, set: &[Token<'_>]) -> Result<Params, Trouble> {
     let mut values = HashMap::new(alloc);
     for part in set.split(|token| matches!(token, Token::Word(","))) {

@@ -36,7 +36,7 @@ pub fn said(alloc: Global, reply: &Reply) -> Result<String, AllocError> {
 /// Writes a result part by part.
 fn put_result(
     writer: &mut ReplyWriter,
-    found: &ReplyResult,
+    (place, found): (usize, &ReplyResult),
     more: bool,
     out: &mut Vec<u8>,
 ) -> Result<(), ReplyRefusal> {
@@ -63,6 +63,10 @@ fn put_result(
         } => writer.prepared(stmt, params, columns, out),
         ReplyResult::Error(error) => writer.error(error, out),
         ReplyResult::File(packet) => writer.file(packet, out),
+        // They are read alone.
+        ReplyResult::RawRows { .. } | ReplyResult::Fields { .. } | ReplyResult::Line(_) => {
+            Err(ReplyRefusal::WrongKind(place))
+        }
     }
 }
 
@@ -77,7 +81,7 @@ fn put_parts(
     }
     let last = reply.results.len().saturating_sub(1);
     for (place, found) in reply.results.iter().enumerate() {
-        put_result(writer, found, place < last, out)?;
+        put_result(writer, (place, found), place < last, out)?;
     }
     Ok(())
 }

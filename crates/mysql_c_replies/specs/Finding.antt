@@ -5,7 +5,7 @@ use Rattle.mysql_cells.specs.declared.value.Value.{Value}
 use Rattle.mysql_columns.specs.Columns.{ColumnDefinition}
 use Rattle.mysql_ok_packets.specs.OkPackets.{OkPacket}
 use Rattle.mysql_rows.specs.Rows.{Row, cell_at}
-use Rattle.mysql_replies.specs.Grammar.{OkResult, Outcome, PreparedResult, RowsResult}
+use Rattle.mysql_replies.specs.Together.{FieldsResult, OkResult, Outcome, PreparedResult, RawRowsResult, RowsResult}
 use Rattle.mysql_replies.specs.Views.{outcome_views}
 use Rattle.mysql_c_handles.specs.declared.code.Code.{Code}
 use Rattle.mysql_c_handles.specs.declared.code.Code.TheVariants as code
@@ -52,6 +52,8 @@ params_of other = []
 abbrev pub packet_of : Outcome → Option OkPacket
 packet_of (OkResult ok) = Some ok
 packet_of (RowsResult columns rows terminator) = terminator
+packet_of (RawRowsResult rows terminator) = terminator
+packet_of (FieldsResult fields terminator) = terminator
 packet_of other = None
 
 -- the value in a cell, by the numbers of its result, its row and its column

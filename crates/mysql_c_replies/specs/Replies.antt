@@ -1,7 +1,8 @@
 -- What the calls that read replies say of the object that a handle stands for.
 use Rattle.std.specs.Prelude.{◌≡◌, ℕ, ◌==◌, List, [], Option, Some, None, Result, Ok, Err, MatchOption, if◌then◌else◌}
-use Rattle.mysql_replies.specs.declared.context.ReplyKind.{ReplyKind}
-use Rattle.mysql_replies.specs.declared.context.ReplyKind.TheVariants.{Text, Binary, Prepare}
+use Rattle.mysql_reply_events.specs.declared.context.ReplyKind.{ReplyKind}
+use Rattle.mysql_reply_events.specs.declared.context.ReplyKind.TheVariants.{Text, Binary, Prepare}
+use Rattle.mysql_replies.specs.Reply.{context_by}
 use Rattle.mysql_replies.specs.declared.fault.ReplyFault.{ReplyFault}
 use Rattle.mysql_replies.specs.declared.results.Reply.{Reply}
 use Rattle.mysql_replies.specs.Holding.{HasFoundNoFault, ReaderDecides, fault_of, fresh_reader}
@@ -40,7 +41,7 @@ kind_numbered number = if number == 0 then Some Text else
 abbrev pub IsNewReply : ℕ → ℕ → ℕ → ℕ → ReplyInParts → Type 0
 IsNewReply kind capabilities first limit r =
     MatchOption (kind_numbered kind) ⊥ (λ k. r.reader ≡
-    fresh_reader (record { kind = k; capabilities = record { 0 = capabilities } }) first limit)
+    fresh_reader (context_by k (record { 0 = capabilities })) first limit)
     × (r.taken.items ≡ [])
 
 -- what a reader answers that has met this fault, or none

@@ -10,7 +10,7 @@ use Rattle.mysql_fields.specs.Wire.{Reading}
 use Rattle.mysql_ok_packets.specs.SessionStates.{State}
 use Rattle.mysql_replies.specs.declared.results.ReplyEnd.{ReplyEnd}
 use Rattle.mysql_replies.specs.declared.results.ReplyEnd.TheVariants as ending
-use Rattle.mysql_replies.specs.Grammar as grammar
+use Rattle.mysql_replies.specs.Together as together
 use Rattle.mysql_c_handles.specs.declared.code.Code.TheVariants as code
 use Rattle.mysql_c_handles.specs.declared.shown.ShownEnd.{ShownEnd}
 use Rattle.mysql_c_handles.specs.Codes.{code_number, reply_fault_number}
@@ -75,34 +75,40 @@ abbrev pub state_shown : Option (List ℕ) → ShownResult → ShownResult
 state_shown None shown = shown
 state_shown (Some state) shown = record shown { state = state; state_len = 5 }
 
--- OK is kind 0, rows 1, a prepared statement 2, an error 3, a request for a file 4. What a kind doesn't have is 0.
-abbrev pub outcome_shown : grammar.Outcome → ShownResult → ShownResult
-outcome_shown (grammar.OkResult ok) shown = packet_shown ok (nothing_shown shown)
-outcome_shown (grammar.RowsResult columns rows terminator) shown =
+-- OK is kind 0, rows 1, a prepared statement 2, an error 3, a request for a file 4, rows whose columns aren't known 5,
+-- columns of a table 6, a line 7. What a kind doesn't have is 0.
+abbrev pub outcome_shown : together.Outcome → ShownResult → ShownResult
+outcome_shown (together.OkResult ok) shown = packet_shown ok (nothing_shown shown)
+outcome_shown (together.RowsResult columns rows terminator) shown =
     record (terminator_shown terminator (nothing_shown shown)) {
       kind = 1;
       columns =
           length columns;
       rows = length rows;
     }
-outcome_shown (grammar.PreparedResult statement params columns) shown = record (nothing_shown shown) {
+outcome_shown (together.PreparedResult statement params columns) shown = record (nothing_shown shown) {
   kind = 2;
   statement = statement.statement_id;
   params = length params;
   columns = length columns;
   warnings = statement.warning_count;
 }
-outcome_shown (grammar.ErrorResult error) shown =
+outcome_shown (together.ErrorResult error) shown =
     record (state_shown error.sql_state (nothing_shown shown)) {
       kind = 3;
       error_code =
           error.error_code;
       len = length error.error_message;
     }
-outcome_shown (grammar.FileResult name) shown = record (nothing_shown shown) { kind = 4; len = length name }
+outcome_shown (together.FileResult name) shown = record (nothing_shown shown) { kind = 4; len = length name }
+outcome_shown (together.RawRowsResult rows terminator) shown =
+    record (terminator_shown terminator (nothing_shown shown)) { kind = 5; columns = 0; rows = length rows }
+outcome_shown (together.FieldsResult fields terminator) shown =
+    record (terminator_shown terminator (nothing_shown shown)) { kind = 6; columns = length fields; rows = 0 }
+outcome_shown (together.LineResult bytes) shown = record (nothing_shown shown) { kind = 7; len = length bytes }
 
 -- Each field is that of the result, but where its text stands; of an earlier result nothing stays.
-abbrev pub ShowsOutcome : grammar.Outcome → ShownResult → Type 0
+abbrev pub ShowsOutcome : together.Outcome → ShownResult → Type 0
 ShowsOutcome outcome shown = shown ≡ outcome_shown outcome shown
 
 -- A call is done and this holds, or it was refused memory.

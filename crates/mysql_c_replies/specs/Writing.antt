@@ -6,6 +6,7 @@ use Rattle.mysql_const.specs.declared.column_type.ColumnType.{ColumnType}
 use Rattle.mysql_ok_packets.specs.OkPackets.{OkPacket, unless_empty, unless_zero}
 use Rattle.mysql_server_packets.specs.Packets.{PrepareOk, ServerError}
 use Rattle.mysql_rows.specs.Rows.{Row}
+use Rattle.mysql_replies.specs.Reply.{context_by}
 use Rattle.mysql_reply_writer.specs.Refusals.{end_cause}
 use Rattle.mysql_reply_writer.specs.Written.{RowStep}
 use Rattle.mysql_reply_writer.specs.Writer.{columns_of, fresh_writer}
@@ -25,7 +26,7 @@ use Rattle.mysql_c_replies.specs.Steps.{IsWriter, WritesFrom, columns_given}
 abbrev pub IsNewWriter : ℕ → ℕ → ℕ → ℕ → WrittenReply → Type 0
 IsNewWriter kind capabilities first limit reply =
     MatchOption (kind_numbered kind) ⊥ (λ k. reply.writer ≡
-    fresh_writer (record { kind = k; capabilities = record { 0 = capabilities } }) first limit)
+    fresh_writer (context_by k (record { 0 = capabilities })) first limit)
     × (reply.columns.items ≡ [])
 
 -- the OK packet that says this; an id of 0 is none, and so is an empty text

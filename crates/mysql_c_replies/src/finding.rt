@@ -92,6 +92,18 @@ fn packet_of(results: &[ReplyResult], number: usize) -> Option<&OkPacket<'static
                 terminator: Some(ok),
             },
         ) => Some(ok),
+        Some(
+            ReplyResult::RawRows {
+                rows: _,
+                terminator: Some(ok),
+            },
+        ) => Some(ok),
+        Some(
+            ReplyResult::Fields {
+                fields: _,
+                terminator: Some(ok),
+            },
+        ) => Some(ok),
         _ => None,
     }
 }

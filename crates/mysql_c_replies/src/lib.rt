@@ -1,4 +1,16 @@
 //! The part of the library for C that reads and writes replies: what its exports do.
+//!
+//! `mysql_c` exports its functions, and `mysql_c_connection` shows columns and values by it.
+//!
+//! | in turn | reading | writing |
+//! |---|---|---|
+//! | begin | [`reply_new`] | [`writer_new`] |
+//! | go on | [`reply_feed`], [`reply_take`] | [`writer_column`], [`writer_row`], .. |
+//! | look | [`reply_result`], [`reply_cell`] | |
+//! | end | [`reply_end`] | [`writer_end`] |
+//!
+//!     let code = reply_feed(alloc, &mut handle, piece);
+//!     let code = reply_cell(alloc, &mut handle, result, row, column, &mut shown);
 #![tactic(auto)]
 
 mod finding;

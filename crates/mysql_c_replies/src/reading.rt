@@ -84,7 +84,7 @@ fn end(object: &mut Object, end: &mut ShownEnd) -> Code
     code
 }
 
-/// Makes the handle stand for a reader of the reply to a command of this kind.
+/// Makes the handle refer to a reader of the reply to a command of this kind.
 ///
 /// The kinds are 0 a query, 1 an execution, 2 a prepare. The reply's first chunk has the number
 /// `first`.
@@ -129,11 +129,11 @@ pub fn reply_feed(alloc: Global, handle: &mut Handle, piece: &[u8]) -> u32
     code.number()
 }
 
-/// Takes the results that stand whole, and the rows so far of a result set that goes on.
+/// Takes the results that are whole, and the rows so far of a result set that goes on.
 ///
 /// Those that were taken before are let go, and so are the progress reports that came.
 ///
-/// Promise: the results are those that `ReplyReader::take_results` hands out (`OutcomesAreTaken`).
+/// Promise: the results are those that `ReplyReader::take_results` returns (`OutcomesAreTaken`).
 pub fn reply_take(alloc: Global, handle: &mut Handle) -> u32
     ensures { OfReply handle.old.object result handle.new.object (OutcomesAreTaken result handle.new.object) }
 {
@@ -145,10 +145,10 @@ pub fn reply_take(alloc: Global, handle: &mut Handle) -> u32
     code.number()
 }
 
-/// Ends a reply: the handle stands for what was read and not taken. Shows how the reply ends. Of an
+/// Ends a reply: the handle refers to what was read and not taken. Shows how the reply ends. Of an
 /// ended one it shows the same again.
 ///
-/// Promise: the handle stands for what was read and not taken, and how the reply ends is shown
+/// Promise: the handle refers to what was read and not taken, and how the reply ends is shown
 /// (`RepliesEnd`).
 pub fn reply_end(alloc: Global, handle: &mut Handle, shown: &mut ShownEnd) -> u32
     ensures { RepliesEnd handle.old.object result handle.new.object shown.new }

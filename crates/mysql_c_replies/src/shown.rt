@@ -7,7 +7,7 @@ ghost use Rattle.mysql_ok_packets.specs.OkPackets.{all_states_at};
 ghost use Rattle.mysql_ok_packets.specs.Views.{ok_packet_view};
 ghost use Rattle.mysql_ok_packets.specs.Written.{or_empty};
 ghost use Rattle.mysql_server_packets.specs.Views.{prepare_ok_view, server_error_view};
-ghost use Rattle.mysql_replies.specs.Grammar.{ErrorResult};
+ghost use Rattle.mysql_replies.specs.Together.{ErrorResult};
 ghost use Rattle.mysql_replies.specs.Views.{outcome_view};
 ghost use Rattle.mysql_c_handles.specs.Codes.{code_number};
 ghost use Rattle.mysql_c_replies.specs.Shown.{CountsChanges, ShowsColumn, ShowsOutcome, ShowsValue, UnlessMemory};
@@ -26,9 +26,10 @@ use std::alloc::Global;
 
 /// A result: its kind, and what that kind has.
 ///
-/// The kinds are 0 OK, 1 rows, 2 a prepared statement, 3 an error, 4 a request for a file. The text
-/// is what an OK packet tells, an error's message or a file's name. `ended` is false of rows alone,
-/// where the packet that ends them didn't come.
+/// The kinds are 0 OK, 1 rows, 2 a prepared statement, 3 an error, 4 a request for a file. 5 is rows
+/// whose columns aren't known, 6 columns of a table, 7 a line. The text is what an OK packet tells,
+/// an error's message, a file's name or the line. `ended` is false of rows and of columns of a table
+/// alone, where the packet that ends them didn't come.
 #[repr(C)]
 #[derive(Clone, Copy)]
 pub struct ShownResult {
@@ -73,7 +74,7 @@ pub struct ShownValue {
     pub len: usize,
 }
 
-/// A column: its numbers, and its names where they stand.
+/// A column: its numbers, and its names where they are.
 #[repr(C)]
 #[derive(Clone, Copy)]
 pub struct ShownColumn {
@@ -142,7 +143,7 @@ fn telling(kind: u32, text: &[u8]) -> ShownResult
 }
 
 /// Counts the changes of the session's state that a packet tells; none where they can't be read.
-/// Nothing is counted for want of memory.
+/// Nothing is counted where memory is refused.
 fn count_changes(alloc: Global, ok: &OkPacket<'_>) -> Option<usize>
     ensures { CountsChanges (all_states_at (ok_packet_view ok.now).session_state_info) result }
 {
@@ -153,7 +154,8 @@ fn count_changes(alloc: Global, ok: &OkPacket<'_>) -> Option<usize>
     }
 }
 
-/// A result of this kind that tells what an OK packet does. Nothing is told for want of memory.
+/// A result of this kind that tells what an OK packet does. Nothing is told where memory is
+/// refused.
 fn telling_packet(alloc: Global, kind: u32, ok: &OkPacket<'_>) -> Option<ShownResult>
     ensures { IfSome result (λ shown. shown ≡
         record (packet_shown (ok_packet_view ok.now) (nothing_shown shown)) { kind = kind }) }
@@ -168,32 +170,33 @@ fn telling_packet(alloc: Global, kind: u32, ok: &OkPacket<'_>) -> Option<ShownRe
     Some(shown)
 }
 
-/// Rows, so many under so many columns, and what the packet tells that ended them, where it came.
-/// Nothing is told for want of memory.
+/// Rows of this kind, so many under so many columns, and what the packet tells that ended them,
+/// where it came. Nothing is told where memory is refused.
 fn telling_rows(
     alloc: Global,
+    kind: u32,
     columns: usize,
     rows: usize,
     terminator: &Option<OkPacket<'static>>,
 ) -> Option<ShownResult>
     ensures { IfSome result (λ shown. shown ≡
         record (terminator_shown (option_map ok_packet_view terminator.now)
-        (nothing_shown shown)) { kind = 1; columns = columns; rows = rows }) }
+        (nothing_shown shown)) { kind = kind; columns = columns; rows = rows }) }
 {
     let mut shown = match terminator {
-        Some(ok) => telling_packet(alloc, 1, ok)?,
-        None => telling_open_rows(),
+        Some(ok) => telling_packet(alloc, kind, ok)?,
+        None => telling_open_rows(kind),
     };
     shown.columns = columns;
     shown.rows = rows;
     Some(shown)
 }
 
-/// Rows that go on.
-fn telling_open_rows() -> ShownResult
-    ensures { result ≡ record (nothing_shown result) { kind = 1; ended = false } }
+/// Rows of this kind that go on.
+fn telling_open_rows(kind: u32) -> ShownResult
+    ensures { result ≡ record (nothing_shown result) { kind = kind; ended = false } }
 {
-    let mut shown = telling(1, &[]);
+    let mut shown = telling(kind, &[]);
     shown.ended = false;
     shown
 }
@@ -231,7 +234,7 @@ fn telling_error(error: &ServerError<'static>) -> ShownResult
     shown
 }
 
-/// What C sees of a result. Nothing is told for want of memory.
+/// What C sees of a result. Nothing is told where memory is refused.
 fn telling_result(alloc: Global, found: &ReplyResult) -> Option<ShownResult>
     ensures { IfSome result (ShowsOutcome (outcome_view found.now)) }
 {
@@ -241,7 +244,7 @@ fn telling_result(alloc: Global, found: &ReplyResult) -> Option<ShownResult>
             columns,
             rows,
             terminator,
-        } => telling_rows(alloc, columns.as_slice().len(), rows.len(), terminator),
+        } => telling_rows(alloc, 1, columns.as_slice().len(), rows.len(), terminator),
         ReplyResult::Prepared {
             stmt,
             params,
@@ -249,6 +252,13 @@ fn telling_result(alloc: Global, found: &ReplyResult) -> Option<ShownResult>
         } => Some(telling_prepared(stmt, params.len(), columns.len())),
         ReplyResult::Error(error) => Some(telling_error(error)),
         ReplyResult::File(file) => Some(telling(4, file.file_name_ref())),
+        ReplyResult::RawRows { rows, terminator } => {
+            telling_rows(alloc, 5, 0, rows.len(), terminator)
+        }
+        ReplyResult::Fields { fields, terminator } => {
+            telling_rows(alloc, 6, fields.len(), 0, terminator)
+        }
+        ReplyResult::Line(bytes) => Some(telling(7, bytes.as_slice())),
     }
 }
 
@@ -276,7 +286,7 @@ fn states_in<'a>(ok: &'a OkPacket<'_>) -> &'a [u8]
 }
 
 /// Shows the change of the session's state at a position of those that a packet tells, and moves
-/// the position behind it. Its bytes stand in the packet.
+/// the position behind it. Its bytes are in the packet.
 pub(crate) fn show_state(
     alloc: Global,
     ok: &OkPacket<'_>,

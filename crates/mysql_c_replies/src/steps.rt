@@ -123,7 +123,7 @@ fn write_behind(
     }
 }
 
-/// Writes what is given behind the bytes that a handle stands for.
+/// Writes what is given behind the bytes that a handle refers to.
 fn write_to(
     alloc: Global,
     reply: &mut WrittenReply,
@@ -162,7 +162,7 @@ fn write_by(
     }
 }
 
-/// Writes what is given by the writer that a handle stands for.
+/// Writes what is given by the writer that a handle refers to.
 fn write_with(
     alloc: Global,
     handle: &mut Handle,
@@ -182,7 +182,7 @@ fn write_with(
     code.number()
 }
 
-/// Writes what is given by the writer that one handle stands for, behind the bytes of another.
+/// Writes what is given by the writer that one handle refers to, behind the bytes of another.
 pub(crate) fn write_given(
     alloc: Global,
     handle: &mut Handle,
@@ -199,7 +199,7 @@ pub(crate) fn write_given(
     number
 }
 
-/// Whether the handle stands for a writer to which fewer columns were given.
+/// Whether the handle refers to a writer to which fewer columns were given.
 pub(crate) fn has_fewer_columns(alloc: Global, handle: &mut Handle, params: usize) -> bool
     ensures kept { handle.new.object ≡ handle.old.object }
     ensures fewer { result ≡ lacks_columns handle.old.object params }

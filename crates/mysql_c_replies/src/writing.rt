@@ -79,7 +79,7 @@ fn row_at(alloc: Global, object: &Object, set: usize) -> Result<Row, Code>
     }
 }
 
-/// A row of copies of the values of a set that a handle stands for.
+/// A row of copies of the values of a set that a handle refers to.
 fn row_in(alloc: Global, sets: &mut Handle, set: usize) -> Result<Row, Code>
     ensures kept { sets.new.object ≡ sets.old.object }
     ensures row { MatchOption (values_held sets.old.object set) (result ≡
@@ -133,7 +133,7 @@ fn take_column(object: &mut Object, column: Column) -> Code
     }
 }
 
-/// Gives one more column to the writer that a handle stands for.
+/// Gives one more column to the writer that a handle refers to.
 fn give_column(alloc: Global, handle: &mut Handle, column: Column) -> u32
     ensures { OfWriter handle.old.object result handle.new.object
         (TakesColumn (column_view column) result handle.new.object) }
@@ -146,7 +146,7 @@ fn give_column(alloc: Global, handle: &mut Handle, column: Column) -> u32
     code.number()
 }
 
-/// Tells whether a reply stands whole.
+/// Tells whether a reply is whole.
 fn end(object: &Object, spot: &mut ShownSpot) -> Code
     ensures { EndsWriting object.now (code_number result) spot.new }
 {
@@ -160,7 +160,7 @@ fn end(object: &Object, spot: &mut ShownSpot) -> Code
     }
 }
 
-/// Makes the handle stand for a writer of the reply to a command of this kind.
+/// Makes the handle refer to a writer of the reply to a command of this kind.
 ///
 /// The kinds are 0 a query, 1 an execution, 2 a prepare. The reply's first chunk has the number
 /// `first`, and a payload has at most `limit` bytes.
@@ -344,9 +344,9 @@ pub fn writer_prepared(
     write_given(alloc, handle, Given::Prepared(packet, params), out, spot)
 }
 
-/// Tells whether the reply that a writer wrote stands whole, and else why not.
+/// Tells whether the reply that a writer wrote is whole, and else why not.
 ///
-/// Promise: the code says whether the reply that was written stands whole, and else why not
+/// Promise: the code says whether the reply that was written is whole, and else why not
 /// (`EndsWriting`).
 pub fn writer_end(alloc: Global, handle: &mut Handle, spot: &mut ShownSpot) -> u32
     ensures kept { handle.new.object ≡ handle.old.object }

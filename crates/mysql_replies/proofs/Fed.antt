@@ -13,11 +13,10 @@ use Rattle.mysql_wire.specs.Stream as stream
 use Rattle.mysql_wire.specs.Stream.{Numbering, Rest, IsRest, first_number, after, after_all, framings, with_payloads}
 use Rattle.mysql_wire.specs.Stream.Numbering.{OnFrom}
 use Rattle.mysql_wire.specs.Stream.Rest.{Empty}
-use Rattle.mysql_replies.specs.declared.context.Context.{Context}
+use Rattle.mysql_reply_events.specs.declared.context.Context.{Context}
 use Rattle.mysql_replies.specs.declared.fault.ReplyFault.{ReplyFault}
 use Rattle.mysql_replies.specs.declared.fault.ReplyFault.TheVariants as faults
-use Rattle.mysql_replies.specs.Grammar.{Payload}
-use Rattle.mysql_replies.specs.Reply.{Answer, FaultAt, ReplySoFar, GoingOn, Answered, IsReply}
+use Rattle.mysql_replies.specs.Reply.{Answer, FaultAt, Payload, ReplySoFar, GoingOn, Answered, IsReply}
 use Rattle.mysql_replies.specs.Bytes.{numbered, after_numbered, NumberedPayloadsDecide, IsReplyOf, StopsAfter, IsShortReplyOf, AnyBytesHaveAnswer, CuttingsAgree}
 use Rattle.mysql_replies.specs.Holding.{ReaderState, fresh_reader, ReaderDecides, ReaderDecidesFrom, ReaderGoesOn, TakesAll, RunsShort, fault_of, EachReaderDecides, ReadersAgree, FreshReaderDecides}
 use Rattle.mysql_replies.specs.Taking.{Feeds}

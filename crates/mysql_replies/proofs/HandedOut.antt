@@ -9,25 +9,20 @@ use Rattle.mysql_wire.specs.Stream as stream
 use Rattle.mysql_wire.specs.Stream.{Rest, Split, IsSplit, IsRest, IsFault, first_number, after_all, framings, with_payloads}
 use Rattle.mysql_wire.specs.Stream.Numbering.{OnFrom}
 use Rattle.mysql_wire.specs.Stream.Rest.{Empty}
-use Rattle.mysql_replies.specs.declared.context.Context.{Context}
+use Rattle.mysql_reply_events.specs.declared.context.Context.{Context}
 use Rattle.mysql_replies.specs.declared.fault.ReplyFault.{ReplyFault}
 use Rattle.mysql_replies.specs.declared.fault.ReplyFault.TheVariants as faults
-use Rattle.mysql_replies.specs.Grammar.{Payload, Outcome}
-use Rattle.mysql_replies.specs.Reply.{Answer, FaultAt, reports, before_end, OpenReply, ReplySoFar, GoingOn, Answered, fresh}
+use Rattle.mysql_replies.specs.Together.{Outcome}
+use Rattle.mysql_replies.specs.Reply as reply
+use Rattle.mysql_replies.specs.Reply.{Answer, FaultAt, OpenReply, Payload, ReplySoFar, GoingOn, Answered, answer_behind, fresh}
 use Rattle.mysql_replies.specs.Bytes.{numbered, after_numbered, NumberedPayloadsDecide, IsReplyOf, StopsAfter, IsShortReplyOf}
 use Rattle.mysql_replies.specs.Holding.{ReaderState, fresh_reader, ReaderDecides, ReaderDecidesFrom, ReaderGoesOn, TakesAll, RunsShort, fault_of, count_of}
-use Rattle.mysql_replies.specs.Taking.{joined, part_of, results_in, without_results, reports_in, without_reports, joined_answer, Feeds, Runs, begins, feeds, takes_results, takes_reports, TakenResultsAreTheReply}
+use Rattle.mysql_replies.specs.Taking.{behind_part, joined, results_in, without_results, reports_in, without_reports, joined_answer, Feeds, Runs, begins, feeds, takes_results, takes_reports, TakenResultsAreTheReply}
 use Rattle.mysql_replies.proofs.GoingOn.{fresh_decides}
 use Rattle.mysql_replies.proofs.Receiving.{bytes_append, empty_rest}
 use Rattle.mysql_replies.proofs.Fed.{after_all-append, within-append, on_from, joined_more, joined_next, short_grows, fresh_reader_decides}
-use Rattle.mysql_replies.proofs.Joining.{joined_later, behind}
+use Rattle.mysql_replies.proofs.Joining.{Joins, handed, joined_later, joins_all, reports_all}
 use Rattle.mysql_replies.proofs.Ordered.{reply_joined}
-
--- What was handed out before a later answer, and that answer, are joined this one.
-record Joins (taken : List Outcome) (reported : List ProgressReport) (later whole : Answer) : Type 0 where
-  results : joined whole.results ≡ joined (taken ++ later.results)
-  progress : whole.progress ≡ reported ++ later.progress
-  end : whole.end ≡ later.end
 
 joins_on : (taken more : List Outcome) (reported others : List ProgressReport) (later middle whole : Answer) → Joins taken reported middle whole → Joins more others later middle → Joins (taken ++ more) (reported ++ others) later whole
 joins_on taken more reported others later middle whole x y = record {
@@ -46,24 +41,20 @@ ReaderDecidesJoined s held more taken reported later = (whole : Answer) × Reade
 
 -- What is decided behind results that are handed out, and before.
 results_going : (s : OpenReply) (payloads : List Payload) (rest : Rest) (later : Answer) → NumberedPayloadsDecide (without_results (GoingOn s)) payloads rest later → DecidesJoined (GoingOn s) payloads rest (results_in (GoingOn s)) [] later
-results_going s payloads rest later h =
-    let b = behind s.context s.awaited (numbered s.count payloads) h.others h.ending h.reading in
-    let whole : Answer = record { results = s.results ++ b.0; progress = s.progress ++ reports s.context (before_end (numbered s.count payloads) h.ending); end = later.end } in (
-      whole,
-      record { others = b.0; ending = h.ending; reading = b.1; results = refl; progress = refl; end = h.end },
-      record {
-        results = joined_later s.results b.0 (part_of s.awaited ++ h.others) b.2 ∙ ap joined (sym (append_assoc s.results (part_of s.awaited) h.others))
-            ∙ ap (λ (k : List Outcome). joined ((s.results ++ part_of s.awaited) ++ k)) (sym h.results);
-        progress = sym h.progress;
-        end = refl;
-      },
-    )
+results_going s payloads rest later h = (
+  _,
+  refl,
+  subst (λ (a : Answer). Joins (results_in (GoingOn s)) [] a (answer_behind (reply.after_all (GoingOn s) (numbered s.count payloads)) (after_numbered s.count payloads rest))) (sym h)
+      (joins_all (numbered s.count payloads) (after_numbered s.count payloads rest) (results_in (GoingOn s)) s.results [] s.part (behind_part s.part) s.context s.so_far s.progress s.count (handed s.results s.part)),
+)
 
 reports_going : (s : OpenReply) (payloads : List Payload) (rest : Rest) (later : Answer) → NumberedPayloadsDecide (without_reports (GoingOn s)) payloads rest later → DecidesJoined (GoingOn s) payloads rest [] (reports_in (GoingOn s)) later
 reports_going s payloads rest later h = (
-  record { results = later.results; progress = s.progress ++ later.progress; end = later.end },
-  record { others = h.others; ending = h.ending; reading = h.reading; results = h.results; progress = ap (λ (k : List ProgressReport). s.progress ++ k) h.progress; end = h.end },
-  record { results = refl; progress = refl; end = refl },
+  _,
+  refl,
+  subst (λ (a : Answer). Joins [] s.progress a (answer_behind (reply.after_all (GoingOn s) (numbered s.count payloads)) (after_numbered s.count payloads rest))) (sym h)
+      (subst (λ (k : List ProgressReport). Joins [] s.progress (answer_behind (reply.after_all (GoingOn (record s { progress = [] })) (numbered s.count payloads)) (after_numbered s.count payloads rest)) (answer_behind (reply.after_all (GoingOn (record s { progress = k })) (numbered s.count payloads)) (after_numbered s.count payloads rest))) (append-nil s.progress)
+      (reports_all (numbered s.count payloads) (after_numbered s.count payloads rest) s.progress [] s.context s.so_far s.count s.results s.part)),
 )
 
 results_answered : (known later : Answer) → later ≡ record known { results = [] } → Joins known.results [] later known
@@ -314,12 +305,12 @@ run_decided : (c : Context) (first_id limit : ℕ) (fed : List ℕ) (taken : Lis
 run_decided c first_id limit fed taken reported held later decided h =
     let d = decided [] later (λ i. omega arith) h in
     let reply : IsReplyOf c first_id limit fed d.0 = subst (λ k. IsReplyOf c first_id limit k d.0) (append-nil fed) (fresh_reader_decides c first_id limit (fed ++ []) d.0 d.1) in
-    subst (IsReplyOf c first_id limit fed) (whole_is taken reported later d.0 (reply_joined c _ _ d.0 reply.reply) d.2) reply
+    subst (IsReplyOf c first_id limit fed) (whole_is taken reported later d.0 (reply_joined c (numbered 0 reply.split.payloads) (after_numbered 0 reply.split.payloads reply.split.rest) d.0 reply.reply) d.2) reply
 
 run_stopped : (c : Context) (first_id limit : ℕ) (pieces : List (List ℕ)) (taken : List Outcome) (reported : List ProgressReport) (later whole : Answer) → IsShortReplyOf c first_id limit pieces whole → Joins taken reported later whole → IsShortReplyOf c first_id limit pieces (joined_answer taken reported later)
 run_stopped c first_id limit pieces taken reported later whole short j =
     let stops = short.stops in
-    let same : joined whole.results ≡ whole.results = ap joined stops.results ∙ reply_joined c _ _ stops.whole stops.reply ∙ sym stops.results in
+    let same : joined whole.results ≡ whole.results = ap joined stops.results ∙ reply_joined c (numbered 0 short.read) (after_numbered 0 short.read stream.Open) stops.whole stops.reply ∙ sym stops.results in
     subst (IsShortReplyOf c first_id limit pieces) (whole_is taken reported later whole same j) short
 
 run_ends : (met : Option ReplyFault) (c : Context) (first_id limit : ℕ) (pieces : List (List ℕ)) (taken : List Outcome) (reported : List ProgressReport) (held : ReaderState) (later : Answer) → HasRun met c first_id limit pieces taken reported held → ReaderDecides held [] later

@@ -7,13 +7,11 @@ use Rattle.mysql_wire.specs.GoingOn.{RestsAreTold}
 use Rattle.mysql_wire.specs.Stream.{Rest, Split, IsRest, IsSplit, framings, after_all, first_number}
 use Rattle.mysql_wire.specs.Stream.Numbering.{OnFrom}
 use Rattle.mysql_wire.specs.Stream.Rest.{Empty, TooLarge}
-use Rattle.mysql_replies.specs.declared.context.Context.{Context}
-use Rattle.mysql_replies.specs.Grammar.{Payload}
-use Rattle.mysql_replies.specs.Reply.{Answer, IsReply, Whole}
+use Rattle.mysql_reply_events.specs.declared.context.Context.{Context}
+use Rattle.mysql_replies.specs.Reply.{Answer, IsReply, Payload, Whole}
 use Rattle.mysql_replies.specs.Bytes.{numbers_left, numbered, after_numbered}
-use Rattle.mysql_replies.specs.Manual.{IsWholeReply, IsFramedReply, EachFramingIsWhole, OnlyFramingsAreWhole}
-use Rattle.mysql_replies.proofs.ManualSome.{each_such_list}
-use Rattle.mysql_replies.proofs.ManualOnly.{only_such_lists}
+use Rattle.mysql_replies.specs.Manual.{IsWholeReply, IsFramedReply, EachFramingIsWhole, EachSuchListIsWhole}
+use Rattle.mysql_replies.specs.Manual.{OnlyFramingsAreWhole, OnlySuchListsAreWhole}
 
 -- Fewer than 2^64 payloads can all be numbered.
 all_numbered : (payloads : List Payload) → length payloads < 2 ^ 64 → numbered 0 payloads ≡ payloads
@@ -22,8 +20,8 @@ all_numbered payloads few = take_all (numbers_left 0) payloads (omega (arith, fe
 none_unnumbered : (payloads : List Payload) (rest : Rest) → length payloads < 2 ^ 64 → after_numbered 0 payloads rest ≡ rest
 none_unnumbered payloads rest few = rw (le-leb (length payloads) (numbers_left 0) (omega (arith, few))) refl
 
-pub each_framing : RestsAreTold → EachFramingIsWhole
-each_framing told c first_id limit bytes listed reports is = record {
+pub each_framing : RestsAreTold → EachSuchListIsWhole → EachFramingIsWhole
+each_framing told each_such_list c first_id limit bytes listed reports is = record {
   split = record { payloads = is.payloads; rest_bytes = []; rest = Empty };
   splits = record {
     joined = is.framed ∙ sym (append-nil (framings is.payloads (OnFrom first_id)));
@@ -57,7 +55,7 @@ framed_by told c first_id limit bytes answer split splits all whole = record {
       ∙ append-nil (framings split.payloads (OnFrom first_id));
 }
 
-pub only_framings : RestsAreTold → OnlyFramingsAreWhole
-only_framings told c first_id limit bytes answer is whole =
-    let list = only_such_lists c (numbered 0 is.split.payloads) (after_numbered 0 is.split.payloads is.split.rest) answer is.reply whole in
+pub only_framings : RestsAreTold → OnlySuchListsAreWhole → OnlyFramingsAreWhole
+only_framings told only_such_lists c first_id limit bytes answer of_manual is whole =
+    let list = only_such_lists c (numbered 0 is.split.payloads) (after_numbered 0 is.split.payloads is.split.rest) answer of_manual is.reply whole in
     framed_by told c first_id limit bytes answer is.split is.splits (numbered_all is.split.payloads is.split.rest (nat_le (length is.split.payloads) (numbers_left 0)) refl list.0) list.1

@@ -1,118 +1,132 @@
 -- In the results of a reply nothing is to be joined.
-use Rattle.std.proofs.Common.{◌≡◌, ℕ, zero, suc, List, [], ◌∷◌, ◌++◌, Bool, true, false, Result, Ok, Err, refl, ap, sym, subst, ◌∙◌, if◌then◌else◌}
+use Rattle.std.proofs.Common.{◌≡◌, ℕ, List, [], ◌∷◌, ◌++◌, length, Bool, true, false, Option, Some, None, Ok, Err, refl, ap, sym, subst, ◌∙◌, append_assoc, if◌then◌else◌}
+use Rattle.std.specs.Prelude.{nat_lt}
 use Rattle.std.proofs.lemmas.List.{append-nil}
-use Rattle.mysql_rows.specs.Rows.{Row}
-use Rattle.mysql_server_packets.specs.Packets.{PrepareOk}
-use Rattle.mysql_columns.specs.Columns.{ColumnDefinition}
-use Rattle.mysql_replies.specs.Grammar.{deprecate_eof}
-use Rattle.mysql_replies.specs.declared.fault.ReplyFault.{ReplyFault}
-use Rattle.mysql_replies.specs.declared.context.Context.{Context}
 use Rattle.mysql_wire.specs.Stream.{Rest}
-use Rattle.mysql_replies.specs.Grammar.{Payload, Outcome, Parsed, Complete, CutOff, Faulty, ◌>>=◌, ResultGroup, Line, RowLine, TerminatorLine, ErrorLine, Opening, OkOpening, ErrorOpening, FileOpening, CountOpening, StatementOpening, is_report, unless_report, as_part, next_payload, column, eof, columns, columns_end, column_group, line, after_rows, rows, result_set, prepared, prepared_columns, opening, after_opening, one_result, Ending, Results, last, more, cut_off, faulty}
-use Rattle.mysql_replies.specs.Reply.{Answer, IsReply}
+use Rattle.mysql_columns.specs.Columns.{ColumnDefinition}
+use Rattle.mysql_ok_packets.specs.OkPackets.{OkPacket}
+use Rattle.mysql_server_packets.specs.Packets.{PrepareOk, ServerError}
+use Rattle.mysql_reply_events.specs.Events as events
+use Rattle.mysql_reply_events.specs.Events.{Event}
+use Rattle.mysql_reply_events.specs.Events.Event.{ColumnEvent, ColumnsEndEvent, CountEvent, ErrorEvent, FieldEvent}
+use Rattle.mysql_reply_events.specs.Events.Event.{FileEvent, LineEvent, OkEvent, PreparedEvent, ProgressEvent}
+use Rattle.mysql_reply_events.specs.Events.Event.{RawRowEvent, RowEvent, RowsEndEvent}
+use Rattle.mysql_reply_events.specs.Table.{Step, event_at}
+use Rattle.mysql_reply_events.specs.declared.context.Context.{Context}
+use Rattle.mysql_replies.specs.Together.{ErrorResult, FieldsPart, FileResult, LineResult, NoPart, OkResult, Outcome, Part, PreparedResult, Put}
+use Rattle.mysql_replies.specs.Together.{RawRowsPart, RowsPart, SetPart, StatementPart, columns_in, ended, listed, put, put_column, put_columns_end}
+use Rattle.mysql_replies.specs.Together.{put_count, put_statement, put_whole, rows_due, set_behind, statement_at, statement_with}
+use Rattle.mysql_replies.specs.Reply.{Answer, Answered, GoingOn, IsReply, OpenReply, Payload, ReplySoFar, after_all, answer_behind, behind, faulted_at, fault_of, fresh, led_by}
 use Rattle.mysql_replies.specs.Taking.{joined}
+use Rattle.mysql_replies.proofs.GoingOn.{answered_stays}
 
--- Of the part nothing is listed before it stands.
-abbrev ListsNone : {A : Type 0} → Parsed A → Type 0
-ListsNone (Complete a rest) = Unit {0}
-ListsNone (CutOff listed) = listed ≡ []
-ListsNone (Faulty listed fault rest) = listed ≡ []
+-- In these results nothing is to be joined, whatever follows them.
+abbrev IsOrdered : List Outcome → Type 0
+IsOrdered results = (later : List Outcome) → joined (results ++ later) ≡ results ++ joined later
 
-ListsNone-bind : {A B : Type 0} (p : Parsed A) (f : A × List Payload → Parsed B) → ListsNone p → ((a : A) (rest : List Payload) → ListsNone (f (a, rest))) → ListsNone (p >>= f)
-ListsNone-bind (Complete a rest) f none each = each a rest
-ListsNone-bind (CutOff listed) f none each = none
-ListsNone-bind (Faulty listed fault rest) f none each = none
+ordered-append : (one other : List Outcome) → IsOrdered one → IsOrdered other → IsOrdered (one ++ other)
+ordered-append one other x y later =
+    ap joined (append_assoc one other later) ∙ x (other ++ later) ∙ ap (λ (k : List Outcome). one ++ k) (y later) ∙ sym (append_assoc one other (joined later))
 
-ListsNone-if : {A : Type 0} (b : Bool) (p q : Parsed A) → ListsNone p → ListsNone q → ListsNone (if b then p else q)
-ListsNone-if true p q x y = x
-ListsNone-if false p q x y = y
+ended_ordered : (part : Part) (ok : OkPacket) → IsOrdered (ended part ok ∷ [])
+ended_ordered NoPart ok later = refl
+ended_ordered (SetPart known) ok later = refl
+ended_ordered (RowsPart columns rows) ok later = refl
+ended_ordered (RawRowsPart rows) ok later = refl
+ended_ordered (StatementPart statement parameters columns) ok later = refl
+ended_ordered (FieldsPart fields) ok later = refl
 
-ListsNone-as_part : {A : Type 0} (r : Result A ReplyFault) (payload : Payload) (rest : List Payload) → ListsNone (as_part r payload rest)
-ListsNone-as_part (Ok a) payload rest = tt
-ListsNone-as_part (Err fault) payload rest = refl
+error_ordered : (part : Part) (error : ServerError) → IsOrdered (listed part ++ ErrorResult error ∷ [])
+error_ordered NoPart error later = refl
+error_ordered (SetPart known) error later = refl
+error_ordered (RowsPart columns rows) error later = refl
+error_ordered (RawRowsPart []) error later = refl
+error_ordered (RawRowsPart (row ∷ rows)) error later = refl
+error_ordered (StatementPart statement parameters columns) error later = refl
+error_ordered (FieldsPart []) error later = refl
+error_ordered (FieldsPart (field ∷ fields)) error later = refl
 
-ListsNone-next_payload : {A : Type 0} (c : Context) (read : Payload → Result A ReplyFault) (payloads : List Payload) → ListsNone (next_payload c read payloads)
-unfolding next_payload
-ListsNone-next_payload c read [] = refl
-ListsNone-next_payload c read (payload ∷ rest) =
-    ListsNone-if (is_report c payload) _ _ (ListsNone-next_payload c read rest) (ListsNone-as_part (unless_report c read payload) payload rest)
+due_ordered : (known : Bool) (columns : List ColumnDefinition) (ok : OkPacket) (awaited : events.Awaited) → IsOrdered (set_behind known columns ok awaited).results
+due_ordered known columns ok (events.Rows k) later = refl
+due_ordered known columns ok awaited later = ended_ordered (rows_due known columns) ok later
 
-ListsNone-columns : (c : Context) (n : ℕ) (these : List ColumnDefinition) (payloads : List Payload) → ListsNone (columns c n these payloads)
-unfolding columns
-ListsNone-columns c zero these payloads = tt
-ListsNone-columns c (suc n) these payloads =
-    ListsNone-bind (next_payload c column payloads) _ (ListsNone-next_payload c column payloads) (λ a rest. ListsNone-columns c n (these ++ a ∷ []) rest)
+statement_ordered : (statement : PrepareOk) (parameters columns : List ColumnDefinition) (awaited : events.Awaited) → IsOrdered (statement_at statement parameters columns awaited).results
+statement_ordered statement parameters columns events.Nothing later = refl
+statement_ordered statement parameters columns awaited later = refl
 
-ListsNone-columns_end : (c : Context) (these : List ColumnDefinition) (payloads : List Payload) → ListsNone (columns_end c these payloads)
-unfolding columns_end
-ListsNone-columns_end c [] payloads = tt
-ListsNone-columns_end c (first ∷ others) payloads =
-    ListsNone-if (deprecate_eof c.capabilities.0) _ _ tt (ListsNone-bind (next_payload c eof payloads) _ (ListsNone-next_payload c eof payloads) (λ a rest. tt))
+with_ordered : (b : Bool) (one other : Put) → IsOrdered one.results → IsOrdered other.results → IsOrdered (if b then one else other).results
+with_ordered true one other x y = x
+with_ordered false one other x y = y
 
-ListsNone-column_group : (c : Context) (n : ℕ) (these : List ColumnDefinition) (payloads : List Payload) → ListsNone (column_group c n these payloads)
-unfolding column_group
-ListsNone-column_group c n these payloads = ListsNone-bind (columns c n these payloads) _ (ListsNone-columns c n these payloads) (λ a rest. ListsNone-columns_end c a rest)
+column_ordered : (part : Part) (column : ColumnDefinition) (next : events.ReplySoFar) → IsOrdered (put_column part column next).results
+column_ordered (SetPart known) column next = λ later. refl
+column_ordered (StatementPart statement parameters columns) column next =
+    with_ordered (nat_lt (length parameters) statement.num_params) _ _ (statement_ordered statement (parameters ++ column ∷ []) columns next.awaited)
+    (statement_ordered statement parameters (columns ++ column ∷ []) next.awaited)
+column_ordered part column next = λ later. refl
 
--- In what the part lists nothing is to be joined, whatever follows it where it stands.
-abbrev IsJoined : Parsed ResultGroup → Type 0
-IsJoined (Complete s rest) = (later : List Outcome) → joined (s.results ++ later) ≡ s.results ++ joined later
-IsJoined (CutOff listed) = joined listed ≡ listed
-IsJoined (Faulty listed fault rest) = joined listed ≡ listed
+columns_end_ordered : (part : Part) (ok : OkPacket) (next : events.ReplySoFar) → IsOrdered (put_columns_end part ok next).results
+columns_end_ordered (SetPart known) ok next = due_ordered known (columns_in next) ok next.awaited
+columns_end_ordered (StatementPart statement parameters columns) ok next = statement_ordered statement parameters columns next.awaited
+columns_end_ordered part ok next = λ later. refl
 
-IsJoined-bind : {A : Type 0} (p : Parsed A) (f : A × List Payload → Parsed ResultGroup) → ListsNone p → ((a : A) (rest : List Payload) → IsJoined (f (a, rest))) → IsJoined (p >>= f)
-IsJoined-bind (Complete a rest) f none each = each a rest
-IsJoined-bind (CutOff listed) f none each = ap joined none ∙ sym none
-IsJoined-bind (Faulty listed fault rest) f none each = ap joined none ∙ sym none
+count_ordered : (part : Part) (next : events.ReplySoFar) → IsOrdered (put_count part next).results
+count_ordered NoPart next = λ later. refl
+count_ordered part next = λ later. refl
 
-IsJoined-if : (b : Bool) (p q : Parsed ResultGroup) → IsJoined p → IsJoined q → IsJoined (if b then p else q)
-IsJoined-if true p q x y = x
-IsJoined-if false p q x y = y
+prepared_ordered : (part : Part) (statement : PrepareOk) (next : events.ReplySoFar) → IsOrdered (put_statement part statement next).results
+prepared_ordered NoPart statement next = statement_ordered statement [] [] next.awaited
+prepared_ordered part statement next = λ later. refl
 
-IsJoined-line : (columns : List ColumnDefinition) (these : List Row) (on : Row → Parsed ResultGroup) (r : Result Line ReplyFault) (payload : Payload) (rest : List Payload) → ((found : Row) → IsJoined (on found)) → IsJoined (after_rows columns these on r payload rest)
-IsJoined-line columns these on (Ok (RowLine found)) payload rest each = each found
-IsJoined-line columns these on (Ok (TerminatorLine ok)) payload rest each = λ later. refl
-IsJoined-line columns these on (Ok (ErrorLine error)) payload rest each = λ later. refl
-IsJoined-line columns these on (Err fault) payload rest each = refl
+whole_ordered : (part : Part) (result : Outcome) → IsOrdered (result ∷ []) → IsOrdered (put_whole part result).results
+whole_ordered NoPart result is = is
+whole_ordered part result is = λ later. refl
 
-IsJoined-rows : (c : Context) (columns : List ColumnDefinition) (these : List Row) (payloads : List Payload) → IsJoined (rows c columns these payloads)
-unfolding rows
-IsJoined-rows c columns these [] = refl
-IsJoined-rows c columns these (payload ∷ rest) =
-    IsJoined-if (is_report c payload) _ _ (IsJoined-rows c columns these rest)
-    (IsJoined-line columns these _ (unless_report c (line c columns) payload) payload rest (λ found. IsJoined-rows c columns (these ++ found ∷ []) rest))
+put_ordered : (part : Part) (event : Event) (next : events.ReplySoFar) → IsOrdered (put part event next).results
+put_ordered part (OkEvent ok) next = whole_ordered part (OkResult ok) (λ later. refl)
+put_ordered part (ErrorEvent error) next = error_ordered part error
+put_ordered part (ProgressEvent report) next = λ later. refl
+put_ordered part (CountEvent n follow) next = count_ordered part next
+put_ordered part (ColumnEvent found) next = column_ordered part found.column next
+put_ordered part (FieldEvent field) next = λ later. refl
+put_ordered part (ColumnsEndEvent ok) next = columns_end_ordered part ok next
+put_ordered part (RowEvent row) next = λ later. refl
+put_ordered part (RawRowEvent bytes) next = λ later. refl
+put_ordered part (RowsEndEvent ok) next = ended_ordered part ok
+put_ordered part (FileEvent name) next = whole_ordered part (FileResult name) (λ later. refl)
+put_ordered part (PreparedEvent statement follow) next = prepared_ordered part statement next
+put_ordered part (LineEvent bytes) next = whole_ordered part (LineResult bytes) (λ later. refl)
 
-IsJoined-result_set : (c : Context) (n : ℕ) (these : List ColumnDefinition) (payloads : List Payload) → IsJoined (result_set c n these payloads)
-unfolding result_set
-IsJoined-result_set c n these payloads = IsJoined-bind (column_group c n these payloads) _ (ListsNone-column_group c n these payloads) (λ a rest. IsJoined-rows c a [] rest)
+-- What is listed at the end stands alone.
+listed_joined : (part : Part) → joined (listed part) ≡ listed part
+listed_joined NoPart = refl
+listed_joined (SetPart known) = refl
+listed_joined (RowsPart columns rows) = refl
+listed_joined (RawRowsPart []) = refl
+listed_joined (RawRowsPart (row ∷ rows)) = refl
+listed_joined (StatementPart statement parameters columns) = refl
+listed_joined (FieldsPart []) = refl
+listed_joined (FieldsPart (field ∷ fields)) = refl
 
-IsJoined-prepared_columns : (c : Context) (statement : PrepareOk) (parameters : List ColumnDefinition) (n : ℕ) (these : List ColumnDefinition) (payloads : List Payload) → IsJoined (prepared_columns c statement parameters n these payloads)
-unfolding prepared_columns
-IsJoined-prepared_columns c statement parameters n these payloads = IsJoined-bind (column_group c n these payloads) _ (ListsNone-column_group c n these payloads) (λ a rest later. refl)
+ends_joined : (results : List Outcome) (part : Part) → IsOrdered results → joined (results ++ listed part) ≡ results ++ listed part
+ends_joined results part is = is (listed part) ∙ ap (λ (k : List Outcome). results ++ k) (listed_joined part)
 
-IsJoined-prepared : (c : Context) (statement : PrepareOk) (n : ℕ) (these : List ColumnDefinition) (payloads : List Payload) → IsJoined (prepared c statement n these payloads)
-unfolding prepared
-IsJoined-prepared c statement n these payloads =
-    IsJoined-bind (column_group c n these payloads) _ (ListsNone-column_group c n these payloads) (λ a rest. IsJoined-prepared_columns c statement a statement.num_columns [] rest)
+joined_step : (s : OpenReply) (step : Step) (z : List Payload) (rest : Rest) → IsOrdered s.results → ((t : OpenReply) → IsOrdered t.results → joined (answer_behind (after_all (GoingOn t) z) rest).results ≡ (answer_behind (after_all (GoingOn t) z) rest).results) →
+    joined (answer_behind (after_all (led_by s step) z) rest).results ≡ (answer_behind (after_all (led_by s step) z) rest).results
+joined_step s (Ok x) z rest is each = each (behind s x.0 x.1) (ordered-append s.results (put s.part x.0 x.1).results is (put_ordered s.part x.0 x.1))
+joined_step s (Err fault) z rest is each =
+    subst (λ (k : ReplySoFar). joined (answer_behind k rest).results ≡ (answer_behind k rest).results) (sym (answered_stays (faulted_at s (fault_of fault)) z)) (ends_joined s.results s.part is)
 
-IsJoined-after_opening : (c : Context) (o : Opening) (payloads : List Payload) → IsJoined (after_opening c o payloads)
-IsJoined-after_opening c (OkOpening ok) payloads = λ later. refl
-IsJoined-after_opening c (ErrorOpening error) payloads = λ later. refl
-IsJoined-after_opening c (FileOpening name) payloads = λ later. refl
-IsJoined-after_opening c (CountOpening n) payloads = IsJoined-result_set c n [] payloads
-IsJoined-after_opening c (StatementOpening statement) payloads = IsJoined-prepared c statement statement.num_params [] payloads
+joined_all : (z : List Payload) (rest : Rest) (s : OpenReply) → IsOrdered s.results → joined (answer_behind (after_all (GoingOn s) z) rest).results ≡ (answer_behind (after_all (GoingOn s) z) rest).results
+joined_all [] rest s is = ends_joined s.results s.part is
+joined_all (payload ∷ z) rest s is = joined_step s (event_at s.context s.so_far payload) z rest is (λ t ordered. joined_all z rest t ordered)
 
-IsJoined-one_result : (c : Context) (payloads : List Payload) → IsJoined (one_result c payloads)
-unfolding one_result
-IsJoined-one_result c payloads =
-    IsJoined-bind (next_payload c (opening c) payloads) _ (ListsNone-next_payload c (opening c) payloads) (λ a rest. IsJoined-after_opening c a rest)
-
-results_joined : (c : Context) (p : Parsed ResultGroup) (results : List Outcome) (ending : Ending) → IsJoined p → Results c p results ending → joined results ≡ results
-results_joined c p results ending h (last these rest) = subst (λ (k : List Outcome). joined k ≡ k) (append-nil these) (h [])
-results_joined c p results ending h (cut_off listed) = h
-results_joined c p results ending h (faulty listed fault rest) = h
-results_joined c p results ending h (more these rest {others = o} {ending = e} r) =
-    h o ∙ ap (λ (later : List Outcome). these ++ later) (results_joined c (one_result c rest) o e (IsJoined-one_result c rest) r)
+open_of : (c : Context) → (s : OpenReply) × (fresh c ≡ GoingOn s) × IsOrdered s.results
+open_of c = (_, refl, λ later. refl)
 
 -- The results of a reply are joined.
 pub reply_joined : (c : Context) (payloads : List Payload) (rest : Rest) (answer : Answer) → IsReply c payloads rest answer → joined answer.results ≡ answer.results
-reply_joined c payloads rest answer r = results_joined c (one_result c payloads) answer.results r.ending (IsJoined-one_result c payloads) r.results
+reply_joined c payloads rest answer r =
+    let o = open_of c in
+    let same : answer ≡ answer_behind (after_all (GoingOn o.0) payloads) rest = r ∙ ap (λ (s : ReplySoFar). answer_behind (after_all s payloads) rest) o.1 in
+    ap (λ (a : Answer). joined a.results) same ∙ joined_all payloads rest o.0 o.2 ∙ ap (λ (a : Answer). a.results) (sym same)

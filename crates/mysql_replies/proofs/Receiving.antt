@@ -18,21 +18,18 @@ use Rattle.mysql_wire.specs.Stream.Numbering.{OnFrom}
 use Rattle.mysql_wire.specs.Stream.Rest.{Empty, TooLarge, OutOfSync}
 use Rattle.mysql_wire.specs.declared.codec.Refusal.{Refusal}
 use Rattle.mysql_wire.specs.declared.codec.Refusal.TheVariants as refusals
-use Rattle.mysql_replies.specs.declared.awaited.Awaited.TheVariants as awaiting
 use Rattle.mysql_replies.specs.declared.fault.ReplyFault.{ReplyFault}
 use Rattle.mysql_replies.specs.declared.fault.ReplyFault.TheVariants as faults
 use Rattle.mysql_replies.specs.declared.state.ReplyState.{ReplyState}
-use Rattle.mysql_replies.specs.Grammar.{Payload, Ended, Results, last}
-use Rattle.mysql_replies.specs.Reply.{Answer, FaultAt, Unfinished, reports, before_end, end_of, rest_of, ReplySoFar, GoingOn, Answered, OpenReply, Continues}
+use Rattle.mysql_replies.specs.Reply.{Answer, End, FaultAt, Payload, Unfinished, ReplySoFar, GoingOn, Answered, OpenReply, PayloadsDecide, answer_behind, end_behind, faulted_at, is_over, led_by}
 use Rattle.mysql_replies.specs.Reply as reply
 use Rattle.mysql_replies.specs.Bytes.{numbers_left, numbered, after_numbered, NumberedPayloadsDecide}
 use Rattle.mysql_replies.specs.Holding.{ReaderState, BytesDecide, ReaderDecidesFrom, ReaderDecides, ReaderGoesOn, TakesAll, RunsShort, StandsShort, count_of, fault_of}
-use Rattle.mysql_replies.specs.Views.{awaited_view, outcome_views}
-use Rattle.mysql_replies.specs.Steps.{IsSettled, IsAwaiting, listed_of}
-use Rattle.mysql_replies.specs.States.{open_reply, faulted_at, faulted, reply_so_far, NumberedStateGoesOn, reader_state, reader_state_of, answer_of, end_at, end_of_state, IsReading, IsPaused, IsReceiving, NothingBegun, FramingLaws, UnlessMemory, OnMemory, IsShortOf, fault_named}
-use Rattle.mysql_replies.proofs.Finishing.{stops, ending_at}
-use Rattle.mysql_replies.proofs.Numbers.{decides_none, end_large}
-use Rattle.mysql_replies.proofs.GoingOn.{end_ended}
+use Rattle.mysql_replies.specs.Views.{outcome_views}
+use Rattle.mysql_replies.specs.States.{open_reply, faulted, reply_so_far, NumberedStateGoesOn, reader_state, reader_state_of, answer_of, end_of_state, IsAwaiting, IsOver, IsReading, IsPaused, IsReceiving, NothingBegun, FramingLaws, UnlessMemory, OnMemory, IsShortOf, fault_named}
+use Rattle.mysql_replies.proofs.Finishing.{end_large, end_wrong_number, never, stops}
+use Rattle.mysql_replies.proofs.Numbers.{decides_none}
+use Rattle.mysql_replies.proofs.GoingOn.{decides_answered, not_due}
 
 -- Bytes and bytes after them are bytes.
 pub bytes_append : (front back : List ℕ) → AreBytes front → AreBytes back → AreBytes (front ++ back)
@@ -158,28 +155,18 @@ not_empty_from zero (p ∷ ps) rest some none h =
 not_empty_from (suc left) (p ∷ ps) rest some none h = absurd (let k : p ∷ take left ps ≡ [] = none in cc)
 
 -- Something after the last result.
-end_after : (count : ℕ) (z : List Payload) (rest : Rest) → (z ≡ [] → rest ≡ Empty → ⊥) → FaultAt count faults.AfterEnd ≡ end_of (count + length z) rest (Ended z)
-end_after count (p ∷ z) rest some = sym (end_ended count rest p z)
-end_after count [] Empty some = absurd (some refl refl)
-end_after count [] rest some = let e : count ≡ count + 0 = omega arith in ap (λ n. FaultAt n faults.AfterEnd) e
+over_ends : (s : ReplyState) (rest : Rest) (end : End) → IsOver s → end ≡ end_behind true s.count rest → end ≡ end_behind (is_over s.events.so_far.awaited) s.count rest
+over_ends s rest end over h = h ∙ sym (ap (λ b. end_behind b s.count rest) over)
 
-no_reports : (s : OpenReply) (z : List Payload) → s.progress ≡ s.progress ++ reports s.context (before_end z (Ended z))
-no_reports s z =
-    let e : length z - length z ≡ 0 = omega arith in
-    sym (append-nil s.progress) ∙ ap (λ n. s.progress ++ reports s.context (take n z)) (sym e)
-
-after_end : (s : ReplyState) (z : List Payload) (rest : Rest) (answer : Answer) → awaited_view s.awaited ≡ reply.Nothing → (z ≡ [] → rest ≡ Empty → ⊥) → answer ≡ faulted_at (open_reply s) faults.AfterEnd → Continues (open_reply s) z rest answer
-after_end s z rest answer over some h = record {
-  others = [];
-  ending = Ended z;
-  reading = subst (λ a. Results s.context (rest_of s.context a z) [] (Ended z)) (sym over) (last [] z);
-  results = ap (λ a. a.results) h ∙ ap (λ a. outcome_views s.results.items ++ listed_of a) over;
-  progress = ap (λ a. a.progress) h ∙ no_reports (open_reply s) z;
-  end = ap (λ a. a.end) h ∙ end_after s.count z rest some;
-}
+after_end : (s : ReplyState) (z : List Payload) (rest : Rest) (answer : Answer) → IsOver s → (z ≡ [] → rest ≡ Empty → ⊥) → answer ≡ faulted_at (open_reply s) faults.AfterEnd → PayloadsDecide (GoingOn (open_reply s)) z rest answer
+after_end s [] Empty answer over some h = absurd (some refl refl)
+after_end s [] rest answer over some h = stops s rest answer (ap (λ a. a.results) h) (ap (λ a. a.progress) h) (over_ends s rest answer.end over (ap (λ a. a.end) h))
+after_end s (payload ∷ z) rest answer over some h =
+    subst (λ (t : ReplySoFar). answer ≡ answer_behind (reply.after_all t z) rest) (sym (ap (λ r. led_by (open_reply s) r) (not_due s.events.context s.events.so_far payload over)))
+    (decides_answered (faulted_at (open_reply s) faults.AfterEnd) z rest answer h)
 
 -- Bytes after the end: that fault is decided, whatever follows.
-pub goes_on_over : FramingLaws → (start s after : ReplyState) (first codec : Codec) (from_src from_dst src dst : List ℕ) (payloads : List Payload) → Since start first from_src from_dst payloads s codec src dst → start.fault ≡ None → s.fault ≡ None → after ≡ record s { fault = Some faults.AfterEnd } → awaited_view s.awaited ≡ reply.Nothing → IsBetween codec → codec.number < 256 → dst ≡ [] → AreBytes (held codec src dst) → (src ≡ [] → ⊥) → ReaderGoesOn (reader_state_of start first from_src from_dst) [] (reader_state_of after codec src dst)
+pub goes_on_over : FramingLaws → (start s after : ReplyState) (first codec : Codec) (from_src from_dst src dst : List ℕ) (payloads : List Payload) → Since start first from_src from_dst payloads s codec src dst → start.fault ≡ None → s.fault ≡ None → after ≡ record s { fault = Some faults.AfterEnd } → IsOver s → IsBetween codec → codec.number < 256 → dst ≡ [] → AreBytes (held codec src dst) → (src ≡ [] → ⊥) → ReaderGoesOn (reader_state_of start first from_src from_dst) [] (reader_state_of after codec src dst)
 goes_on_over laws start s after first codec from_src from_dst src dst payloads r began going is over between byte empty are some more answer others h =
     let known : answer ≡ faulted_at (open_reply s) faults.AfterEnd = subst (λ (t : ReplyState). ReaderDecides (reader_state_of t codec src dst) more answer) is h in
     let split = some_split laws codec src dst more are others in
@@ -192,46 +179,41 @@ goes_on_over laws start s after first codec from_src from_dst src dst payloads r
     (decides_more laws (reply_so_far start) first.limit (packet_number first from_dst) (held first from_src from_dst) payloads s codec src dst r more split.0 split.1 answer decides)
 
 -- Where the bytes are at fault, that fault is decided, whatever follows.
-decides_refused : (s : ReplyState) (rest : Rest) (fault : ReplyFault) (answer : Answer) → s.fault ≡ None → IsSettled s.context (awaited_view s.awaited) → FaultAt s.count fault ≡ end_of s.count rest (ending_at (awaited_view s.awaited)) → answer ≡ faulted_at (open_reply s) fault → NumberedPayloadsDecide (reply_so_far s) [] rest answer
-decides_refused s rest fault answer going settled end h =
+decides_refused : (s : ReplyState) (rest : Rest) (fault : ReplyFault) (answer : Answer) → s.fault ≡ None → FaultAt s.count fault ≡ end_behind (is_over s.events.so_far.awaited) s.count rest → answer ≡ faulted_at (open_reply s) fault → NumberedPayloadsDecide (reply_so_far s) [] rest answer
+decides_refused s rest fault answer going end h =
     subst (λ f. NumberedPayloadsDecide (faulted (open_reply s) f) [] rest answer) (sym going)
-    (decides_none (GoingOn (open_reply s)) rest answer (stops s rest answer settled (ap (λ a. a.results) h) (ap (λ a. a.progress) h) (ap (λ a. a.end) h ∙ end)))
+    (decides_none (GoingOn (open_reply s)) rest answer (stops s rest answer (ap (λ a. a.results) h) (ap (λ a. a.progress) h) (ap (λ a. a.end) h ∙ end)))
 
-end_wrong_number : (count : ℕ) (awaited : reply.Awaited) → IsAwaiting awaited → FaultAt count faults.OutOfSync ≡ end_of count OutOfSync (ending_at awaited)
-end_wrong_number count reply.Nothing some = absurd some
-end_wrong_number count awaited some = refl
-
-pub goes_on_large : FramingLaws → (start s after : ReplyState) (first codec new : Codec) (from_src from_dst src dst src' dst' : List ℕ) (payloads : List Payload) → Since start first from_src from_dst payloads s codec src dst → start.fault ≡ None → s.fault ≡ None → after ≡ record s { fault = Some faults.TooLarge } → IsSettled s.context (awaited_view s.awaited) → IsAwaiting (awaited_view s.awaited) → IsDue codec src dst refusals.TooLarge → ReaderGoesOn (reader_state_of start first from_src from_dst) [] (reader_state_of after new src' dst')
-goes_on_large laws start s after first codec new from_src from_dst src dst src' dst' payloads r began going is settled some due more answer others h =
+pub goes_on_large : FramingLaws → (start s after : ReplyState) (first codec new : Codec) (from_src from_dst src dst src' dst' : List ℕ) (payloads : List Payload) → Since start first from_src from_dst payloads s codec src dst → start.fault ≡ None → s.fault ≡ None → after ≡ record s { fault = Some faults.TooLarge } → IsAwaiting s → IsDue codec src dst refusals.TooLarge → ReaderGoesOn (reader_state_of start first from_src from_dst) [] (reader_state_of after new src' dst')
+goes_on_large laws start s after first codec new from_src from_dst src dst src' dst' payloads r began going is some due more answer others h =
     let known : answer ≡ faulted_at (open_reply s) faults.TooLarge = subst (λ (t : ReplyState). ReaderDecides (reader_state_of t new src' dst') more answer) is h in
     decides_going start first from_src from_dst more answer began
     (decides_more laws (reply_so_far start) first.limit (packet_number first from_dst) (held first from_src from_dst) payloads s codec src dst r more (record { payloads = []; rest_bytes = held codec src dst ++ more; rest = TooLarge }) ((laws.refused codec src dst more).0 due) answer
-    (decides_refused s TooLarge faults.TooLarge answer going settled (end_large s.count (awaited_view s.awaited) some) known))
+    (decides_refused s TooLarge faults.TooLarge answer going (end_large s some) known))
 
-pub goes_on_wrong_number : FramingLaws → (start s after : ReplyState) (first codec new : Codec) (from_src from_dst src dst src' dst' : List ℕ) (payloads : List Payload) → Since start first from_src from_dst payloads s codec src dst → start.fault ≡ None → s.fault ≡ None → after ≡ record s { fault = Some faults.OutOfSync } → IsSettled s.context (awaited_view s.awaited) → IsAwaiting (awaited_view s.awaited) → IsDue codec src dst refusals.OutOfSync → ReaderGoesOn (reader_state_of start first from_src from_dst) [] (reader_state_of after new src' dst')
-goes_on_wrong_number laws start s after first codec new from_src from_dst src dst src' dst' payloads r began going is settled some due more answer others h =
+pub goes_on_wrong_number : FramingLaws → (start s after : ReplyState) (first codec new : Codec) (from_src from_dst src dst src' dst' : List ℕ) (payloads : List Payload) → Since start first from_src from_dst payloads s codec src dst → start.fault ≡ None → s.fault ≡ None → after ≡ record s { fault = Some faults.OutOfSync } → IsAwaiting s → IsDue codec src dst refusals.OutOfSync → ReaderGoesOn (reader_state_of start first from_src from_dst) [] (reader_state_of after new src' dst')
+goes_on_wrong_number laws start s after first codec new from_src from_dst src dst src' dst' payloads r began going is some due more answer others h =
     let known : answer ≡ faulted_at (open_reply s) faults.OutOfSync = subst (λ (t : ReplyState). ReaderDecides (reader_state_of t new src' dst') more answer) is h in
     decides_going start first from_src from_dst more answer began
     (decides_more laws (reply_so_far start) first.limit (packet_number first from_dst) (held first from_src from_dst) payloads s codec src dst r more (record { payloads = []; rest_bytes = held codec src dst ++ more; rest = OutOfSync }) ((laws.refused codec src dst more).1 due) answer
-    (decides_refused s OutOfSync faults.OutOfSync answer going settled (end_wrong_number s.count (awaited_view s.awaited) some) known))
+    (decides_refused s OutOfSync faults.OutOfSync answer going (end_wrong_number s some) known))
 
 -- A reply that goes on is unfinished.
-unfinished_at : (count : ℕ) (awaited : reply.Awaited) → IsAwaiting awaited → end_of count stream.Open (ending_at awaited) ≡ Unfinished
-unfinished_at count reply.Nothing awaiting = absurd awaiting
-unfinished_at count awaited awaiting = refl
+unfinished_at : (s : ReplyState) → IsAwaiting s → end_behind (is_over s.events.so_far.awaited) s.count stream.Open ≡ Unfinished
+unfinished_at s awaiting = ap (λ b. end_behind b s.count stream.Open) awaiting
 
 -- Memory ran out after some payloads.
-pub runs_short : (start s : ReplyState) (first codec : Codec) (from_src from_dst src dst : List ℕ) (payloads : List Payload) → Since start first from_src from_dst payloads s codec src dst → start.fault ≡ None → s.fault ≡ None → s.count ≡ start.count + length payloads → IsSettled s.context (awaited_view s.awaited) → IsAwaiting (awaited_view s.awaited) → RunsShort (reader_state_of start first from_src from_dst) (held first from_src from_dst) (faulted_at (open_reply s) faults.Memory)
-runs_short start s first codec from_src from_dst src dst payloads r began going count settled awaiting =
-    let whole : Answer = record (faulted_at (open_reply s) faults.Memory) { end = end_of s.count stream.Open (ending_at (awaited_view s.awaited)) } in
+pub runs_short : (start s : ReplyState) (first codec : Codec) (from_src from_dst src dst : List ℕ) (payloads : List Payload) → Since start first from_src from_dst payloads s codec src dst → start.fault ≡ None → s.fault ≡ None → s.count ≡ start.count + length payloads → IsAwaiting s → RunsShort (reader_state_of start first from_src from_dst) (held first from_src from_dst) (faulted_at (open_reply s) faults.Memory)
+runs_short start s first codec from_src from_dst src dst payloads r began going count awaiting =
+    let whole : Answer = record (faulted_at (open_reply s) faults.Memory) { end = end_behind (is_over s.events.so_far.awaited) s.count stream.Open } in
     let decided : NumberedPayloadsDecide (reply_so_far s) [] stream.Open whole = subst (λ f. NumberedPayloadsDecide (faulted (open_reply s) f) [] stream.Open whole) (sym going)
-    (decides_none (GoingOn (open_reply s)) stream.Open whole (stops s stream.Open whole settled refl refl refl)) in
+    (decides_none (GoingOn (open_reply s)) stream.Open whole (stops s stream.Open whole refl refl refl)) in
     record {
       read = payloads;
       first = record { more = held codec src dst; joined = r.read.joined; within = r.read.within };
       whole = whole;
       decided = subst (λ ps. NumberedPayloadsDecide (reply_so_far start) ps stream.Open whole) (append-nil payloads) (r.goes_on [] stream.Open whole decided);
-      unfinished = unfinished_at s.count (awaited_view s.awaited) awaiting;
+      unfinished = unfinished_at s awaiting;
       results = refl;
       progress = refl;
       end = ap (λ n. FaultAt n faults.Memory) (count ∙ ap (λ f. count_of (faulted (open_reply start) f) + length payloads) (sym began));
@@ -242,21 +224,21 @@ pub empty_rest : (limit number : ℕ) → IsRest limit number [] Empty
 unfolding chunks
 empty_rest limit number = record { body = []; count = 0; tail = []; full = refl; within = omega arith; joined = refl; ends = (refl, refl) }
 
-end_quiet : (count : ℕ) (awaited : reply.Awaited) (rest : Rest) → ¬ IsFault rest → (awaited ≡ reply.Nothing → rest ≡ Empty) → end_at awaited ≡ end_of count rest (ending_at awaited)
-end_quiet count reply.Nothing rest no_fault over = rw (over refl) refl
-end_quiet count awaited Empty no_fault over = refl
-end_quiet count awaited TooLarge no_fault over = absurd (no_fault tt)
-end_quiet count awaited OutOfSync no_fault over = absurd (no_fault tt)
-end_quiet count awaited stream.Open no_fault over = refl
+quiet_end : (b : Bool) (count : ℕ) (rest : Rest) → ¬ IsFault rest → (b ≡ true → rest ≡ Empty) → end_behind b count Empty ≡ end_behind b count rest
+quiet_end true count rest no_fault over = rw (over refl) refl
+quiet_end false count Empty no_fault over = refl
+quiet_end false count TooLarge no_fault over = absurd (no_fault tt)
+quiet_end false count OutOfSync no_fault over = absurd (no_fault tt)
+quiet_end false count stream.Open no_fault over = refl
 
 -- The answer where no more bytes come.
 pub finish_going : (s : ReplyState) (codec : Codec) (src dst : List ℕ) (answer : Answer) → IsReading s → s.fault ≡ None → IsPaused s codec src dst → answer ≡ answer_of s → ReaderDecides (reader_state_of s codec src dst) [] answer
 finish_going s codec src dst answer reading going p h =
-    let end : answer.end ≡ end_of s.count p.rest (ending_at (awaited_view s.awaited)) = ap (λ a. a.end) h ∙ ap (λ f. end_of_state (open_reply s) f) going ∙ end_quiet s.count (awaited_view s.awaited) p.rest p.no_fault p.over in
+    let end : answer.end ≡ end_behind (is_over s.events.so_far.awaited) s.count p.rest = ap (λ a. a.end) h ∙ ap (λ f. end_of_state (open_reply s) f) going ∙ quiet_end (is_over s.events.so_far.awaited) s.count p.rest p.no_fault p.over in
     let split : BytesDecide (reply_so_far s) codec.limit (packet_number codec dst) (held codec src dst ++ []) answer = record {
       split = record { payloads = []; rest_bytes = held codec src dst; rest = p.rest };
       splits = record { joined = append-nil (held codec src dst); within = tt; ends = p.is_rest };
-      decides = subst (λ f. NumberedPayloadsDecide (faulted (open_reply s) f) [] p.rest answer) (sym going) (decides_none (GoingOn (open_reply s)) p.rest answer (stops s p.rest answer reading.settled (ap (λ a. a.results) h) (ap (λ a. a.progress) h) end));
+      decides = subst (λ f. NumberedPayloadsDecide (faulted (open_reply s) f) [] p.rest answer) (sym going) (decides_none (GoingOn (open_reply s)) p.rest answer (stops s p.rest answer (ap (λ a. a.results) h) (ap (λ a. a.progress) h) end));
     } in
     decides_going s codec src dst [] answer going split
 
@@ -319,9 +301,9 @@ taking_smaller laws codec new src dst src' dst' payload h empty =
     omega (arith, ap length (held_nothing laws new src' dst' h.between (handed_number codec new src dst src' payload h) empty), ap length h.framed, framing_longer payload (packet_number codec dst) src')
 
 -- After the last result nothing is held.
-pub paused_over : FramingLaws → (s : ReplyState) (codec : Codec) (src dst : List ℕ) → NothingBegun s codec dst → s.awaited ≡ awaiting.Nothing → src ≡ [] → codec.refused ≡ None → CanGoOn codec dst → AreBytes (held codec src dst) → IsPaused s codec src dst
+pub paused_over : FramingLaws → (s : ReplyState) (codec : Codec) (src dst : List ℕ) → NothingBegun s codec dst → IsOver s → src ≡ [] → codec.refused ≡ None → CanGoOn codec dst → AreBytes (held codec src dst) → IsPaused s codec src dst
 paused_over laws s codec src dst nothing_begun over none refused can_go_on bytes =
-    let begun = nothing_begun (ap awaited_view over) in
+    let begun = nothing_begun over in
     let nothing : held codec src dst ≡ [] = held_nothing laws codec src dst begun.0 begun.1 begun.2 ∙ none in
     record {
       refused = refused;
@@ -347,7 +329,7 @@ rest_waits codec new src dst src' dst' w =
     (subst (λ k. IsRest codec.limit k (held new src' dst') w.rest) (sym w.number)
     (subst (λ k. IsRest codec.limit (packet_number codec dst) k w.rest) (sym w.held_same) w.is_rest))
 
-pub paused_waits : (start s : ReplyState) (first codec new : Codec) (from_src from_dst src dst src' dst' : List ℕ) → Taking start first from_src from_dst s codec src dst → Waits codec src dst new src' dst' → IsAwaiting (awaited_view s.awaited) → IsPaused s new src' dst'
+pub paused_waits : (start s : ReplyState) (first codec new : Codec) (from_src from_dst src dst src' dst' : List ℕ) → Taking start first from_src from_dst s codec src dst → Waits codec src dst new src' dst' → IsAwaiting s → IsPaused s new src' dst'
 paused_waits start s first codec new from_src from_dst src dst src' dst' t w some = record {
   refused = w.refused;
   can_go_on = w.goes_on;
@@ -355,30 +337,30 @@ paused_waits start s first codec new from_src from_dst src dst src' dst' t w som
   no_fault = w.no_fault;
   is_rest = rest_waits codec new src dst src' dst' w;
   bytes = subst AreBytes (sym w.held_same) t.bytes;
-  nothing_begun = λ over. absurd (subst IsAwaiting over some);
-  over = λ over. absurd (subst IsAwaiting over some);
+  nothing_begun = λ over. absurd (never (is_over s.events.so_far.awaited) over some);
+  over = λ over. absurd (never (is_over s.events.so_far.awaited) over some);
 }
 
 -- What the codec refuses is decided, unless memory ran out.
-pub refused_goes_on : FramingLaws → (start s after : ReplyState) (first codec new : Codec) (from_src from_dst src dst src' dst' : List ℕ) (refusal : Refusal) (fault : ReplyFault) → Taking start first from_src from_dst s codec src dst → start.fault ≡ None → IsAwaiting (awaited_view s.awaited) → fault ≡ fault_named (error_of refusal) → after ≡ record s { fault = Some fault } → IsDue codec src dst refusal → UnlessMemory {X = Unit {0}} (Err fault) (ReaderGoesOn (reader_state_of start first from_src from_dst) [] (reader_state_of after new src' dst'))
+pub refused_goes_on : FramingLaws → (start s after : ReplyState) (first codec new : Codec) (from_src from_dst src dst src' dst' : List ℕ) (refusal : Refusal) (fault : ReplyFault) → Taking start first from_src from_dst s codec src dst → start.fault ≡ None → IsAwaiting s → fault ≡ fault_named (error_of refusal) → after ≡ record s { fault = Some fault } → IsDue codec src dst refusal → UnlessMemory {X = Unit {0}} (Err fault) (ReaderGoesOn (reader_state_of start first from_src from_dst) [] (reader_state_of after new src' dst'))
 refused_goes_on laws start s after first codec new from_src from_dst src dst src' dst' refusals.TooLarge fault t began some e is due =
     subst (λ f. UnlessMemory {X = Unit {0}} (Err f) (ReaderGoesOn (reader_state_of start first from_src from_dst) [] (reader_state_of after new src' dst'))) (sym e)
-    (goes_on_large laws start s after first codec new from_src from_dst src dst src' dst' t.payloads t.received began t.going (is ∙ ap (λ f. record s { fault = Some f }) e) t.reading.settled some due)
+    (goes_on_large laws start s after first codec new from_src from_dst src dst src' dst' t.payloads t.received began t.going (is ∙ ap (λ f. record s { fault = Some f }) e) some due)
 refused_goes_on laws start s after first codec new from_src from_dst src dst src' dst' refusals.OutOfSync fault t began some e is due =
     subst (λ f. UnlessMemory {X = Unit {0}} (Err f) (ReaderGoesOn (reader_state_of start first from_src from_dst) [] (reader_state_of after new src' dst'))) (sym e)
-    (goes_on_wrong_number laws start s after first codec new from_src from_dst src dst src' dst' t.payloads t.received began t.going (is ∙ ap (λ f. record s { fault = Some f }) e) t.reading.settled some due)
+    (goes_on_wrong_number laws start s after first codec new from_src from_dst src dst src' dst' t.payloads t.received began t.going (is ∙ ap (λ f. record s { fault = Some f }) e) some due)
 refused_goes_on laws start s after first codec new from_src from_dst src dst src' dst' refusals.Memory fault t began some e is due =
     subst (λ f. UnlessMemory {X = Unit {0}} (Err f) (ReaderGoesOn (reader_state_of start first from_src from_dst) [] (reader_state_of after new src' dst'))) (sym e) tt
 
-taking_short : (start s : ReplyState) (first codec : Codec) (from_src from_dst src dst : List ℕ) → Taking start first from_src from_dst s codec src dst → start.fault ≡ None → IsAwaiting (awaited_view s.awaited) → RunsShort (reader_state_of start first from_src from_dst) (held first from_src from_dst) (faulted_at (open_reply s) faults.Memory)
-taking_short start s first codec from_src from_dst src dst t began awaiting = runs_short start s first codec from_src from_dst src dst t.payloads t.received began t.going t.count t.reading.settled awaiting
+taking_short : (start s : ReplyState) (first codec : Codec) (from_src from_dst src dst : List ℕ) → Taking start first from_src from_dst s codec src dst → start.fault ≡ None → IsAwaiting s → RunsShort (reader_state_of start first from_src from_dst) (held first from_src from_dst) (faulted_at (open_reply s) faults.Memory)
+taking_short start s first codec from_src from_dst src dst t began awaiting = runs_short start s first codec from_src from_dst src dst t.payloads t.received began t.going t.count awaiting
 
-pub failed_short : (start s after : ReplyState) (first codec new : Codec) (from_src from_dst src dst src' dst' : List ℕ) (fault : ReplyFault) → Taking start first from_src from_dst s codec src dst → start.fault ≡ None → IsAwaiting (awaited_view s.awaited) → after ≡ record s { fault = Some fault } → OnMemory {X = Unit {0}} (Err fault) (StandsShort (reader_state_of start first from_src from_dst) (held first from_src from_dst) (reader_state_of after new src' dst'))
+pub failed_short : (start s after : ReplyState) (first codec new : Codec) (from_src from_dst src dst src' dst' : List ℕ) (fault : ReplyFault) → Taking start first from_src from_dst s codec src dst → start.fault ≡ None → IsAwaiting s → after ≡ record s { fault = Some fault } → OnMemory {X = Unit {0}} (Err fault) (StandsShort (reader_state_of start first from_src from_dst) (held first from_src from_dst) (reader_state_of after new src' dst'))
 failed_short start s after first codec new from_src from_dst src dst src' dst' faults.Memory t began awaiting is =
     (faulted_at (open_reply s) faults.Memory, ap reply_so_far is, taking_short start s first codec from_src from_dst src dst t began awaiting)
 failed_short start s after first codec new from_src from_dst src dst src' dst' fault t began awaiting is = tt
 
-pub taken_short : (start s after : ReplyState) (first codec new : Codec) (from_src from_dst src dst src' dst' : List ℕ) (r : Result Unit ReplyFault) → Taking start first from_src from_dst s codec src dst → start.fault ≡ None → IsAwaiting (awaited_view s.awaited) → OnMemory r (IsShortOf s after) → OnMemory r (StandsShort (reader_state_of start first from_src from_dst) (held first from_src from_dst) (reader_state_of after new src' dst'))
+pub taken_short : (start s after : ReplyState) (first codec new : Codec) (from_src from_dst src dst src' dst' : List ℕ) (r : Result Unit ReplyFault) → Taking start first from_src from_dst s codec src dst → start.fault ≡ None → IsAwaiting s → OnMemory r (IsShortOf s after) → OnMemory r (StandsShort (reader_state_of start first from_src from_dst) (held first from_src from_dst) (reader_state_of after new src' dst'))
 taken_short start s after first codec new from_src from_dst src dst src' dst' (Ok x) t began awaiting short = tt
 taken_short start s after first codec new from_src from_dst src dst src' dst' (Err faults.Memory) t began awaiting short =
     (faulted_at (open_reply s) faults.Memory, short, taking_short start s first codec from_src from_dst src dst t began awaiting)
@@ -404,7 +386,7 @@ on_is {P = P} r memory p = subst (λ k. OnMemory k P) memory p
 
 -- A state with a fault keeps what it kept before.
 pub reading_faulty : (s after : ReplyState) (fault : ReplyFault) → after ≡ record s { fault = Some fault } → IsReading s → IsReading after
-reading_faulty s after fault is r = subst IsReading (sym is) (record { settled = r.settled; room = r.room; spared = r.spared; empty = r.empty })
+reading_faulty s after fault is r = subst IsReading (sym is) (record { no_fault = λ h. absurd (let k : Some fault ≡ None = h in cc); fits = λ h. absurd (let k : Some fault ≡ None = h in cc); room = r.room; spared = r.spared; empty = r.empty })
 
 -- A failed answer is none that is Ok.
 pub no_ok : (P : Type 0) (r : Result (Unit {0}) ReplyFault) → is_err r ≡ true → OnOk r P
@@ -538,7 +520,7 @@ piece_bytes laws codec src src' dst piece fed are others =
     subst AreBytes (sym (ap (λ k. held codec k dst) fed ∙ laws.piece codec src dst piece)) (bytes_append (held codec src dst) piece are others)
 
 -- After the last result no byte is held.
-pub paused_empty : FramingLaws → (s : ReplyState) (codec : Codec) (src dst : List ℕ) → IsPaused s codec src dst → awaited_view s.awaited ≡ reply.Nothing → src ≡ []
+pub paused_empty : FramingLaws → (s : ReplyState) (codec : Codec) (src dst : List ℕ) → IsPaused s codec src dst → IsOver s → src ≡ []
 paused_empty laws s codec src dst p over =
     let begun = p.nothing_begun over in
     let split : Split = record { payloads = []; rest_bytes = held codec src dst; rest = p.rest } in
@@ -563,7 +545,7 @@ waits_plain codec new src dst kept rest payload w used none =
     subst (λ l. Waits codec src dst new l []) (ap (λ l. kept ++ l) used ∙ append-nil kept) (subst (λ l. Waits codec src dst new (kept ++ rest) l) none w)
 
 -- After the last result all bytes are used.
-pub over_paused : FramingLaws → (start s : ReplyState) (first codec : Codec) (from_src from_dst kept rest dst : List ℕ) → Taking start first from_src from_dst s codec (kept ++ rest) dst → s.awaited ≡ awaiting.Nothing → kept ≡ [] → rest ≡ [] → Taking start first from_src from_dst s codec kept dst × IsPaused s codec kept dst
+pub over_paused : FramingLaws → (start s : ReplyState) (first codec : Codec) (from_src from_dst kept rest dst : List ℕ) → Taking start first from_src from_dst s codec (kept ++ rest) dst → IsOver s → kept ≡ [] → rest ≡ [] → Taking start first from_src from_dst s codec kept dst × IsPaused s codec kept dst
 over_paused laws start s first codec from_src from_dst kept rest dst t over none used =
     let here = subst (λ l. Taking start first from_src from_dst s codec l dst) (ap (λ l. kept ++ l) used ∙ append-nil kept) t in
     (here, paused_over laws s codec kept dst here.nothing_begun over none here.received.read.refused here.received.read.goes_on here.bytes)
@@ -583,7 +565,7 @@ Taken start old piece s new =
     × ReaderGoesOn (reader_state start old) piece (reader_state s new)
 
 -- Nothing is awaited any more, and no byte is left.
-pub over_taken : FramingLaws → (start s : ReplyState) (old now : Incoming) (piece rest : List ℕ) → Taking start (codec_by old) (old.bytes ++ piece) [] s (codec_by now) (now.bytes ++ rest) [] → start.fault ≡ None → s.awaited ≡ awaiting.Nothing → now.bytes ≡ [] → rest ≡ []
+pub over_taken : FramingLaws → (start s : ReplyState) (old now : Incoming) (piece rest : List ℕ) → Taking start (codec_by old) (old.bytes ++ piece) [] s (codec_by now) (now.bytes ++ rest) [] → start.fault ≡ None → IsOver s → now.bytes ≡ [] → rest ≡ []
     → Taken start old piece s now
 over_taken laws start s old now piece rest t began over kept used =
     let p = over_paused laws start s (codec_by old) (codec_by now) (old.bytes ++ piece) [] now.bytes rest [] t over kept used in
@@ -591,7 +573,7 @@ over_taken laws start s old now piece rest t began over kept used =
     (p.1, all.0, all.1)
 
 -- The codec waits for more bytes.
-pub waits_taken : FramingLaws → (start s : ReplyState) (old now new : Incoming) (piece rest left : List ℕ) → Taking start (codec_by old) (old.bytes ++ piece) [] s (codec_by now) (now.bytes ++ rest) [] → start.fault ≡ None → IsAwaiting (awaited_view s.awaited)
+pub waits_taken : FramingLaws → (start s : ReplyState) (old now new : Incoming) (piece rest left : List ℕ) → Taking start (codec_by old) (old.bytes ++ piece) [] s (codec_by now) (now.bytes ++ rest) [] → start.fault ≡ None → IsAwaiting s
     → Waits (codec_by now) (now.bytes ++ rest) [] (codec_by new) (new.bytes ++ left) new.payload → left ≡ [] → new.payload ≡ [] → Taken start old piece s new
 waits_taken laws start s old now new piece rest left t began some waits used none =
     let src = now.bytes ++ rest in

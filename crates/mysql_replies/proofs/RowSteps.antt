@@ -1,111 +1,48 @@
 -- Rows that are borrowed: what a payload leads to, and what bytes were used.
-use Rattle.std.proofs.Common.{◌≡◌, ℕ, ◌+◌, ◌^◌, ◌<◌, ◌≤◌, List, [], ◌∷◌, ◌++◌, length, Bool, true, false, Option, Some, None, Result, Ok, Err, refl, ap, sym, subst, arith, ◌∙◌, length-append}
-use Rattle.std.specs.Prelude.{if◌then◌else◌, ◌==◌, OnOk, IfErr}
+use Rattle.std.proofs.Common.{◌≡◌, ℕ, ◌+◌, ◌^◌, ◌<◌, ◌≤◌, List, [], ◌∷◌, ◌++◌, length, Option, Some, None, Result, Ok, Err, refl, ap, sym, subst, arith, ◌∙◌, length-append}
 use Rattle.std.proofs.lemmas.List.{append-nil}
 use Rattle.mysql_columns.specs.Columns.{ColumnDefinition}
-use Rattle.mysql_row_refs.specs.RowRefs.{row_ref_view, row_of, with_none_left}
+use Rattle.mysql_row_refs.specs.RowRefs.{row_ref_view}
 use Rattle.mysql_row_refs.specs.declared.row_ref.RowRef.{RowRef}
-use Rattle.mysql_row_refs.specs.declared.errors.RowError.{RowError}
-use Rattle.mysql_row_refs.specs.declared.errors.RowError.TheVariants.{BytesLeft}
 use Rattle.mysql_row_refs.specs.declared.reader.RowReader.{RowReader}
-use Rattle.mysql_rows.specs.Rows.{Row, as_row, binary_resultset_row_at, text_row_at}
-use Rattle.mysql_wire.specs.Wire.{Reading}
+use Rattle.mysql_rows.specs.Rows.{Row}
+use Rattle.mysql_reply_events.specs.Standing.{RowAt}
 use Rattle.mysql_wire.specs.Codec.{HandsOut, held, packet_number}
 use Rattle.mysql_wire.specs.Incoming.{Incoming, codec_by}
 use Rattle.mysql_wire.specs.Stream.{IsRest, framings}
 use Rattle.mysql_wire.specs.Stream.Numbering.{OnFrom}
 use Rattle.mysql_wire.specs.Stream.Rest.{Empty}
-use Rattle.mysql_replies.specs.declared.awaited.Awaited as code
-use Rattle.mysql_replies.specs.declared.awaited.Awaited.TheVariants as awaiting
-use Rattle.mysql_replies.specs.declared.awaited.Stepped.TheVariants.{Failed}
-use Rattle.mysql_replies.specs.declared.context.Context.{Context}
-use Rattle.mysql_replies.specs.declared.context.ReplyKind.{ReplyKind}
-use Rattle.mysql_replies.specs.declared.context.ReplyKind.TheVariants as kinds
+use Rattle.mysql_replies.specs.declared.part.Part.{Part as PartOf}
+use Rattle.mysql_replies.specs.declared.part.Part.TheVariants as parts
 use Rattle.mysql_replies.specs.declared.fault.ReplyFault.{ReplyFault}
 use Rattle.mysql_replies.specs.declared.fault.ReplyFault.TheVariants as faults
 use Rattle.mysql_replies.specs.declared.borrowing.Place.{Place}
 use Rattle.mysql_replies.specs.declared.state.ReplyState.{ReplyState}
-use Rattle.mysql_replies.specs.Grammar.{Payload, has_report_form, is_binary, row, whole_or_fault}
 use Rattle.mysql_replies.specs.Holding.{HasFoundNoFault, ReaderState, ReaderGoesOn, StandsShort, TakesAll}
 use Rattle.mysql_replies.specs.Borrowing.{BorrowsNext, BorrowsRow, rows_listed}
-use Rattle.mysql_replies.specs.RowSteps.{StateBorrowsNext, RowAt, ReaderBorrows, StateBorrows, format_of, keeping, or_bad_row, passed_as, payload_at, reader_of, with_row}
-use Rattle.mysql_replies.specs.OpenRows.{RowsSoFar}
-use Rattle.mysql_replies.specs.Reply.{GoingOn, Rows, rest_of}
-use Rattle.mysql_replies.specs.States.{FramingLaws, IsPaused, IsShortOf, NumberedStateGoesOn, OnMemory, StateGoesOn, UnlessMemory, faulted, open_reply, reader_state, reader_state_of, reply_so_far}
-use Rattle.mysql_replies.specs.Steps.{IsAwaiting, IsStep, Leads, Moves, reads_as_row}
+use Rattle.mysql_replies.specs.RowSteps.{StateBorrowsNext, ReaderBorrows, StateBorrows, keeping, payload_at, with_row}
+use Rattle.mysql_replies.specs.Together as together
+use Rattle.mysql_replies.specs.Together.{Part, RowsPart}
+use Rattle.mysql_replies.specs.Reply.{GoingOn, Payload}
+use Rattle.mysql_replies.specs.States.{FramingLaws, IsAwaiting, IsPaused, IsShortOf, NumberedStateGoesOn, OnMemory, StateGoesOn, UnlessMemory, faulted, open_reply, reader_state, reader_state_of, reply_so_far}
 use Rattle.mysql_replies.specs.Taking.{Feeds}
-use Rattle.mysql_replies.specs.Views.{Refuses, awaited_view, outcome_views}
+use Rattle.mysql_replies.specs.Views.{part_view}
 use Rattle.mysql_replies.proofs.Numbers.{goes_over_numbered}
 use Rattle.mysql_replies.proofs.Receiving.{Since, Taking, all_taken, elsewhere, empty_rest, fault_is, fresh_paused, handed_number, held_nothing, if_fault, if_no_fault, not_both, on_is, piece_goes_on, piece_runs_short, received_next, stays_going_on, taken_goes_on, taken_short, unless_is}
-use Rattle.mysql_replies.proofs.Stepping.{row_failed, row_went}
-use Rattle.mysql_replies.proofs.Taking.{step_failed, step_moved, step_short}
-
--- What a reader of rows reads is the row of the grammar.
-whole_if : (b : Bool) (found : Row) (error : RowError) → (if b then Ok found else Err faults.BadRow) ≡ or_bad_row (if b then Ok found else Err error)
-whole_if true found error = refl
-whole_if false found error = refl
-
-whole_is : (r : Reading Row) → whole_or_fault faults.BadRow r ≡ or_bad_row (with_none_left r)
-whole_is (Ok x) = whole_if (length x.1 == 0) x.0 BytesLeft
-whole_is (Err e) = refl
-
-row_is : (c : Context) (columns : List ColumnDefinition) (payload : Payload) → row c columns payload ≡ or_bad_row (row_of (format_of c.kind) columns payload)
-row_is c columns payload = row_is_by c.kind
-  where
-    row_is_by : (kind : ReplyKind) → whole_or_fault faults.BadRow (as_row columns (if is_binary kind then binary_resultset_row_at columns payload else text_row_at columns payload)) ≡ or_bad_row (row_of (format_of kind) columns payload)
-    row_is_by kinds.Text = whole_is (as_row columns (text_row_at columns payload))
-    row_is_by kinds.Binary = whole_is (as_row columns (binary_resultset_row_at columns payload))
-    row_is_by kinds.Prepare = whole_is (as_row columns (text_row_at columns payload))
-
--- A row can be borrowed, of which the state that had kept it goes on.
-pub row_borrowed : (before : ReplyState) (these now : RowsSoFar) (payload : Payload) → before.fault ≡ None → before.count + 1 < 2 ^ 64 → before.awaited ≡ awaiting.Rows these → now ≡ record these { reader = now.reader } → has_report_form before.context payload ≡ false → reads_as_row before.context payload ≡ true → (row : Row) × RowAt now.reader payload row × (row_of (format_of before.context.kind) these.columns payload ≡ Ok row) → StateBorrows before payload (record before { awaited = awaiting.Rows now; count = before.count + 1 })
-row_borrowed before these now payload going room is same form like h =
-    let c = before.context in
-    let next : code.Awaited = awaiting.Rows (record now { rows = now.rows ++ h.0 ∷ [] }) in
-    let read : row c these.columns payload ≡ Ok h.0 = row_is c these.columns payload ∙ ap or_bad_row h.2 in
-    let went : Leads c (λ z. rest_of c (Rows these.columns these.rows) (payload ∷ z)) payload (Moves [] (Rows these.columns (now.rows ++ h.0 ∷ []))) =
-    row_went c these.columns these.rows (now.rows ++ h.0 ∷ []) payload h.0 form like read (ap (λ (x : RowsSoFar). x.rows ++ h.0 ∷ []) same) in
-    let leads : Leads c (λ z. rest_of c (awaited_view before.awaited) (payload ∷ z)) payload (Moves [] (awaited_view next)) =
-    subst (λ a. Leads c (λ z. rest_of c (awaited_view a) (payload ∷ z)) payload (Moves [] (awaited_view next))) (sym is)
-    (subst (λ columns. Leads c (λ z. rest_of c (Rows these.columns these.rows) (payload ∷ z)) payload (Moves [] (Rows columns (now.rows ++ h.0 ∷ [])))) (sym (ap (λ (x : RowsSoFar). x.columns) same)) went) in
-    let after : ReplyState = record before { awaited = next; count = before.count + 1 } in
-    record {
-      row = h.0;
-      lies = h.1;
-      goes_on = goes_over_numbered before after payload going room (λ e. refl)
-          (step_moved before (record before { awaited = next }) next [] payload going refl (sym (append-nil (outcome_views before.results.items))) form leads);
-    }
 
 -- What a payload without a place leads to, or one over which memory ran out.
 pub failed_step : (before after : ReplyState) (payload : Payload) (fault : ReplyFault) → before.fault ≡ None → before.count + 1 < 2 ^ 64 → after.fault ≡ Some fault → UnlessMemory {X = Unit {0}} (Err fault) (StateGoesOn before payload after) → OnMemory {X = Unit {0}} (Err fault) (IsShortOf before after) → StateBorrowsNext before payload (Err fault) after
 failed_step before after payload faults.Memory going room wrong goes short = short
 failed_step before after payload fault going room wrong goes short = goes_over_numbered before after payload going room (λ e. not_both after.fault fault wrong e) goes
 
--- The same of a row.
-pub row_unread : (before after : ReplyState) (these now : RowsSoFar) (payload : Payload) (fault : ReplyFault) → before.fault ≡ None → before.count + 1 < 2 ^ 64 → before.awaited ≡ awaiting.Rows these → now ≡ record these { reader = now.reader } → has_report_form before.context payload ≡ false → reads_as_row before.context payload ≡ true → after ≡ record before { awaited = awaiting.Rows now; fault = Some fault } → Refuses fault (or_bad_row (row_of (format_of before.context.kind) these.columns payload)) → StateBorrowsNext before payload (Err fault) after
-row_unread before after these now payload fault going room is same form like after_is h =
-    let c = before.context in
-    let kept : awaited_view (awaiting.Rows now) ≡ Rows these.columns these.rows = ap (λ (x : RowsSoFar). Rows x.columns x.rows) same in
-    let step : IsStep c (awaited_view before.awaited) payload (Failed (awaiting.Rows now) fault) =
-    subst (λ a. IsStep c (awaited_view a) payload (Failed (awaiting.Rows now) fault)) (sym is)
-    (row_failed c these.columns these.rows payload (awaiting.Rows now) fault form like kept (subst (Refuses fault) (sym (row_is c these.columns payload)) h)) in
-    failed_step before after payload fault going room (ap (λ (s : ReplyState). s.fault) after_is)
-    (step_failed before after (awaiting.Rows now) payload fault going after_is step)
-    (step_short before after (awaiting.Rows now) payload fault after_is step)
-
--- What a payload that is no row leads to.
-pub passed_step : (before after : ReplyState) (payload : Payload) (r : Result (Unit {0}) ReplyFault) → before.fault ≡ None → before.count + 1 < 2 ^ 64 → OnOk r ((after.fault ≡ None) × (after.count ≡ before.count + 1)) → IfErr r (λ fault. after.fault ≡ Some fault) → UnlessMemory r (StateGoesOn before payload after) → OnMemory r (IsShortOf before after) → StateBorrowsNext before payload (passed_as r) after
-passed_step before after payload (Err faults.Memory) going room ok wrong goes short = short
-passed_step before after payload (Ok x) going room ok wrong goes short = goes_over_numbered before after payload going room (λ e. ok.1) goes
-passed_step before after payload (Err fault) going room ok wrong goes short = goes_over_numbered before after payload going room (λ e. not_both after.fault fault wrong e) goes
-
-pub passed_ok : (P : Type 0) (r : Result (Unit {0}) ReplyFault) → OnOk r P → OnOk (passed_as r) P
-passed_ok P (Ok x) p = p
-passed_ok P (Err e) p = tt
-
-pub passed_fault : (P : ReplyFault → Type 0) (r : Result (Unit {0}) ReplyFault) → IfErr r P → IfErr (passed_as r) P
-passed_fault P (Ok x) p = tt
-passed_fault P (Err e) p = p
+-- With one row more.
+pub row_kept : (part : PartOf) (row : Row) → part_view (with_row part row) ≡ together.with_row (part_view part) row
+row_kept parts.Nothing row = refl
+row_kept (parts.Set known) row = refl
+row_kept (parts.Rows open_rows) row = refl
+row_kept (parts.RawRows found) row = refl
+row_kept (parts.Statement stmt params columns) row = refl
+row_kept (parts.Fields fields) row = refl
 
 -- Bytes behind which others follow, where these are the last of a piece.
 cut_piece : (front piece back rest : List ℕ) → front ++ piece ≡ back ++ rest → length rest ≤ length piece → (used : List ℕ) × (piece ≡ used ++ rest) × (front ++ used ≡ back)
@@ -161,7 +98,10 @@ borrowed_behind laws start s next old now new piece rest left payload place t be
     let u = used_up laws start s (keeping next one.row) old now new piece rest left payload t began h none fits going count one.goes_on in
     record {
       row = one.row;
-      lies = subst (λ k. RowAt (reader_of next.awaited) k one.row) is one.lies;
+      lies = subst (λ k. RowAt next.events.rows k one.row) is one.lies;
+      columns = one.columns;
+      rows = one.rows;
+      part = one.part;
       used = u.used;
       cut = u.cut;
       takes = u.takes;
@@ -191,7 +131,7 @@ borrow_failed laws start s next old now new piece rest left payload fault t bega
     (elsewhere (reader_state_of start (codec_by old) fed []) next (reader_state_of next (codec_by new) (new.bytes ++ left) []) (reader_state next new) (Err fault) refl wrong refl refl
     (taken_goes_on laws start s next (codec_by old) (codec_by now) (codec_by new) fed [] src [] (new.bytes ++ left) [] payload (Err fault) refl t began h refl wrong (step_goes s next payload fault step)))
 
-pub borrow_short : FramingLaws → (start s next : ReplyState) (old now new : Incoming) (piece rest payload : List ℕ) (fault : ReplyFault) → Taking start (codec_by old) (old.bytes ++ piece) [] s (codec_by now) (now.bytes ++ rest) [] → start.fault ≡ None → IsAwaiting (awaited_view s.awaited) → StateBorrowsNext s payload (Err fault) next → OnMemory {X = Unit {0}} (Err fault) (StandsShort (reader_state start old) ((reader_state start old).bytes ++ piece) (reader_state next new))
+pub borrow_short : FramingLaws → (start s next : ReplyState) (old now new : Incoming) (piece rest payload : List ℕ) (fault : ReplyFault) → Taking start (codec_by old) (old.bytes ++ piece) [] s (codec_by now) (now.bytes ++ rest) [] → start.fault ≡ None → IsAwaiting s → StateBorrowsNext s payload (Err fault) next → OnMemory {X = Unit {0}} (Err fault) (StandsShort (reader_state start old) ((reader_state start old).bytes ++ piece) (reader_state next new))
 borrow_short laws start s next old now new piece rest payload fault t began some step =
     piece_runs_short laws start (codec_by old) old.bytes [] piece (Err fault) (reader_state next new)
     (taken_short start s next (codec_by old) (codec_by now) (codec_by new) (old.bytes ++ piece) [] (now.bytes ++ rest) [] new.bytes [] (Err fault) t began some (step_falls_short s next payload fault step))
@@ -232,41 +172,34 @@ same_row : (reader : Option RowReader) (payload : Payload) (x y : Row) → RowAt
 same_row (Some reader) payload x y one two = one.1 ∙ sym two.1
 same_row None payload x y one two = absurd one
 
-borrows_kept : (start next : ReplyState) (old new : Incoming) (piece rest used : List ℕ) (found : Row) (these : RowsSoFar) → next.awaited ≡ awaiting.Rows these → start.fault ≡ None → next.fault ≡ None → piece ≡ used ++ rest → (reader_state next new).bytes ≡ [] → TakesAll (reader_state start old) ((reader_state start old).bytes ++ used) (reader_state (keeping next found) new) → ReaderGoesOn (reader_state start old) used (reader_state (keeping next found) new) → BorrowsRow (reader_state start old) piece found (reader_state next new) rest
-borrows_kept start next old new piece rest used found these is began going cut whole takes goes =
-    let kept : ReaderState = record (reader_state next new) { so_far = GoingOn (record (open_reply next) { awaited = Rows these.columns (these.rows ++ found ∷ []) }) } in
+borrows_kept : (start next : ReplyState) (old new : Incoming) (piece rest used : List ℕ) (found : Row) (columns : List ColumnDefinition) (these : List Row) → part_view next.part ≡ RowsPart columns these → start.fault ≡ None → next.fault ≡ None → piece ≡ used ++ rest → (reader_state next new).bytes ≡ [] → TakesAll (reader_state start old) ((reader_state start old).bytes ++ used) (reader_state (keeping next found) new) → ReaderGoesOn (reader_state start old) used (reader_state (keeping next found) new) → BorrowsRow (reader_state start old) piece found (reader_state next new) rest
+borrows_kept start next old new piece rest used found columns these is began going cut whole takes goes =
+    let kept : ReaderState = record (reader_state next new) { so_far = GoingOn (record (open_reply next) { part = RowsPart columns (these ++ found ∷ []) }) } in
+    let part : part_view (with_row next.part found) ≡ RowsPart columns (these ++ found ∷ []) = row_kept next.part found ∙ ap (λ (k : Part). together.with_row k found) is in
     let same : reader_state (keeping next found) new ≡ kept =
-    λ i. record (reader_state next new) { so_far = faulted (record (open_reply next) { awaited = awaited_view (with_row (is i) found) }) (going i) } in
+    λ i. record (reader_state next new) { so_far = faulted (record (open_reply next) { part = part i }) (going i) } in
     record {
       used = used;
       cut = cut;
       s = open_reply next;
       going = ap (faulted (open_reply next)) going;
-      columns = these.columns;
-      rows = these.rows;
-      awaits = ap awaited_view is;
+      columns = columns;
+      rows = these;
+      part = is;
       feeds = subst (λ k. Feeds (reader_state start old) k used (Ok tt)) same (feeds_all start (keeping next found) old new used began going takes goes);
       whole = whole;
     }
 
-borrows_by : (start next : ReplyState) (old new : Incoming) (piece rest used : List ℕ) (payload : Payload) (found : Row) (a : code.Awaited) → next.awaited ≡ a → RowAt (reader_of a) payload found → start.fault ≡ None → next.fault ≡ None → piece ≡ used ++ rest → (reader_state next new).bytes ≡ [] → TakesAll (reader_state start old) ((reader_state start old).bytes ++ used) (reader_state (keeping next found) new) → ReaderGoesOn (reader_state start old) used (reader_state (keeping next found) new) → BorrowsRow (reader_state start old) piece found (reader_state next new) rest
-borrows_by start next old new piece rest used payload found (awaiting.Rows these) is lies began going cut whole takes goes = borrows_kept start next old new piece rest used found these is began going cut whole takes goes
-borrows_by start next old new piece rest used payload found awaiting.First is lies began going cut whole takes goes = absurd lies
-borrows_by start next old new piece rest used payload found (awaiting.Columns left these) is lies began going cut whole takes goes = absurd lies
-borrows_by start next old new piece rest used payload found (awaiting.Parameters stmt left these) is lies began going cut whole takes goes = absurd lies
-borrows_by start next old new piece rest used payload found (awaiting.PreparedColumns stmt params left these) is lies began going cut whole takes goes = absurd lies
-borrows_by start next old new piece rest used payload found awaiting.Nothing is lies began going cut whole takes goes = absurd lies
-
 -- The row that is borrowed is the next one of the piece.
-pub borrows_row : (start next : ReplyState) (old new : Incoming) (piece rest : List ℕ) (place : Place) (found : Row) → ReaderBorrows (reader_state start old) piece place next new rest → RowAt (reader_of next.awaited) (payload_at place new) found → start.fault ≡ None → next.fault ≡ None → BorrowsRow (reader_state start old) piece found (reader_state next new) rest
+pub borrows_row : (start next : ReplyState) (old new : Incoming) (piece rest : List ℕ) (place : Place) (found : Row) → ReaderBorrows (reader_state start old) piece place next new rest → RowAt next.events.rows (payload_at place new) found → start.fault ≡ None → next.fault ≡ None → BorrowsRow (reader_state start old) piece found (reader_state next new) rest
 borrows_row start next old new piece rest place found behind lies began going =
-    let is : behind.row ≡ found = same_row (reader_of next.awaited) (payload_at place new) behind.row found behind.lies lies in
-    borrows_by start next old new piece rest behind.used (payload_at place new) found next.awaited refl lies began going behind.cut behind.whole
+    let is : behind.row ≡ found = same_row next.events.rows (payload_at place new) behind.row found behind.lies lies in
+    borrows_kept start next old new piece rest behind.used found behind.columns behind.rows behind.part began going behind.cut behind.whole
     (subst (λ k. TakesAll (reader_state start old) ((reader_state start old).bytes ++ behind.used) (reader_state (keeping next k) new)) is behind.takes)
     (subst (λ k. ReaderGoesOn (reader_state start old) behind.used (reader_state (keeping next k) new)) is behind.goes_on)
 
 -- What a reader does over a piece: its next row is borrowed, all of it is read, or a fault is met.
-pub next_borrowed : (start next : ReplyState) (old new : Incoming) (piece rest : List ℕ) (place : Place) (found : RowRef) → ReaderBorrows (reader_state start old) piece place next new rest → RowAt (reader_of next.awaited) (payload_at place new) (row_ref_view found) → start.fault ≡ None → next.fault ≡ None → rows_listed (reply_so_far next) ≡ rows_listed (reply_so_far start) → BorrowsNext (reader_state start old) piece (Ok (Some found)) (reader_state next new) rest
+pub next_borrowed : (start next : ReplyState) (old new : Incoming) (piece rest : List ℕ) (place : Place) (found : RowRef) → ReaderBorrows (reader_state start old) piece place next new rest → RowAt next.events.rows (payload_at place new) (row_ref_view found) → start.fault ≡ None → next.fault ≡ None → rows_listed (reply_so_far next) ≡ rows_listed (reply_so_far start) → BorrowsNext (reader_state start old) piece (Ok (Some found)) (reader_state next new) rest
 next_borrowed start next old new piece rest place found behind lies began going none = record { advances = borrows_row start next old new piece rest place (row_ref_view found) behind lies began going; keeps_none = none }
 
 pub next_none : (start next : ReplyState) (old new : Incoming) (piece rest : List ℕ) → rest ≡ [] → start.fault ≡ None → next.fault ≡ None → TakesAll (reader_state start old) ((reader_state start old).bytes ++ piece) (reader_state next new) → ReaderGoesOn (reader_state start old) piece (reader_state next new) → HasFoundNoFault (reader_state next new) → rows_listed (reply_so_far next) ≡ rows_listed (reply_so_far start) → BorrowsNext (reader_state start old) piece (Ok None) (reader_state next new) rest

@@ -1,111 +1,331 @@
--- How many payloads a part takes: what follows it is shorter by as many.
-use Rattle.std.proofs.Common.{ℕ, zero, suc, ◌+◌, ◌≤◌, List, [], ◌∷◌, ◌++◌, length, Bool, true, false, Result, Ok, Err, arith, if◌then◌else◌}
-use Rattle.mysql_rows.specs.Rows.{Row}
-use Rattle.mysql_server_packets.specs.Packets.{PrepareOk}
-use Rattle.mysql_columns.specs.Columns.{ColumnDefinition}
-use Rattle.mysql_replies.specs.Grammar.{deprecate_eof}
+-- What the state is behind a payload: its event is put, a row is taken in place, or a fault was met.
+use Rattle.std.proofs.Common.{◌≡◌, ℕ, ◌+◌, ◌<◌, ◌≤◌, List, [], ◌∷◌, ◌++◌, length, Option, Some, None, Result, Ok, Err, refl, ap, sym, subst, arith, ◌∙◌}
+use Rattle.std.specs.Prelude.{OnOk, IfErr, Vec, map, vec_len, vec_capacity}
+use Rattle.std.specs.declared.alloc.Global.{Global}
+use Rattle.std.proofs.lemmas.List.{append-nil, map_push}
+use Rattle.mysql_rows.specs.Views.{row_view}
+use Rattle.mysql_rows.specs.declared.row.Row.{Row as RowOf}
+use Rattle.mysql_server_packets.specs.Views.{progress_report_view}
+use Rattle.mysql_server_packets.specs.declared.progress_report.ProgressReport.{ProgressReport}
+use Rattle.mysql_reply_events.specs.Events.{Event}
+use Rattle.mysql_reply_events.specs.Events.Event.{ProgressEvent, RowEvent}
+use Rattle.mysql_reply_events.specs.NextRows.{KeepsRow}
+use Rattle.mysql_reply_events.specs.Reader.{ReadsOn, ReaderState as EventsState}
+use Rattle.mysql_reply_events.specs.Table.{event_at}
+use Rattle.mysql_reply_events.specs.Views.{event_view}
+use Rattle.mysql_reply_events.specs.declared.event.ReplyEvent.{ReplyEvent}
+use Rattle.mysql_reply_events.specs.declared.event.ReplyEvent.TheVariants as events
+use Rattle.mysql_reply_events.specs.declared.fault.ReplyFault.{ReplyFault as EventFault}
+use Rattle.mysql_reply_events.specs.declared.fault.ReplyFault.TheVariants as event_faults
+use Rattle.mysql_replies.specs.OpenRows.{RowsSoFar}
 use Rattle.mysql_replies.specs.declared.fault.ReplyFault.{ReplyFault}
-use Rattle.mysql_replies.specs.declared.context.Context.{Context}
-use Rattle.mysql_replies.specs.Grammar.{Payload, Parsed, Complete, CutOff, Faulty, ◌>>=◌, ResultGroup, Line, RowLine, TerminatorLine, ErrorLine, Opening, OkOpening, ErrorOpening, FileOpening, CountOpening, StatementOpening, is_report, unless_report, as_part, next_payload, column, eof, columns, columns_end, column_group, line, after_rows, rows, result_set, prepared, prepared_columns, opening, after_opening, one_result}
+use Rattle.mysql_replies.specs.declared.fault.ReplyFault.TheVariants as faults
+use Rattle.mysql_replies.specs.declared.part.Listed.{Listed}
+use Rattle.mysql_replies.specs.declared.part.Part.{Part as PartOf}
+use Rattle.mysql_replies.specs.declared.part.Part.TheVariants as parts
+use Rattle.mysql_replies.specs.declared.results.ReplyResult.{ReplyResult}
+use Rattle.mysql_replies.specs.declared.state.ReplyState.{ReplyState}
+use Rattle.mysql_replies.specs.Together as together
+use Rattle.mysql_replies.specs.Together.{Outcome, Part, Put, RowsPart, listed, reported}
+use Rattle.mysql_replies.specs.Reply.{Answered, OpenReply, Payload, behind, fault_of, faulted_at}
+use Rattle.mysql_replies.specs.Putting.{HasPut, HasRead, HasRoomFor, HasStopped, HasTakenRow, IsPut, PutsEvent, ReadsEvent, listed_views}
+use Rattle.mysql_replies.specs.States.{Fits, HasRoom, HasSpare, IsReading, IsShortOf, NumberedStateGoesOn, OnMemory, StateGoesOn, UnlessMemory, open_reply, reply_so_far}
+use Rattle.mysql_replies.specs.Taking.{rows_awaited}
+use Rattle.mysql_replies.specs.Views.{outcome_views, part_view}
+use Rattle.mysql_replies.proofs.Fitting.{fits_behind}
+use Rattle.mysql_replies.proofs.Stepping.{falls_short, read_goes, refused_goes, reply_behind, row_goes}
 
--- The part takes at least n of the payloads where it stands, and a unexpected is one of them.
-abbrev pub Takes : {A : Type 0} → ℕ → List Payload → Parsed A → Type 0
-Takes n payloads (Complete a rest) = length rest + n ≤ length payloads
-Takes n payloads (CutOff listed) = Unit {0}
-Takes n payloads (Faulty listed fault rest) = length rest ≤ length payloads
+-- FAULTS
 
-pub Takes-more : {A : Type 0} (j k : ℕ) (payloads between : List Payload) (p : Parsed A) → length between + j ≤ length payloads → Takes k between p → Takes (j + k) payloads p
-Takes-more j k payloads between (Complete a rest) h t = omega arith
-Takes-more j k payloads between (CutOff listed) h t = tt
-Takes-more j k payloads between (Faulty listed fault rest) h t = omega arith
+-- A payload of which that is known has no place, unless memory ran out.
+abbrev pub HasNoPlace : ReplyState → Payload → ReplyFault → Type 0
+HasNoPlace old payload fault = UnlessMemory {X = Unit {0}} (Err fault)
+    ((found : EventFault) × (event_at old.events.context old.events.so_far payload ≡ Err found) × (fault ≡ fault_of found))
 
-pub Takes-bind : {A B : Type 0} (j k : ℕ) (payloads : List Payload) (p : Parsed A) (f : A × List Payload → Parsed B) → Takes j payloads p → ((a : A) (rest : List Payload) → Takes k rest (f (a, rest))) → Takes (j + k) payloads (p >>= f)
-Takes-bind j k payloads (Complete a rest) f t each = Takes-more j k payloads rest (f (a, rest)) t (each a rest)
-Takes-bind j k payloads (CutOff listed) f t each = tt
-Takes-bind j k payloads (Faulty listed fault rest) f t each = t
+-- A fault of the reader of events, by its name here.
+pub no_place : (old : ReplyState) (payload : Payload) (fault : EventFault) (new : EventsState) → ReadsOn old.events payload (Err fault) new → HasNoPlace old payload (fault_of fault)
+no_place old payload event_faults.Memory new read = tt
+no_place old payload event_faults.BadHeader new read = (event_faults.BadHeader, read.0, refl)
+no_place old payload event_faults.BadCount new read = (event_faults.BadCount, read.0, refl)
+no_place old payload event_faults.BadColumn new read = (event_faults.BadColumn, read.0, refl)
+no_place old payload event_faults.BadOk new read = (event_faults.BadOk, read.0, refl)
+no_place old payload event_faults.BadError new read = (event_faults.BadError, read.0, refl)
+no_place old payload event_faults.BadRow new read = (event_faults.BadRow, read.0, refl)
+no_place old payload event_faults.BadTerminator new read = (event_faults.BadTerminator, read.0, refl)
+no_place old payload event_faults.BadPrepare new read = (event_faults.BadPrepare, read.0, refl)
+no_place old payload event_faults.NotDue new read = (event_faults.NotDue, read.0, refl)
 
-pub Takes-if : {A : Type 0} (n : ℕ) (payloads : List Payload) (b : Bool) (p q : Parsed A) → Takes n payloads p → Takes n payloads q → Takes n payloads (if b then p else q)
-Takes-if n payloads true p q s t = s
-Takes-if n payloads false p q s t = t
+-- A fault was met, and the same is listed.
+pub stops : (old new : ReplyState) (fault : ReplyFault) → new.fault ≡ Some fault → faulted_at (open_reply new) fault ≡ faulted_at (open_reply old) fault → HasRoom (part_view new.part) new.results → HasSpare (part_view new.part) new.results new.spare → new.spare.items ≡ [] → HasStopped old fault new
+stops old new fault met answer room spared empty = record {
+  fault = met;
+  answer = answer;
+  reading = record { no_fault = λ none. absurd cc; fits = λ none. absurd cc; room = room; spared = spared; empty = empty };
+}
 
-Takes-as_part : {A : Type 0} (r : Result A ReplyFault) (payload : Payload) (rest : List Payload) → Takes 1 (payload ∷ rest) (as_part r payload rest)
-Takes-as_part (Ok a) payload rest = omega arith
-Takes-as_part (Err fault) payload rest = omega arith
+-- A state keeps what it keeps where a fault is met.
+pub still_reading : (old new : ReplyState) (fault : ReplyFault) → IsReading old → new ≡ record old { fault = Some fault } → IsReading new
+still_reading old new fault reading same =
+    let by : IsReading (record old { fault = Some fault }) = record { no_fault = λ none. absurd cc; fits = λ none. absurd cc; room = reading.room; spared = reading.spared; empty = reading.empty } in
+    subst IsReading (sym same) by
 
-Takes-cons : {A : Type 0} (n : ℕ) (payload : Payload) (rest : List Payload) (p : Parsed A) → Takes n rest p → Takes n (payload ∷ rest) p
-Takes-cons n payload rest (Complete a left) t = omega arith
-Takes-cons n payload rest (CutOff listed) t = tt
-Takes-cons n payload rest (Faulty listed fault left) t = omega arith
+-- Room stays where a list grows.
+pub room_stays : (part : Part) (old new : Vec ReplyResult Global) → HasRoom part old → vec_len new ≡ vec_len old → vec_capacity old ≤ vec_capacity new → HasRoom part new
+room_stays part old new room same more = λ some. let fits = room some in omega arith
 
-pub Takes-next_payload : {A : Type 0} (c : Context) (read : Payload → Result A ReplyFault) (payloads : List Payload) → Takes 1 payloads (next_payload c read payloads)
-unfolding next_payload
-Takes-next_payload c read [] = tt
-Takes-next_payload c read (payload ∷ rest) =
-    Takes-if 1 (payload ∷ rest) (is_report c payload) _ _ (Takes-cons 1 payload rest _ (Takes-next_payload c read rest)) (Takes-as_part (unless_report c read payload) payload rest)
+pub spare_stays : (part : Part) (results others old new : Vec ReplyResult Global) → HasSpare part results old → others.items ≡ results.items → vec_len new ≡ vec_len old → vec_capacity old ≤ vec_capacity new → HasSpare part others new
+spare_stays part results others old new spared is same more = λ some any.
+    let before = subst (λ (items : List ReplyResult). 0 < length items + length (rows_awaited part)) is any in
+    let fits = spared some before in
+    omega arith
 
-pub Takes-fewer : {A : Type 0} (j k : ℕ) (payloads : List Payload) (p : Parsed A) → k ≤ j → Takes j payloads p → Takes k payloads p
-Takes-fewer j k payloads (Complete a rest) h t = omega arith
-Takes-fewer j k payloads (CutOff listed) h t = tt
-Takes-fewer j k payloads (Faulty listed fault rest) h t = t
+-- WHAT A PAYLOAD LEADS TO
 
--- A part that takes some payloads, and then one that takes any number of them.
-Takes-then : {A B : Type 0} (n : ℕ) (payloads : List Payload) (p : Parsed A) (f : A × List Payload → Parsed B) → Takes n payloads p → ((a : A) (rest : List Payload) → Takes 0 rest (f (a, rest))) → Takes n payloads (p >>= f)
-Takes-then n payloads p f t each = Takes-fewer (n + 0) n payloads (p >>= f) (omega arith) (Takes-bind n 0 payloads p f t each)
+-- What a state is behind a payload, by what was answered.
+pub record IsBehind (old : ReplyState) (payload : Payload) (r : Result (Unit {0}) ReplyFault) (new : ReplyState) : Type 0 where
+  pub reading : IsReading new
+  pub ok : OnOk r ((new.fault ≡ None) × (new.count ≡ old.count + 1))
+  pub fault : IfErr r (λ fault. new.fault ≡ Some fault)
+  pub goes_on : UnlessMemory r (StateGoesOn old payload new)
+  pub short : OnMemory r (IsShortOf old new)
 
-pub Takes-columns : (c : Context) (n : ℕ) (these : List ColumnDefinition) (payloads : List Payload) → Takes 0 payloads (columns c n these payloads)
-unfolding columns
-Takes-columns c zero these payloads = omega arith
-Takes-columns c (suc n) these payloads =
-    Takes-fewer 1 0 payloads _ (omega arith) (Takes-then 1 payloads (next_payload c column payloads) _ (Takes-next_payload c column payloads) (λ a rest. Takes-columns c n (these ++ a ∷ []) rest))
+fault_goes : (old new : ReplyState) (payload : Payload) (fault : ReplyFault) → old.fault ≡ None → HasStopped old fault new → HasNoPlace old payload fault → UnlessMemory {X = Unit {0}} (Err fault) (StateGoesOn old payload new)
+fault_goes old new payload faults.Memory going stopped none = tt
+fault_goes old new payload fault going stopped none = refused_goes old new payload fault none.0 going stopped none.1 none.2
 
-pub Takes-columns_end : (c : Context) (these : List ColumnDefinition) (payloads : List Payload) → Takes 0 payloads (columns_end c these payloads)
-unfolding columns_end
-Takes-columns_end c [] payloads = omega arith
-Takes-columns_end c (first ∷ others) payloads =
-    Takes-if 0 payloads (deprecate_eof c.capabilities.0) _ _ (omega arith)
-    (Takes-fewer 1 0 payloads _ (omega arith) (Takes-then 1 payloads (next_payload c eof payloads) _ (Takes-next_payload c eof payloads) (λ a rest. omega arith)))
+fault_short : (old new : ReplyState) (fault : ReplyFault) → HasStopped old fault new → OnMemory {X = Unit {0}} (Err fault) (IsShortOf old new)
+fault_short old new faults.Memory stopped = falls_short old new stopped
+fault_short old new fault stopped = tt
 
-pub Takes-column_group : (c : Context) (n : ℕ) (these : List ColumnDefinition) (payloads : List Payload) → Takes 0 payloads (column_group c n these payloads)
-unfolding column_group
-Takes-column_group c n these payloads =
-    Takes-then 0 payloads (columns c n these payloads) _ (Takes-columns c n these payloads) (λ a rest. Takes-columns_end c a rest)
+pub behind_fault : (old new : ReplyState) (payload : Payload) (fault : ReplyFault) → old.fault ≡ None → HasStopped old fault new × HasNoPlace old payload fault → IsBehind old payload (Err fault) new
+behind_fault old new payload fault going (stopped, none) = record {
+  reading = stopped.reading;
+  ok = tt;
+  fault = stopped.fault;
+  goes_on = fault_goes old new payload fault going stopped none;
+  short = fault_short old new fault stopped;
+}
 
-Takes-after_rows : (columns : List ColumnDefinition) (rows : List Row) (on : Row → Parsed ResultGroup) (r : Result Line ReplyFault) (payload : Payload) (rest : List Payload) → ((found : Row) → Takes 0 rest (on found)) → Takes 0 (payload ∷ rest) (after_rows columns rows on r payload rest)
-Takes-after_rows columns rows on (Ok (RowLine found)) payload rest each = Takes-cons 0 payload rest _ (each found)
-Takes-after_rows columns rows on (Ok (TerminatorLine ok)) payload rest each = omega arith
-Takes-after_rows columns rows on (Ok (ErrorLine error)) payload rest each = omega arith
-Takes-after_rows columns rows on (Err fault) payload rest each = omega arith
+-- A row was taken in place.
+pub behind_row : (old new : ReplyState) (payload : Payload) → old.fault ≡ None → HasTakenRow old payload new → IsBehind old payload (Ok tt) new
+behind_row old new payload going taken = record {
+  reading = taken.reading;
+  ok = (taken.fault, ap (λ (s : OpenReply). s.count) taken.reply);
+  fault = tt;
+  goes_on = row_goes old new payload going taken;
+  short = tt;
+}
 
-pub Takes-rows : (c : Context) (columns : List ColumnDefinition) (these : List Row) (payloads : List Payload) → Takes 0 payloads (rows c columns these payloads)
-unfolding rows
-Takes-rows c columns these [] = tt
-Takes-rows c columns these (payload ∷ rest) =
-    Takes-if 0 (payload ∷ rest) (is_report c payload) _ _ (Takes-cons 0 payload rest _ (Takes-rows c columns these rest))
-    (Takes-after_rows columns these _ (unless_report c (line c columns) payload) payload rest (λ found. Takes-rows c columns (these ++ found ∷ []) rest))
+-- What there is of a result fits what is awaited behind an event that was put.
+fits_next : (old between next : ReplyState) (payload : Payload) (event : Event) → IsReading old → old.fault ≡ None → HasRead old payload event between → HasPut between event next → Fits (open_reply next)
+fits_next old between next payload event reading going read put =
+    subst Fits (sym (reply_behind old between next payload event read put))
+    (fits_behind old.events.context old.events.so_far (part_view old.part) payload event between.events.so_far (reading.fits going) read.event)
 
-pub Takes-result_set : (c : Context) (n : ℕ) (these : List ColumnDefinition) (payloads : List Payload) → Takes 0 payloads (result_set c n these payloads)
-unfolding result_set
-Takes-result_set c n these payloads =
-    Takes-then 0 payloads (column_group c n these payloads) _ (Takes-column_group c n these payloads) (λ a rest. Takes-rows c a [] rest)
+reading_next : (old between next : ReplyState) (payload : Payload) (event : Event) → IsReading old → old.fault ≡ None → HasRead old payload event between → HasPut between event next → IsReading next
+reading_next old between next payload event reading going read put = record {
+  no_fault = λ none. ap (λ (events : EventsState). events.fault) put.events ∙ read.going.fault;
+  fits = λ none. fits_next old between next payload event reading going read put;
+  room = λ some. put.results;
+  spared = λ some any. subst (λ (spare : Vec ReplyResult Global). vec_len spare < vec_capacity spare) (sym put.spare) read.room.spare;
+  empty = ap (λ (spare : Vec ReplyResult Global). spare.items) put.spare ∙ read.room.empty;
+}
 
-pub Takes-prepared_columns : (c : Context) (statement : PrepareOk) (parameters : List ColumnDefinition) (n : ℕ) (these : List ColumnDefinition) (payloads : List Payload) → Takes 0 payloads (prepared_columns c statement parameters n these payloads)
-unfolding prepared_columns
-Takes-prepared_columns c statement parameters n these payloads =
-    Takes-then 0 payloads (column_group c n these payloads) _ (Takes-column_group c n these payloads) (λ a rest. omega arith)
+-- The same is listed behind an event that isn't put yet.
+pub same_between : (old between : ReplyState) (payload : Payload) (event : Event) (fault : ReplyFault) → HasRead old payload event between → faulted_at (open_reply between) fault ≡ faulted_at (open_reply old) fault
+same_between old between payload event fault read =
+    ap (λ (s : ReplyState). faulted_at (open_reply s) fault) read.rest
+    ∙ (λ i. faulted_at (record (open_reply old) { results = outcome_views (read.results i) }) fault)
 
-pub Takes-prepared : (c : Context) (statement : PrepareOk) (n : ℕ) (these : List ColumnDefinition) (payloads : List Payload) → Takes 0 payloads (prepared c statement n these payloads)
-unfolding prepared
-Takes-prepared c statement n these payloads =
-    Takes-then 0 payloads (column_group c n these payloads) _ (Takes-column_group c n these payloads) (λ a rest. Takes-prepared_columns c statement a statement.num_columns [] rest)
+-- Memory ran out over an event that was read.
+pub read_stopped : (old between next : ReplyState) (payload : Payload) (event : Event) (fault : ReplyFault) → HasRead old payload event between → next ≡ record between { fault = Some fault } → HasStopped old fault next
+read_stopped old between next payload event fault read is =
+    let fits : vec_len between.results < vec_capacity between.results = let r = read.room.results in omega arith in
+    stops old next fault (ap (λ (s : ReplyState). s.fault) is)
+    (ap (λ (s : ReplyState). faulted_at (open_reply s) fault) is ∙ same_between old between payload event fault read)
+    (λ some. subst (λ (s : ReplyState). vec_len s.results < vec_capacity s.results) (sym is) fits)
+    (λ some any. subst (λ (s : ReplyState). vec_len s.spare < vec_capacity s.spare) (sym is) read.room.spare)
+    (ap (λ (s : ReplyState). s.spare.items) is ∙ read.room.empty)
 
-pub Takes-after_opening : (c : Context) (o : Opening) (payloads : List Payload) → Takes 0 payloads (after_opening c o payloads)
-Takes-after_opening c (OkOpening ok) payloads = omega arith
-Takes-after_opening c (ErrorOpening error) payloads = omega arith
-Takes-after_opening c (FileOpening name) payloads = omega arith
-Takes-after_opening c (CountOpening n) payloads = Takes-result_set c n [] payloads
-Takes-after_opening c (StatementOpening statement) payloads = Takes-prepared c statement statement.num_params [] payloads
+pub short_between : (old between next : ReplyState) (payload : Payload) (event : Event) → HasRead old payload event between → HasStopped between faults.Memory next → IsShortOf old next
+short_between old between next payload event read stopped =
+    falls_short between next stopped ∙ ap Answered (same_between old between payload event faults.Memory read)
 
-pub Takes-one_result : (c : Context) (payloads : List Payload) → Takes 1 payloads (one_result c payloads)
-unfolding one_result
-Takes-one_result c payloads =
-    Takes-then 1 payloads (next_payload c (opening c) payloads) _ (Takes-next_payload c (opening c) payloads) (λ a rest. Takes-after_opening c a rest)
+-- An event was read, and then put.
+pub behind_event : (old between next : ReplyState) (payload : Payload) (event : Event) (r : Result (Unit {0}) ReplyFault) → IsReading old → old.fault ≡ None → HasRead old payload event between → PutsEvent between event r next → IsBehind old payload r next
+behind_event old between next payload event (Ok x) reading going read put = record {
+  reading = reading_next old between next payload event reading going read put;
+  ok = (
+    put.fault ∙ ap (λ (s : ReplyState). s.fault) read.rest ∙ going,
+    ap (λ (s : OpenReply). s.count) (reply_behind old between next payload event read put),
+  );
+  fault = tt;
+  goes_on = read_goes old between next payload event going read put;
+  short = tt;
+}
+behind_event old between next payload event (Err fault) reading going read (is, stopped) = record {
+  reading = stopped.reading;
+  ok = tt;
+  fault = stopped.fault ∙ ap Some (sym is);
+  goes_on = subst (λ (f : ReplyFault). UnlessMemory {X = Unit {0}} (Err f) (StateGoesOn old payload next)) (sym is) tt;
+  short = subst (λ (f : ReplyFault). OnMemory {X = Unit {0}} (Err f) (IsShortOf old next)) (sym is) (short_between old between next payload event read stopped);
+}
+
+-- Nothing but the spare list has changed before.
+pub behind_same : (old mid next : ReplyState) (payload : Payload) (r : Result (Unit {0}) ReplyFault) → mid ≡ record old { spare = mid.spare } → IsBehind mid payload r next → IsBehind old payload r next
+behind_same old mid next payload r same h =
+    let k = subst (λ (s : ReplyState). IsBehind s payload r next) same h in
+    record { reading = k.reading; ok = k.ok; fault = k.fault; goes_on = k.goes_on; short = k.short }
+
+-- A ROW IN PLACE
+
+-- A row that was read is behind those so far.
+pub row_taken : (old new : ReplyState) (payload : Payload) (open_rows : RowsSoFar) (row : RowOf) → IsReading old → old.fault ≡ None → old.part ≡ parts.Rows open_rows → KeepsRow old.events payload (Ok (Some row)) new.events →
+    new ≡ record old { events = new.events; spare = new.spare; part = parts.Rows (record open_rows { rows = open_rows.rows ++ row_view row ∷ [] }); count = old.count + 1 } → vec_len new.spare < vec_capacity new.spare → new.spare.items ≡ [] → HasTakenRow old payload new
+row_taken old new payload open_rows row reading going is kept same spare empty =
+    let results = outcome_views old.results.items in
+    let progress = map progress_report_view old.progress.items in
+    let reply : open_reply new ≡ behind (open_reply old) (RowEvent (row_view row)) new.events.so_far =
+    ap open_reply same ∙ (λ i. record {
+      context = kept.1.context i;
+      so_far = new.events.so_far;
+      results = sym (append-nil results) i;
+      progress = sym (append-nil progress) i;
+      part = together.with_row (part_view (sym is i)) (row_view row);
+      count = old.count + 1;
+    }) in
+    record {
+      row = row_view row;
+      event = kept.0;
+      reply = reply;
+      fault = ap (λ (s : ReplyState). s.fault) same ∙ going;
+      reading = record {
+        no_fault = λ none. kept.1.fault;
+        fits = λ none. subst Fits (sym reply) (fits_behind old.events.context old.events.so_far (part_view old.part) payload (RowEvent (row_view row)) new.events.so_far (reading.fits going) kept.0);
+        room = λ some.
+            let one : 0 < 1 = omega arith in
+            let room : HasRoom (RowsPart open_rows.columns open_rows.rows) old.results = subst (λ (p : PartOf). HasRoom (part_view p) old.results) is reading.room in
+            subst (λ (s : ReplyState). vec_len s.results < vec_capacity s.results) (sym same) (room one);
+        spared = λ some any. spare;
+        empty = empty;
+      };
+    }
+
+-- Nothing of what is listed has changed.
+pub row_stopped : (old new : ReplyState) (fault : ReplyFault) (events : EventsState) (spare : Vec ReplyResult Global) (part : PartOf) → IsReading old → part ≡ old.part →
+    new ≡ record old { events = events; spare = spare; part = part; fault = Some fault } → vec_len spare ≡ vec_len old.spare → vec_capacity old.spare ≤ vec_capacity spare → spare.items ≡ old.spare.items → HasStopped old fault new
+row_stopped old new fault events spare part reading same is len more items =
+    let kept : HasSpare (part_view old.part) old.results spare = spare_stays (part_view old.part) old.results old.results old.spare spare reading.spared refl len more in
+    stops old new fault (ap (λ (s : ReplyState). s.fault) is)
+    (ap (λ (s : ReplyState). faulted_at (open_reply s) fault) is ∙ (λ i. record (faulted_at (open_reply old) fault) { results = outcome_views old.results.items ++ listed (part_view (same i)) }))
+    (subst (λ (s : ReplyState). HasRoom (part_view s.part) s.results) (sym is) (subst (λ (p : PartOf). HasRoom (part_view p) old.results) (sym same) reading.room))
+    (subst (λ (s : ReplyState). HasSpare (part_view s.part) s.results s.spare) (sym is) (subst (λ (p : PartOf). HasSpare (part_view p) old.results spare) (sym same) kept))
+    (ap (λ (s : ReplyState). s.spare.items) is ∙ items ∙ reading.empty)
+
+-- No row is due: nothing but the spare list has changed.
+pub row_passed : (old new : ReplyState) → IsReading old → new ≡ record old { spare = new.spare } → vec_len new.spare ≡ vec_len old.spare → vec_capacity old.spare ≤ vec_capacity new.spare → new.spare.items ≡ old.spare.items → IsReading new
+row_passed old new reading same len more items =
+    let by : IsReading (record old { spare = new.spare }) = record {
+      no_fault = reading.no_fault;
+      fits = reading.fits;
+      room = reading.room;
+      spared = spare_stays (part_view old.part) old.results old.results old.spare new.spare reading.spared refl len more;
+      empty = items ∙ reading.empty;
+    } in
+    subst IsReading (sym same) by
+
+-- A list with more room takes the results' place, and a fault was met.
+pub room_stopped : (old new : ReplyState) (fault : ReplyFault) (events : EventsState) (results spare : Vec ReplyResult Global) → IsReading old →
+    new ≡ record old { events = events; results = results; spare = spare; fault = Some fault } → vec_len results ≡ vec_len old.results → vec_capacity old.results ≤ vec_capacity results → results.items ≡ old.results.items →
+    vec_len spare ≡ vec_len old.spare → vec_capacity old.spare ≤ vec_capacity spare → spare.items ≡ old.spare.items → HasStopped old fault new
+room_stopped old new fault events results spare reading is len more items len_spare more_spare items_spare =
+    let room : HasRoom (part_view old.part) results = room_stays (part_view old.part) old.results results reading.room len more in
+    let kept : HasSpare (part_view old.part) results spare = spare_stays (part_view old.part) old.results results old.spare spare reading.spared items len_spare more_spare in
+    stops old new fault (ap (λ (s : ReplyState). s.fault) is)
+    (ap (λ (s : ReplyState). faulted_at (open_reply s) fault) is ∙ (λ i. record (faulted_at (open_reply old) fault) { results = outcome_views (items i) ++ listed (part_view old.part) }))
+    (subst (λ (s : ReplyState). HasRoom (part_view s.part) s.results) (sym is) room)
+    (subst (λ (s : ReplyState). HasSpare (part_view s.part) s.results s.spare) (sym is) kept)
+    (ap (λ (s : ReplyState). s.spare.items) is ∙ items_spare ∙ reading.empty)
+
+-- EVENTS
+
+-- An event that is no progress report.
+pub no_report : (event : ReplyEvent) → ((report : ProgressReport) → event ≡ events.Progress report → ⊥) → reported (event_view event) ≡ []
+no_report (events.Ok ok) none = refl
+no_report (events.Error error) none = refl
+no_report (events.Progress report) none = absurd (none report refl)
+no_report (events.ColumnCount count follow) none = refl
+no_report (events.Column column) none = refl
+no_report (events.Field column) none = refl
+no_report (events.ColumnsEnd ok) none = refl
+no_report (events.Row row) none = refl
+no_report (events.RawRow bytes) none = refl
+no_report (events.RowsEnd ok) none = refl
+no_report (events.FileRequest file) none = refl
+no_report (events.Prepared statement follow) none = refl
+no_report (events.Line bytes) none = refl
+
+-- What an event makes whole is listed, and what is left open is there.
+pub put_moved : (old new : ReplyState) (event : Event) (found : Listed) (next : PartOf) → reported event ≡ [] →
+    (listed_views found ≡ (together.put (part_view old.part) event old.events.so_far).results) × (part_view next ≡ (together.put (part_view old.part) event old.events.so_far).part) →
+    outcome_views new.results.items ≡ outcome_views old.results.items ++ listed_views found → new ≡ record old { part = next; results = new.results; count = old.count + 1 } → vec_len new.results < vec_capacity new.results → HasPut old event new
+put_moved old new event found next none put listing same room =
+    let progress = map progress_report_view old.progress.items in
+    let results : outcome_views new.results.items ≡ outcome_views old.results.items ++ (together.put (part_view old.part) event old.events.so_far).results =
+    listing ∙ ap (λ (l : List Outcome). outcome_views old.results.items ++ l) put.0 in
+    let reports : progress ≡ progress ++ reported event = subst (λ (l : List _). progress ≡ progress ++ l) (sym none) (sym (append-nil progress)) in
+    record {
+      reply = ap open_reply same ∙ (λ i. record {
+        context = old.events.context;
+        so_far = old.events.so_far;
+        results = results i;
+        progress = reports i;
+        part = put.1 i;
+        count = old.count + 1;
+      });
+      fault = ap (λ (s : ReplyState). s.fault) same;
+      events = ap (λ (s : ReplyState). s.events) same;
+      results = room;
+      spare = ap (λ (s : ReplyState). s.spare) same;
+    }
+
+-- Memory ran out over an event.
+pub put_failed : (old new : ReplyState) (same : PartOf) → HasRoomFor old → listed (part_view same) ≡ listed (part_view old.part) → new ≡ record old { part = same; fault = Some faults.Memory } → HasStopped old faults.Memory new
+put_failed old new same room kept is =
+    let results = outcome_views old.results.items in
+    let fits : vec_len old.results < vec_capacity old.results = let r = room.results in omega arith in
+    stops old new faults.Memory (ap (λ (s : ReplyState). s.fault) is)
+    (ap (λ (s : ReplyState). faulted_at (open_reply s) faults.Memory) is ∙ (λ i. record (faulted_at (open_reply old) faults.Memory) { results = results ++ kept i }))
+    (λ some. subst (λ (s : ReplyState). vec_len s.results < vec_capacity s.results) (sym is) fits)
+    (λ some any. subst (λ (s : ReplyState). vec_len s.spare < vec_capacity s.spare) (sym is) room.spare)
+    (ap (λ (s : ReplyState). s.spare.items) is ∙ room.empty)
+
+-- A progress report.
+pub report_put : (old new : ReplyState) (report : ProgressReport) → HasRoomFor old → new.progress.items ≡ old.progress.items ++ report ∷ [] → new ≡ record old { progress = new.progress; count = old.count + 1 } → HasPut old (ProgressEvent (progress_report_view report)) new
+report_put old new report room pushed same =
+    let results = outcome_views old.results.items in
+    let reports : map progress_report_view new.progress.items ≡ map progress_report_view old.progress.items ++ progress_report_view report ∷ [] =
+    ap (map progress_report_view) pushed ∙ map_push progress_report_view old.progress.items report in
+    record {
+      reply = ap open_reply same ∙ (λ i. record {
+        context = old.events.context;
+        so_far = old.events.so_far;
+        results = sym (append-nil results) i;
+        progress = reports i;
+        part = part_view old.part;
+        count = old.count + 1;
+      });
+      fault = ap (λ (s : ReplyState). s.fault) same;
+      events = ap (λ (s : ReplyState). s.events) same;
+      results = subst (λ (s : ReplyState). vec_len s.results < vec_capacity s.results) (sym same) (let r = room.results in omega arith);
+      spare = ap (λ (s : ReplyState). s.spare) same;
+    }
+
+pub report_failed : (old new : ReplyState) → HasRoomFor old → new.progress.items ≡ old.progress.items → new ≡ record old { progress = new.progress; fault = Some faults.Memory } → HasStopped old faults.Memory new
+report_failed old new room kept is =
+    let fits : vec_len old.results < vec_capacity old.results = let r = room.results in omega arith in
+    stops old new faults.Memory (ap (λ (s : ReplyState). s.fault) is)
+    (ap (λ (s : ReplyState). faulted_at (open_reply s) faults.Memory) is ∙ (λ i. record (faulted_at (open_reply old) faults.Memory) { progress = map progress_report_view (kept i) }))
+    (λ some. subst (λ (s : ReplyState). vec_len s.results < vec_capacity s.results) (sym is) fits)
+    (λ some any. subst (λ (s : ReplyState). vec_len s.spare < vec_capacity s.spare) (sym is) room.spare)
+    (ap (λ (s : ReplyState). s.spare.items) is ∙ room.empty)

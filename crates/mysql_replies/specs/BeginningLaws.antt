@@ -1,6 +1,6 @@
 -- Fronts of results behind results that stand.
 use Rattle.std.specs.Prelude.{List, [], ◌∷◌, ◌++◌}
-use Rattle.mysql_replies.specs.Grammar.{Outcome}
+use Rattle.mysql_replies.specs.Together.{Outcome}
 use Rattle.mysql_replies.specs.Beginnings.{IsFrontOf, first}
 
 pub front_behind : (before front results : List Outcome) → IsFrontOf front results →

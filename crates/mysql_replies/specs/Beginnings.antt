@@ -7,10 +7,12 @@ use Rattle.mysql_ok_packets.specs.OkPackets.{OkPacket}
 use Rattle.mysql_server_packets.specs.Packets.{ProgressReport, progress_report_at}
 use Rattle.mysql_columns.specs.Columns.{ColumnDefinition}
 use Rattle.mysql_rows.specs.Rows.{Row}
-use Rattle.mysql_replies.specs.declared.context.Context.{Context}
-use Rattle.mysql_replies.specs.Grammar.{Payload, Outcome, RowsResult, has_report_form, is_prepare}
-use Rattle.mysql_replies.specs.Reply.{Answer, IsReply}
-use Rattle.mysql_replies.specs.Manual.{Reads, IsCount, IsColumnGroup, AreRows, IsResult}
+use Rattle.mysql_reply_events.specs.Readings.{has_report_form}
+use Rattle.mysql_reply_events.specs.Table.{has_results}
+use Rattle.mysql_reply_events.specs.declared.context.Context.{Context}
+use Rattle.mysql_replies.specs.Together.{Outcome, RowsResult}
+use Rattle.mysql_replies.specs.Reply.{Answer, IsReply, Payload}
+use Rattle.mysql_replies.specs.Manual.{Reads, AreRows, IsColumnGroup, IsCount, IsResult, opens_cursor}
 
 -- A front of some results: none of them; or the first one whole, and a front of the others; or,
 -- where the first one is rows, some of them from the first row on, without their end.
@@ -37,8 +39,9 @@ pub data PassesReports (c : Context) : List Payload → List Payload → Type 0 
 pub data BeginsReply (c : Context) : List Payload → List Outcome → Type 0 where
   unsaid : (payloads : List Payload) → BeginsReply c payloads []
   rows_so_far : {count : Payload} {n : ℕ} (group rows : List Payload)
-      {columns : List ColumnDefinition} {found : List Row} →
-      is_prepare c.kind ≡ false → IsCount count n → IsColumnGroup c n group columns → AreRows c columns rows found →
+      {columns : List ColumnDefinition} {says : Option OkPacket} {found : List Row} →
+      has_results c.kind ≡ true → IsCount c count n → IsColumnGroup c n group columns says →
+      opens_cursor c says ≡ false → AreRows c columns rows found →
       BeginsReply c (count ∷ group ++ rows) (RowsResult columns found None ∷ [])
   followed : (payloads others : List Payload) (listed rest : List Outcome) →
       IsResult c payloads listed true → BeginsReply c others rest → BeginsReply c (payloads ++ others) (listed ++ rest)

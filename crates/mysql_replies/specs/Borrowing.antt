@@ -9,10 +9,10 @@ use Rattle.mysql_rows.specs.Rows.{Row}
 use Rattle.mysql_row_refs.specs.RowRefs.{row_ref_view}
 use Rattle.mysql_row_refs.specs.declared.row_ref.RowRef.{RowRef}
 use Rattle.mysql_wire.specs.Bytes.{AreBytes}
-use Rattle.mysql_replies.specs.declared.context.Context.{Context}
+use Rattle.mysql_reply_events.specs.declared.context.Context.{Context}
 use Rattle.mysql_replies.specs.declared.fault.ReplyFault.{ReplyFault}
-use Rattle.mysql_replies.specs.Grammar.{Outcome, RowsResult}
-use Rattle.mysql_replies.specs.Reply.{OpenReply, ReplySoFar, Rows, GoingOn, Answered}
+use Rattle.mysql_replies.specs.Together.{Outcome, RowsPart, RowsResult}
+use Rattle.mysql_replies.specs.Reply.{OpenReply, ReplySoFar, GoingOn, Answered}
 use Rattle.mysql_replies.specs.Holding.{HasFoundNoFault, ReaderState}
 use Rattle.mysql_replies.specs.Taking.{Feeds, Runs, results_in, rows_awaited}
 
@@ -23,7 +23,7 @@ rows_in outcome = []
 
 -- All rows that are listed of a reply so far, one after another.
 abbrev pub rows_listed : ReplySoFar → List Row
-rows_listed (GoingOn s) = flat_map rows_in s.results ++ rows_awaited s.awaited
+rows_listed (GoingOn s) = flat_map rows_in s.results ++ rows_awaited s.part
 rows_listed (Answered answer) = flat_map rows_in answer.results
 
 -- A row was read behind the bytes that were used, and isn't kept: fed these bytes, the reader would
@@ -36,9 +36,9 @@ pub record BorrowsRow (old : ReaderState) (piece : List ℕ) (row : Row) (new : 
   pub going : new.so_far ≡ GoingOn s
   pub columns : List ColumnDefinition
   pub rows : List Row
-  pub awaits : s.awaited ≡ Rows columns rows
+  pub part : s.part ≡ RowsPart columns rows
   pub feeds : Feeds old (record new {
-    so_far = GoingOn (record s { awaited = Rows columns (rows ++ row ∷ []) });
+    so_far = GoingOn (record s { part = RowsPart columns (rows ++ row ∷ []) });
   }) used (Ok tt)
   pub whole : new.bytes ≡ []
 

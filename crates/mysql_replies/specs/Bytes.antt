@@ -8,10 +8,10 @@ use Rattle.mysql_wire.specs.Stream as stream
 use Rattle.mysql_wire.specs.Stream.{Rest, Split, IsSplit, IsFault}
 use Rattle.mysql_wire.specs.Stream.Numbering.{OnFrom}
 use Rattle.mysql_wire.specs.Stream.Rest.{TooLarge}
-use Rattle.mysql_replies.specs.declared.context.Context.{Context}
+use Rattle.mysql_reply_events.specs.declared.context.Context.{Context}
 use Rattle.mysql_replies.specs.declared.fault.ReplyFault.TheVariants.{Memory}
-use Rattle.mysql_replies.specs.Grammar.{Payload}
-use Rattle.mysql_replies.specs.Reply.{Answer, FaultAt, Unfinished, IsReply, ReplySoFar, GoingOn, Answered, Continues}
+use Rattle.mysql_replies.specs.Reply.{Answer, Answered, FaultAt, GoingOn, IsReply, Payload, PayloadsDecide, ReplySoFar}
+use Rattle.mysql_replies.specs.Reply.{Unfinished}
 
 -- Payloads are counted in 64 bits: the numbers of payloads are below 2^64 - 1.
 abbrev pub number_bound : ℕ
@@ -65,7 +65,7 @@ pub record IsShortReplyOf (c : Context) (first_id limit : ℕ) (pieces : List (L
 -- as they can be numbered.
 abbrev pub NumberedPayloadsDecide : ReplySoFar → List Payload → Rest → Answer → Type 0
 NumberedPayloadsDecide (GoingOn s) payloads rest answer =
-    Continues s (numbered s.count payloads) (after_numbered s.count payloads rest) answer
+    PayloadsDecide (GoingOn s) (numbered s.count payloads) (after_numbered s.count payloads rest) answer
 NumberedPayloadsDecide (Answered known) payloads rest answer = answer ≡ known
 
 -- Any bytes have an answer.

@@ -6,11 +6,10 @@ use Rattle.mysql_wire.specs.Reader.{StandFirst}
 use Rattle.mysql_wire.specs.Stream as stream
 use Rattle.mysql_wire.specs.Stream.{Rest, Split, IsSplit, IsFault, first_number, after_all}
 use Rattle.mysql_wire.specs.Stream.Numbering.{OnFrom}
-use Rattle.mysql_replies.specs.declared.context.Context.{Context}
+use Rattle.mysql_reply_events.specs.declared.context.Context.{Context}
 use Rattle.mysql_replies.specs.declared.fault.ReplyFault.{ReplyFault}
 use Rattle.mysql_replies.specs.declared.fault.ReplyFault.TheVariants.{Memory}
-use Rattle.mysql_replies.specs.Grammar.{Payload}
-use Rattle.mysql_replies.specs.Reply.{Answer, End, FaultAt, Unfinished, ReplySoFar, GoingOn, Answered, fresh}
+use Rattle.mysql_replies.specs.Reply.{Answer, End, FaultAt, Payload, Unfinished, ReplySoFar, GoingOn, Answered, fresh}
 use Rattle.mysql_replies.specs.Bytes.{NumberedPayloadsDecide, IsReplyOf}
 
 -- What is held: the reply so far, and the bytes of the packet that hasn't come whole, with the number

@@ -1,21 +1,18 @@
 -- Words of the reader's own body, which no public call's clause has: the rows so far of a result set that goes on.
 -- MySQL: Client/Server Protocol, "Text Resultset" and "Binary Protocol Resultset".
-use Rattle.std.specs.Prelude.{◌≡◌, List, [], map, Option, Some, None, IfSome}
+use Rattle.std.specs.Prelude.{◌≡◌, List, [], map, Option, Some, None}
 use Rattle.std.specs.declared.alloc.Global.{Global}
 use Rattle.std.specs.declared.rc.RcSlice.{RcSlice}
 use Rattle.mysql_columns.specs.Columns.{ColumnDefinition}
 use Rattle.mysql_columns.specs.declared.column.Column.{Column}
-use Rattle.mysql_row_refs.specs.declared.format.RowFormat.{RowFormat}
-use Rattle.mysql_row_refs.specs.declared.reader.RowReader.{RowReader}
 use Rattle.mysql_rows.specs.Rows as rows
 use Rattle.mysql_rows.specs.declared.row.Row.{Row}
 use Rattle.mysql_rows.specs.Views.{row_view, shared_columns}
 
--- The columns, the rows so far, and what reads rows to be borrowed, where one was read.
+-- The columns and the rows so far.
 pub record RowsSoFar : Type 0 where
   pub columns : List ColumnDefinition
   pub rows : List rows.Row
-  pub reader : Option RowReader
 
 abbrev pub rows_of : List Row → List rows.Row
 rows_of kept = map row_view kept
@@ -24,11 +21,3 @@ rows_of kept = map row_view kept
 abbrev pub HasShare : RcSlice Column Global → Option (RcSlice Column Global) → List Row → Type 0
 HasShare columns (Some share) kept = shared_columns share ≡ shared_columns columns
 HasShare columns None kept = kept ≡ []
-
--- A reader of rows under these columns, in this format.
-abbrev pub ReadsRows : List ColumnDefinition → RowFormat → RowReader → Type 0
-ReadsRows columns format reader = (shared_columns reader.columns ≡ columns) × (reader.format ≡ format)
-
--- What reads rows to be borrowed reads them under the same columns, in this format.
-abbrev pub HasReader : RcSlice Column Global → RowFormat → Option RowReader → Type 0
-HasReader columns format reader = IfSome reader (ReadsRows (shared_columns columns) format)

@@ -1,20 +1,26 @@
--- The answer that a reply's payloads have, and what decides it while payloads are still to come.
+-- The answer of a reply: the events of its payloads, put together one after another, and how it ends.
 -- MySQL: Client/Server Protocol, "COM_QUERY Response" and "COM_STMT_PREPARE Response"; MariaDB: 'Progress report' of
 -- "ERR_Packet".
-use Rattle.std.specs.Prelude.{◌≡◌, ℕ, ◌+◌, ◌-◌, List, [], ◌∷◌, ◌++◌, length, take, false, Ok, Err, if◌then◌else◌}
-use Rattle.mysql_wire.specs.Wire.{Reading}
-use Rattle.mysql_rows.specs.Rows.{Row}
-use Rattle.mysql_server_packets.specs.Packets.{ProgressReport, PrepareOk, progress_report_at}
-use Rattle.mysql_columns.specs.Columns.{ColumnDefinition}
-use Rattle.mysql_replies.specs.declared.fault.ReplyFault.{ReplyFault}
-use Rattle.mysql_replies.specs.declared.fault.ReplyFault.TheVariants as faults
-use Rattle.mysql_replies.specs.declared.fault.ReplyFault.TheVariants.{AfterEnd}
+use Rattle.std.specs.Prelude.{◌≡◌, ℕ, ◌+◌, List, [], ◌∷◌, ◌++◌, Bool, true, false, Option, Some, None, Result, Ok, Err}
 use Rattle.mysql_wire.specs.Stream.{Rest}
 use Rattle.mysql_wire.specs.Stream.Rest.{Empty, TooLarge, OutOfSync}
-use Rattle.mysql_replies.specs.declared.context.Context.{Context}
-use Rattle.mysql_replies.specs.Grammar.{Payload, Outcome, Parsed, Complete, ResultGroup, Ending, Ended, Open, Wrong}
-use Rattle.mysql_replies.specs.Grammar.{Results}
-use Rattle.mysql_replies.specs.Grammar.{has_report_form, rows, result_set, prepared, prepared_columns, one_result}
+use Rattle.mysql_const.specs.declared.capabilities.Capabilities.{Capabilities}
+use Rattle.mysql_const.specs.declared.capabilities.CapabilityFlags.{CapabilityFlags}
+use Rattle.mysql_columns.specs.Columns.{ColumnDefinition}
+use Rattle.mysql_server_packets.specs.Packets.{ProgressReport}
+use Rattle.mysql_reply_events.specs.Events as events
+use Rattle.mysql_reply_events.specs.Events.{Event}
+pub use Rattle.mysql_reply_events.specs.Events.{Payload}
+use Rattle.mysql_reply_events.specs.Table.{event_at}
+use Rattle.mysql_reply_events.specs.Table as table
+use Rattle.mysql_reply_events.specs.declared.context.Context.{Context}
+use Rattle.mysql_reply_events.specs.declared.context.ReplyKind.{ReplyKind}
+use Rattle.mysql_reply_events.specs.declared.fault.ReplyFault.{ReplyFault as EventFault}
+use Rattle.mysql_reply_events.specs.declared.fault.ReplyFault.TheVariants as event_faults
+use Rattle.mysql_replies.specs.declared.fault.ReplyFault.{ReplyFault}
+use Rattle.mysql_replies.specs.declared.fault.ReplyFault.TheVariants.{AfterEnd}
+use Rattle.mysql_replies.specs.declared.fault.ReplyFault.TheVariants as faults
+use Rattle.mysql_replies.specs.Together.{Outcome, Part, first_part, listed, put, reported}
 
 -- How a reply ends: whole, unfinished, or at the payload of this number.
 pub data End : Type 0 where
@@ -27,124 +33,118 @@ pub record Answer : Type 0 where
   pub progress : List ProgressReport
   pub end : End
 
--- The progress report that a payload is.
-abbrev pub read_report : Reading ProgressReport → List ProgressReport
-read_report (Ok x) = x.0 ∷ []
-read_report (Err e) = []
+-- A fault by its name. A payload that isn't due comes after the end.
+abbrev pub fault_of : EventFault → ReplyFault
+fault_of event_faults.BadHeader = faults.BadHeader
+fault_of event_faults.BadCount = faults.BadCount
+fault_of event_faults.BadColumn = faults.BadColumn
+fault_of event_faults.BadOk = faults.BadOk
+fault_of event_faults.BadError = faults.BadError
+fault_of event_faults.BadRow = faults.BadRow
+fault_of event_faults.BadTerminator = faults.BadTerminator
+fault_of event_faults.BadPrepare = faults.BadPrepare
+fault_of event_faults.NotDue = faults.AfterEnd
+fault_of event_faults.Memory = faults.Memory
 
-abbrev pub report_of : Context → Payload → List ProgressReport
-report_of c payload = if has_report_form c payload then read_report (progress_report_at payload) else []
-
--- The progress reports among the payloads.
-abbrev pub reports : Context → List Payload → List ProgressReport
-reports c [] = []
-reports c (payload ∷ rest) = report_of c payload ++ reports c rest
-
--- The payloads up to the end.
-abbrev pub before_end : List Payload → Ending → List Payload
-before_end payloads Open = payloads
-before_end payloads (Ended left) = take (length payloads - length left) payloads
-before_end payloads (Wrong fault left) = take (length payloads - length left) payloads
-
--- The end of a reply of so many payloads.
-abbrev pub end_of : ℕ → Rest → Ending → End
-end_of count rest (Wrong fault left) = FaultAt (count - length left) fault
-end_of count rest (Ended (payload ∷ left)) = FaultAt (count - length (payload ∷ left)) AfterEnd
-end_of count Empty (Ended []) = Whole
-end_of count rest (Ended []) = FaultAt count AfterEnd
-end_of count TooLarge Open = FaultAt count faults.TooLarge
-end_of count OutOfSync Open = FaultAt count faults.OutOfSync
-end_of count rest Open = Unfinished
-
--- The answer to these payloads with this rest: their results, the reports up to the end, and the end.
-pub record IsReply (c : Context) (payloads : List Payload) (rest : Rest) (answer : Answer) : Type 0 where
-  pub ending : Ending
-  pub results : Results c (one_result c payloads) answer.results ending
-  pub progress : answer.progress ≡ reports c (before_end payloads ending)
-  pub end : answer.end ≡ end_of (length payloads) rest ending
-
--- What is awaited: a result, or what is still to come of one.
-pub data Awaited : Type 0 where
-  -- The first payload of a result.
-  First : Awaited
-  -- Of a result set: n more columns after the earlier ones, and all that follows them.
-  Columns : ℕ → List ColumnDefinition → Awaited
-  -- Under these columns, rows after the earlier ones.
-  Rows : List ColumnDefinition → List Row → Awaited
-  -- Of a prepared reply: n more parameters after the earlier ones, and all that follows them.
-  Parameters : PrepareOk → ℕ → List ColumnDefinition → Awaited
-  -- Of a prepared reply: n more columns after the earlier ones.
-  PreparedColumns : PrepareOk → List ColumnDefinition → ℕ → List ColumnDefinition → Awaited
-  -- Nothing: the last result is whole.
-  Nothing : Awaited
-
--- What the payloads make of the part that is awaited.
-abbrev pub rest_of : Context → Awaited → List Payload → Parsed ResultGroup
-rest_of c First payloads = one_result c payloads
-rest_of c (Columns n earlier) payloads = result_set c n earlier payloads
-rest_of c (Rows columns earlier) payloads = rows c columns earlier payloads
-rest_of c (Parameters statement n earlier) payloads = prepared c statement n earlier payloads
-rest_of c (PreparedColumns statement parameters n earlier) payloads =
-    prepared_columns c statement parameters n earlier payloads
-rest_of c Nothing payloads = Complete (record { results = []; more = false }) payloads
-
--- A reply that goes on: what is listed, how many payloads there were, and what is awaited.
+-- A reply that goes on: what its payloads are read by and what is awaited of it, what is listed, what there is of one
+-- more result, and how many payloads there were.
 pub record OpenReply : Type 0 where
   pub context : Context
+  pub so_far : events.ReplySoFar
   pub results : List Outcome
   pub progress : List ProgressReport
+  pub part : Part
   pub count : ℕ
-  pub awaited : Awaited
 
 -- A reply is going on, or it has its answer.
 pub data ReplySoFar : Type 0 where
   GoingOn : OpenReply → ReplySoFar
   Answered : Answer → ReplySoFar
 
--- Behind what was read, the payloads still to come and the rest after them decide this answer.
-pub record Continues (s : OpenReply) (payloads : List Payload) (rest : Rest) (answer : Answer) : Type 0 where
-  pub others : List Outcome
-  pub ending : Ending
-  pub reading : Results s.context (rest_of s.context s.awaited payloads) others ending
-  pub results : answer.results ≡ s.results ++ others
-  pub progress : answer.progress ≡ s.progress ++ reports s.context (before_end payloads ending)
-  pub end : answer.end ≡ end_of (s.count + length payloads) rest ending
+-- The answer where this fault was met.
+abbrev pub faulted_at : OpenReply → ReplyFault → Answer
+faulted_at s fault = record { results = s.results ++ listed s.part; progress = s.progress; end = FaultAt s.count fault }
 
-abbrev pub PayloadsDecide : ReplySoFar → List Payload → Rest → Answer → Type 0
-PayloadsDecide (GoingOn s) payloads rest answer = Continues s payloads rest answer
-PayloadsDecide (Answered known) payloads rest answer = answer ≡ known
+-- The reply behind a payload that is this event, behind which its payloads have led so far.
+abbrev pub behind : OpenReply → Event → events.ReplySoFar → OpenReply
+behind s event next = record {
+  context = s.context;
+  so_far = next;
+  results = s.results ++ (put s.part event next).results;
+  progress = s.progress ++ reported event;
+  part = (put s.part event next).part;
+  count = s.count + 1;
+}
 
--- A reply of which no payload has come.
+-- What a payload's step leads to: its event is put; or it has no place, and the reply has its answer.
+abbrev pub led_by : OpenReply → table.Step → ReplySoFar
+led_by s (Ok x) = GoingOn (behind s x.0 x.1)
+led_by s (Err fault) = Answered (faulted_at s (fault_of fault))
+
+-- The reply behind a payload.
+abbrev pub after : ReplySoFar → Payload → ReplySoFar
+after (GoingOn s) payload = led_by s (event_at s.context s.so_far payload)
+after (Answered answer) payload = Answered answer
+
+-- The reply behind payloads, one after another.
+abbrev pub after_all : ReplySoFar → List Payload → ReplySoFar
+after_all s [] = s
+after_all s (payload ∷ payloads) = after_all (after s payload) payloads
+
+-- The last result is whole, or the client's file is due.
+abbrev pub is_over : events.Awaited → Bool
+is_over events.Nothing = true
+is_over events.FileData = true
+is_over awaited = false
+
+-- The end behind so many payloads, where the last result is whole or not, and this rest follows.
+abbrev pub end_behind : Bool → ℕ → Rest → End
+end_behind true count Empty = Whole
+end_behind true count rest = FaultAt count AfterEnd
+end_behind false count TooLarge = FaultAt count faults.TooLarge
+end_behind false count OutOfSync = FaultAt count faults.OutOfSync
+end_behind false count rest = Unfinished
+
+-- The answer of a reply so far where no payload follows, but this rest.
+abbrev pub answer_behind : ReplySoFar → Rest → Answer
+answer_behind (GoingOn s) rest = record {
+  results = s.results ++ listed s.part;
+  progress = s.progress;
+  end = end_behind (is_over s.so_far.awaited) s.count rest;
+}
+answer_behind (Answered answer) rest = answer
+
+-- A reply of which no payload has come, where these columns stand, if some do.
+abbrev pub fresh_with : Context → Option (List ColumnDefinition) → ReplySoFar
+fresh_with c columns = GoingOn (record {
+  context = c;
+  so_far = table.fresh columns;
+  results = [];
+  progress = [];
+  part = first_part c.kind columns;
+  count = 0;
+})
+
 abbrev pub fresh : Context → ReplySoFar
-fresh c = GoingOn (record { context = c; results = []; progress = []; count = 0; awaited = First })
+fresh c = fresh_with c None
 
--- Each list of payloads has an answer.
-abbrev pub EachHasAnswer : Type 0
-EachHasAnswer = (c : Context) (payloads : List Payload) (rest : Rest) → (answer : Answer) ×
-    IsReply c payloads rest answer
+-- What a reply's payloads are read by: none of MariaDB's own capabilities is in force.
+abbrev pub context_by : ReplyKind → CapabilityFlags → Context
+context_by kind capabilities =
+    record { kind = kind; capabilities = record { protocol = capabilities; mariadb = record { 0 = 0 } } }
 
--- No list of payloads has two answers.
-abbrev pub AnswersAgree : Type 0
-AnswersAgree = (c : Context) (payloads : List Payload) (rest : Rest) (a b : Answer) →
-    IsReply c payloads rest a → IsReply c payloads rest b → a ≡ b
+-- The answer to these payloads with this rest.
+abbrev pub reply_of : Context → List Payload → Rest → Answer
+reply_of c payloads rest = answer_behind (after_all (fresh c) payloads) rest
 
--- A reply of which no payload has come is decided by all of its payloads.
-abbrev pub FreshReplyDecides : Type 0
-FreshReplyDecides = (c : Context) (payloads : List Payload) (rest : Rest) (answer : Answer) →
-    PayloadsDecide (fresh c) payloads rest answer → IsReply c payloads rest answer
+abbrev pub IsReply : Context → List Payload → Rest → Answer → Type 0
+IsReply c payloads rest answer = answer ≡ reply_of c payloads rest
 
--- Each reply so far decides an answer, and only one.
-abbrev pub EachReplyDecides : Type 0
-EachReplyDecides = (s : ReplySoFar) (payloads : List Payload) (rest : Rest) → (answer : Answer) ×
-    PayloadsDecide s payloads rest answer
+-- Behind what was read, the payloads still to come and the rest after them decide this answer.
+abbrev pub PayloadsDecide : ReplySoFar → List Payload → Rest → Answer → Type 0
+PayloadsDecide s payloads rest answer = answer ≡ answer_behind (after_all s payloads) rest
 
-abbrev pub RepliesAgree : Type 0
-RepliesAgree = (s : ReplySoFar) (payloads : List Payload) (rest : Rest) (a b : Answer) →
-    PayloadsDecide s payloads rest a → PayloadsDecide s payloads rest b → a ≡ b
-
--- Whatever was read, and whatever payloads come, there is a reply so far behind them that decides
--- over all payloads still to come what was decided before over those that came followed by these.
-abbrev pub ReplyGoesOn : Type 0
-ReplyGoesOn = (before : ReplySoFar) (came : List Payload) → (after : ReplySoFar) ×
-    ((payloads : List Payload) (rest : Rest) (answer : Answer) →
-    PayloadsDecide after payloads rest answer → PayloadsDecide before (came ++ payloads) rest answer)
+-- Behind some payloads that is decided which was decided before over these and those to come.
+abbrev pub PayloadsGoOn : Type 0
+PayloadsGoOn = (s : ReplySoFar) (came payloads : List Payload) (rest : Rest) (answer : Answer) →
+    PayloadsDecide (after_all s came) payloads rest answer → PayloadsDecide s (came ++ payloads) rest answer

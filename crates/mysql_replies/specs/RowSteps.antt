@@ -1,60 +1,39 @@
 -- Words of the reader's own body, which no public call's clause has: what one more payload leads to
 -- where rows are borrowed. MySQL: Client/Server Protocol, "COM_QUERY Response" and "Text Resultset".
-use Rattle.std.specs.Prelude.{◌≡◌, ℕ, Bool, true, false, List, [], ◌∷◌, ◌++◌, Option, Some, None, Result, Ok}
-use Rattle.std.specs.Prelude.{Err}
+use Rattle.std.specs.Prelude.{◌≡◌, Bool, true, false, List, [], ◌∷◌, ◌++◌, ℕ, Option, Some, None, Result, Ok, Err}
 use Rattle.mysql_rows.specs.Rows.{Row}
-use Rattle.mysql_row_refs.specs.RowRefs.{HoldsRow, row_held}
-use Rattle.mysql_row_refs.specs.declared.errors.RowError.{RowError}
-use Rattle.mysql_row_refs.specs.declared.format.RowFormat.{RowFormat}
-use Rattle.mysql_row_refs.specs.declared.format.RowFormat.TheVariants.{Binary, Text}
-use Rattle.mysql_row_refs.specs.declared.reader.RowReader.{RowReader}
+use Rattle.mysql_reply_events.specs.Standing.{RowAt}
 use Rattle.mysql_wire.specs.Incoming.{Incoming}
-use Rattle.mysql_replies.specs.declared.awaited.Awaited as code
-use Rattle.mysql_replies.specs.declared.awaited.Awaited.TheVariants as awaiting
-use Rattle.mysql_replies.specs.declared.context.ReplyKind.{ReplyKind}
-use Rattle.mysql_replies.specs.declared.context.ReplyKind.TheVariants as kinds
+use Rattle.mysql_replies.specs.declared.part.Part.{Part}
+use Rattle.mysql_replies.specs.declared.part.Part.TheVariants as parts
 use Rattle.mysql_replies.specs.declared.fault.ReplyFault.{ReplyFault}
-use Rattle.mysql_replies.specs.declared.fault.ReplyFault.TheVariants.{BadRow, Memory}
+use Rattle.mysql_replies.specs.declared.fault.ReplyFault.TheVariants.{Memory}
 use Rattle.mysql_replies.specs.declared.borrowing.Place.{Place}
 use Rattle.mysql_replies.specs.declared.borrowing.Place.TheVariants as places
 use Rattle.mysql_replies.specs.declared.state.ReplyState.{ReplyState}
-use Rattle.mysql_replies.specs.Grammar.{Payload}
+use Rattle.mysql_columns.specs.Columns.{ColumnDefinition}
+use Rattle.mysql_replies.specs.Together.{RowsPart}
+use Rattle.mysql_replies.specs.Views.{part_view}
+use Rattle.mysql_replies.specs.Reply.{Payload}
 use Rattle.mysql_replies.specs.Holding.{ReaderState, ReaderGoesOn, TakesAll}
 use Rattle.mysql_replies.specs.States.{IsShortOf, NumberedStateGoesOn, reader_state}
 
--- The format of rows, by the kind of the command.
-abbrev pub format_of : ReplyKind → RowFormat
-format_of kinds.Binary = Binary
-format_of kind = Text
-
--- What was read of a row, or the fault of a payload that is none.
-abbrev pub or_bad_row : Result Row RowError → Result Row ReplyFault
-or_bad_row (Ok row) = Ok row
-or_bad_row (Err error) = Err BadRow
-
--- A row lies in a payload: the reader has found there the place of each of its cells.
-abbrev pub RowAt : Option RowReader → Payload → Row → Type 0
-RowAt (Some reader) payload row = HoldsRow reader payload × (row ≡ row_held reader payload)
-RowAt None payload row = ⊥
-
--- What reads the rows that are awaited.
-abbrev pub reader_of : code.Awaited → Option RowReader
-reader_of (awaiting.Rows open_rows) = open_rows.reader
-reader_of awaited = None
-
--- The rows that are awaited, and this one behind them.
-abbrev pub with_row : code.Awaited → Row → code.Awaited
-with_row (awaiting.Rows open_rows) row = awaiting.Rows (record open_rows { rows = open_rows.rows ++ row ∷ [] })
-with_row awaited row = awaited
+-- What there is of a result set, and this row behind its rows.
+abbrev pub with_row : Part → Row → Part
+with_row (parts.Rows open_rows) row = parts.Rows (record open_rows { rows = open_rows.rows ++ row ∷ [] })
+with_row part row = part
 
 -- The state in which this row was kept.
 abbrev pub keeping : ReplyState → Row → ReplyState
-keeping s row = record s { awaited = with_row s.awaited row }
+keeping s row = record s { part = with_row s.part row }
 
--- The payload is a row that isn't kept: the state in which it was kept goes on behind the payload.
+-- The payload is a row that isn't kept, of rows that are due: the state in which it was kept goes on behind it.
 pub record StateBorrows (old : ReplyState) (payload : Payload) (new : ReplyState) : Type 0 where
   pub row : Row
-  pub lies : RowAt (reader_of new.awaited) payload row
+  pub lies : RowAt new.events.rows payload row
+  pub columns : List ColumnDefinition
+  pub rows : List Row
+  pub part : part_view new.part ≡ RowsPart columns rows
   pub goes_on : NumberedStateGoesOn old payload (keeping new row)
 
 -- What a payload leads to: a row can be borrowed, the state goes on, or memory ran out.
@@ -62,11 +41,6 @@ abbrev pub StateBorrowsNext : ReplyState → Payload → Result Bool ReplyFault 
 StateBorrowsNext old payload (Ok true) new = StateBorrows old payload new
 StateBorrowsNext old payload (Err Memory) new = IsShortOf old new
 StateBorrowsNext old payload r new = NumberedStateGoesOn old payload new
-
--- The answer to a payload that was taken: no row can be borrowed.
-abbrev pub passed_as : Result (Unit {0}) ReplyFault → Result Bool ReplyFault
-passed_as (Ok _) = Ok false
-passed_as (Err fault) = Err fault
 
 -- The payload at a place.
 abbrev pub payload_at : Place → Incoming → Payload
@@ -77,7 +51,10 @@ payload_at places.InBuffer packets = packets.payload
 pub record ReaderBorrows (old : ReaderState) (piece : List ℕ) (place : Place) (state : ReplyState)
     (packets : Incoming) (rest : List ℕ) : Type 0 where
   pub row : Row
-  pub lies : RowAt (reader_of state.awaited) (payload_at place packets) row
+  pub lies : RowAt state.events.rows (payload_at place packets) row
+  pub columns : List ColumnDefinition
+  pub rows : List Row
+  pub part : part_view state.part ≡ RowsPart columns rows
   pub used : List ℕ
   pub cut : piece ≡ used ++ rest
   pub takes : TakesAll old (old.bytes ++ used) (reader_state (keeping state row) packets)

@@ -6,11 +6,11 @@ use Rattle.mysql_columns.specs.Columns.{ColumnDefinition}
 use Rattle.mysql_server_packets.specs.Packets.{ProgressReport}
 use Rattle.mysql_rows.specs.Rows.{Row}
 use Rattle.mysql_wire.specs.Bytes.{AreBytes}
-use Rattle.mysql_replies.specs.declared.context.Context.{Context}
+use Rattle.mysql_reply_events.specs.declared.context.Context.{Context}
 use Rattle.mysql_replies.specs.declared.fault.ReplyFault.{ReplyFault}
 use Rattle.mysql_replies.specs.declared.fault.ReplyFault.TheVariants.{Memory}
-use Rattle.mysql_replies.specs.Grammar.{Outcome, RowsResult}
-use Rattle.mysql_replies.specs.Reply.{Answer, Awaited, Rows, ReplySoFar, GoingOn, Answered}
+use Rattle.mysql_replies.specs.Together.{Outcome, Part, RowsPart, RowsResult, listed}
+use Rattle.mysql_replies.specs.Reply.{Answer, ReplySoFar, GoingOn, Answered}
 use Rattle.mysql_replies.specs.Bytes.{IsReplyOf, IsShortReplyOf}
 use Rattle.mysql_replies.specs.Holding.{ReaderState, fresh_reader, ReaderDecides, ReaderGoesOn, TakesAll, StandsShort}
 use Rattle.mysql_replies.specs.Holding.{fault_of}
@@ -28,28 +28,28 @@ joined (RowsResult columns rows None ∷ later) = rows_before columns rows (join
 joined (outcome ∷ later) = outcome ∷ joined later
 
 -- The rows so far of a result set that goes on.
-abbrev pub rows_awaited : Awaited → List Row
-rows_awaited (Rows columns rows) = rows
-rows_awaited awaited = []
+abbrev pub rows_awaited : Part → List Row
+rows_awaited (RowsPart columns rows) = rows
+rows_awaited part = []
 
 -- The part of a result set that is handed out: its rows so far, if there are any.
-abbrev pub part_of : Awaited → List Outcome
-part_of (Rows columns (row ∷ rows)) = RowsResult columns (row ∷ rows) None ∷ []
-part_of awaited = []
+abbrev pub part_of : Part → List Outcome
+part_of (RowsPart columns (row ∷ rows)) = RowsResult columns (row ∷ rows) None ∷ []
+part_of part = []
 
--- What is awaited behind it: rows under the same columns.
-abbrev pub behind_part : Awaited → Awaited
-behind_part (Rows columns rows) = Rows columns []
-behind_part awaited = awaited
+-- What there is of the result set behind it: no row under the same columns.
+abbrev pub behind_part : Part → Part
+behind_part (RowsPart columns rows) = RowsPart columns []
+behind_part part = part
 
 -- The results that are handed out: the whole ones and that part; where a fault was met, all that are listed.
 abbrev pub results_in : ReplySoFar → List Outcome
-results_in (GoingOn s) = s.results ++ part_of s.awaited
+results_in (GoingOn s) = s.results ++ part_of s.part
 results_in (Answered answer) = answer.results
 
 -- The reply so far without them.
 abbrev pub without_results : ReplySoFar → ReplySoFar
-without_results (GoingOn s) = GoingOn (record s { results = []; awaited = behind_part s.awaited })
+without_results (GoingOn s) = GoingOn (record s { results = []; part = behind_part s.part })
 without_results (Answered answer) = Answered (record answer { results = [] })
 
 -- The progress reports that are handed out: all.
@@ -61,13 +61,12 @@ abbrev pub without_reports : ReplySoFar → ReplySoFar
 without_reports (GoingOn s) = GoingOn (record s { progress = [] })
 without_reports (Answered answer) = Answered (record answer { progress = [] })
 
--- What is listed of a reply so far: these whole results, and these rows of a result set that goes on.
+-- What is listed of a reply so far: these whole results, and these rows of a result set that goes on. Behind a fault
+-- what there is of one more result stands with the results.
 abbrev pub Lists : ReplySoFar → List Outcome → List Row → Type 0
-Lists (GoingOn s) results rows = (s.results ≡ results) × (rows_awaited s.awaited ≡ rows)
+Lists (GoingOn s) results rows = (s.results ≡ results) × (rows_awaited s.part ≡ rows)
 Lists (Answered answer) results rows =
-    ((answer.results ≡ results) × (rows ≡ [])) ⊎
-    ((columns : List ColumnDefinition) ×
-    (answer.results ≡ results ++ RowsResult columns rows None ∷ []))
+    (part : Part) × (answer.results ≡ results ++ listed part) × (rows_awaited part ≡ rows)
 
 abbrev pub ListsResults : ReplySoFar → List Outcome → Type 0
 ListsResults so_far results = (rows : List Row) × Lists so_far results rows

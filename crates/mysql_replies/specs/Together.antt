@@ -1,201 +1,184 @@
--- What the events of a reply's payloads are, put together: results and progress reports; and that they are the answer
--- which the payloads have.
--- MySQL: Client/Server Protocol, "COM_QUERY Response", "Text Resultset", "Binary Protocol Resultset" and
--- "COM_STMT_PREPARE Response"; MariaDB: 'Progress report' of "ERR_Packet".
-use Rattle.std.specs.Prelude.{◌≡◌, List, [], ◌∷◌, ◌++◌, length, take, drop, Bool, true, false, not, ◌&&◌}
-use Rattle.std.specs.Prelude.{Option, Some, None, Result, Ok, Err}
-use Rattle.std.specs.List.{list_all}
+-- What the events of a reply's payloads are, put together: results, and what came of one that isn't whole.
+-- MySQL: Client/Server Protocol, "COM_QUERY Response", "Text Resultset", "Binary Protocol Resultset",
+-- "COM_STMT_PREPARE Response", "COM_STMT_FETCH Response", "COM_FIELD_LIST Response" and "COM_STATISTICS"; MariaDB:
+-- 'Progress report' of "ERR_Packet".
+use Rattle.std.specs.Prelude.{ℕ, List, [], ◌∷◌, ◌++◌, length, nat_lt, Bool, true, false, if◌then◌else◌}
+use Rattle.std.specs.Prelude.{Option, Some, None}
 use Rattle.mysql_columns.specs.Columns.{ColumnDefinition}
-use Rattle.mysql_ok_packets.specs.Written.{is_mysql_status}
+use Rattle.mysql_columns.specs.Extended.{ListedDefinition}
+use Rattle.mysql_ok_packets.specs.OkPackets.{OkPacket}
 use Rattle.mysql_rows.specs.Rows.{Row}
-use Rattle.mysql_server_packets.specs.Packets.{PrepareOk, ProgressReport}
-use Rattle.mysql_wire.specs.Stream.{Rest}
-use Rattle.mysql_reply_events.specs.declared.context.Context.{Context as EventContext}
-use Rattle.mysql_reply_events.specs.declared.context.ReplyKind.{ReplyKind as EventKind}
-use Rattle.mysql_reply_events.specs.declared.context.ReplyKind.TheVariants as event_kinds
-use Rattle.mysql_reply_events.specs.declared.fault.ReplyFault.{ReplyFault as EventFault}
-use Rattle.mysql_reply_events.specs.declared.fault.ReplyFault.TheVariants as event_faults
+use Rattle.mysql_server_packets.specs.Packets.{PrepareOk, ProgressReport, ServerError}
 use Rattle.mysql_reply_events.specs.Events as events
-use Rattle.mysql_reply_events.specs.Events.{Event, ReplySoFar}
-use Rattle.mysql_reply_events.specs.Events.Event.{ColumnEvent, ColumnsEndEvent, CountEvent, ErrorEvent, FileEvent}
-use Rattle.mysql_reply_events.specs.Events.Event.{OkEvent, PreparedEvent, ProgressEvent, RowEvent, RowsEndEvent}
-use Rattle.mysql_reply_events.specs.Readings.{optional_metadata}
-use Rattle.mysql_reply_events.specs.Table.{cursor_exists, event_at, fresh, is_execution}
-use Rattle.mysql_replies.specs.declared.context.Context.{Context}
-use Rattle.mysql_replies.specs.declared.context.ReplyKind.{ReplyKind}
-use Rattle.mysql_replies.specs.declared.context.ReplyKind.TheVariants as kinds
-use Rattle.mysql_replies.specs.declared.fault.ReplyFault.{ReplyFault}
-use Rattle.mysql_replies.specs.declared.fault.ReplyFault.TheVariants as faults
-use Rattle.mysql_replies.specs.Grammar.{Payload, Outcome, OkResult, RowsResult, PreparedResult, ErrorResult, FileResult}
-use Rattle.mysql_replies.specs.Grammar.{Ending, Ended, Open}
-use Rattle.mysql_replies.specs.Reply.{Answer, End, FaultAt, IsReply, end_of}
+use Rattle.mysql_reply_events.specs.Events.{Event}
+use Rattle.mysql_reply_events.specs.Events.Event.{ColumnEvent, ColumnsEndEvent, CountEvent, ErrorEvent, FieldEvent}
+use Rattle.mysql_reply_events.specs.Events.Event.{FileEvent, LineEvent, OkEvent, PreparedEvent, ProgressEvent}
+use Rattle.mysql_reply_events.specs.Events.Event.{RawRowEvent, RowEvent, RowsEndEvent}
+use Rattle.mysql_reply_events.specs.declared.context.ReplyKind.{ReplyKind}
+use Rattle.mysql_reply_events.specs.declared.context.ReplyKind.TheVariants.{FieldList, Fetch}
 
--- WHAT EVENTS ARE, PUT TOGETHER
+-- A result of a reply. Rows, and columns of a table, without a packet that ends them ended by an error, or haven't
+-- ended.
+pub data Outcome : Type 0 where
+  OkResult : OkPacket → Outcome
+  RowsResult : List ColumnDefinition → List Row → Option OkPacket → Outcome
+  PreparedResult : PrepareOk → List ColumnDefinition → List ColumnDefinition → Outcome
+  ErrorResult : ServerError → Outcome
+  FileResult : List ℕ → Outcome
+  -- Rows whose columns aren't known, as they came.
+  RawRowsResult : List (List ℕ) → Option OkPacket → Outcome
+  -- Columns of a table.
+  FieldsResult : List ListedDefinition → Option OkPacket → Outcome
+  -- A text, or the first payload of a stream of its own.
+  LineResult : List ℕ → Outcome
 
--- What came of a result that isn't whole: nothing; of a result set its columns so far, and its rows; or of a
--- statement its parameters so far, and behind them its columns.
+-- What came of a result that isn't whole.
 pub data Part : Type 0 where
   NoPart : Part
-  SetPart : List ColumnDefinition → List Row → Part
-  StatementPart : PrepareOk → List ColumnDefinition → Part
+  -- A result set whose rows aren't due yet; whether they are read by columns that are known.
+  SetPart : Bool → Part
+  RowsPart : List ColumnDefinition → List Row → Part
+  RawRowsPart : List (List ℕ) → Part
+  -- A statement: its parameters so far, and its columns.
+  StatementPart : PrepareOk → List ColumnDefinition → List ColumnDefinition → Part
+  FieldsPart : List ListedDefinition → Part
 
--- The rows of a result set that an error ends.
-abbrev pub rows_before_error : Part → List Outcome
-rows_before_error (SetPart columns rows) = RowsResult columns rows None ∷ []
-rows_before_error part = []
+-- What is listed of a result that isn't whole: rows under columns that came, and of other rows what there is.
+abbrev pub listed : Part → List Outcome
+listed (RowsPart columns rows) = RowsResult columns rows None ∷ []
+listed (RawRowsPart (row ∷ rows)) = RawRowsResult (row ∷ rows) None ∷ []
+listed (FieldsPart (field ∷ fields)) = FieldsResult (field ∷ fields) None ∷ []
+listed part = []
 
--- The results that an event makes whole.
-abbrev pub completed : Part → Event → List Outcome
-completed part (OkEvent ok) = OkResult ok ∷ []
-completed part (ErrorEvent error) = rows_before_error part ++ ErrorResult error ∷ []
-completed (SetPart columns rows) (RowsEndEvent ok) = RowsResult columns rows (Some ok) ∷ []
-completed part (FileEvent name) = FileResult name ∷ []
-completed part event = []
+-- Results that an event makes whole, and what there is of one more behind it.
+pub record Put : Type 0 where
+  pub results : List Outcome
+  pub part : Part
 
--- What is there of a result behind an event.
-abbrev pub opened : Part → Event → Part
-opened part (CountEvent count follow) = SetPart [] []
-opened part (PreparedEvent statement follow) = StatementPart statement []
-opened (SetPart columns rows) (ColumnEvent found) = SetPart (columns ++ found.column ∷ []) rows
-opened (StatementPart statement columns) (ColumnEvent found) = StatementPart statement (columns ++ found.column ∷ [])
-opened (SetPart columns rows) (RowEvent row) = SetPart columns (rows ++ row ∷ [])
-opened part (ColumnsEndEvent ok) = part
-opened part (ProgressEvent report) = part
-opened part event = NoPart
+abbrev pub makes_whole : Outcome → Put
+makes_whole result = record { results = result ∷ []; part = NoPart }
+
+abbrev pub leaves_open : Part → Put
+leaves_open part = record { results = []; part = part }
+
+-- COLUMNS
+
+-- The columns that stand; none where none do.
+abbrev pub or_none : Option (List ColumnDefinition) → List ColumnDefinition
+or_none None = []
+or_none (Some columns) = columns
+
+abbrev pub columns_in : events.ReplySoFar → List ColumnDefinition
+columns_in s = or_none s.columns
+
+-- Rows are read by columns that are known, where they or what stands before them is due.
+abbrev pub are_known : events.Awaited → Bool
+are_known (events.Rows known) = known
+are_known (events.ColumnsEnd group known) = known
+are_known awaited = true
+
+-- Rows are due.
+abbrev pub rows_due : Bool → List ColumnDefinition → Part
+rows_due known columns = if known then RowsPart columns [] else RawRowsPart []
+
+-- What there is of a result set, where that is due behind its count, a column or their end.
+abbrev pub set_at : Bool → List ColumnDefinition → events.Awaited → Part
+set_at known columns (events.Rows _) = rows_due known columns
+set_at known columns awaited = SetPart known
+
+-- Rows end by this packet.
+abbrev pub ended : Part → OkPacket → Outcome
+ended (RowsPart columns rows) ok = RowsResult columns rows (Some ok)
+ended (RawRowsPart rows) ok = RawRowsResult rows (Some ok)
+ended (FieldsPart fields) ok = FieldsResult fields (Some ok)
+ended part ok = OkResult ok
+
+-- A result set behind the EOF of its columns: its rows are due, or are fetched later from a cursor.
+abbrev pub set_behind : Bool → List ColumnDefinition → OkPacket → events.Awaited → Put
+set_behind known columns ok (events.Rows _) = leaves_open (rows_due known columns)
+set_behind known columns ok awaited = makes_whole (ended (rows_due known columns) ok)
+
+-- A statement is whole where nothing more is due.
+abbrev pub statement_at : PrepareOk → List ColumnDefinition → List ColumnDefinition → events.Awaited → Put
+statement_at statement parameters columns events.Nothing = makes_whole (PreparedResult statement parameters columns)
+statement_at statement parameters columns awaited = leaves_open (StatementPart statement parameters columns)
+
+-- A column of a statement: of its parameters, until there are as many as it says.
+abbrev pub statement_with : PrepareOk → List ColumnDefinition → List ColumnDefinition → ColumnDefinition →
+    events.Awaited → Put
+statement_with statement parameters columns column awaited =
+    if nat_lt (length parameters) statement.num_params
+    then statement_at statement (parameters ++ column ∷ []) columns awaited
+    else statement_at statement parameters (columns ++ column ∷ []) awaited
+
+abbrev pub put_column : Part → ColumnDefinition → events.ReplySoFar → Put
+put_column (SetPart known) column next = leaves_open (set_at known (columns_in next) next.awaited)
+put_column (StatementPart statement parameters columns) column next =
+    statement_with statement parameters columns column next.awaited
+put_column part column next = leaves_open part
+
+abbrev pub put_columns_end : Part → OkPacket → events.ReplySoFar → Put
+put_columns_end (SetPart known) ok next = set_behind known (columns_in next) ok next.awaited
+put_columns_end (StatementPart statement parameters columns) ok next =
+    statement_at statement parameters columns next.awaited
+put_columns_end part ok next = leaves_open part
+
+-- ROWS
+
+abbrev pub with_row : Part → Row → Part
+with_row (RowsPart columns rows) row = RowsPart columns (rows ++ row ∷ [])
+with_row part row = part
+
+abbrev pub with_raw_row : Part → List ℕ → Part
+with_raw_row (RawRowsPart rows) row = RawRowsPart (rows ++ row ∷ [])
+with_raw_row part row = part
+
+abbrev pub with_field : Part → ListedDefinition → Part
+with_field (FieldsPart fields) field = FieldsPart (fields ++ field ∷ [])
+with_field part field = part
+
+-- EVENTS
+
+-- What begins a result, where nothing came of another one; else what came stays.
+abbrev pub put_whole : Part → Outcome → Put
+put_whole NoPart result = makes_whole result
+put_whole part result = leaves_open part
+
+abbrev pub put_count : Part → events.ReplySoFar → Put
+put_count NoPart next = leaves_open (set_at (are_known next.awaited) (columns_in next) next.awaited)
+put_count part next = leaves_open part
+
+abbrev pub put_statement : Part → PrepareOk → events.ReplySoFar → Put
+put_statement NoPart statement next = statement_at statement [] [] next.awaited
+put_statement part statement next = leaves_open part
+
+-- An event, put into what came of a result. Behind it the reply has come so far.
+abbrev pub put : Part → Event → events.ReplySoFar → Put
+put part (OkEvent ok) next = put_whole part (OkResult ok)
+put part (ErrorEvent error) next = record { results = listed part ++ ErrorResult error ∷ []; part = NoPart }
+put part (ProgressEvent report) next = leaves_open part
+put part (CountEvent n follow) next = put_count part next
+put part (ColumnEvent found) next = put_column part found.column next
+put part (FieldEvent field) next = leaves_open (with_field part field)
+put part (ColumnsEndEvent ok) next = put_columns_end part ok next
+put part (RowEvent row) next = leaves_open (with_row part row)
+put part (RawRowEvent bytes) next = leaves_open (with_raw_row part bytes)
+put part (RowsEndEvent ok) next = makes_whole (ended part ok)
+put part (FileEvent name) next = put_whole part (FileResult name)
+put part (PreparedEvent statement follow) next = put_statement part statement next
+put part (LineEvent bytes) next = put_whole part (LineResult bytes)
 
 -- The progress report that an event is.
 abbrev pub reported : Event → List ProgressReport
 reported (ProgressEvent report) = report ∷ []
 reported event = []
 
--- Events put together: the results that are whole, the reports, and what is there of one more result.
-pub record Gathered : Type 0 where
-  pub results : List Outcome
-  pub progress : List ProgressReport
-  pub part : Part
+-- What there is of the first result before its first payload: of a fetch its rows, of a table its columns.
+abbrev pub fetched : Option (List ColumnDefinition) → Part
+fetched None = RawRowsPart []
+fetched (Some columns) = RowsPart columns []
 
-abbrev pub gather : Gathered → Event → Gathered
-gather g event = record {
-  results = g.results ++ completed g.part event;
-  progress = g.progress ++ reported event;
-  part = opened g.part event;
-}
-
-abbrev pub gather_all : Gathered → List Event → Gathered
-gather_all g [] = g
-gather_all g (event ∷ others) = gather_all (gather g event) others
-
-abbrev pub gathered : List Event → Gathered
-gathered these = gather_all (record { results = []; progress = []; part = NoPart }) these
-
--- A result whose end tells itself by what is awaited: rows so far, where rows are; a statement, where nothing is.
-abbrev pub listed : Part → events.Awaited → List Outcome
-listed (SetPart columns rows) (events.Rows known) = RowsResult columns rows None ∷ []
-listed (StatementPart statement columns) events.Nothing =
-    PreparedResult statement (take statement.num_params columns) (drop statement.num_params columns) ∷ []
-listed part awaited = []
-
--- The answer that these events have with this end, where that is awaited behind them.
-abbrev pub put_together : List Event → events.Awaited → End → Answer
-put_together these awaited end = record {
-  results = (gathered these).results ++ listed (gathered these).part awaited;
-  progress = (gathered these).progress;
-  end = end;
-}
-
--- How results end where that is awaited: they are whole, also where the client's file is, or they aren't.
-abbrev pub ending : events.Awaited → Ending
-ending events.Nothing = Ended []
-ending events.FileData = Ended []
-ending awaited = Open
-
--- THE SAME WORDS
-
-abbrev pub kind_of : ReplyKind → EventKind
-kind_of kinds.Text = event_kinds.Text
-kind_of kinds.Binary = event_kinds.Binary
-kind_of kinds.Prepare = event_kinds.Prepare
-
--- What a reply's payloads are read by, one by one: none of MariaDB's own capabilities is in force.
-abbrev pub context_of : Context → EventContext
-context_of c = record {
-  kind = kind_of c.kind;
-  capabilities = record { protocol = c.capabilities; mariadb = record { 0 = 0 } };
-}
-
--- A fault by its name. A payload that isn't due comes after the end.
-abbrev pub fault_of : EventFault → ReplyFault
-fault_of event_faults.BadHeader = faults.BadHeader
-fault_of event_faults.BadCount = faults.BadCount
-fault_of event_faults.BadColumn = faults.BadColumn
-fault_of event_faults.BadOk = faults.BadOk
-fault_of event_faults.BadError = faults.BadError
-fault_of event_faults.BadRow = faults.BadRow
-fault_of event_faults.BadTerminator = faults.BadTerminator
-fault_of event_faults.BadPrepare = faults.BadPrepare
-fault_of event_faults.NotDue = faults.AfterEnd
-fault_of event_faults.Memory = faults.Memory
-
--- What was read, or the fault by its name.
-abbrev pub by_name : {X : Type 0} → Result X EventFault → Result X ReplyFault
-by_name (Ok x) = Ok x
-by_name (Err fault) = Err (fault_of fault)
-
--- THE EVENTS OF A REPLY
-
--- The payloads of a server, one event each, from one reply so far to another.
-pub data AreEvents (c : EventContext) : ReplySoFar → List Payload → List Event → ReplySoFar → Type 0 where
-  none : {s : ReplySoFar} → AreEvents c s [] [] s
-  first : {s t u : ReplySoFar} {payload : Payload} {event : Event} {payloads : List Payload} {others : List Event} →
-      event_at c s payload ≡ Ok (event, t) → AreEvents c t payloads others u →
-      AreEvents c s (payload ∷ payloads) (event ∷ others) u
-
--- No payload is left, or the first of these has no place behind a reply so far.
-pub data IsStopped (c : EventContext) (s : ReplySoFar) : List Payload → Type 0 where
-  at_end : IsStopped c s []
-  no_place : {payload : Payload} (later : List Payload) {fault : EventFault} → event_at c s payload ≡ Err fault →
-      IsStopped c s (payload ∷ later)
-
--- Any payloads have events, one each, up to the end or to one that has no place.
-pub record HaveEventsUpTo (c : EventContext) (s : ReplySoFar) (payloads : List Payload) : Type 0 where
-  pub front : List Payload
-  pub left : List Payload
-  pub cut : payloads ≡ front ++ left
-  pub these : List Event
-  pub behind : ReplySoFar
-  pub are : AreEvents c s front these behind
-  pub stopped : IsStopped c behind left
-
-abbrev pub AllHaveEvents : Type 0
-AllHaveEvents = (c : EventContext) (s : ReplySoFar) (payloads : List Payload) → HaveEventsUpTo c s payloads
-
--- An event that is taken alike in a reply that is read as a whole: there a status has bits alone that MySQL names,
--- and rows follow the EOF behind columns also where a cursor exists.
-abbrev pub is_common : EventContext → Event → Bool
-is_common c (OkEvent ok) = is_mysql_status ok.status_flags
-is_common c (RowsEndEvent ok) = is_mysql_status ok.status_flags
-is_common c (ColumnsEndEvent ok) = not (is_execution c.kind && cursor_exists ok) && is_mysql_status ok.status_flags
-is_common c event = true
-
--- These payloads have these events, behind which the reply has come so far. No optional metadata is agreed on, and
--- each event is taken alike.
-pub record HaveEvents (c : Context) (payloads : List Payload) (these : List Event) (s : ReplySoFar) : Type 0 where
-  pub columns : Option (List ColumnDefinition)
-  pub always_columns : optional_metadata (context_of c) ≡ false
-  pub are : AreEvents (context_of c) (fresh columns) payloads these s
-  pub common : list_all (is_common (context_of c)) these ≡ true
-
--- The events of payloads, put together, are the answer that the payloads have, whatever rest follows them.
-abbrev pub EventsAreTheAnswer : Type 0
-EventsAreTheAnswer = (c : Context) (payloads : List Payload) (these : List Event) (s : ReplySoFar) (rest : Rest) →
-    HaveEvents c payloads these s →
-    IsReply c payloads rest (put_together these s.awaited (end_of (length payloads) rest (ending s.awaited)))
-
--- Where a payload behind them has no place, they are the answer with that fault, whatever payloads follow it.
-abbrev pub FaultsAreTheAnswers : Type 0
-FaultsAreTheAnswers =
-    (c : Context) (payloads : List Payload) (these : List Event) (s : ReplySoFar) (payload : Payload)
-    (later : List Payload) (rest : Rest) (fault : EventFault) →
-    HaveEvents c payloads these s → event_at (context_of c) s payload ≡ Err fault →
-    IsReply c (payloads ++ payload ∷ later) rest
-    (put_together these s.awaited (FaultAt (length payloads) (fault_of fault)))
+abbrev pub first_part : ReplyKind → Option (List ColumnDefinition) → Part
+first_part Fetch columns = fetched columns
+first_part FieldList columns = FieldsPart []
+first_part kind columns = NoPart

@@ -1,7 +1,8 @@
 -- What the code holds, as values; and what its functions answer. Public clauses have `answer_view`,
 -- `outcome_views`, `row_views` and `report_views` alone. MySQL: Client/Server Protocol, "COM_QUERY
 -- Response", its packets as the code holds them.
-use Rattle.std.specs.Prelude.{◌≡◌, List, map, Result, Ok, Err}
+use Rattle.std.specs.Prelude.{ℕ, List, map, Vec}
+use Rattle.std.specs.declared.alloc.Global.{Global}
 use Rattle.mysql_rows.specs.declared.row.Row.{Row}
 use Rattle.mysql_rows.specs.Rows as rows
 use Rattle.mysql_rows.specs.Views.{row_view, shared_columns}
@@ -11,9 +12,9 @@ use Rattle.mysql_server_packets.specs.declared.progress_report.ProgressReport.{P
 use Rattle.mysql_server_packets.specs.Packets.{ProgressReport}
 use Rattle.mysql_server_packets.specs.Views.{local_infile_view, prepare_ok_view, progress_report_view}
 use Rattle.mysql_server_packets.specs.Views.{server_error_view}
-use Rattle.mysql_columns.specs.Views.{column_view}
-use Rattle.mysql_replies.specs.declared.fault.ReplyFault.{ReplyFault}
-use Rattle.mysql_replies.specs.declared.fault.ReplyFault.TheVariants.{Memory}
+use Rattle.mysql_columns.specs.Views.{column_view, listed_view}
+use Rattle.mysql_columns.specs.Extended.{ListedDefinition}
+use Rattle.mysql_columns.specs.declared.extended.ListedColumn.{ListedColumn}
 use Rattle.mysql_columns.specs.declared.column.Column.{Column}
 use Rattle.std.specs.Prelude.{option_map}
 use Rattle.mysql_replies.specs.declared.results.ReplyResult.{ReplyResult}
@@ -21,20 +22,11 @@ use Rattle.mysql_replies.specs.declared.results.ReplyResult.TheVariants as resul
 use Rattle.mysql_replies.specs.declared.results.Reply.{Reply}
 use Rattle.mysql_replies.specs.declared.results.ReplyEnd.{ReplyEnd}
 use Rattle.mysql_replies.specs.declared.results.ReplyEnd.TheVariants as ends
-use Rattle.mysql_replies.specs.declared.awaited.Awaited.{Awaited}
-use Rattle.mysql_replies.specs.declared.awaited.Awaited.TheVariants as awaiting
-use Rattle.mysql_replies.specs.Grammar as grammar
+use Rattle.mysql_replies.specs.declared.part.Part.{Part}
+use Rattle.mysql_replies.specs.declared.part.Part.TheVariants as parts
+use Rattle.mysql_replies.specs.Together as together
+use Rattle.mysql_replies.specs.Together.{FieldsPart, NoPart, RawRowsPart, RowsPart, SetPart, StatementPart}
 use Rattle.mysql_replies.specs.Reply as reply
-
--- What a function refused is the fault, unless memory ran out.
-abbrev pub Refuses : {Y : Type 0} → ReplyFault → Result Y ReplyFault → Type 0
-Refuses Memory read = Unit {0}
-Refuses fault read = read ≡ Err fault
-
--- What a function answered, seen by view, is what reading gives, unless memory ran out.
-abbrev pub Gives : {X Y : Type 0} → (X → Y) → Result X ReplyFault → Result Y ReplyFault → Type 0
-Gives view (Ok x) read = read ≡ Ok (view x)
-Gives view (Err e) read = Refuses e read
 
 abbrev pub column_views : List Column → List ColumnDefinition
 column_views columns = map column_view columns
@@ -42,33 +34,43 @@ column_views columns = map column_view columns
 abbrev pub row_views : List Row → List rows.Row
 row_views found = map row_view found
 
-abbrev pub outcome_view : ReplyResult → grammar.Outcome
-outcome_view (results.Ok ok) = grammar.OkResult (ok_packet_view ok)
+-- Rows as they came.
+abbrev pub raw_rows : List (Vec ℕ Global) → List (List ℕ)
+raw_rows found = map (λ row. row.items) found
+
+abbrev pub field_views : List ListedColumn → List ListedDefinition
+field_views fields = map listed_view fields
+
+abbrev pub outcome_view : ReplyResult → together.Outcome
+outcome_view (results.Ok ok) = together.OkResult (ok_packet_view ok)
 outcome_view (results.Rows columns found terminator) =
-    grammar.RowsResult (shared_columns columns) (row_views found.items)
+    together.RowsResult (shared_columns columns) (row_views found.items)
     (option_map ok_packet_view terminator)
 outcome_view (results.Prepared stmt params columns) =
-    grammar.PreparedResult (prepare_ok_view stmt) (column_views params.items)
+    together.PreparedResult (prepare_ok_view stmt) (column_views params.items)
     (column_views columns.items)
-outcome_view (results.Error error) = grammar.ErrorResult (server_error_view error)
-outcome_view (results.File file) = grammar.FileResult (local_infile_view file)
+outcome_view (results.Error error) = together.ErrorResult (server_error_view error)
+outcome_view (results.File file) = together.FileResult (local_infile_view file)
+outcome_view (results.RawRows found terminator) =
+    together.RawRowsResult (raw_rows found.items) (option_map ok_packet_view terminator)
+outcome_view (results.Fields fields terminator) =
+    together.FieldsResult (field_views fields.items) (option_map ok_packet_view terminator)
+outcome_view (results.Line bytes) = together.LineResult bytes.items
 
-abbrev pub outcome_views : List ReplyResult → List grammar.Outcome
+abbrev pub outcome_views : List ReplyResult → List together.Outcome
 outcome_views results = map outcome_view results
 
 abbrev pub report_views : List ProgressReportOf → List ProgressReport
 report_views reports = map progress_report_view reports
 
-abbrev pub awaited_view : Awaited → reply.Awaited
-awaited_view awaiting.First = reply.First
-awaited_view (awaiting.Columns left columns) = reply.Columns left (column_views columns.items)
-awaited_view (awaiting.Rows open_rows) = reply.Rows open_rows.columns open_rows.rows
-awaited_view (awaiting.Parameters stmt left parameters) =
-    reply.Parameters (prepare_ok_view stmt) left (column_views parameters.items)
-awaited_view (awaiting.PreparedColumns stmt params left columns) =
-    reply.PreparedColumns (prepare_ok_view stmt) (column_views params.items) left
-    (column_views columns.items)
-awaited_view awaiting.Nothing = reply.Nothing
+abbrev pub part_view : Part → together.Part
+part_view parts.Nothing = NoPart
+part_view (parts.Set known) = SetPart known
+part_view (parts.Rows open_rows) = RowsPart open_rows.columns open_rows.rows
+part_view (parts.RawRows found) = RawRowsPart (raw_rows found.items)
+part_view (parts.Statement stmt params columns) =
+    StatementPart (prepare_ok_view stmt) (column_views params.items) (column_views columns.items)
+part_view (parts.Fields fields) = FieldsPart (field_views fields.items)
 
 abbrev pub end_view : ReplyEnd → reply.End
 end_view ends.Whole = reply.Whole

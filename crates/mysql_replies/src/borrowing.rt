@@ -8,11 +8,11 @@ ghost use Rattle.mysql_rows.specs.Rows.{Row};
 ghost use Rattle.mysql_wire.specs.Incoming.{codec_by};
 ghost use Rattle.mysql_replies.specs.Holding.{ReaderGoesOn, StandsShort};
 ghost use Rattle.mysql_replies.specs.Borrowing.{BorrowsNext, rows_listed};
-ghost use Rattle.mysql_replies.specs.RowSteps.{ReadsToRow, RowAt, payload_at, reader_of};
+ghost use Rattle.mysql_reply_events.specs.Standing.{RowAt};
+ghost use Rattle.mysql_replies.specs.RowSteps.{ReadsToRow, payload_at};
 ghost use Rattle.mysql_replies.specs.Pieces.{IsWaiting};
 ghost use Rattle.mysql_replies.specs.States.{IsPaused, IsReading, OnMemory, UnlessMemory, reader_state, reply_so_far};
 
-use crate::awaited::Awaited;
 use crate::fault::ReplyFault;
 use crate::framing::framing_laws;
 use crate::reader::{ReaderParts, ReplyReader, fault_from};
@@ -83,21 +83,15 @@ impl ReaderParts {
     // The row that was read last, which borrows the payload at this place.
     #[inline(always)]
     fn row_ref<'r, 'p: 'r>(&'r self, place: Place<'p>) -> RowRef<'r, 'r>
-        requires { (row : Row) × RowAt (reader_of self.now.state.awaited) (payload_at place self.now.packets) row }
-        ensures { RowAt (reader_of self.now.state.awaited) (payload_at place.entry self.now.packets)
+        requires { (row : Row) × RowAt self.now.state.events.rows (payload_at place self.now.packets) row }
+        ensures { RowAt self.now.state.events.rows (payload_at place.entry self.now.packets)
             (row_ref_view result) }
     {
         let payload = match place {
             Place::InPiece(payload) => payload,
             Place::InBuffer => self.packets.payload(),
         };
-        let Awaited::Rows(open_rows) = &self.state.awaited else {
-            unreachable!()
-        };
-        let Some(reader) = open_rows.reader() else {
-            unreachable!()
-        };
-        reader.row_ref(payload)
+        self.state.events.row_ref(payload)
     }
 }
 

@@ -1,5 +1,9 @@
 //! What is wrong with a reply.
 
+ghost use Rattle.std.specs.Prelude.{◌≡◌};
+ghost use Rattle.mysql_replies.specs.Reply as reply;
+
+use mysql_reply_events::ReplyFault as EventFault;
 use std::error::Error;
 use std::fmt;
 
@@ -14,17 +18,18 @@ pub enum ReplyFault {
     OutOfSync,
     /// A first payload is empty, or begins with no byte that its command allows.
     BadHeader,
-    /// A count of columns is not from 1 to 65535, or bytes follow it.
+    /// A count of columns is not from 1 to 65535, or bytes follow it. Or a byte that says whether
+    /// columns follow is neither 0 nor 1.
     BadCount,
     /// A column packet can't be read.
     BadColumn,
-    /// An OK packet can't be read, or a bit of its status has no name at MySQL.
+    /// An OK packet can't be read.
     BadOk,
     /// An error packet or a progress report can't be read.
     BadError,
-    /// A row can't be read, or bytes follow it.
+    /// A row can't be read, or bytes follow it, or its columns aren't known.
     BadRow,
-    /// What ends columns or rows can't be read, or a bit of its status has no name at MySQL.
+    /// What ends columns or rows can't be read.
     BadTerminator,
     /// A statement packet can't be read.
     BadPrepare,
@@ -61,3 +66,21 @@ impl fmt::Display for ReplyFault {
 }
 
 impl Error for ReplyFault {}
+
+/// The fault of a payload, by the name that it has here.
+pub fn fault_of(fault: EventFault) -> ReplyFault
+    ensures { result ≡ reply.fault_of fault }
+{
+    match fault {
+        EventFault::BadHeader => ReplyFault::BadHeader,
+        EventFault::BadCount => ReplyFault::BadCount,
+        EventFault::BadColumn => ReplyFault::BadColumn,
+        EventFault::BadOk => ReplyFault::BadOk,
+        EventFault::BadError => ReplyFault::BadError,
+        EventFault::BadRow => ReplyFault::BadRow,
+        EventFault::BadTerminator => ReplyFault::BadTerminator,
+        EventFault::BadPrepare => ReplyFault::BadPrepare,
+        EventFault::NotDue => ReplyFault::AfterEnd,
+        EventFault::Memory => ReplyFault::Memory,
+    }
+}

@@ -1,73 +1,21 @@
 //! A payload of a reply, read and kept.
 
-ghost use Rattle.std.specs.Prelude.{◌≡◌, ◌<◌, ◌+◌, ◌^◌, ◌++◌, ◌≤◌, true, false, None, Some, vec_len, vec_capacity};
-ghost use Rattle.std.specs.Prelude.{OnOk, IfErr};
-ghost use Rattle.mysql_server_packets.specs.Packets.{progress_report_at};
-ghost use Rattle.mysql_server_packets.specs.Views.{progress_report_view};
-ghost use Rattle.mysql_wire.specs.Wire.{TellsPart};
-ghost use Rattle.mysql_replies.specs.declared.fault.ReplyFault.TheVariants.{BadError};
-ghost use Rattle.mysql_replies.specs.Grammar.{has_report_form, or_fault, progress_obsolete};
-ghost use Rattle.mysql_replies.specs.Views.{Gives, awaited_view, outcome_views};
-ghost use Rattle.mysql_replies.specs.Steps.{IsAwaiting, IsNoRow, listed_views, reads_as_row};
-ghost use Rattle.mysql_replies.specs.States.{IsReading, IsShortOf, NumberedStateGoesOn, OnMemory, StateGoesOn};
-ghost use Rattle.mysql_replies.specs.States.{UnlessMemory};
+ghost use Rattle.std.specs.Prelude.{◌≡◌, ◌≤◌, ◌<◌, ◌+◌, ◌^◌, ◌++◌, None, Some, OnOk, IfErr, vec_len, vec_capacity};
+ghost use Rattle.mysql_reply_events.specs.Views.{event_view};
+ghost use Rattle.mysql_replies.specs.Putting.{HasRoomFor, PutsEvent, ReadsEvent, TakesRow, listed_views};
+ghost use Rattle.mysql_replies.specs.States.{IsAwaiting, IsReading, IsShortOf, NumberedStateGoesOn, OnMemory};
+ghost use Rattle.mysql_replies.specs.States.{StateGoesOn, UnlessMemory};
+ghost use Rattle.mysql_replies.specs.Views.{outcome_views};
 
-use crate::awaited::{Awaited, Listed, Stepped};
-use crate::context::Context;
-use crate::fault::ReplyFault;
-use crate::lines::is_row;
-use crate::packets::report_packet;
+use crate::fault::{ReplyFault, fault_of};
+use crate::part::{Listed, Part, Stepped};
+use crate::put::put;
 use crate::state::{ReplyState, push_in_room};
-use crate::steps::{row_step, step};
-use bitflags::Flags;
-use mysql_const::CapabilityFlags;
+use mysql_reply_events::ReplyEvent;
 use std::alloc::Global;
 use std::mem;
 
-/// Progress is reported.
-#[tactic(auto, unfolding(bitflags::proofs::OnLiterals::bitflags_on_literals))]
-fn reports_progress(capabilities: CapabilityFlags) -> bool
-    ensures { result ≡ progress_obsolete capabilities.0 }
-{
-    capabilities.contains(CapabilityFlags::CLIENT_PROGRESS_OBSOLETE)
-}
-
-/// The payload has the form of a progress report.
-pub fn is_report_like(context: Context, payload: &[u8]) -> bool
-    ensures { result ≡ has_report_form context payload.now }
-{
-    reports_progress(context.capabilities)
-        && payload.len() >= 3
-        && payload[0] == 255
-        && payload[1] == 255
-        && payload[2] == 255
-}
-
 impl ReplyState {
-    /// Reads a payload in the form of a progress report.
-    pub fn take_report(&mut self, alloc: Global, payload: &[u8]) -> Result<(), ReplyFault>
-        requires reading { IsReading self.old }
-        requires going { self.old.fault ≡ None }
-        requires awaiting { IsAwaiting (awaited_view self.old.awaited) }
-        requires report { has_report_form self.old.context payload.now ≡ true }
-        requires room { self.old.count + 1 < 2 ^ 64 }
-        ensures reading { IsReading self.new }
-        ensures ok { OnOk result ((self.new.fault ≡ None) × (self.new.count ≡ self.old.count + 1)) }
-        ensures fault { IfErr result (λ fault. self.new.fault ≡ Some fault) }
-        ensures goes_on { UnlessMemory result (StateGoesOn self.old payload.now self.new) }
-        ensures short { OnMemory result (IsShortOf self.old self.new) }
-    {
-        let report = match report_packet(alloc, payload) {
-            Ok(report) => report,
-            Err(fault) => return Err(self.fail(fault)),
-        };
-        if self.progress.push(report).is_err() {
-            return Err(self.fail(ReplyFault::Memory));
-        }
-        self.count += 1;
-        Ok(())
-    }
-
     /// Adds results to the list.
     fn list(&mut self, listed: Listed)
         requires { vec_len self.old.results + 3 ≤ vec_capacity self.old.results }
@@ -86,19 +34,42 @@ impl ReplyState {
         }
     }
 
-    /// Reads a payload that is no progress report, and no row where rows are awaited.
-    pub fn take_other(&mut self, alloc: Global, payload: &[u8]) -> Result<(), ReplyFault>
+    /// Puts an event, behind which the reader of events is.
+    pub fn put(&mut self, alloc: Global, event: ReplyEvent) -> Result<(), ReplyFault>
+        requires room { HasRoomFor self.old }
+        requires number { self.old.count + 1 < 2 ^ 64 }
+        ensures { PutsEvent self.old (event_view event) result self.new }
+    {
+        let report = match event {
+            ReplyEvent::Progress(report) => report,
+            event => {
+                let part = mem::replace(&mut self.part, Part::Nothing);
+                return match put(alloc, &self.events, part, event) {
+                    Stepped::Moved(listed, next) => {
+                        self.part = next;
+                        self.list(listed);
+                        self.count += 1;
+                        Ok(())
+                    }
+                    Stepped::Failed(same) => {
+                        self.part = same;
+                        Err(self.fail(ReplyFault::Memory))
+                    }
+                };
+            }
+        };
+        if self.progress.push(report).is_err() {
+            return Err(self.fail(ReplyFault::Memory));
+        }
+        self.count += 1;
+        Ok(())
+    }
+
+    /// Reads any payload: its event, for which there is room. It isn't put yet.
+    pub fn read_event(&mut self, payload: &[u8]) -> Result<ReplyEvent, ReplyFault>
         requires reading { IsReading self.old }
         requires going { self.old.fault ≡ None }
-        requires awaiting { IsAwaiting (awaited_view self.old.awaited) }
-        requires report { has_report_form self.old.context payload.now ≡ false }
-        requires no_row { IsNoRow self.old.context (awaited_view self.old.awaited) payload.now }
-        requires room { self.old.count + 1 < 2 ^ 64 }
-        ensures reading { IsReading self.new }
-        ensures ok { OnOk result ((self.new.fault ≡ None) × (self.new.count ≡ self.old.count + 1)) }
-        ensures fault { IfErr result (λ fault. self.new.fault ≡ Some fault) }
-        ensures goes_on { UnlessMemory result (StateGoesOn self.old payload.now self.new) }
-        ensures short { OnMemory result (IsShortOf self.old self.new) }
+        ensures { ReadsEvent self.old payload.now result self.new }
     {
         if self.results.reserve(3).is_err() {
             return Err(self.fail(ReplyFault::Memory));
@@ -106,28 +77,17 @@ impl ReplyState {
         if self.spare.reserve(1).is_err() {
             return Err(self.fail(ReplyFault::Memory));
         }
-        let awaited = mem::replace(&mut self.awaited, Awaited::Nothing);
-        match step(alloc, self.context, awaited, payload) {
-            Stepped::Moved(listed, next) => {
-                self.awaited = next;
-                self.list(listed);
-                self.count += 1;
-                Ok(())
-            }
-            Stepped::Failed(same, fault) => {
-                self.awaited = same;
-                Err(self.fail(fault))
-            }
+        match self.events.read(payload) {
+            Ok(event) => Ok(event),
+            Err(fault) => Err(self.fail(fault_of(fault))),
         }
     }
 
-    /// Reads a payload in the form of a row: where rows are awaited it is added to them in place.
-    pub fn take_row(&mut self, alloc: Global, payload: &[u8]) -> Result<(), ReplyFault>
+    /// Reads any payload: its event, which is put.
+    pub fn take_event(&mut self, alloc: Global, payload: &[u8]) -> Result<(), ReplyFault>
         requires reading { IsReading self.old }
         requires going { self.old.fault ≡ None }
-        requires awaiting { IsAwaiting (awaited_view self.old.awaited) }
-        requires report { has_report_form self.old.context payload.now ≡ false }
-        requires row { reads_as_row self.old.context payload.now ≡ true }
+        requires awaiting { IsAwaiting self.old }
         requires room { self.old.count + 1 < 2 ^ 64 }
         ensures reading { IsReading self.new }
         ensures ok { OnOk result ((self.new.fault ≡ None) × (self.new.count ≡ self.old.count + 1)) }
@@ -135,29 +95,15 @@ impl ReplyState {
         ensures goes_on { UnlessMemory result (StateGoesOn self.old payload.now self.new) }
         ensures short { OnMemory result (IsShortOf self.old self.new) }
     {
-        let context = self.context;
-        match &mut self.awaited {
-            Awaited::Rows(open_rows) => {
-                if self.spare.reserve(1).is_err() {
-                    return Err(self.fail(ReplyFault::Memory));
-                }
-                match row_step(alloc, context, open_rows, payload) {
-                    Ok(()) => {
-                        self.count += 1;
-                        Ok(())
-                    }
-                    Err(fault) => Err(self.fail(fault)),
-                }
-            }
-            _ => self.take_other(alloc, payload),
-        }
+        let event = self.read_event(payload)?;
+        self.put(alloc, event)
     }
 
-    /// Reads the next payload.
+    /// Reads the next payload. A row where rows are due is added to them in place.
     pub fn take(&mut self, alloc: Global, payload: &[u8]) -> Result<(), ReplyFault>
         requires reading { IsReading self.old }
         requires going { self.old.fault ≡ None }
-        requires awaiting { IsAwaiting (awaited_view self.old.awaited) }
+        requires awaiting { IsAwaiting self.old }
         ensures reading { IsReading self.new }
         ensures ok { OnOk result ((self.new.fault ≡ None) × (self.new.count ≡ self.old.count + 1)) }
         ensures fault { IfErr result (λ fault. self.new.fault ≡ Some fault) }
@@ -167,12 +113,36 @@ impl ReplyState {
         if self.count == u64::MAX {
             return Err(self.fail(ReplyFault::TooLarge));
         }
-        if is_report_like(self.context, payload) {
-            self.take_report(alloc, payload)
-        } else if is_row(self.context, payload) {
-            self.take_row(alloc, payload)
-        } else {
-            self.take_other(alloc, payload)
+        match self.take_row(payload) {
+            Ok(true) => Ok(()),
+            Ok(false) => self.take_event(alloc, payload),
+            Err(fault) => Err(fault),
         }
+    }
+
+    /// Reads a row, if one comes next under columns that stand. Else nothing has changed.
+    #[inline(always)]
+    fn take_row(&mut self, payload: &[u8]) -> Result<bool, ReplyFault>
+        requires reading { IsReading self.old }
+        requires going { self.old.fault ≡ None }
+        requires room { self.old.count + 1 < 2 ^ 64 }
+        ensures { TakesRow self.old payload.now result self.new }
+    {
+        let Part::Rows(open_rows) = &mut self.part else {
+            return Ok(false);
+        };
+        if self.spare.reserve(1).is_err() {
+            return Err(self.fail(ReplyFault::Memory));
+        }
+        let row = match self.events.read_row(payload) {
+            Ok(Some(row)) => row,
+            Ok(None) => return Ok(false),
+            Err(fault) => return Err(self.fail(fault_of(fault))),
+        };
+        if open_rows.push(row).is_err() {
+            return Err(self.fail(ReplyFault::Memory));
+        }
+        self.count += 1;
+        Ok(true)
     }
 }

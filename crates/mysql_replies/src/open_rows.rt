@@ -1,22 +1,15 @@
 //! The rows so far of a result set that goes on.
 
-ghost use Rattle.std.specs.Prelude.{◌≡◌, ◌==◌, ◌<◌, [], ◌∷◌, ◌++◌, None, Ok, IfErr, IfSome, IsSomeAnd, OnErr, OnOk};
-ghost use Rattle.std.specs.Prelude.{length};
-ghost use Rattle.std.specs.Prelude.{option_map};
-ghost use Rattle.mysql_row_refs.specs.RowRefs.{row_of};
+ghost use Rattle.std.specs.Prelude.{◌≡◌, ◌==◌, ◌<◌, [], ◌∷◌, ◌++◌, None, OnErr, OnOk, length, option_map};
 ghost use Rattle.mysql_ok_packets.specs.Views.{ok_packet_view};
-ghost use Rattle.mysql_rows.specs.Rows.{Row as RowOf};
 ghost use Rattle.mysql_rows.specs.Views.{row_view, shared_columns};
-ghost use Rattle.mysql_replies.specs.Grammar.{RowsResult};
-ghost use Rattle.mysql_replies.specs.OpenRows.{ReadsRows, rows_of};
-ghost use Rattle.mysql_replies.specs.RowSteps.{RowAt, or_bad_row};
-ghost use Rattle.mysql_replies.specs.Views.{Refuses, outcome_view};
+ghost use Rattle.mysql_replies.specs.OpenRows.{rows_of};
+ghost use Rattle.mysql_replies.specs.Together.{RowsResult};
+ghost use Rattle.mysql_replies.specs.Views.{outcome_view};
 
-use crate::fault::ReplyFault;
 use crate::results::ReplyResult;
 use mysql_columns::Column;
 use mysql_ok_packets::OkPacket;
-use mysql_row_refs::{RowFormat, RowReader};
 use mysql_rows::Row;
 use std::alloc::{AllocError, Global};
 use std::marker::Model;
@@ -33,10 +26,6 @@ pub struct OpenRows {
     // There where there are rows.
     share: Option<RcSlice<Column>>,
     rows: Vec<Row>,
-    // There once a row was read to be borrowed.
-    reader: Option<RowReader>,
-    // The format in which it reads.
-    format: RowFormat,
 }
 
 impl Model for OpenRows {
@@ -45,37 +34,26 @@ impl Model for OpenRows {
     ghost Value = { RowsSoFar };
 
     ghost use Rattle.mysql_rows.specs.Views.{shared_columns};
-    ghost use Rattle.mysql_replies.specs.OpenRows.{rows_of, HasReader, HasShare};
+    ghost use Rattle.mysql_replies.specs.OpenRows.{rows_of, HasShare};
 
     ghost view = { λ so_far. record {
       columns = shared_columns so_far.columns;
       rows = rows_of so_far.rows.items;
-      reader = so_far.reader;
     } };
 
-    ghost invariant = { λ so_far. HasShare so_far.columns so_far.share so_far.rows.items ×
-        HasReader so_far.columns so_far.format so_far.reader };
+    ghost invariant = { λ so_far. HasShare so_far.columns so_far.share so_far.rows.items };
 }
 
 impl OpenRows {
     /// No row under these columns.
     pub fn new(alloc: Global, columns: RcSlice<Column>) -> OpenRows
-        ensures { result ≡ record { columns = shared_columns columns; rows = []; reader = None } }
+        ensures { result ≡ record { columns = shared_columns columns; rows = [] } }
     {
         OpenRows {
             columns,
             share: None,
             rows: Vec::new(alloc),
-            reader: None,
-            format: RowFormat::Text,
         }
-    }
-
-    /// The columns.
-    pub fn columns(&self) -> &RcSlice<Column>
-        ensures { shared_columns result.now ≡ self.now.columns }
-    {
-        &self.columns
     }
 
     /// The rows.
@@ -102,65 +80,6 @@ impl OpenRows {
         }
         self.rows.push(row)?;
         Ok(())
-    }
-
-    // Makes a reader of rows in this format.
-    #[inline(never)]
-    fn make_reader(&mut self, alloc: Global, format: RowFormat) -> Result<(), AllocError>
-        ensures rows { self.new ≡ record self.old { reader = self.new.reader } }
-        ensures reader { OnOk result (IsSomeAnd self.new.reader (ReadsRows self.old.columns format)) }
-    {
-        let reader = RowReader::new(alloc, self.columns.clone()?, format)?;
-        self.reader = Some(reader);
-        self.format = format;
-        Ok(())
-    }
-
-    // Makes a reader of rows in this format, where there is none.
-    #[inline(always)]
-    fn ready_reader(&mut self, alloc: Global, format: RowFormat) -> Result<(), AllocError>
-        ensures rows { self.new ≡ record self.old { reader = self.new.reader } }
-        ensures reader { OnOk result (IsSomeAnd self.new.reader (ReadsRows self.old.columns format)) }
-    {
-        if self.reader.is_some() && self.format == format {
-            return Ok(());
-        }
-        self.make_reader(alloc, format)
-    }
-
-    /// Reads the places of the cells of the row that a payload is, in this format.
-    ///
-    /// The row can be borrowed then, and isn't added. Memory is asked for at the first row alone.
-    #[inline(always)]
-    pub fn read(
-        &mut self,
-        alloc: Global,
-        format: RowFormat,
-        payload: &[u8],
-    ) -> Result<(), ReplyFault>
-        ensures rows { self.new ≡ record self.old { reader = self.new.reader } }
-        ensures ok { OnOk result ((row : RowOf) × RowAt self.new.reader payload.now row
-            × (row_of format self.old.columns payload.now ≡ Ok row)) }
-        ensures err { IfErr result (λ fault. Refuses fault (or_bad_row (row_of format self.old.columns payload.now))) }
-    {
-        if self.ready_reader(alloc, format).is_err() {
-            return Err(ReplyFault::Memory);
-        }
-        let Some(reader) = &mut self.reader else {
-            unreachable!()
-        };
-        match reader.read(payload) {
-            Ok(()) => Ok(()),
-            Err(_) => Err(ReplyFault::BadRow),
-        }
-    }
-
-    /// What reads rows to be borrowed, once one was read.
-    #[inline(always)]
-    pub fn reader(&self) -> &Option<RowReader>
-        ensures { result.now ≡ self.now.reader }
-    {
-        &self.reader
     }
 
     /// Hands out the rows, as a part of the result set. Takes no memory.
@@ -190,8 +109,6 @@ impl OpenRows {
             columns,
             share: _,
             rows,
-            reader: _,
-            format: _,
         } = self;
         ReplyResult::Rows {
             columns,

@@ -4,25 +4,25 @@ ghost use Rattle.std.specs.Prelude.{◌≡◌, ◌≢◌, ◌⊎◌, ◌∷◌, 
 ghost use Rattle.std.specs.Prelude.{flat_map, length, map, ◌<◌, ◌≤◌, ℕ, List};
 ghost use Rattle.std.specs.Bool.{OnFalse, OnTrue};
 ghost use Rattle.mysql_wire.specs.Incoming.{ReadsOn, bytes_kept, codec_by};
-ghost use Rattle.mysql_replies.specs.Steps.{IsAwaiting};
 ghost use Rattle.mysql_replies.specs.declared.fault.ReplyFault.TheVariants.{Memory};
 ghost use Rattle.mysql_replies.specs.Bytes.{IsReplyOf, IsShortReplyOf};
+ghost use Rattle.mysql_replies.specs.Reply.{context_by};
 ghost use Rattle.mysql_replies.specs.Holding.{fresh_reader, fault_of, ReaderDecides, ReaderGoesOn, HasFoundNoFault};
 ghost use Rattle.mysql_replies.specs.Holding.{TakesAll, StandsShort};
-ghost use Rattle.mysql_replies.specs.States.{reader_state, fault_named};
+ghost use Rattle.mysql_replies.specs.States.{IsAwaiting, reader_state, fault_named};
 ghost use Rattle.mysql_replies.specs.Pieces.{IsWaiting, TakesPiece};
 ghost use Rattle.mysql_replies.specs.Taking.{ListsResults, ListsRows, results_in, without_results, reports_in};
 ghost use Rattle.mysql_replies.specs.Taking.{without_reports};
-ghost use Rattle.mysql_replies.specs.Views.{answer_view, awaited_view, outcome_views, report_views, row_views};
+ghost use Rattle.mysql_replies.specs.Views.{answer_view, outcome_views, report_views, row_views};
 ghost use Rattle.mysql_replies.specs.States as states;
 
-use crate::context::{Context, ReplyKind};
 use crate::fault::ReplyFault;
 use crate::framing::framing_laws;
 use crate::results::{Reply, ReplyResult};
 use crate::state::ReplyState;
 use mysql_buf::laws::are_bytes;
 use mysql_const::CapabilityFlags;
+use mysql_reply_events::ReplyKind;
 use mysql_rows::Row;
 use mysql_server_packets::ProgressReport;
 use mysql_wire::{PacketCodecError, PacketReader};
@@ -84,7 +84,7 @@ fn take_payloads(
 // Takes a piece that ends within a header or a chunk of a packet that is awaited, and answers whether it did.
 #[inline(always)]
 fn took_within(state: &ReplyState, packets: &mut PacketReader, piece: &[u8]) -> bool
-    ensures awaiting { OnTrue result (IsAwaiting (awaited_view state.now.awaited)) }
+    ensures awaiting { OnTrue result (IsAwaiting state.now) }
     ensures waits { OnTrue result (ReadsOn packets.old piece.now false packets.new []) }
     ensures used { OnTrue result (packets.new ≡
         record packets.old { bytes = packets.old.bytes ++ piece.now; payload = [] }) }
@@ -163,6 +163,9 @@ impl ReplyReader {
     /// The reply's first chunk has the number `first_id`.
     ///
     /// `limit` is the most bytes of a payload: the `max_allowed_packet` of this side, at least 4.
+    ///
+    /// It isn't told the columns of a statement. So rows of a fetch come as `RawRows` where MySQL's
+    /// optional metadata are agreed on, and else are `BadRow`: an `EventReader` reads them.
     pub fn new(
         alloc: Global,
         kind: ReplyKind,
@@ -170,12 +173,11 @@ impl ReplyReader {
         first_id: u8,
         limit: usize,
     ) -> ReplyReader
-        ensures { result ≡ fresh_reader (record { kind = kind; capabilities = capabilities }) first_id limit }
+        ensures { result ≡ fresh_reader (context_by kind capabilities) first_id limit }
     {
         framing_laws();
-        let context = Context { kind, capabilities };
         let parts = ReaderParts {
-            state: ReplyState::new(alloc, context),
+            state: ReplyState::new(alloc, kind, capabilities),
             packets: PacketReader::new(alloc, first_id, limit),
         };
         ReplyReader { alloc, parts }
@@ -292,8 +294,8 @@ impl ReplyReader {
 ///
 /// `limit` is the most bytes of a payload: the `max_allowed_packet` of this side, at least 4.
 ///
-/// Promise: of any bytes in any pieces the answer is exactly what the grammar gives: results,
-/// progress reports, and how the reply ends (`IsReplyOf`, `IsShortReplyOf`).
+/// Promise: of any bytes in any pieces the answer is the events of the payloads, put together
+/// (`IsReplyOf`, `IsShortReplyOf`).
 ///
 /// MySQL: Client/Server Protocol, "COM_QUERY Response", "Text Resultset", "Binary Protocol Resultset" and
 /// "COM_STMT_PREPARE Response".
@@ -305,9 +307,9 @@ pub fn read_reply(
     limit: usize,
     pieces: &[&[u8]],
 ) -> Reply
-    ensures { IsReplyOf (record { kind = kind; capabilities = capabilities }) first_id limit
+    ensures { IsReplyOf (context_by kind capabilities) first_id limit
         (flat_map (λ piece. piece.now) pieces.now) (answer_view result)
-        ⊎ IsShortReplyOf (record { kind = kind; capabilities = capabilities }) first_id limit
+        ⊎ IsShortReplyOf (context_by kind capabilities) first_id limit
         (map (λ piece. piece.now) pieces.now) (answer_view result) }
 {
     let mut reader = ReplyReader::new(alloc, kind, capabilities, first_id, limit);

@@ -12,7 +12,7 @@
 //!     }
 
 use crate::fault::ReplyFault;
-use mysql_columns::Column;
+use mysql_columns::{Column, ListedColumn};
 use mysql_ok_packets::OkPacket;
 use mysql_rows::Row;
 use mysql_server_packets::{LocalInfilePacket, ProgressReport, ServerError, StmtPacket};
@@ -29,7 +29,8 @@ pub enum ReplyResult {
     /// Rows under their columns, which they share, and the packet that ended them.
     ///
     /// Without it they ended by an error, which is the next result, or haven't ended. Those that
-    /// were handed out before their end go on in the next result.
+    /// were handed out before their end go on in the next result. Where a cursor was opened there
+    /// are no rows, and the packet is the one that says so.
     Rows {
         columns: RcSlice<Column>,
         rows: Vec<Row>,
@@ -45,6 +46,21 @@ pub enum ReplyResult {
     Error(ServerError<'static>),
     /// The server asks for a file of the client.
     File(LocalInfilePacket<'static>),
+    /// Rows as they came, and the packet that ended them.
+    ///
+    /// Their columns aren't known: they were left out, as MySQL's optional metadata allows. Or the
+    /// rows are those of a fetch. Without the packet they ended as `Rows` may.
+    RawRows {
+        rows: Vec<Vec<u8>>,
+        terminator: Option<OkPacket<'static>>,
+    },
+    /// Columns of a table with their default values, and the packet that ended them.
+    Fields {
+        fields: Vec<ListedColumn>,
+        terminator: Option<OkPacket<'static>>,
+    },
+    /// A text, or the first payload of what goes on in a form of its own.
+    Line(Vec<u8>),
 }
 
 /// How a reply ends.

@@ -1,28 +1,30 @@
 //! What is held of a reply that is read payload by payload.
 
 ghost use Rattle.std.specs.Prelude.{◌≡◌, ◌<◌, ◌+◌, ◌≤◌, ◌++◌, ◌∷◌, [], true, false, None, Some, vec_len, vec_capacity};
-ghost use Rattle.mysql_replies.specs.Reply.{fresh};
-ghost use Rattle.mysql_replies.specs.Views.{awaited_view};
-ghost use Rattle.mysql_replies.specs.Steps.{IsAwaiting};
-ghost use Rattle.mysql_replies.specs.States.{IsReading, reply_so_far};
+ghost use Rattle.mysql_replies.specs.Reply.{context_by, fresh, is_over};
+ghost use Rattle.mysql_replies.specs.Together as together;
+ghost use Rattle.mysql_replies.specs.States.{IsAwaiting, IsOver, IsReading, reply_so_far};
+ghost use Rattle.mysql_replies.specs.Views.{part_view};
 
-use crate::awaited::Awaited;
-use crate::context::Context;
 use crate::fault::ReplyFault;
+use crate::part::Part;
 use crate::results::ReplyResult;
+use bitflags::Flags;
+use mysql_const::{Capabilities, CapabilityFlags, MariadbCapabilities};
+use mysql_reply_events::{EventReader, ReplyKind, Turn};
 use mysql_server_packets::ProgressReport;
 use std::alloc::Global;
 
 /// What was read of a reply.
 #[derive(Drop)]
 pub struct ReplyState {
-    pub context: Context,
+    pub events: EventReader,
     pub results: Vec<ReplyResult>,
     // An empty list, which takes the place of the results that are handed out while rows are awaited.
     pub spare: Vec<ReplyResult>,
     pub progress: Vec<ProgressReport<'static>>,
     pub count: u64,
-    pub awaited: Awaited,
+    pub part: Part,
     pub fault: Option<ReplyFault>,
 }
 
@@ -38,21 +40,35 @@ pub fn push_in_room(results: &mut Vec<ReplyResult>, another: ReplyResult)
     };
 }
 
+/// What there is of the first result before its first payload.
+fn first_part(alloc: Global, kind: ReplyKind) -> Part
+    ensures { part_view result ≡ together.first_part kind None }
+{
+    match kind {
+        ReplyKind::Fetch => Part::RawRows(Vec::new(alloc)),
+        ReplyKind::FieldList => Part::Fields(Vec::new(alloc)),
+        _ => Part::Nothing,
+    }
+}
+
 impl ReplyState {
     /// The state before any payload has come.
-    pub fn new(alloc: Global, context: Context) -> ReplyState
-        ensures fresh { reply_so_far result ≡ fresh context }
-        ensures first { result.awaited ≡ Awaited.First }
+    pub fn new(alloc: Global, kind: ReplyKind, capabilities: CapabilityFlags) -> ReplyState
+        ensures fresh { reply_so_far result ≡ fresh (context_by kind capabilities) }
         ensures going { result.fault ≡ None }
         ensures reading { IsReading result }
     {
+        let capabilities = Capabilities {
+            protocol: capabilities,
+            mariadb: MariadbCapabilities::empty(),
+        };
         ReplyState {
-            context,
+            events: EventReader::new(alloc, kind, capabilities, None),
             results: Vec::new(alloc),
             spare: Vec::new(alloc),
             progress: Vec::new(alloc),
             count: 0,
-            awaited: Awaited::First,
+            part: first_part(alloc, kind),
             fault: None,
         }
     }
@@ -66,14 +82,15 @@ impl ReplyState {
         fault
     }
 
-    /// Nothing is awaited.
+    /// Nothing more of the server is awaited.
     pub fn is_over(&self) -> bool
-        ensures over { result ≡ true → self.now.awaited ≡ Awaited.Nothing }
-        ensures awaiting { result ≡ false → IsAwaiting (awaited_view self.now.awaited) }
+        ensures over { result ≡ true → IsOver self.now }
+        ensures awaiting { result ≡ false → IsAwaiting self.now }
+        ensures is { result ≡ is_over self.now.events.so_far.awaited }
     {
-        match self.awaited {
-            Awaited::Nothing => true,
-            _ => false,
+        match self.events.turn() {
+            Turn::Server => false,
+            Turn::Client | Turn::Nobody => true,
         }
     }
 }

@@ -3,3 +3,4 @@ mod RowsInPlace
 mod LeadingOn
 mod Peeking
 mod NextRows
+mod KeptRows

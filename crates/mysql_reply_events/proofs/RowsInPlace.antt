@@ -141,7 +141,7 @@ refused_on faults.BadTerminator r f h = ap (λ r. r >>= f) h
 refused_on faults.BadPrepare r f h = ap (λ r. r >>= f) h
 refused_on faults.NotDue r f h = ap (λ r. r >>= f) h
 
-read_fails : (old new : ReaderState) (payload : Payload) (fault : ReplyFault) → HasFailed old fault new → Refuses fault (event_at old.context old.so_far payload) → ReadsOn old payload (Err fault) new
+pub read_fails : (old new : ReaderState) (payload : Payload) (fault : ReplyFault) → HasFailed old fault new → Refuses fault (event_at old.context old.so_far payload) → ReadsOn old payload (Err fault) new
 read_fails old new payload faults.Memory failed h = failed
 read_fails old new payload faults.BadHeader failed h = (h, failed)
 read_fails old new payload faults.BadCount failed h = (h, failed)

@@ -1,15 +1,19 @@
 -- A row that is read where it lies, behind another one or not.
 -- MySQL: Client/Server Protocol, "Text Resultset Row" and "Binary Protocol Resultset Row".
-use Rattle.std.specs.Prelude.{◌≡◌, ◌⊎◌, List, ◌∷◌, Bool, true, false, nat_lt, Option, Some, None, Ok, Err}
+use Rattle.std.specs.Prelude.{◌≡◌, ◌⊎◌, List, ◌∷◌, Bool, true, false, nat_lt, Option, Some, None, Result, Ok, Err}
 use Rattle.mysql_columns.specs.Columns.{ColumnDefinition}
 use Rattle.mysql_row_refs.specs.RowRefs.{row_of}
 use Rattle.mysql_row_refs.specs.declared.errors.RowError.{RowError}
 use Rattle.mysql_row_refs.specs.declared.reader.RowReader.{RowReader}
+use Rattle.mysql_rows.specs.Views.{row_view}
+use Rattle.mysql_rows.specs.declared.row.Row.{Row as RowOf}
 use Rattle.mysql_reply_events.specs.Events.{Awaited, Payload}
 use Rattle.mysql_reply_events.specs.Events.Awaited.{Rows}
-use Rattle.mysql_reply_events.specs.Reader.{ReaderState, ReadsRow, is_row_due}
+use Rattle.mysql_reply_events.specs.Events.Event.{RowEvent}
+use Rattle.mysql_reply_events.specs.Reader.{GoesOn, ReaderState, ReadsOn, ReadsRow, is_row_due}
 use Rattle.mysql_reply_events.specs.Standing.{ReadsAt, Standing}
 use Rattle.mysql_reply_events.specs.Table.{event_at}
+use Rattle.mysql_reply_events.specs.declared.fault.ReplyFault.{ReplyFault}
 use Rattle.mysql_reply_events.specs.declared.fault.ReplyFault.TheVariants.{BadRow}
 
 -- Rows are due by the columns that stand, and the payload begins neither as an error nor as a terminator.
@@ -39,3 +43,10 @@ TakesRow old payload false new = (new ≡ record old { rows = new.rows }) × Tak
 abbrev pub LendsRow : ReaderState → Payload → Bool → ReaderState → Type 0
 LendsRow old payload true new = (is_row_due old.context old.so_far payload ≡ true) × ReadsRow old payload new
 LendsRow old payload false new = new ≡ record old { rows = new.rows }
+
+-- The payload is a row that was due, and is kept; or nothing has changed; or the payload has no place.
+abbrev pub KeepsRow : ReaderState → Payload → Result (Option RowOf) ReplyFault → ReaderState → Type 0
+KeepsRow old payload (Ok (Some row)) new =
+    (event_at old.context old.so_far payload ≡ Ok (RowEvent (row_view row), new.so_far)) × GoesOn old new
+KeepsRow old payload (Ok None) new = new ≡ old
+KeepsRow old payload (Err fault) new = ReadsOn old payload (Err fault) new

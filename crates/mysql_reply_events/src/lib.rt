@@ -1,6 +1,14 @@
-//! Replies of a server payload by payload: what each payload says, and what is awaited behind it.
+//! Replies of a server payload by payload: the event that each payload is, and what comes next.
 //!
-//! [`EventReader`] reads the payloads of one reply, whatever its command, one event each.
+//! `mysql_replies` and `mysql_connection_state` call it. A user names its items by
+//! `mysql_connection`. It reads payloads; packets are cut by others.
+//!
+//!     query ──► Ok | Error | FileRequest
+//!           └─► ColumnCount ► Column.. ► ColumnsEnd ► Row.. ► RowsEnd ──► the next result, if any
+//!
+//!     let mut reader = EventReader::new(alloc, ReplyKind::Text, capabilities, None);
+//!     let event = reader.read(payload)?;       // Err(ReplyFault): the same from then on
+//!     let turn = reader.turn();                // Turn::Nobody: the reply is whole
 #![tactic(auto)]
 
 mod awaited;

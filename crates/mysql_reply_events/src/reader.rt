@@ -3,31 +3,34 @@
 ghost use Rattle.std.specs.Prelude.{◌≡◌, Err, IfOk, IfSome, None, Some, OnErr, OnOk, false, option_map, true};
 ghost use Rattle.mysql_columns.specs.Views.{extended_view};
 ghost use Rattle.mysql_row_refs.specs.RowRefs.{row_ref_view};
-ghost use Rattle.mysql_rows.specs.Rows.{Row};
+ghost use Rattle.mysql_rows.specs.Rows as rows;
 ghost use Rattle.mysql_rows.specs.Views.{shared_columns};
 ghost use Rattle.mysql_reply_events.specs.Behind.{behind, is_column};
+ghost use Rattle.mysql_reply_events.specs.Due.{bare};
 ghost use Rattle.mysql_reply_events.specs.Events.Event.{ColumnEvent};
-ghost use Rattle.mysql_reply_events.specs.NextRows.{LendsRow, TakesRow, is_next_row};
+ghost use Rattle.mysql_reply_events.specs.NextRows.{KeepsRow, LendsRow, TakesRow, is_next_row};
 ghost use Rattle.mysql_reply_events.specs.Reader.{GoesOn, HasFailed, Peeks, ReadsInPlace, ReadsOn, TakesFileData};
 ghost use Rattle.mysql_reply_events.specs.Reader.{awaits_rows, fresh_reader, is_row_due};
 ghost use Rattle.mysql_reply_events.specs.Standing.{RowAt, columns_of, format_of};
 ghost use Rattle.mysql_reply_events.specs.States.{Says, Steps, so_far};
 ghost use Rattle.mysql_reply_events.specs.Table as table;
-ghost use Rattle.mysql_reply_events.specs.Views.{awaited_view, event_view, turn_of};
+ghost use Rattle.mysql_reply_events.specs.Views.{awaited_view, due_view, event_view, turn_of};
 
-use crate::awaited::{Awaited, Turn};
+use crate::awaited::{Awaited, Due, Turn};
 use crate::behind::{pass, pass_column, turn_behind};
 use crate::context::{Context, ReplyKind};
 use crate::event::ReplyEvent;
 use crate::fault::ReplyFault;
 use crate::forms::is_report_like;
 use crate::packets::report_packet;
+use crate::rows::row_packet;
 use crate::standing::StandingColumns;
 use crate::state::ReplyState;
 use crate::steps::{place_event, take_column};
 use mysql_columns::{Column, ExtendedColumn};
 use mysql_const::Capabilities;
 use mysql_row_refs::{RowFormat, RowRef, is_row};
+use mysql_rows::Row;
 use std::alloc::{AllocError, Global};
 use std::marker::Model;
 use std::rc::RcSlice;
@@ -417,17 +420,53 @@ impl EventReader {
         }
     }
 
+    /// Reads a row that is kept, if it comes next. `None` says nothing of the payload, and nothing has
+    /// changed: [`EventReader::read`] reads it then.
+    ///
+    /// Promise: the row is the one that `read` would answer, and so is what is awaited behind it
+    /// (`KeepsRow`).
+    ///
+    /// # Errors
+    /// - Those of [`EventReader::read`].
+    ///
+    /// MySQL: Client/Server Protocol, "Text Resultset Row" and "Binary Protocol Resultset Row".
+    pub fn read_row(&mut self, payload: &[u8]) -> Result<Option<Row>, ReplyFault>
+        requires { self.old.fault ≡ None }
+        ensures { KeepsRow self.old payload.now result self.new }
+    {
+        if !is_row_due(self.context, &self.state, payload) {
+            return Ok(None);
+        }
+        let Some(columns) = self.state.standing.columns() else {
+            return Ok(None);
+        };
+        match row_packet(self.alloc, self.context, columns, payload) {
+            Ok(row) => {
+                self.state.awaited = Awaited::Rows { known: true };
+                Ok(Some(row))
+            }
+            Err(fault) => Err(self.fail(fault)),
+        }
+    }
+
     /// The row that was read last where it lies, which borrows its payload.
     ///
     /// MySQL: Client/Server Protocol, "Text Resultset Row" and "Binary Protocol Resultset Row".
     pub fn row_ref<'r, 'p>(&'r self, payload: &'p [u8]) -> RowRef<'r, 'p>
-        requires { (row : Row) × RowAt self.now.rows payload.now row }
+        requires { (row : rows.Row) × RowAt self.now.rows payload.now row }
         ensures { RowAt self.now.rows payload.now (row_ref_view result) }
     {
         let Some(reader) = self.state.standing.reader() else {
             unreachable!()
         };
         reader.row_ref(payload)
+    }
+
+    /// What is awaited, without the columns of a group that came before. Behind a fault nothing is.
+    pub fn due(&self) -> Due
+        ensures { due_view result ≡ bare self.now.so_far.awaited }
+    {
+        self.state.awaited.due()
     }
 
     /// Whose payload is due. Behind a fault nobody's is.

@@ -2,11 +2,11 @@
 use Rattle.std.proofs.Common.{◌≡◌, ℕ, ◌+◌, ◌≤◌, ◌<◌, ◌&&◌, Bool, true, false, if◌then◌else◌, List, [], ◌∷◌, ◌++◌, length, min, nat_le, nat_lt, Option, Some, None, refl, arith, length-append}
 use Rattle.std.specs.List.{AllByRecursion}
 use Rattle.std.proofs.lemmas.Bool.{leb-true, ltb-true}
-use Rattle.mysql_replies.specs.Grammar.{deprecate_eof}
+use Rattle.mysql_reply_events.specs.Readings.{deprecate_eof}
 use Rattle.mysql_reply_writer.specs.declared.refusal.ReplyRefusal.{ReplyRefusal}
 use Rattle.mysql_reply_writer.specs.declared.refusal.ReplyRefusal.TheVariants.{PacketTooLarge}
 use Rattle.mysql_reply_writer.specs.Refusals.{Writing, after_step, cause_if, first_cause, or_cause, step_cause, step_checks, step_room, steps_cause, too_large}
-use Rattle.mysql_reply_writer.specs.Written.{ColumnsStep, EndStep, ErrorStep, FileStep, OkStep, PreparedStep, ReportStep, RowStep, Step, step_payloads, steps_payloads}
+use Rattle.mysql_reply_writer.specs.Written.{ColumnsStep, EndStep, ErrorStep, FileStep, OkStep, PreparedStep, ReportStep, RowStep, Step, UnwrittenStep, step_payloads, steps_payloads}
 
 pub neither : (a b : Option ReplyRefusal) → or_cause a b ≡ None → (a ≡ None) × (b ≡ None)
 neither (Some cause) b h = absurd cc
@@ -64,10 +64,11 @@ room_within w (ReportStep report) = omega arith
 room_within w (OkStep more ok) = omega arith
 room_within w (ColumnsStep columns) = omega arith
 room_within w (RowStep columns row) = omega arith
-room_within w (EndStep more ok) = room_below (deprecate_eof w.context.capabilities.0) w.limit
+room_within w (EndStep more ok) = room_below (deprecate_eof w.context) w.limit
 room_within w (ErrorStep error) = omega arith
 room_within w (FileStep name) = omega arith
 room_within w (PreparedStep statement parameters columns) = omega arith
+room_within w UnwrittenStep = omega arith
 
 -- nothing speaks against a step and those behind it
 pub record Allowed (w : Writing) (step : Step) (steps : List Step) : Type 0 where

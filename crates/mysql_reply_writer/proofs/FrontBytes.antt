@@ -9,9 +9,9 @@ use Rattle.mysql_wire.specs.Laws.{FrontsSplit}
 use Rattle.mysql_wire.specs.Stream.{Numbering, Rest, Split, IsRest, IsSplit, IsFault, StandWhole, framings, after, after_all, first_number}
 use Rattle.mysql_wire.specs.Stream.Numbering.{OnFrom}
 use Rattle.mysql_wire.specs.Stream.Rest.{Empty, TooLarge, OutOfSync, Open as OpenRest}
-use Rattle.mysql_replies.specs.declared.context.Context.{Context}
-use Rattle.mysql_replies.specs.Grammar.{Payload}
-use Rattle.mysql_replies.specs.Reply.{Answer, IsReply, Whole, AnswersAgree}
+use Rattle.mysql_reply_events.specs.declared.context.Context.{Context}
+use Rattle.mysql_replies.specs.Reply.{Payload}
+use Rattle.mysql_replies.specs.Reply.{Answer, IsReply}
 use Rattle.mysql_replies.specs.Bytes.{numbers_left, numbered, after_numbered}
 use Rattle.mysql_replies.specs.Manual.{IsWholeReply, EachSuchListIsWhole}
 use Rattle.mysql_reply_writer.specs.Fronts.{EachFrontIsUnfinished, EachFramedFrontIsUnfinished, EachFramedReplyIsWhole, LongerFrontsGoOn, LongerFramedFrontsGoOn}
@@ -125,8 +125,8 @@ nothing_behind told limit number bytes OutOfSync no_fault is none = absurd (no_f
 nothing_behind told limit number bytes OpenRest no_fault is none =
     let some = ((told limit number).1 bytes).1 is in let e = ap length none in absurd (omega (arith, some, e))
 
-pub framed_replies_are_whole : FrontsSplit → RestsAreTold → AnswersAgree → EachSuchListIsWhole → EachFramedReplyIsWhole
-framed_replies_are_whole cut told agree some c first_id limit bytes listed reports answer is read =
+pub framed_replies_are_whole : FrontsSplit → RestsAreTold → EachSuchListIsWhole → EachFramedReplyIsWhole
+framed_replies_are_whole cut told some c first_id limit bytes listed reports answer is read =
     let split = read.split in
     let s = splits_as cut first_id limit is.payloads bytes [] split is.few is.within (sym (is.framed) ∙ sym (append-nil bytes)) read.splits in
     let all : split.payloads ≡ is.payloads = none_missing first_id is.payloads bytes split is.framed s in
@@ -136,4 +136,4 @@ framed_replies_are_whole cut told agree some c first_id limit bytes listed repor
     let empty : split.rest ≡ Empty = nothing_behind told limit (first_number (after_all split.payloads (OnFrom first_id))) split.rest_bytes split.rest s.no_fault read.splits.ends none in
     let reply : IsReply c is.payloads Empty answer =
     subst (λ l. IsReply c l Empty answer) all (subst (λ rest. IsReply c split.payloads rest answer) empty (reply_of c first_id is.payloads bytes split answer s read.reply)) in
-    agree c is.payloads Empty answer (record { results = listed; progress = reports; end = Whole }) reply (some c is.payloads listed reports is.whole)
+    reply ∙ sym (some c is.payloads listed reports is.whole)

@@ -1,20 +1,23 @@
 -- Replies that were read, and what is read of them once they were written again.
-use Rattle.std.proofs.Common.{◌≡◌, Bool, true, false, if◌then◌else◌, List, [], ◌∷◌, ◌++◌, map, Some, None, refl, sym, ap, ◌∙◌, append-nil}
+use Rattle.std.proofs.Common.{◌≡◌, ℕ, Bool, true, false, if◌then◌else◌, List, [], ◌∷◌, ◌++◌, map, Option, Some, None, refl, sym, ap, subst, ◌∙◌, append-nil}
 use Rattle.std.specs.Prelude.{bytes_eq, take}
 use Rattle.std.specs.List.{AllByRecursion}
 use Rattle.std.proofs.lemmas.Bool.{and_parts}
 use Rattle.std.proofs.lemmas.List.{map-append}
-use Rattle.mysql_ok_packets.specs.Written.{as_ok}
-use Rattle.mysql_server_packets.specs.Packets.{ProgressReport, progress_obsolete}
+use Rattle.mysql_ok_packets.specs.OkPackets.{OkPacket, more_results_exist}
+use Rattle.mysql_ok_packets.specs.Written.{IsWritable, as_eof, as_ok}
+use Rattle.mysql_server_packets.specs.Packets.{ProgressReport}
 use Rattle.mysql_columns.specs.Columns.{ColumnDefinition}
 use Rattle.mysql_rows.specs.Rows.{Row}
-use Rattle.mysql_replies.specs.declared.context.Context.{Context}
-use Rattle.mysql_replies.specs.Grammar.{ErrorResult, OkResult, Outcome, Payload, PreparedResult, RowsResult}
+use Rattle.mysql_reply_events.specs.declared.context.Context.{Context}
+use Rattle.mysql_replies.specs.Together.{ErrorResult, OkResult, Outcome, PreparedResult, RowsResult}
+use Rattle.mysql_reply_events.specs.Readings.{deprecate_eof, protocol}
+use Rattle.mysql_replies.specs.Reply.{Payload}
 use Rattle.mysql_replies.specs.Manual as manual
-use Rattle.mysql_replies.specs.Manual.{AreResults, EndedRows, IsResult, WithoutReports, nothing, terminated, failed}
+use Rattle.mysql_replies.specs.Manual.{AreResults, EndedRows, IsColumnGroup, IsEofDue, IsResult, WithoutReports, nothing, terminated, failed}
 use Rattle.mysql_reply_writer.specs.Own.{AreFewBytes, ReadReportsAreTheirOwn, ReadResultsAreTheirOwn, without_zero_signs, row_without_zero_signs}
-use Rattle.mysql_reply_writer.specs.Written.{error_written, is_some_result, report_written, results_read, saying, terminator_read}
-use Rattle.mysql_reply_writer.proofs.OwnPackets.{OwnLaws, counting_own, error_own, group_count, ok_own, report_own, rows_own, terminator_own}
+use Rattle.mysql_reply_writer.specs.Written.{error_written, is_some_result, report_written, results_read, saying, terminator_read, tells_progress}
+use Rattle.mysql_reply_writer.proofs.OwnPackets.{OwnLaws, counting_own, error_own, group_count, ok_own, report_own, rows_own, saying_own, terminator_own}
 
 abbrev pub AreFew : List Payload → Type 0
 AreFew payloads = AllByRecursion (λ payload. AreFewBytes payload) payloads
@@ -26,6 +29,27 @@ few_first (payload ∷ first) others few = (few.0, few_first first others few.1)
 pub few_others : (first others : List Payload) → AreFew (first ++ others) → AreFew others
 few_others [] others few = few
 few_others (payload ∷ first) others few = few_others first others few.1
+
+-- ---- the EOF that opens a cursor
+
+due_own : OwnLaws → (c : Context) (columns : List ColumnDefinition) (end : List Payload) (ok : OkPacket) (says : Option OkPacket) → AreFew end → IsEofDue c columns end says → says ≡ Some ok →
+    IsWritable ok × (deprecate_eof c ≡ false) × (as_eof ok ≡ ok)
+due_own laws c columns end ok says few manual.no_columns is = absurd cc
+due_own laws c columns end ok says few (manual.deprecated off) is = absurd cc
+due_own laws c columns end ok says few (manual.eof {payload = payload} {says = said} on read) is =
+    let same : said ≡ ok = cc in
+    let own = laws.eof payload read.fields.0 said few.0.bytes few.0.few read.fields.1 in
+    subst (λ (p : OkPacket). IsWritable p × (deprecate_eof c ≡ false) × (as_eof p ≡ p)) same (own.0, on, own.1)
+
+-- It can be written, and is read as what ends rows.
+pub record CursorOwn (c : Context) (ok : OkPacket) : Type 0 where
+  pub can : IsWritable ok
+  pub read : terminator_read c (saying (more_results_exist ok.status_flags) ok) ≡ ok
+
+pub cursor_own : OwnLaws → (c : Context) (n : ℕ) (payloads : List Payload) (columns : List ColumnDefinition) (ok : OkPacket) (says : Option OkPacket) → AreFew payloads → IsColumnGroup c n payloads columns says → says ≡ Some ok → CursorOwn c ok
+cursor_own laws c n payloads columns ok says few (manual.group front end {columns = these} are due) is =
+    let own = due_own laws c these end ok says (few_others front end few) due is in
+    record { can = own.0; read = ap (terminator_read c) (saying_own ok own.0) ∙ rw own.1 own.2 }
 
 -- ---- results
 
@@ -41,21 +65,24 @@ ended_own laws c columns payloads listed more few (terminated before {rows = row
     (rows_own laws c columns before rows (few_first before (last ∷ []) few) are)
     ∙ ap (λ p. RowsResult columns (map (row_without_zero_signs c) rows) (Some p) ∷ results_read c rest) same
 ended_own laws c columns payloads listed more few (failed before {rows = rows} {last = last} {error = error} are is) rest e =
-    ap (λ (r : List Row). RowsResult columns r None ∷ ErrorResult (error_written c.capabilities.0 error) ∷ results_read c rest)
+    ap (λ (r : List Row). RowsResult columns r None ∷ ErrorResult (error_written (protocol c) error) ∷ results_read c rest)
     (rows_own laws c columns before rows (few_first before (last ∷ []) few) are)
-    ∙ ap (λ p. RowsResult columns (map (row_without_zero_signs c) rows) None ∷ ErrorResult p ∷ results_read c rest) (error_own c.capabilities.0 last error is.fields)
+    ∙ ap (λ p. RowsResult columns (map (row_without_zero_signs c) rows) None ∷ ErrorResult p ∷ results_read c rest) (error_own (protocol c) last error is.fields)
 
 result_own : OwnLaws → (c : Context) (payloads : List Payload) (listed : List Outcome) (more : Bool) → AreFew payloads → IsResult c payloads listed more → AreOwn c listed more
 result_own laws c payloads listed more few (manual.ok {payload = payload} {ok = ok} command is) rest e =
-    ap (λ p. OkResult p ∷ results_read c rest) (ap (λ (b : Bool). as_ok c.capabilities.0 (saying b ok)) e ∙ ok_own laws c payload ok few.0 is)
+    ap (λ p. OkResult p ∷ results_read c rest) (ap (λ (b : Bool). as_ok (protocol c) (saying b ok)) e ∙ ok_own laws c payload ok few.0 is)
 result_own laws c payloads listed more few (manual.error {payload = payload} {error = error} is) rest e =
-    ap (λ p. ErrorResult p ∷ results_read c rest) (error_own c.capabilities.0 payload error is.fields)
+    ap (λ p. ErrorResult p ∷ results_read c rest) (error_own (protocol c) payload error is.fields)
 result_own laws c payloads listed more few (manual.file {name = name} command) rest e = refl
-result_own laws c payloads listed more few (manual.rows {count = count} {n = n} front behind {columns = columns} command is g ended) rest e =
+result_own laws c payloads listed more few (manual.rows {count = count} {n = n} front behind {columns = columns} command is g closed ended) rest e =
     ended_own laws c columns behind listed more (few_others front behind few.1) ended rest e
+result_own laws c payloads listed more few (manual.cursor {count = count} {n = n} front {columns = columns} {ok = ok} command is g opens) rest e =
+    ap (λ p. RowsResult columns [] (Some p) ∷ results_read c rest)
+    (ap (λ (b : Bool). terminator_read c (saying b ok)) e ∙ (cursor_own laws c n front columns ok (Some ok) few.1 g refl).read)
 result_own laws c payloads listed more few (manual.prepared {packet = packet} {statement = statement} first second {parameters = parameters} {columns = columns} command header is g h) rest e =
     ap (λ p. PreparedResult p parameters columns ∷ results_read c rest)
-    (counting_own statement parameters columns (group_count c statement.num_params first parameters g) (group_count c statement.num_columns second columns h))
+    (counting_own statement parameters columns (group_count c statement.num_params first parameters _ g) (group_count c statement.num_columns second columns _ h))
 
 -- ---- results one after another
 
@@ -67,7 +94,8 @@ result_some : (c : Context) (payloads : List Payload) (listed rest : List Outcom
 result_some c payloads listed rest more (manual.ok command is) = refl
 result_some c payloads listed rest more (manual.error is) = refl
 result_some c payloads listed rest more (manual.file command) = refl
-result_some c payloads listed rest more (manual.rows front behind {columns = columns} command is g ended) = ended_some c columns behind listed rest more ended
+result_some c payloads listed rest more (manual.rows front behind {columns = columns} command is g closed ended) = ended_some c columns behind listed rest more ended
+result_some c payloads listed rest more (manual.cursor front command is g opens) = refl
 result_some c payloads listed rest more (manual.prepared first second command header is g h) = refl
 
 pub results_some : (c : Context) (payloads : List Payload) (listed : List Outcome) → AreResults c payloads listed → is_some_result listed ≡ true
@@ -99,18 +127,18 @@ reports_own c payloads others reports few (manual.report {payload = payload} {ne
     ∙ ap (λ (l : List ProgressReport). said ∷ l) (reports_own c rest (next ∷ left) more few.1 without)
 
 -- Reports come only to a client that knows them.
-none_unknown : (c : Context) (payloads others : List Payload) (reports : List ProgressReport) → progress_obsolete c.capabilities.0 ≡ false → WithoutReports c payloads reports others → reports ≡ []
+none_unknown : (c : Context) (payloads others : List Payload) (reports : List ProgressReport) → tells_progress c ≡ false → WithoutReports c payloads reports others → reports ≡ []
 none_unknown c payloads others reports unknown nothing = refl
 none_unknown c payloads others reports unknown (manual.other {payload = payload} {payloads = rest} {others = left} form without) = none_unknown c rest left reports unknown without
 none_unknown c payloads others reports unknown (manual.report {payload = payload} form reads without) =
-    let known = (and_parts (progress_obsolete c.capabilities.0) (bytes_eq (take 3 payload) (255 ∷ 255 ∷ 255 ∷ [])) form).0 in
+    let known = (and_parts (tells_progress c) (bytes_eq (take 3 payload) (255 ∷ 255 ∷ 255 ∷ [])) form).0 in
     absurd cc
 
 pub read_results_are_their_own : OwnLaws → ReadResultsAreTheirOwn
-read_results_are_their_own laws c payloads results progress few is = results_own laws c is.others results (others_few c payloads is.others progress few is.without_reports) is.results
+read_results_are_their_own laws c payloads results progress plain few is = results_own laws c is.others results (others_few c payloads is.others progress few is.without_reports) is.results
 
 pub read_reports_are_their_own : ReadReportsAreTheirOwn
-read_reports_are_their_own c payloads results progress few is = go (progress_obsolete c.capabilities.0) refl where
-  go : (b : Bool) → progress_obsolete c.capabilities.0 ≡ b → (if b then map report_written progress else []) ≡ progress
+read_reports_are_their_own c payloads results progress plain few is = go (tells_progress c) refl where
+  go : (b : Bool) → tells_progress c ≡ b → (if b then map report_written progress else []) ≡ progress
   go true known = reports_own c payloads is.others progress few is.without_reports
   go false unknown = sym (none_unknown c payloads is.others progress unknown is.without_reports)

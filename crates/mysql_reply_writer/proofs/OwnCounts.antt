@@ -7,21 +7,24 @@ use Rattle.mysql_buf.specs.FirstBytes.{first-enough, first-short}
 use Rattle.byteorder.specs.Endian.{little_number}
 use Rattle.mysql_fields.specs.Forms.{bytes_at, fixed_number_at}
 use Rattle.mysql_fields.specs.Laws.{bind_ok, done, ok_same}
-use Rattle.mysql_fields.specs.Wire.{lacks}
+use Rattle.mysql_fields.specs.Wire.{◌>>=◌, lacks}
 use Rattle.mysql_fields.specs.declared.error.WireError.TheVariants.{BadConstant, UnexpectedEof}
 use Rattle.mysql_field_constants.specs.Constants.{constant_at, is_constant, skipped_at}
 use Rattle.mysql_wire.specs.Lists.{elements_at}
 use Rattle.mysql_cells.specs.Cells.{text_cell_at}
 use Rattle.mysql_cells.specs.declared.value.Value.{Value}
 use Rattle.mysql_field_lists.specs.NullBitmap.{bitmap_len, is_null_at}
-use Rattle.mysql_server_packets.specs.Packets.{PrepareOk, ServerError, error_at, error_code_at, is_progress_code, prepare_ok_at, prepare_ok_fields_at, progress_obsolete, protocol_41, server_error_at, state_part_at}
+use Rattle.mysql_server_packets.specs.Packets.{PrepareOk, ServerError, error_at, error_code_at, prepare_ok_at, prepare_ok_fields_at, protocol_41, server_error_at, state_part_at}
 use Rattle.mysql_columns.specs.Columns.{ColumnDefinition}
 use Rattle.mysql_rows.specs.Rows.{Row, binary_cell_at, binary_cells_at, binary_resultset_row_at, binary_row_body_at, text_row_at, whole_row}
-use Rattle.mysql_replies.specs.declared.context.Context.{Context}
-use Rattle.mysql_replies.specs.Grammar.{Payload, begins_with, has_report_form, is_binary}
+use Rattle.mysql_reply_events.specs.declared.context.Context.{Context}
+use Rattle.mysql_replies.specs.Reply.{Payload}
+use Rattle.mysql_row_refs.specs.Lines.{begins_with}
+use Rattle.mysql_reply_events.specs.Readings.{follow_at, has_report_form, is_binary, optional_metadata, prepared_at, protocol}
 use Rattle.mysql_replies.specs.Manual.{IsError, IsRow, Reads}
 use Rattle.mysql_reply_writer.specs.Own.{AreFewBytes}
-use Rattle.mysql_reply_writer.specs.Refusals.{form_cause}
+use Rattle.mysql_reply_writer.specs.Refusals.{form_cause, reads_as_report}
+use Rattle.mysql_reply_writer.specs.Written.{tells_progress}
 use Rattle.mysql_reply_writer.proofs.OwnPackets.{OwnLaws, number_read}
 
 -- ---- rows have a cell for each column
@@ -112,12 +115,29 @@ fields_counts bytes rest statement all h =
     subst (λ (q : PrepareOk × List ℕ). HasCounts q.0) (ok_same (made, warnings.0.1) (statement, rest) warnings.2)
     (record { parameters = omega (arith, three.0); columns = omega (arith, two.0) })
 
-pub statement_counts : (payload : Payload) (statement : PrepareOk) → AreFewBytes payload → Reads (prepare_ok_at payload) statement → HasCounts statement
+packet_counts : (payload : Payload) (statement : PrepareOk) → AreFewBytes payload → (rest : List ℕ) → prepare_ok_at payload ≡ Ok (statement, rest) → HasCounts statement
 unfolding prepare_ok_at
-statement_counts payload statement few reads = go (lacks (Some 12) (length payload)) reads.1 where
-  go : (b : Bool) → (if b then Err UnexpectedEof else prepare_ok_fields_at payload) ≡ Ok (statement, reads.0) → HasCounts statement
+packet_counts payload statement few rest is = go (lacks (Some 12) (length payload)) is where
+  go : (b : Bool) → (if b then Err UnexpectedEof else prepare_ok_fields_at payload) ≡ Ok (statement, rest) → HasCounts statement
   go true h = absurd cc
-  go false h = fields_counts payload reads.0 statement few.bytes h
+  go false h = fields_counts payload rest statement few.bytes h
+
+-- A packet of which it is said whether columns follow is of the statement.
+behind_same : (b : Bool) (x : PrepareOk × List ℕ) (p : (PrepareOk × Bool) × List ℕ) →
+    (if b then (follow_at x.1 >>= λ follow. done {X = PrepareOk × Bool} ((x.0, follow.0), follow.1)) else done {X = PrepareOk × Bool} ((x.0, true), x.1)) ≡ done p → x.0 ≡ p.0.0
+behind_same true x p h =
+    let follow = bind_ok (follow_at x.1) _ p h in
+    let made : (PrepareOk × Bool) × List ℕ = ((x.0, follow.0.0), follow.0.1) in
+    ap (λ (q : (PrepareOk × Bool) × List ℕ). q.0.0) (ok_same made p follow.2)
+behind_same false x p h =
+    let made : (PrepareOk × Bool) × List ℕ = ((x.0, true), x.1) in
+    ap (λ (q : (PrepareOk × Bool) × List ℕ). q.0.0) (ok_same made p h)
+
+pub statement_counts : (c : Context) (payload : Payload) (statement : PrepareOk) (follows : Bool) → AreFewBytes payload → Reads (prepared_at c payload) (statement, follows) → HasCounts statement
+statement_counts c payload statement follows few reads =
+    let read : (PrepareOk × Bool) × List ℕ = ((statement, follows), reads.0) in
+    let packet = bind_ok (prepare_ok_at payload) _ read reads.1 in
+    subst (λ (s : PrepareOk). HasCounts s) (behind_same (optional_metadata c) packet.0 read packet.2) (packet_counts payload packet.0.0 few packet.0.1 packet.1)
 
 -- ---- errors that aren't in a report's form have another code
 
@@ -160,8 +180,8 @@ error_code_same capabilities payload error reads =
     subst (λ (q : ServerError × List ℕ). (rest : List ℕ) × (error_code_at payload ≡ Ok (q.0.error_code, rest))) (ok_same (made, none) (error, reads.0) state.2) (code.0.1, code.1)
 
 pub error_is_none : (c : Context) (payload : Payload) (error : ServerError) → AreFewBytes payload → has_report_form c payload ≡ false → IsError c payload error →
-    is_progress_code c.capabilities.0 error.error_code ≡ false
+    reads_as_report c error ≡ false
 error_is_none c payload error few form is =
-    let code = error_code_same c.capabilities.0 payload error is.fields in
-    progress_code error.error_code (progress_obsolete c.capabilities.0) (bytes_eq (take 3 payload) (255 ∷ 255 ∷ 255 ∷ [])) form
+    let code = error_code_same (protocol c) payload error is.fields in
+    progress_code error.error_code (tells_progress c) (bytes_eq (take 3 payload) (255 ∷ 255 ∷ 255 ∷ [])) form
     (λ same. code_is error.error_code payload code.0 code.1 few.bytes is.header same)

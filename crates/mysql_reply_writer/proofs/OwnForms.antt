@@ -15,10 +15,12 @@ use Rattle.mysql_columns.specs.Columns.{ColumnDefinition}
 use Rattle.mysql_rows.specs.Rows.{Row}
 use Rattle.mysql_cells.specs.TypedCells.{binary_cell, some_cell}
 use Rattle.mysql_rows.specs.Written.{binary_cells, binary_row, bits_bytes, cell_in, row_bitmap, values_of}
-use Rattle.mysql_replies.specs.declared.context.Context.{Context}
-use Rattle.mysql_replies.specs.Grammar.{ErrorResult, FileResult, OkResult, Outcome, Payload, PreparedResult, RowsResult, is_binary}
+use Rattle.mysql_reply_events.specs.declared.context.Context.{Context}
+use Rattle.mysql_replies.specs.Together.{ErrorResult, FieldsResult, FileResult, LineResult, OkResult, Outcome, PreparedResult, RawRowsResult, RowsResult}
+use Rattle.mysql_replies.specs.Reply.{Payload}
+use Rattle.mysql_reply_events.specs.Readings.{is_binary}
 use Rattle.mysql_replies.specs.Manual.{EachSuchListIsWhole}
-use Rattle.mysql_replies.specs.Reply.{Answer, AnswersAgree, IsReply, Whole}
+use Rattle.mysql_replies.specs.Reply.{Answer, IsReply, Whole}
 use Rattle.mysql_reply_writer.specs.ReplyLaws.{WrittenRepliesAreWhole}
 use Rattle.mysql_reply_writer.specs.Own.{EqualFormsWereReadEqually, ReadFormsAreWrittenAgain, ReadReportsAreTheirOwn, ReadResultsAreTheirOwn, without_zero_signs, row_without_zero_signs}
 use Rattle.mysql_reply_writer.specs.Written.{ColumnsStep, ReportStep, RowStep, Step, cells_payload, end_steps, is_some_result, reply_payloads, reports_read, result_steps, results_read, results_steps, step_payloads, steps_payloads}
@@ -124,6 +126,9 @@ result_same c more (RowsResult columns rows end) = ap (λ (l : List Payload). st
 result_same c more (PreparedResult statement parameters columns) = refl
 result_same c more (ErrorResult error) = refl
 result_same c more (FileResult name) = refl
+result_same c more (RawRowsResult rows end) = refl
+result_same c more (FieldsResult fields end) = refl
+result_same c more (LineResult text) = refl
 
 some_same : (c : Context) (results : List Outcome) → is_some_result (map (without_zero_signs c) results) ≡ is_some_result results
 some_same c [] = refl
@@ -145,23 +150,23 @@ signs_not_written c results progress =
     ∙ sym (flat_map-append (step_payloads c) (map ReportStep progress) (results_steps results))
 
 pub read_forms_are_written_again : ReadResultsAreTheirOwn → ReadReportsAreTheirOwn → ReadFormsAreWrittenAgain
-read_forms_are_written_again own own_reports c payloads results progress few is =
-    ap (λ (r : List Outcome). reply_payloads c r (reports_read c progress)) (own c payloads results progress few is)
-    ∙ ap (λ (p : List ProgressReport). reply_payloads c (map (without_zero_signs c) results) p) (own_reports c payloads results progress few is)
+read_forms_are_written_again own own_reports c payloads results progress plain few is =
+    ap (λ (r : List Outcome). reply_payloads c r (reports_read c progress)) (own c payloads results progress plain few is)
+    ∙ ap (λ (p : List ProgressReport). reply_payloads c (map (without_zero_signs c) results) p) (own_reports c payloads results progress plain few is)
     ∙ signs_not_written c results progress
 
 -- ---- equal forms
 
-pub equal_forms_were_read_equally : ReadResultsAreTheirOwn → ReadReportsAreTheirOwn → WrittenRepliesAreWhole → EachSuchListIsWhole → AnswersAgree → EqualFormsWereReadEqually
-equal_forms_were_read_equally own own_reports written each agree c limit payloads others results more progress reports few few_others is their_is fit other_fit none other_none same =
+pub equal_forms_were_read_equally : ReadResultsAreTheirOwn → ReadReportsAreTheirOwn → WrittenRepliesAreWhole → EachSuchListIsWhole → EqualFormsWereReadEqually
+equal_forms_were_read_equally own own_reports written each c limit payloads others results more progress reports plain few few_others is their_is fit other_fit none other_none same =
     let mine : Answer = record { results = results_read c results; progress = reports_read c progress; end = Whole } in
     let theirs : Answer = record { results = results_read c more; progress = reports_read c reports; end = Whole } in
     let first : IsReply c (reply_payloads c results progress) Empty mine =
-    each c (reply_payloads c results progress) (results_read c results) (reports_read c progress) (written c limit results progress fit none) in
+    each c (reply_payloads c results progress) (results_read c results) (reports_read c progress) (written c limit results progress plain fit none) in
     let second : IsReply c (reply_payloads c more reports) Empty theirs =
-    each c (reply_payloads c more reports) (results_read c more) (reports_read c reports) (written c limit more reports other_fit other_none) in
+    each c (reply_payloads c more reports) (results_read c more) (reports_read c reports) (written c limit more reports plain other_fit other_none) in
     let one : mine ≡ theirs =
-    agree c (reply_payloads c results progress) Empty mine theirs first (subst (λ (l : List Payload). IsReply c l Empty theirs) (sym same) second) in (
-      sym (own c payloads results progress few is) ∙ ap (λ (a : Answer). a.results) one ∙ own c others more reports few_others their_is,
-      sym (own_reports c payloads results progress few is) ∙ ap (λ (a : Answer). a.progress) one ∙ own_reports c others more reports few_others their_is,
+    first ∙ sym (subst (λ (l : List Payload). IsReply c l Empty theirs) (sym same) second) in (
+      sym (own c payloads results progress plain few is) ∙ ap (λ (a : Answer). a.results) one ∙ own c others more reports plain few_others their_is,
+      sym (own_reports c payloads results progress plain few is) ∙ ap (λ (a : Answer). a.progress) one ∙ own_reports c others more reports plain few_others their_is,
     )

@@ -22,7 +22,7 @@ use Rattle.mysql_fields.specs.Wire.{or_end}
 use Rattle.mysql_wire.specs.Texts.{lenenc_text_at}
 use Rattle.mysql_cells.specs.Values.{without_zero_sign}
 use Rattle.mysql_cells.specs.declared.value.Value.{Value}
-use Rattle.mysql_ok_packets.specs.OkPackets.{OkPacket, more_results_exist, ok_packet_at, old_eof_at, result_set_terminator_at}
+use Rattle.mysql_ok_packets.specs.OkPackets.{OkPacket, more_results_exist, old_eof_at, result_set_terminator_at}
 use Rattle.mysql_ok_packets.specs.Statements.{EofPacketsAreTheirOwn, OkPacketsAreTheirOwn, TerminatorsAreTheirOwn}
 use Rattle.mysql_ok_packets.specs.Written.{IsWritable, as_eof, as_ok, as_terminator}
 use Rattle.mysql_server_packets.specs.Packets.{PrepareOk, ProgressReport, ServerError, StageProgress, error_at, error_code_at, progress_body_at, progress_report_at, protocol_41, server_error_at, sql_state_at, stage_progress_at, state_part_at}
@@ -30,12 +30,12 @@ use Rattle.mysql_columns.specs.Columns.{ColumnDefinition}
 use Rattle.mysql_rows.specs.Rows.{Row, binary_resultset_row_at, text_row_at, whole_row}
 use Rattle.mysql_rows.specs.Written.{as_binary, as_text, values_of}
 use Rattle.mysql_rows.specs.WrittenLaws.{ReadBinaryRowsAreWritten, ReadTextRowsAreWritten}
-use Rattle.mysql_replies.specs.declared.context.Context.{Context}
-use Rattle.mysql_replies.specs.Grammar.{Payload, deprecate_eof, is_binary, of_mysql}
+use Rattle.mysql_reply_events.specs.declared.context.Context.{Context}
+use Rattle.mysql_replies.specs.Reply.{Payload}
+use Rattle.mysql_reply_events.specs.Readings.{deprecate_eof, is_binary, protocol}
 use Rattle.mysql_replies.specs.Manual.{AreRows, IsColumnGroup, IsOk, IsRow, IsTerminator, Reads, group}
 use Rattle.mysql_reply_writer.specs.Own.{AreFewBytes, row_without_zero_signs}
 use Rattle.mysql_reply_writer.specs.Written.{counting, error_written, report_written, row_read, saying, state_written, terminator_read, with_more}
-use Rattle.mysql_reply_writer.proofs.Status.{was_of_mysql}
 
 -- What is cited of the crates below.
 pub record OwnLaws : Type 0 where
@@ -143,32 +143,38 @@ more_own status fits = go (more_results_exist status) refl where
       let none : bit_and status 8 ≡ 0 = no_bit (bit_at status 3) (bit_at-lt status 3) (bit_and status 8) bit lacks in
       omega (arith, split, none, and_comm 8 status, and_comm 0xfff7 status)
 
-saying_own : (ok : OkPacket) → IsWritable ok → saying (more_results_exist ok.status_flags) ok ≡ ok
+pub saying_own : (ok : OkPacket) → IsWritable ok → saying (more_results_exist ok.status_flags) ok ≡ ok
 saying_own ok can = ap (λ (n : ℕ). record ok { status_flags = n }) (more_own ok.status_flags can.status_flags)
 
 pub ok_own : OwnLaws → (c : Context) (payload : Payload) (ok : OkPacket) → AreFewBytes payload → IsOk c payload ok →
-    as_ok c.capabilities.0 (saying (more_results_exist ok.status_flags) ok) ≡ ok
+    as_ok (protocol c) (saying (more_results_exist ok.status_flags) ok) ≡ ok
 ok_own laws c payload ok few is =
-    let was = was_of_mysql (ok_packet_at c.capabilities.0 payload) ok is.fields.0 is.fields.1 in
-    let own = laws.ok c.capabilities.0 payload is.fields.0 ok few.bytes few.few was.0 in
-    ap (as_ok c.capabilities.0) (saying_own ok own.0) ∙ own.1
+    let own = laws.ok (protocol c) payload is.fields.0 ok few.bytes few.few is.fields.1 in
+    ap (as_ok (protocol c)) (saying_own ok own.0) ∙ own.1
 
 pub terminator_by : OwnLaws → (capabilities : ℕ) (b : Bool) (payload rest : List ℕ) (ok : OkPacket) → AreFewBytes payload →
-    of_mysql (if b then result_set_terminator_at capabilities payload else old_eof_at payload) ≡ Ok (ok, rest) →
+    (if b then result_set_terminator_at capabilities payload else old_eof_at payload) ≡ Ok (ok, rest) →
     IsWritable ok × ((if b then as_terminator capabilities ok else as_eof ok) ≡ ok)
-terminator_by laws capabilities true payload rest ok few h = laws.terminator capabilities payload rest ok few.bytes few.few (was_of_mysql (result_set_terminator_at capabilities payload) ok rest h).0
-terminator_by laws capabilities false payload rest ok few h = laws.eof payload rest ok few.bytes few.few (was_of_mysql (old_eof_at payload) ok rest h).0
+terminator_by laws capabilities true payload rest ok few h = laws.terminator capabilities payload rest ok few.bytes few.few h
+terminator_by laws capabilities false payload rest ok few h = laws.eof payload rest ok few.bytes few.few h
 
 pub terminator_own : OwnLaws → (c : Context) (payload : Payload) (ok : OkPacket) → AreFewBytes payload → IsTerminator c payload ok →
     terminator_read c (saying (more_results_exist ok.status_flags) ok) ≡ ok
 terminator_own laws c payload ok few is =
-    let own = terminator_by laws c.capabilities.0 (deprecate_eof c.capabilities.0) payload is.fields.0 ok few is.fields.1 in
+    let own = terminator_by laws (protocol c) (deprecate_eof c) payload is.fields.0 ok few is.fields.1 in
     ap (terminator_read c) (saying_own ok own.0) ∙ own.1
+
+-- They can be written.
+pub ok_can : OwnLaws → (c : Context) (payload : Payload) (ok : OkPacket) → AreFewBytes payload → IsOk c payload ok → IsWritable ok
+ok_can laws c payload ok few is = (laws.ok (protocol c) payload is.fields.0 ok few.bytes few.few is.fields.1).0
+
+pub terminator_can : OwnLaws → (c : Context) (payload : Payload) (ok : OkPacket) → AreFewBytes payload → IsTerminator c payload ok → IsWritable ok
+terminator_can laws c payload ok few is = (terminator_by laws (protocol c) (deprecate_eof c) payload is.fields.0 ok few is.fields.1).0
 
 -- ---- statements
 
-pub group_count : (c : Context) (n : ℕ) (payloads : List Payload) (columns : List ColumnDefinition) → IsColumnGroup c n payloads columns → length columns ≡ n
-group_count c n payloads columns (group front end are due) = refl
+pub group_count : (c : Context) (n : ℕ) (payloads : List Payload) (columns : List ColumnDefinition) (says : Option OkPacket) → IsColumnGroup c n payloads columns says → length columns ≡ n
+group_count c n payloads columns says (group front end are due) = refl
 
 pub counting_own : (statement : PrepareOk) (parameters columns : List ColumnDefinition) → length parameters ≡ statement.num_params → length columns ≡ statement.num_columns →
     counting statement parameters columns ≡ statement

@@ -7,20 +7,23 @@ use Rattle.mysql_cells.specs.declared.value.Value.{Value}
 use Rattle.mysql_server_packets.specs.Packets.{ProgressReport}
 use Rattle.mysql_columns.specs.Columns.{ColumnDefinition}
 use Rattle.mysql_rows.specs.Rows.{Row}
-use Rattle.mysql_replies.specs.declared.context.Context.{Context}
-use Rattle.mysql_replies.specs.Grammar.{Outcome, Payload, deprecate_eof, has_report_form, is_binary, is_prepare}
+use Rattle.mysql_reply_events.specs.declared.context.Context.{Context}
+use Rattle.mysql_ok_packets.specs.OkPackets.{OkPacket}
+use Rattle.mysql_ok_packets.specs.Written.{is_named_status}
+use Rattle.mysql_replies.specs.Together.{Outcome, RowsResult}
+use Rattle.mysql_replies.specs.Reply.{Payload}
+use Rattle.mysql_reply_events.specs.Readings.{has_report_form, is_binary}
+use Rattle.mysql_reply_events.specs.Table.{has_results}
 use Rattle.mysql_replies.specs.Manual as manual
-use Rattle.mysql_replies.specs.Manual.{AreResults, AreRows, EndedRows, IsOk, IsResult, IsTerminator, WithoutReports, nothing, terminated, failed}
+use Rattle.mysql_replies.specs.Manual.{AreResults, AreRows, EndedRows, IsResult, WithoutReports, nothing, terminated, failed}
 use Rattle.mysql_reply_writer.specs.declared.refusal.ReplyRefusal.{ReplyRefusal}
 use Rattle.mysql_reply_writer.specs.declared.refusal.ReplyRefusal.TheVariants.{PacketTooLarge}
 use Rattle.mysql_reply_writer.specs.Own.{IsSizeAlone, ReadRepliesCanBeWritten}
 use Rattle.mysql_reply_writer.specs.Refusals.{OpenRows, Writing, after_step, after_steps, cells_cause_at, end_cause, first_cause, form_cause, nothing_written, or_cause, refusal_of, step_cause, step_checks, step_room, steps_cause, too_large, whole_cause}
 use Rattle.mysql_reply_writer.specs.Written.{ColumnsStep, EndStep, ErrorStep, FileStep, OkStep, PreparedStep, ReportStep, RowStep, Step, is_some_result, reply_steps, results_steps, step_payloads}
-use Rattle.mysql_ok_packets.specs.OkPackets.{ok_packet_at, old_eof_at, result_set_terminator_at}
-use Rattle.mysql_reply_writer.proofs.OwnPackets.{OwnLaws, group_count}
-use Rattle.mysql_reply_writer.proofs.Status.{was_of_mysql}
+use Rattle.mysql_reply_writer.proofs.OwnPackets.{OwnLaws, group_count, ok_can, terminator_can}
 use Rattle.mysql_reply_writer.proofs.OwnCounts.{CanBeWritten, error_is_none, row_can, statement_counts}
-use Rattle.mysql_reply_writer.proofs.Own.{AreFew, few_first, few_others, others_few, results_some}
+use Rattle.mysql_reply_writer.proofs.Own.{AreFew, cursor_own, few_first, few_others, others_few, results_some}
 
 -- ---- steps
 
@@ -116,7 +119,7 @@ record SetPasses (c : Context) (limit payloads results : ℕ) (columns : List Co
   rows_behind : OpenRows
   passes : Passes (ready c limit payloads results) (ColumnsStep columns ∷ ((map (RowStep columns) rows ++ end) ++ others)) (going c limit payloads_behind results rows_behind) (end ++ others)
 
-set_passes : (c : Context) (limit payloads results : ℕ) (columns : List ColumnDefinition) (rows : List Row) (end others : List Step) → is_prepare c.kind ≡ false →
+set_passes : (c : Context) (limit payloads results : ℕ) (columns : List ColumnDefinition) (rows : List Row) (end others : List Step) → has_results c.kind ≡ true →
     0 < length columns → length columns < 65536 → AllByRecursion (λ row. CanBeWritten c columns row) rows → SetPasses c limit payloads results columns rows end others
 set_passes c limit payloads results columns rows end others command some few can =
     let n : ℕ = payloads + length (step_payloads c (ColumnsStep columns)) in
@@ -148,19 +151,26 @@ others_before : (c : Context) (first others : List Payload) → AreOthers c (fir
 others_before c [] others all = tt
 others_before c (payload ∷ first) others all = (all.0, others_before c first others all.1)
 
-ended_passes : OwnLaws → (c : Context) (limit n r : ℕ) (columns : List ColumnDefinition) (payloads : List Payload) (listed rest : List Outcome) (more : Bool) → is_prepare c.kind ≡ false →
-    0 < length columns → length columns < 65536 → AreFew payloads → AreOthers c payloads → EndedRows c columns payloads listed more → is_some_result rest ≡ more → ResultPasses c limit n r listed rest
-ended_passes laws c limit n r columns payloads listed rest more command some small few all (terminated before {rows = rows} {last = last} {ok = ok} are is) e =
-    let set = set_passes c limit n r columns rows (EndStep (is_some_result rest) ok ∷ []) (results_steps rest) command some small (rows_can laws c columns before rows (few_first before (last ∷ []) few) are) in
+-- Rows and what ends them, before others.
+set_ended : (c : Context) (limit n r : ℕ) (columns : List ColumnDefinition) (rows : List Row) (ok : OkPacket) (rest : List Outcome) → has_results c.kind ≡ true →
+    0 < length columns → length columns < 65536 → AllByRecursion (λ row. CanBeWritten c columns row) rows → is_named_status ok.status_flags ≡ true → ResultPasses c limit n r (RowsResult columns rows (Some ok) ∷ []) rest
+set_ended c limit n r columns rows ok rest command some small can named =
+    let set = set_passes c limit n r columns rows (EndStep (is_some_result rest) ok ∷ []) (results_steps rest) command some small can in
     let w : Writing = going c limit set.payloads_behind r set.rows_behind in
-    let named = (was_of_mysql (if deprecate_eof c.capabilities.0 then result_set_terminator_at c.capabilities.0 last else old_eof_at last) ok is.fields.0 is.fields.1).1 in
+    let m : ℕ = set.payloads_behind + length (step_payloads c (EndStep (is_some_result rest) ok)) in
     record {
-      payloads_behind = set.payloads_behind + length (step_payloads c (EndStep (is_some_result rest) ok));
+      payloads_behind = m;
       results_behind = r + 1;
-      passes = both_pass (ready c limit n r) w (behind c limit (set.payloads_behind + length (step_payloads c (EndStep (is_some_result rest) ok))) (r + 1) (is_some_result rest))
+      passes = both_pass (ready c limit n r) w (behind c limit m (r + 1) (is_some_result rest))
           (ColumnsStep columns ∷ ((map (RowStep columns) rows ++ EndStep (is_some_result rest) ok ∷ []) ++ results_steps rest)) (EndStep (is_some_result rest) ok ∷ results_steps rest) (results_steps rest)
           set.passes (one_step w (EndStep (is_some_result rest) ok) (results_steps rest) (rw named refl));
     }
+
+ended_passes : OwnLaws → (c : Context) (limit n r : ℕ) (columns : List ColumnDefinition) (payloads : List Payload) (listed rest : List Outcome) (more : Bool) → has_results c.kind ≡ true →
+    0 < length columns → length columns < 65536 → AreFew payloads → AreOthers c payloads → EndedRows c columns payloads listed more → is_some_result rest ≡ more → ResultPasses c limit n r listed rest
+ended_passes laws c limit n r columns payloads listed rest more command some small few all (terminated before {rows = rows} {last = last} {ok = ok} are is) e =
+    set_ended c limit n r columns rows ok rest command some small (rows_can laws c columns before rows (few_first before (last ∷ []) few) are)
+    (terminator_can laws c last ok (few_others before (last ∷ []) few).0 is).named
 ended_passes laws c limit n r columns payloads listed rest more command some small few all (failed before {rows = rows} {last = last} {error = error} are is) e =
     let set = set_passes c limit n r columns rows [] (ErrorStep error ∷ results_steps rest) command some small (rows_can laws c columns before rows (few_first before (last ∷ []) few) are) in
     let code = error_is_none c last error (few_others before (last ∷ []) few).0 (others_behind c before (last ∷ []) all).0 is in
@@ -179,7 +189,7 @@ ended_passes laws c limit n r columns payloads listed rest more command some sma
 result_passes : OwnLaws → (c : Context) (limit n r : ℕ) (payloads : List Payload) (listed rest : List Outcome) (more : Bool) → AreFew payloads → AreOthers c payloads →
     IsResult c payloads listed more → is_some_result rest ≡ more → ResultPasses c limit n r listed rest
 result_passes laws c limit n r payloads listed rest more few all (manual.ok {payload = payload} {ok = ok} command is) e =
-    let named = (was_of_mysql (ok_packet_at c.capabilities.0 payload) ok is.fields.0 is.fields.1).1 in
+    let named = (ok_can laws c payload ok few.0 is).named in
     record {
       payloads_behind = n + length (step_payloads c (OkStep (is_some_result rest) ok));
       results_behind = r + 1;
@@ -202,13 +212,17 @@ result_passes laws c limit n r payloads listed rest more few all (manual.file {n
       passes = subst (λ (b : Bool). Passes (ready c limit n r) (FileStep name ∷ results_steps rest) (behind c limit m (r + 1) b) (results_steps rest)) (sym e)
           (one_step (ready c limit n r) (FileStep name) (results_steps rest) (rw command refl));
     }
-result_passes laws c limit n r payloads listed rest more few all (manual.rows {count = count} {n = size} front rows {columns = columns} command is g ended) e =
-    let same = group_count c size front columns g in
+result_passes laws c limit n r payloads listed rest more few all (manual.rows {count = count} {n = size} front rows {columns = columns} command is g closed ended) e =
+    let same = group_count c size front columns _ g in
     ended_passes laws c limit n r columns rows listed rest more command (omega (arith, same, is.some)) (omega (arith, same, is.below)) (few_others front rows few.1) (others_behind c front rows all.1) ended e
+result_passes laws c limit n r payloads listed rest more few all (manual.cursor {count = count} {n = size} front {columns = columns} {ok = ok} command is g opens) e =
+    let same = group_count c size front columns _ g in
+    let named = (cursor_own laws c size front columns ok (Some ok) few.1 g refl).can.named in
+    set_ended c limit n r columns [] ok rest command (omega (arith, same, is.some)) (omega (arith, same, is.below)) tt named
 result_passes laws c limit n r payloads listed rest more few all (manual.prepared {packet = packet} {statement = statement} first second {parameters = parameters} {columns = columns} command header is g h) e =
-    let counts = statement_counts packet statement few.0 is in
-    let few_parameters : nat_lt 65535 (length parameters) ≡ false = le-ltb 65535 (length parameters) (omega (arith, counts.parameters, group_count c statement.num_params first parameters g)) in
-    let few_columns : nat_lt 65535 (length columns) ≡ false = le-ltb 65535 (length columns) (omega (arith, counts.columns, group_count c statement.num_columns second columns h)) in
+    let counts = statement_counts c packet statement true few.0 is in
+    let few_parameters : nat_lt 65535 (length parameters) ≡ false = le-ltb 65535 (length parameters) (omega (arith, counts.parameters, group_count c statement.num_params first parameters _ g)) in
+    let few_columns : nat_lt 65535 (length columns) ≡ false = le-ltb 65535 (length columns) (omega (arith, counts.columns, group_count c statement.num_columns second columns _ h)) in
     let m : ℕ = n + length (step_payloads c (PreparedStep statement parameters columns)) in
     record {
       payloads_behind = m;
@@ -268,7 +282,7 @@ refusal_alone c limit [] progress some p = absurd cc
 refusal_alone c limit (first ∷ others) progress some p = whole_alone (nothing_written c limit) (reply_steps (first ∷ others) progress) p
 
 pub read_replies_can_be_written : OwnLaws → ReadRepliesCanBeWritten
-read_replies_can_be_written laws c limit payloads results progress few is =
+read_replies_can_be_written laws c limit payloads results progress plain few is =
     refusal_alone c limit results progress (results_some c is.others results is.results)
     (reports_pass c limit 0 progress (results_steps results)
     (λ (m : ℕ). results_pass laws c limit m 0 is.others results (others_few c payloads is.others progress few is.without_reports) (no_forms c payloads is.others progress is.without_reports) is.results))

@@ -3,9 +3,9 @@ use Rattle.std.proofs.Common.{◌≡◌, ℕ, List, ◌++◌, None, sym, ◌∙�
 use Rattle.std.specs.List.{concat}
 use Rattle.std.proofs.lemmas.List.{append_cancel_left}
 use Rattle.mysql_server_packets.specs.Packets.{ProgressReport}
-use Rattle.mysql_replies.specs.declared.context.Context.{Context}
+use Rattle.mysql_reply_events.specs.declared.context.Context.{Context}
 use Rattle.mysql_replies.specs.Bytes.{IsReplyOf}
-use Rattle.mysql_replies.specs.Grammar.{Outcome}
+use Rattle.mysql_replies.specs.Together.{Outcome}
 use Rattle.mysql_replies.specs.Manual.{EachFramingIsWhole, IsFramedReply}
 use Rattle.mysql_replies.specs.Reply.{Answer}
 use Rattle.mysql_reply_writer.specs.Fronts.{EachFramedFrontIsUnfinished, EachFramedReplyIsWhole}

@@ -11,9 +11,9 @@ use Rattle.mysql_columns.specs.Columns.{ColumnDefinition}
 use Rattle.mysql_rows.specs.Rows.{as_row, binary_resultset_row_at, text_row_at, whole_row}
 use Rattle.mysql_rows.specs.Written.{as_binary, as_text, binary_cause, binary_row, cell_in, text_cause, text_cell, text_row, values_of}
 use Rattle.mysql_rows.specs.WrittenLaws.{BinaryRowsBegin, BinaryRowsReadBack, TextRowsBegin, TextRowsReadBack}
-use Rattle.mysql_replies.specs.declared.context.Context.{Context}
-use Rattle.mysql_replies.specs.Grammar.{begins_with, deprecate_eof, is_binary, terminator_limit}
-use Rattle.mysql_replies.specs.Manual.{ends_rows}
+use Rattle.mysql_reply_events.specs.declared.context.Context.{Context}
+use Rattle.mysql_row_refs.specs.Lines.{begins_with, terminator_limit}
+use Rattle.mysql_reply_events.specs.Readings.{begins_terminator, deprecate_eof, is_binary}
 use Rattle.mysql_reply_writer.specs.Fits.{CellsFit}
 use Rattle.mysql_reply_writer.specs.Refusals.{form_cause}
 use Rattle.mysql_reply_writer.specs.Written.{cells_payload}
@@ -56,17 +56,17 @@ no_error : (payload : List ℕ) → ((first : ℕ) (others : List ℕ) → paylo
 no_error [] h = refl
 no_error (b ∷ rest) h = is_byte b 255 (h b rest refl)
 
-limit_most : (c : Context) → terminator_limit c ≤ 16777215
-limit_most c = go (deprecate_eof c.capabilities.0) where
+limit_most : (c : Context) → terminator_limit (deprecate_eof c) ≤ 16777215
+limit_most c = go (deprecate_eof c) where
   go : (d : Bool) → (if d then 16777215 else 9) ≤ 16777215
   go true = omega arith
   go false = omega arith
 
-no_terminator : (c : Context) (payload : List ℕ) → ((first : ℕ) (others : List ℕ) → payload ≡ first ∷ others → first ≡ 254 → 2 ^ 24 ≤ length payload) → ends_rows c payload ≡ false
+no_terminator : (c : Context) (payload : List ℕ) → ((first : ℕ) (others : List ℕ) → payload ≡ first ∷ others → first ≡ 254 → 2 ^ 24 ≤ length payload) → begins_terminator c payload ≡ false
 no_terminator c [] h = refl
 no_terminator c (b ∷ rest) h = elim (eqb_tells b 254) [
   | inl same ↦ let long : 16777216 ≤ length (b ∷ rest) = h b rest refl same.1 in
-      rw (same.0) (le-ltb (length (b ∷ rest)) (terminator_limit c) (omega (arith, limit_most c, long)))
+      rw (same.0) (le-ltb (length (b ∷ rest)) (terminator_limit (deprecate_eof c)) (omega (arith, limit_most c, long)))
   | inr other ↦ rw (other.0) refl
 ]
 

@@ -1,9 +1,5 @@
 -- The status that says whether another result follows.
-use Rattle.std.proofs.Common.{◌≡◌, ℕ, ◌<◌, ◌^◌, Bool, true, false, List, Ok, Err, if◌then◌else◌, refl, sym, ap, ◌∙◌, arith, eq-eqb}
-use Rattle.mysql_fields.specs.Laws.{done, ok_same}
-use Rattle.mysql_fields.specs.Wire.{Reading}
-use Rattle.mysql_fields.specs.declared.error.WireError.TheVariants.{UnknownValue}
-use Rattle.mysql_replies.specs.Grammar.{of_mysql}
+use Rattle.std.proofs.Common.{◌≡◌, ℕ, ◌<◌, ◌^◌, Bool, true, false, refl, sym, ap, ◌∙◌, arith, eq-eqb}
 use Rattle.std.specs.Int.RustNames.{bit_and, bit_or}
 use Rattle.std.specs.Int.{bit_at}
 use Rattle.std.proofs.Common.{min, max}
@@ -11,8 +7,8 @@ use Rattle.std.proofs.lemmas.Bool.{eqb-true}
 use Rattle.std.proofs.lemmas.Nat.{and_assoc, and_comm, and_le_l, and_or_self, or_lt}
 use Rattle.std.proofs.lemmas.Nat.Bits.{bit_at_and, bit_at_or, same_from_bits}
 use Rattle.bitflags.specs.Sets.{known_from}
-use Rattle.mysql_ok_packets.specs.OkPackets.{OkPacket, more_results_exist}
-use Rattle.mysql_ok_packets.specs.Written.{is_mysql_status, is_named_status}
+use Rattle.mysql_ok_packets.specs.OkPackets.{more_results_exist}
+use Rattle.mysql_ok_packets.specs.Written.{is_named_status}
 use Rattle.mysql_reply_writer.specs.Written.{with_more}
 
 pub says_more : (more : Bool) (status : ℕ) → more_results_exist (with_more more status) ≡ more
@@ -35,31 +31,11 @@ or_masked a m k ha hm = same_from_bits (bit_and (bit_or a m) k) (bit_or a m) (λ
 and_masked : (a m k : ℕ) → bit_and a k ≡ a → bit_and (bit_and a m) k ≡ bit_and a m
 and_masked a m k h = and_assoc k a m ∙ ap (λ (n : ℕ). bit_and a n) (and_comm m k) ∙ sym (and_assoc m a k) ∙ ap (λ (n : ℕ). bit_and n m) h
 
-pub stays_mysql : (more : Bool) (status : ℕ) → is_mysql_status status ≡ true → is_mysql_status (with_more more status) ≡ true
+-- Each bit of it still has a name.
+pub stays_named : (more : Bool) (status : ℕ) → is_named_status status ≡ true → is_named_status (with_more more status) ≡ true
 unfolding known_from
-stays_mysql true status h = eq-eqb _ _ (or_masked status 8 32763 (eqb-true _ _ h) refl)
-stays_mysql false status h = eq-eqb _ _ (and_masked status 0xfff7 32763 (eqb-true _ _ h))
-
--- what MySQL names has a name
-pub mysql_is_named : (status : ℕ) → is_mysql_status status ≡ true → is_named_status status ≡ true
-unfolding known_from
-mysql_is_named status h =
-    let same : bit_and status 32763 ≡ status = eqb-true _ _ h in
-    eq-eqb _ _ (ap (λ (n : ℕ). bit_and n 65531) (sym same) ∙ and_assoc 65531 status 32763 ∙ same)
-
--- a packet is read as one of MySQL where its status is one, and only there
-pub read_of_mysql : (reading : Reading OkPacket) (p : OkPacket) (left : List ℕ) → reading ≡ Ok (p, left) → is_mysql_status p.status_flags ≡ true → of_mysql reading ≡ Ok (p, left)
-read_of_mysql reading p left is named =
-    let unread : Reading OkPacket = Err UnknownValue in
-    ap of_mysql is ∙ ap (λ b. if b then done (p, left) else unread) named
-
-pub was_of_mysql : (reading : Reading OkPacket) (p : OkPacket) (left : List ℕ) → of_mysql reading ≡ Ok (p, left) → (reading ≡ Ok (p, left)) × (is_mysql_status p.status_flags ≡ true)
-was_of_mysql (Err e) p left h = absurd cc
-was_of_mysql (Ok x) p left h = by (is_mysql_status x.0.status_flags) refl h
-  where
-    by : (b : Bool) → is_mysql_status x.0.status_flags ≡ b → (if b then done x else Err UnknownValue) ≡ done (p, left) → (done x ≡ done (p, left)) × (is_mysql_status p.status_flags ≡ true)
-    by true is h = (h, ap (λ (q : OkPacket × List ℕ). is_mysql_status q.0.status_flags) (sym (ok_same x (p, left) h)) ∙ is)
-    by false is h = absurd cc
+stays_named true status h = eq-eqb _ _ (or_masked status 8 65531 (eqb-true _ _ h) refl)
+stays_named false status h = eq-eqb _ _ (and_masked status 0xfff7 65531 (eqb-true _ _ h))
 
 pub stays_small : (more : Bool) (status : ℕ) → status < 2 ^ 16 → with_more more status < 2 ^ 16
 stays_small true status h = or_lt 16 status 8 h (omega arith)

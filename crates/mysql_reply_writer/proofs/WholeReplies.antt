@@ -3,7 +3,8 @@ use Rattle.std.proofs.Common.{◌≡◌, ℕ, ◌==◌, false, List, [], ◌∷�
 use Rattle.mysql_server_packets.specs.Packets.{ProgressReport}
 use Rattle.mysql_wire.specs.Stream.{framings}
 use Rattle.mysql_wire.specs.Stream.Numbering.{OnFrom}
-use Rattle.mysql_replies.specs.declared.context.Context.{Context}
+use Rattle.mysql_reply_events.specs.declared.context.Context.{Context}
+use Rattle.mysql_reply_events.specs.Readings.{mariadb}
 use Rattle.mysql_replies.specs.declared.results.ReplyResult.{ReplyResult}
 use Rattle.mysql_replies.specs.Views.{outcome_views}
 use Rattle.mysql_reply_writer.specs.declared.refusal.ReplyRefusal.{ReplyRefusal}
@@ -39,13 +40,13 @@ module _ (c : Context) (first_id limit : ℕ) (results : List ReplyResult) (prog
     reply_written =
         (subst (λ (w : Writer). Wrote w (reply_steps (outcome_views results) progress) new before after) fresh wrote).appended
 
-    pub reply_read : WrittenRepliesAreFramed → AppendsReply c first_id limit (results_read c (outcome_views results)) (reports_read c progress) before after
-    reply_read law =
-        (framings (reply_payloads c (outcome_views results) progress) (OnFrom first_id), reply_written, law c first_id limit (outcome_views results) progress wrote.fit reply_allowed)
+    pub reply_read : mariadb c ≡ 0 → WrittenRepliesAreFramed → AppendsReply c first_id limit (results_read c (outcome_views results)) (reports_read c progress) before after
+    reply_read plain law =
+        (framings (reply_payloads c (outcome_views results) progress) (OnFrom first_id), reply_written, law c first_id limit (outcome_views results) progress plain wrote.fit reply_allowed)
 
 -- the same of any results, the first of which there is
 pub whole_writing : WrittenRepliesAreFramed → WholeWritingsAreReplies
-whole_writing law c first_id limit first others progress new before after wrote end =
+whole_writing law c first_id limit first others progress new before after plain wrote end =
     let none : refusal_of c limit (first ∷ others) progress ≡ None =
     whole_end (fresh_writer c first_id limit) new (reply_steps (first ∷ others) progress) before after wrote ∙ end in
-    (framings (reply_payloads c (first ∷ others) progress) (OnFrom first_id), wrote.appended, law c first_id limit (first ∷ others) progress wrote.fit none)
+    (framings (reply_payloads c (first ∷ others) progress) (OnFrom first_id), wrote.appended, law c first_id limit (first ∷ others) progress plain wrote.fit none)

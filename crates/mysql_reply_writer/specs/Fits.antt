@@ -8,7 +8,7 @@ use Rattle.mysql_columns.specs.Columns.{ColumnDefinition, IsColumn}
 use Rattle.mysql_ok_packets.specs.Written.{or_empty, or_zero}
 use Rattle.mysql_cells.specs.declared.value.Value.{Value}
 use Rattle.mysql_reply_writer.specs.Written.{ColumnsStep, EndStep, ErrorStep, FileStep, OkStep, PreparedStep}
-use Rattle.mysql_reply_writer.specs.Written.{ReportStep, RowStep, Step}
+use Rattle.mysql_reply_writer.specs.Written.{ReportStep, RowStep, Step, UnwrittenStep}
 
 -- Numbers and lengths of an OK packet.
 pub record OkFits (p : OkPacket) : Type 0 where
@@ -58,6 +58,7 @@ StepFits (ErrorStep error) = ErrorFits error
 StepFits (FileStep name) = ⊤
 StepFits (PreparedStep statement parameters columns) = StatementFits statement ×
     ColumnsFit parameters × ColumnsFit columns
+StepFits UnwrittenStep = ⊤
 
 -- What the types of the fields of each of some steps hold.
 abbrev pub StepsFit : List Step → Type 0

@@ -4,9 +4,9 @@
 use Rattle.std.specs.Prelude.{◌≡◌, ℕ, List, ◌∷◌, ◌++◌}
 use Rattle.mysql_wire.specs.Stream.{Rest, IsFault}
 use Rattle.mysql_server_packets.specs.Packets.{ProgressReport}
-use Rattle.mysql_replies.specs.declared.context.Context.{Context}
-use Rattle.mysql_replies.specs.Grammar.{Payload, Outcome}
-use Rattle.mysql_replies.specs.Reply.{Answer, IsReply, Whole, Unfinished}
+use Rattle.mysql_reply_events.specs.declared.context.Context.{Context}
+use Rattle.mysql_replies.specs.Together.{Outcome}
+use Rattle.mysql_replies.specs.Reply.{Answer, IsReply, Payload, Whole, Unfinished}
 use Rattle.mysql_replies.specs.Beginnings.{IsFrontOf, HasWhatStands}
 use Rattle.mysql_replies.specs.Bytes.{IsReplyOf}
 use Rattle.mysql_replies.specs.Manual.{IsWholeReply, IsFramedReply}

@@ -8,9 +8,10 @@ use Rattle.mysql_cells.specs.Values.{without_zero_sign}
 use Rattle.mysql_cells.specs.declared.value.Value.{Value}
 use Rattle.mysql_server_packets.specs.Packets.{ProgressReport}
 use Rattle.mysql_rows.specs.Rows.{Row}
-use Rattle.mysql_replies.specs.declared.context.Context.{Context}
-use Rattle.mysql_replies.specs.Grammar.{ErrorResult, FileResult, OkResult, Outcome, Payload, PreparedResult, RowsResult}
-use Rattle.mysql_replies.specs.Grammar.{is_binary}
+use Rattle.mysql_reply_events.specs.declared.context.Context.{Context}
+use Rattle.mysql_reply_events.specs.Readings.{is_binary, mariadb}
+use Rattle.mysql_replies.specs.Reply.{Payload}
+use Rattle.mysql_replies.specs.Together.{Outcome, RowsResult}
 use Rattle.mysql_replies.specs.Manual.{IsWholeReply}
 use Rattle.mysql_reply_writer.specs.declared.refusal.ReplyRefusal.{ReplyRefusal}
 use Rattle.mysql_reply_writer.specs.declared.refusal.ReplyRefusal.TheVariants.{PacketTooLarge}
@@ -27,11 +28,8 @@ row_without_zero_signs c row = record row { cells = cells_without_zero_signs c r
 
 -- A result without such signs.
 abbrev pub without_zero_signs : Context → Outcome → Outcome
-without_zero_signs c (OkResult ok) = OkResult ok
 without_zero_signs c (RowsResult columns rows end) = RowsResult columns (map (row_without_zero_signs c) rows) end
-without_zero_signs c (PreparedResult statement parameters columns) = PreparedResult statement parameters columns
-without_zero_signs c (ErrorResult error) = ErrorResult error
-without_zero_signs c (FileResult name) = FileResult name
+without_zero_signs c result = result
 
 -- Bytes whose number fits 64 bits.
 pub record AreFewBytes (payload : Payload) : Type 0 where
@@ -41,14 +39,14 @@ pub record AreFewBytes (payload : Payload) : Type 0 where
 -- What a whole reply was read as is what is read of it once it was written again, but for those signs.
 abbrev pub ReadResultsAreTheirOwn : Type 0
 ReadResultsAreTheirOwn = (c : Context) (payloads : List Payload) (results : List Outcome)
-    (progress : List ProgressReport) →
+    (progress : List ProgressReport) → mariadb c ≡ 0 →
     AllByRecursion (λ payload. AreFewBytes payload) payloads →
     IsWholeReply c payloads results progress → results_read c results ≡
     map (without_zero_signs c) results
 
 abbrev pub ReadReportsAreTheirOwn : Type 0
 ReadReportsAreTheirOwn = (c : Context) (payloads : List Payload) (results : List Outcome)
-    (progress : List ProgressReport) →
+    (progress : List ProgressReport) → mariadb c ≡ 0 →
     AllByRecursion (λ payload. AreFewBytes payload) payloads →
     IsWholeReply c payloads results progress → reports_read c progress ≡ progress
 
@@ -62,7 +60,7 @@ IsSizeAlone (Some refusal) = ⊥
 abbrev pub ReadRepliesCanBeWritten : Type 0
 ReadRepliesCanBeWritten =
     (c : Context) (limit : ℕ) (payloads : List Payload) (results : List Outcome)
-    (progress : List ProgressReport) →
+    (progress : List ProgressReport) → mariadb c ≡ 0 →
     AllByRecursion (λ payload. AreFewBytes payload) payloads →
     IsWholeReply c payloads results progress → IsSizeAlone (refusal_of c limit results progress)
 
@@ -71,7 +69,7 @@ ReadRepliesCanBeWritten =
 abbrev pub ReadFormsAreWrittenAgain : Type 0
 ReadFormsAreWrittenAgain =
     (c : Context) (payloads : List Payload) (results : List Outcome)
-    (progress : List ProgressReport) →
+    (progress : List ProgressReport) → mariadb c ≡ 0 →
     AllByRecursion (λ payload. AreFewBytes payload) payloads → IsWholeReply c payloads results progress →
     reply_payloads c (results_read c results) (reports_read c progress) ≡ reply_payloads c results progress
 
@@ -80,7 +78,7 @@ ReadFormsAreWrittenAgain =
 abbrev pub EqualFormsWereReadEqually : Type 0
 EqualFormsWereReadEqually =
     (c : Context) (limit : ℕ) (payloads others : List Payload) (results more : List Outcome)
-    (progress reports : List ProgressReport) →
+    (progress reports : List ProgressReport) → mariadb c ≡ 0 →
     AllByRecursion (λ payload. AreFewBytes payload) payloads → AllByRecursion (λ payload. AreFewBytes payload) others →
     IsWholeReply c payloads results progress → IsWholeReply c others more reports →
     StepsFit (reply_steps results progress) → StepsFit (reply_steps more reports) →

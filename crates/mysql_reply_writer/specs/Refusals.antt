@@ -4,20 +4,25 @@ use Rattle.std.specs.Prelude.{ℕ, ◌+◌, ◌==◌, ◌&&◌, List, [], ◌∷
 use Rattle.std.specs.Prelude.{is_some, Option, Some, None, option_map, if◌then◌else◌}
 use Rattle.mysql_cells.specs.declared.value.Value.{Value}
 use Rattle.mysql_ok_packets.specs.OkPackets.{OkPacket}
-use Rattle.mysql_server_packets.specs.Packets.{ProgressReport, is_progress_code}
+use Rattle.mysql_server_packets.specs.Packets.{ProgressReport, ServerError}
 use Rattle.mysql_columns.specs.Columns.{ColumnDefinition}
-use Rattle.mysql_replies.specs.declared.context.Context.{Context}
+use Rattle.mysql_reply_events.specs.declared.context.Context.{Context}
 use Rattle.mysql_replies.specs.Bytes.{number_bound}
-use Rattle.mysql_replies.specs.Grammar.{Outcome, Payload, deprecate_eof, is_binary, is_prepare}
+use Rattle.mysql_reply_events.specs.Readings.{deprecate_eof, is_binary}
+use Rattle.mysql_reply_events.specs.Table.{has_results}
+use Rattle.mysql_replies.specs.Manual.{is_prepare}
+use Rattle.mysql_replies.specs.Reply.{Payload}
+use Rattle.mysql_replies.specs.Together.{Outcome}
 use Rattle.mysql_reply_writer.specs.declared.refusal.ReplyRefusal.{ReplyRefusal}
 use Rattle.mysql_reply_writer.specs.declared.refusal.ReplyRefusal.TheVariants.{AfterEnd, CellCount, NoColumns, NoForm}
 use Rattle.mysql_reply_writer.specs.declared.refusal.ReplyRefusal.TheVariants.{NoResults, NotBegun, NotEnded}
 use Rattle.mysql_reply_writer.specs.declared.refusal.ReplyRefusal.TheVariants.{PacketTooLarge, ReadsAsReport, Status}
 use Rattle.mysql_reply_writer.specs.declared.refusal.ReplyRefusal.TheVariants.{TooManyColumns, WrongKind}
-use Rattle.mysql_ok_packets.specs.Written.{is_mysql_status}
+use Rattle.mysql_ok_packets.specs.Written.{is_named_status}
 use Rattle.mysql_rows.specs.Written.{binary_cause, text_cause}
 use Rattle.mysql_reply_writer.specs.Written.{ColumnsStep, EndStep, ErrorStep, FileStep, OkStep, PreparedStep}
-use Rattle.mysql_reply_writer.specs.Written.{ReportStep, RowStep, Step, reply_steps, step_payloads}
+use Rattle.mysql_reply_writer.specs.Written.{ReportStep, RowStep, Step, UnwrittenStep, reply_steps, step_payloads}
+use Rattle.mysql_reply_writer.specs.Written.{tells_progress}
 
 -- A cause, where this holds.
 abbrev pub cause_if : Bool → ReplyRefusal → Option ReplyRefusal
@@ -79,9 +84,9 @@ rows_cause w = or_cause (over_cause w) (cause_if (not (is_some w.rows)) (NotBegu
 abbrev pub kind_cause : Writing → Bool → Option ReplyRefusal
 kind_cause w wrong = cause_if wrong (WrongKind w.results)
 
--- MySQL names each bit of a status.
+-- Each bit of a status has a name.
 abbrev pub status_cause : Writing → OkPacket → Option ReplyRefusal
-status_cause w ok = cause_if (not (is_mysql_status ok.status_flags)) (Status w.results)
+status_cause w ok = cause_if (not (is_named_status ok.status_flags)) (Status w.results)
 
 abbrev pub count_cause : Writing → List ColumnDefinition → Option ReplyRefusal
 count_cause w columns = cause_if (nat_lt 65535 (length columns)) (TooManyColumns w.results)
@@ -109,27 +114,32 @@ cells_cause w columns cells = cells_cause_at (is_binary w.context.kind) w.result
 abbrev pub error_number : Writing → ℕ
 error_number w = if is_some w.rows then w.results + 1 else w.results
 
+-- An error of the code of progress reports is read as one, where the reply may have some.
+abbrev pub reads_as_report : Context → ServerError → Bool
+reads_as_report c error = error.error_code == 0xffff && tells_progress c
+
 -- What speaks against a step before its payloads are looked at, in this order.
 abbrev pub step_checks : Writing → Step → List (Option ReplyRefusal)
 step_checks w (ReportStep report) = over_cause w ∷ []
-step_checks w (OkStep more ok) = place_cause w ∷ kind_cause w (is_prepare w.context.kind) ∷ status_cause w ok ∷ []
+step_checks w (OkStep more ok) =
+    place_cause w ∷ kind_cause w (not (has_results w.context.kind)) ∷ status_cause w ok ∷ []
 step_checks w (ColumnsStep columns) =
-    place_cause w ∷ kind_cause w (is_prepare w.context.kind) ∷
+    place_cause w ∷ kind_cause w (not (has_results w.context.kind)) ∷
     cause_if (length columns == 0) (NoColumns w.results) ∷ count_cause w columns ∷ []
 step_checks w (RowStep columns row) = rows_cause w ∷ cells_cause w columns row.cells ∷ []
 step_checks w (EndStep more ok) = rows_cause w ∷ status_cause w ok ∷ []
 step_checks w (ErrorStep error) =
-    over_cause w ∷ cause_if (is_progress_code w.context.capabilities.0 error.error_code)
-    (ReadsAsReport (error_number w)) ∷ []
-step_checks w (FileStep name) = place_cause w ∷ kind_cause w (is_prepare w.context.kind) ∷ []
+    over_cause w ∷ cause_if (reads_as_report w.context error) (ReadsAsReport (error_number w)) ∷ []
+step_checks w (FileStep name) = place_cause w ∷ kind_cause w (not (has_results w.context.kind)) ∷ []
 step_checks w (PreparedStep statement parameters columns) =
     place_cause w ∷ kind_cause w (not (is_prepare w.context.kind)) ∷ count_cause w parameters ∷
     count_cause w columns ∷ []
+step_checks w UnwrittenStep = place_cause w ∷ kind_cause w true ∷ []
 
 -- The most bytes of a step's payloads: the limit; with DEPRECATE_EOF a packet that ends rows has
 -- fewer than 16777215, since a longer one is read as a row.
 abbrev pub step_room : Writing → Step → ℕ
-step_room w (EndStep more ok) = if deprecate_eof w.context.capabilities.0 then min w.limit 16777214 else w.limit
+step_room w (EndStep more ok) = if deprecate_eof w.context then min w.limit 16777214 else w.limit
 step_room w step = w.limit
 
 -- What speaks against a step: the first of those causes, and then a payload that is too large.

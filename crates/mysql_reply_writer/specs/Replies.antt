@@ -6,9 +6,9 @@ use Rattle.std.specs.List.{concat}
 use Rattle.mysql_wire.specs.Stream.{framings}
 use Rattle.mysql_wire.specs.Stream.Numbering.{OnFrom}
 use Rattle.mysql_server_packets.specs.Packets.{ProgressReport}
-use Rattle.mysql_replies.specs.declared.context.Context.{Context}
+use Rattle.mysql_reply_events.specs.declared.context.Context.{Context}
 use Rattle.mysql_replies.specs.Bytes.{IsReplyOf}
-use Rattle.mysql_replies.specs.Grammar.{Outcome}
+use Rattle.mysql_replies.specs.Together.{Outcome}
 use Rattle.mysql_replies.specs.Reply.{Answer, Whole}
 use Rattle.mysql_reply_writer.specs.Fronts.{IsFrontAnswer}
 use Rattle.mysql_reply_writer.specs.Refusals.{refusal_of}

@@ -3,19 +3,21 @@
 -- Response", "Text Resultset", "Binary Protocol Resultset" and "COM_STMT_PREPARE Response";
 -- MariaDB: 'Progress report' of "ERR_Packet".
 use Rattle.std.specs.Prelude.{ℕ, ◌%◌, ◌^◌, List, [], ◌∷◌, ◌++◌, length, map, Bool, true, false, Option, Some, None}
-use Rattle.std.specs.Prelude.{option_map, if◌then◌else◌}
+use Rattle.std.specs.Prelude.{◌&&◌, option_map, if◌then◌else◌}
 use Rattle.std.specs.List.{flat_map}
 use Rattle.std.specs.Int.RustNames.{bit_and, bit_or}
 use Rattle.mysql_cells.specs.declared.value.Value.{Value}
 use Rattle.mysql_buf.specs.Writing.{lenenc_int}
 use Rattle.mysql_ok_packets.specs.OkPackets.{OkPacket}
 use Rattle.mysql_server_packets.specs.Packets.{Error, PrepareOk, Progress, ProgressReport, ServerError, err_packet}
-use Rattle.mysql_server_packets.specs.Packets.{local_infile, prepare_ok, progress_obsolete, protocol_41}
+use Rattle.mysql_server_packets.specs.Packets.{local_infile, prepare_ok, protocol_41}
 use Rattle.mysql_columns.specs.Columns.{ColumnDefinition, column}
 use Rattle.mysql_rows.specs.Rows.{Row, whole_row}
-use Rattle.mysql_replies.specs.declared.context.Context.{Context}
-use Rattle.mysql_replies.specs.Grammar.{ErrorResult, FileResult, OkResult, Outcome, Payload, PreparedResult, RowsResult}
-use Rattle.mysql_replies.specs.Grammar.{deprecate_eof, is_binary}
+use Rattle.mysql_reply_events.specs.declared.context.Context.{Context}
+use Rattle.mysql_reply_events.specs.Readings.{deprecate_eof, has_reports, is_binary, optional_metadata, protocol}
+use Rattle.mysql_reply_events.specs.Readings.{reports_progress}
+use Rattle.mysql_replies.specs.Reply.{Payload}
+use Rattle.mysql_replies.specs.Together.{ErrorResult, FileResult, OkResult, Outcome, PreparedResult, RowsResult}
 use Rattle.mysql_ok_packets.specs.Written.{as_eof, as_ok, as_terminator, eof_bytes, ok_packet_bytes, with_status}
 use Rattle.mysql_rows.specs.Written.{as_binary, as_text, binary_row, text_row, values_of}
 
@@ -41,22 +43,29 @@ nothing_said = record {
 }
 
 -- The EOF that is due behind columns: none behind no columns, and none with DEPRECATE_EOF.
-abbrev pub eof_due : ℕ → List ColumnDefinition → List Payload
-eof_due capabilities [] = []
-eof_due capabilities (first ∷ others) = if deprecate_eof capabilities then [] else eof_bytes nothing_said ∷ []
+abbrev pub eof_due : Context → List ColumnDefinition → List Payload
+eof_due c [] = []
+eof_due c (first ∷ others) = if deprecate_eof c then [] else eof_bytes nothing_said ∷ []
 
 -- Columns: a packet for each, and the EOF that is due.
-abbrev pub group_payloads : ℕ → List ColumnDefinition → List Payload
-group_payloads capabilities columns = map column columns ++ eof_due capabilities columns
+abbrev pub group_payloads : Context → List ColumnDefinition → List Payload
+group_payloads c columns = map column columns ++ eof_due c columns
+
+-- MySQL's byte that says that columns follow, where optional metadata are agreed on.
+abbrev pub columns_follow : Context → List ℕ
+columns_follow c = if optional_metadata c then 1 ∷ [] else []
+
+-- A count of columns, which follow.
+abbrev pub count_payload : Context → ℕ → Payload
+count_payload c n = columns_follow c ++ lenenc_int n
 
 -- A row of these cells, in binary or as text.
 abbrev pub cells_payload : Bool → List ColumnDefinition → List (Option Value) → Payload
 cells_payload binary columns cells = if binary then binary_row columns (values_of cells) else text_row (values_of cells)
 
 -- What ends rows: an OK packet with fe with DEPRECATE_EOF, else the EOF packet.
-abbrev pub terminator_payload : ℕ → OkPacket → Payload
-terminator_payload capabilities ok =
-    if deprecate_eof capabilities then ok_packet_bytes 254 capabilities ok else eof_bytes ok
+abbrev pub terminator_payload : Context → OkPacket → Payload
+terminator_payload c ok = if deprecate_eof c then ok_packet_bytes 254 (protocol c) ok else eof_bytes ok
 
 -- The state of an error that has none: HY000, a general error.
 abbrev pub general_state : List ℕ
@@ -78,10 +87,10 @@ counting statement parameters columns =
     record statement { num_params = length parameters; num_columns = length columns }
 
 -- A prepared statement: its packet, and a group for each list.
-abbrev pub prepared_payloads : ℕ → PrepareOk → List ColumnDefinition → List ColumnDefinition → List Payload
-prepared_payloads capabilities statement parameters columns =
-    prepare_ok (counting statement parameters columns) ∷ group_payloads capabilities parameters ++
-    group_payloads capabilities columns
+abbrev pub prepared_payloads : Context → PrepareOk → List ColumnDefinition → List ColumnDefinition → List Payload
+prepared_payloads c statement parameters columns =
+    (prepare_ok (counting statement parameters columns) ++ columns_follow c) ∷ group_payloads c parameters ++
+    group_payloads c columns
 
 -- A progress report as it is written: in three bytes of progress.
 abbrev pub report_written : ProgressReport → ProgressReport
@@ -105,21 +114,25 @@ pub data Step : Type 0 where
   FileStep : List ℕ → Step
   -- A prepared statement, its parameters and its columns.
   PreparedStep : PrepareOk → List ColumnDefinition → List ColumnDefinition → Step
+  -- A result that is read alone: rows as they came, columns of a table or a line.
+  UnwrittenStep : Step
 
--- The payloads of a step. Progress reports go only to a client that knows them, by the capability
--- PROGRESS_OBSOLETE: without it they are left out.
+-- The client reads progress reports, and the reply may have some.
+abbrev pub tells_progress : Context → Bool
+tells_progress c = has_reports c.kind && reports_progress c
+
+-- The payloads of a step. Progress reports go only to a client that knows them: without that they are left out.
 abbrev pub step_payloads : Context → Step → List Payload
 step_payloads c (ReportStep report) =
-    if progress_obsolete c.capabilities.0 then err_packet (Progress (report_written report)) ∷
-    [] else []
-step_payloads c (OkStep more ok) = ok_packet_bytes 0 c.capabilities.0 (saying more ok) ∷ []
-step_payloads c (ColumnsStep columns) = lenenc_int (length columns) ∷ group_payloads c.capabilities.0 columns
+    if tells_progress c then err_packet (Progress (report_written report)) ∷ [] else []
+step_payloads c (OkStep more ok) = ok_packet_bytes 0 (protocol c) (saying more ok) ∷ []
+step_payloads c (ColumnsStep columns) = count_payload c (length columns) ∷ group_payloads c columns
 step_payloads c (RowStep columns row) = cells_payload (is_binary c.kind) columns row.cells ∷ []
-step_payloads c (EndStep more ok) = terminator_payload c.capabilities.0 (saying more ok) ∷ []
-step_payloads c (ErrorStep error) = err_packet (Error (error_written c.capabilities.0 error)) ∷ []
+step_payloads c (EndStep more ok) = terminator_payload c (saying more ok) ∷ []
+step_payloads c (ErrorStep error) = err_packet (Error (error_written (protocol c) error)) ∷ []
 step_payloads c (FileStep name) = local_infile name ∷ []
-step_payloads c (PreparedStep statement parameters columns) =
-    prepared_payloads c.capabilities.0 statement parameters columns
+step_payloads c (PreparedStep statement parameters columns) = prepared_payloads c statement parameters columns
+step_payloads c UnwrittenStep = []
 
 -- The end of rows, where they have a terminator; else the error that is the next result ends them.
 abbrev pub end_steps : Bool → Option OkPacket → List Step
@@ -133,6 +146,7 @@ result_steps more (RowsResult columns rows end) = ColumnsStep columns ∷ map (R
 result_steps more (PreparedResult statement parameters columns) = PreparedStep statement parameters columns ∷ []
 result_steps more (ErrorResult error) = ErrorStep error ∷ []
 result_steps more (FileResult name) = FileStep name ∷ []
+result_steps more result = UnwrittenStep ∷ []
 
 abbrev pub is_some_result : List Outcome → Bool
 is_some_result [] = false
@@ -164,17 +178,17 @@ abbrev pub row_read : Context → List ColumnDefinition → Row → Row
 row_read c columns row = whole_row columns (cells_read c row.cells)
 
 abbrev pub terminator_read : Context → OkPacket → OkPacket
-terminator_read c ok = if deprecate_eof c.capabilities.0 then as_terminator c.capabilities.0 ok else as_eof ok
+terminator_read c ok = if deprecate_eof c then as_terminator (protocol c) ok else as_eof ok
 
 -- What a result is read as, by whether another one follows it.
 abbrev pub as_read : Context → Bool → Outcome → Outcome
-as_read c more (OkResult ok) = OkResult (as_ok c.capabilities.0 (saying more ok))
+as_read c more (OkResult ok) = OkResult (as_ok (protocol c) (saying more ok))
 as_read c more (RowsResult columns rows end) =
     RowsResult columns (map (row_read c columns) rows) (option_map (λ ok. terminator_read c (saying more ok)) end)
 as_read c more (PreparedResult statement parameters columns) =
     PreparedResult (counting statement parameters columns) parameters columns
-as_read c more (ErrorResult error) = ErrorResult (error_written c.capabilities.0 error)
-as_read c more (FileResult name) = FileResult name
+as_read c more (ErrorResult error) = ErrorResult (error_written (protocol c) error)
+as_read c more result = result
 
 -- What results are read as.
 abbrev pub results_read : Context → List Outcome → List Outcome
@@ -183,4 +197,4 @@ results_read c (first ∷ others) = as_read c (is_some_result others) first ∷ 
 
 -- The progress reports that are read: those that a client can be told.
 abbrev pub reports_read : Context → List ProgressReport → List ProgressReport
-reports_read c progress = if progress_obsolete c.capabilities.0 then map report_written progress else []
+reports_read c progress = if tells_progress c then map report_written progress else []

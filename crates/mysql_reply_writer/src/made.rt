@@ -6,12 +6,15 @@ ghost use Rattle.mysql_ok_packets.specs.Views.{ok_packet_view};
 ghost use Rattle.mysql_server_packets.specs.Packets.{Error, Progress, protocol_41, progress_obsolete};
 ghost use Rattle.mysql_server_packets.specs.Views.{err_packet_view, progress_report_view, server_error_view};
 ghost use Rattle.mysql_server_packets.specs.Views.{sql_state_view};
-ghost use Rattle.mysql_replies.specs.Grammar.{deprecate_eof, is_binary as is_binary_kind};
+ghost use Rattle.mysql_wire.specs.Flags.{contains};
+ghost use Rattle.mysql_reply_events.specs.Readings.{deprecate_eof, has_reports};
 ghost use Rattle.mysql_replies.specs.Views.{column_views};
 ghost use Rattle.mysql_ok_packets.specs.Written.{eof_bytes, ok_packet_bytes};
 ghost use Rattle.mysql_reply_writer.specs.Refusals.{form_cause};
-ghost use Rattle.mysql_reply_writer.specs.Written.{cells_payload, error_written, nothing_said, report_written, saying};
-ghost use Rattle.mysql_reply_writer.specs.Written.{state_written, terminator_payload, with_more as more_flag};
+ghost use Rattle.mysql_reply_writer.specs.Written.{cells_payload, columns_follow, error_written, nothing_said};
+ghost use Rattle.mysql_reply_writer.specs.Written.{report_written, saying, state_written, tells_progress};
+ghost use Rattle.mysql_reply_writer.specs.Written.{terminator_payload};
+ghost use Rattle.mysql_reply_writer.specs.Written.{with_more as more_flag};
 ghost use Rattle.mysql_reply_writer.specs.Puts.{IsCause};
 ghost use Rattle.mysql_reply_writer.specs.Views.{row_cause, row_payload};
 ghost use Rattle.mysql_rows.specs.CellsWritten.{PutsRow};
@@ -21,20 +24,13 @@ use crate::refusal::ReplyRefusal;
 use crate::writer::OpenRows;
 use bitflags::Flags;
 use mysql_columns::Column;
-use mysql_const::{CapabilityFlags, StatusFlags};
+use mysql_const::{CapabilityFlags, MariadbCapabilities, StatusFlags};
 use mysql_ok_packets::{CommonOkPacket, OkPacket, OldEofPacket, ResultSetTerminator};
-use mysql_replies::ReplyKind;
+use mysql_replies::{Context, ReplyKind};
 use mysql_rows::{Row, RowRefusal};
 use mysql_server_packets::{ErrPacket, ProgressReport, ServerError, SqlState};
 use std::alloc::AllocError;
 use std::borrow::CowSlice;
-
-/// Whether EOF packets are deprecated.
-pub(crate) fn deprecates_eof(capabilities: CapabilityFlags) -> bool
-    ensures { result ≡ deprecate_eof capabilities.0 }
-{
-    capabilities.contains(CapabilityFlags::CLIENT_DEPRECATE_EOF)
-}
 
 /// Whether errors have states, which clients of the protocol of version 4.1 read.
 pub(crate) fn has_states(capabilities: CapabilityFlags) -> bool
@@ -43,11 +39,37 @@ pub(crate) fn has_states(capabilities: CapabilityFlags) -> bool
     capabilities.contains(CapabilityFlags::CLIENT_PROTOCOL_41)
 }
 
-/// Whether the client reads progress reports.
-pub(crate) fn tells_progress(capabilities: CapabilityFlags) -> bool
+// Whether the client reads progress reports as old servers send them.
+fn reads_reports(capabilities: CapabilityFlags) -> bool
     ensures { result ≡ progress_obsolete capabilities.0 }
 {
     capabilities.contains(CapabilityFlags::CLIENT_PROGRESS_OBSOLETE)
+}
+
+// Whether the client reads MariaDB's newer progress reports.
+fn reads_newer_reports(capabilities: MariadbCapabilities) -> bool
+    ensures { result ≡ contains capabilities.0 1 }
+{
+    capabilities.contains(MariadbCapabilities::MARIADB_CLIENT_PROGRESS)
+}
+
+// Whether progress reports may stand in a reply of this kind.
+fn has_reports(kind: ReplyKind) -> bool
+    ensures { result ≡ has_reports kind }
+{
+    match kind {
+        ReplyKind::Line => false,
+        _ => true,
+    }
+}
+
+/// Whether the client reads progress reports, and the reply may have some.
+pub(crate) fn tells_progress(context: Context) -> bool
+    ensures { result ≡ tells_progress context }
+{
+    has_reports(context.kind)
+        && (reads_reports(context.capabilities.protocol)
+            || reads_newer_reports(context.capabilities.mariadb))
 }
 
 /// The status that says whether another result follows.
@@ -110,14 +132,15 @@ fn make_eof_terminator(
 /// Makes what ends rows.
 pub(crate) fn make_terminator(
     payload: &mut Vec<u8>,
-    capabilities: CapabilityFlags,
+    context: Context,
     more: bool,
     ok: &OkPacket<'_>,
 ) -> Result<(), AllocError>
     ensures { OnOk result (payload.new.items ≡
-        terminator_payload capabilities.0 (saying more (ok_packet_view ok.now))) }
+        terminator_payload context (saying more (ok_packet_view ok.now))) }
 {
-    if deprecates_eof(capabilities) {
+    let capabilities = context.capabilities.protocol;
+    if context.deprecates_eof() {
         make_ok_terminator(payload, capabilities, more, ok)
     } else {
         make_eof_terminator(payload, capabilities, more, ok)
@@ -133,21 +156,21 @@ pub(crate) fn make_empty_eof(payload: &mut Vec<u8>) -> Result<(), AllocError>
     payload.extend_from_slice(&[254, 0, 0, 0, 0])
 }
 
-/// Whether rows come in binary.
-pub(crate) fn is_binary(kind: ReplyKind) -> bool
-    ensures { result ≡ is_binary_kind kind }
+/// Appends MySQL's byte that says that columns follow, where optional metadata are agreed on.
+pub(crate) fn put_follow(payload: &mut Vec<u8>, context: Context) -> Result<(), AllocError>
+    ensures { OnOk result (payload.new.items ≡ payload.old.items ++ columns_follow context) }
 {
-    match kind {
-        ReplyKind::Binary => true,
-        ReplyKind::Text | ReplyKind::Prepare => false,
+    if context.has_optional_metadata() {
+        payload.push(1)?;
     }
+    Ok(())
 }
 
 /// The most bytes of what ends rows: with DEPRECATE_EOF a longer packet is read as a row.
-pub(crate) fn end_room(capabilities: CapabilityFlags, limit: usize) -> usize
-    ensures { result ≡ (if deprecate_eof capabilities.0 then min limit 16777214 else limit) }
+pub(crate) fn end_room(context: Context, limit: usize) -> usize
+    ensures { result ≡ (if deprecate_eof context then min limit 16777214 else limit) }
 {
-    if deprecates_eof(capabilities) && limit > 16777214 {
+    if context.deprecates_eof() && limit > 16777214 {
         16777214
     } else {
         limit

@@ -1,27 +1,27 @@
 //! Payloads, numbered and framed.
 
-ghost use Rattle.std.specs.Prelude.{◌≡◌, ◌+◌, ◌≤◌, ◌∷◌, [], IfErr, None, OnErr, OnOk, drop, length, map, take};
+ghost use Rattle.std.specs.Prelude.{◌≡◌, ◌+◌, ◌++◌, ◌≤◌, ◌∷◌, [], IfErr, None, OnErr, OnOk, drop, length, map, take};
 ghost use Rattle.mysql_reply_writer.specs.Refusals.{or_cause, too_large};
 ghost use Rattle.mysql_rows.specs.Views.{row_view};
-ghost use Rattle.mysql_buf.specs.Writing.{lenenc_int};
 ghost use Rattle.mysql_server_packets.specs.Packets.{prepare_ok};
 ghost use Rattle.mysql_server_packets.specs.Views.{prepare_ok_view};
 ghost use Rattle.mysql_columns.specs.Columns.{column};
 ghost use Rattle.mysql_replies.specs.Views.{column_views};
 ghost use Rattle.mysql_reply_writer.specs.Fits.{CellsFit, ColumnsFit};
-ghost use Rattle.mysql_reply_writer.specs.Written.{eof_due, group_payloads, prepared_payloads};
+ghost use Rattle.mysql_reply_writer.specs.Written.{columns_follow, count_payload, eof_due, group_payloads};
+ghost use Rattle.mysql_reply_writer.specs.Written.{prepared_payloads};
 ghost use Rattle.mysql_reply_writer.specs.Puts.{IsCause, Puts, RefusesPayloads};
 ghost use Rattle.mysql_reply_writer.specs.Views.{PutsPayloads, RefusesPayload, place_view, row_cause, row_payload};
 ghost use Rattle.mysql_reply_writer.specs.Views.{with_counts};
 
 use crate::facts::{cells_fit, column_fits};
-use crate::made::{deprecates_eof, make_empty_eof, put_row_payload};
+use crate::made::{make_empty_eof, put_follow, put_row_payload};
 use crate::refusal::ReplyRefusal;
 use crate::writer::OpenRows;
 use mysql_buf::BufMutExt;
 use mysql_columns::Column;
-use mysql_const::CapabilityFlags;
 use mysql_fields::MySerialize;
+use mysql_replies::Context;
 use mysql_rows::Row;
 use mysql_server_packets::StmtPacket;
 use mysql_wire::{frame_in_place, packet_to_chunks};
@@ -196,19 +196,19 @@ impl Packets {
     /// Appends the EOF that is due behind columns.
     fn put_eof_due(
         &mut self,
-        capabilities: CapabilityFlags,
+        context: Context,
         columns: &[Column],
         out: &mut Vec<u8>,
     ) -> Result<(), ReplyRefusal>
         ensures ok { OnOk result
-            (PutsPayloads self.old (eof_due capabilities.0 (column_views columns.now))
+            (PutsPayloads self.old (eof_due context (column_views columns.now))
             self.new out.old.items out.new.items) }
         ensures err { IfErr result
-            (RefusesPayload self.old (eof_due capabilities.0 (column_views columns.now))) }
+            (RefusesPayload self.old (eof_due context (column_views columns.now))) }
         ensures kept { take (length out.old.items) out.new.items ≡ out.old.items }
         ensures limit { self.new.limit ≡ self.old.limit }
     {
-        if columns.is_empty() || deprecates_eof(capabilities) {
+        if columns.is_empty() || context.deprecates_eof() {
             return Ok(());
         }
         make_empty_eof(&mut self.payload)?;
@@ -218,60 +218,61 @@ impl Packets {
     /// Appends columns, and the EOF that is due.
     pub(crate) fn put_group(
         &mut self,
-        capabilities: CapabilityFlags,
+        context: Context,
         columns: &[Column],
         out: &mut Vec<u8>,
     ) -> Result<(), ReplyRefusal>
         ensures ok { OnOk result
-            (PutsPayloads self.old (group_payloads capabilities.0 (column_views columns.now))
+            (PutsPayloads self.old (group_payloads context (column_views columns.now))
             self.new out.old.items out.new.items) }
         ensures fit { OnOk result (ColumnsFit (column_views columns.now)) }
         ensures err { IfErr result
-            (RefusesPayload self.old (group_payloads capabilities.0 (column_views columns.now))) }
+            (RefusesPayload self.old (group_payloads context (column_views columns.now))) }
         ensures kept { take (length out.old.items) out.new.items ≡ out.old.items }
         ensures limit { self.new.limit ≡ self.old.limit }
     {
         self.put_columns(columns, out)?;
-        self.put_eof_due(capabilities, columns, out)
+        self.put_eof_due(context, columns, out)
     }
 
     /// Appends a count of columns, the columns, and the EOF that is due. After a refusal
     /// `out` still begins with what it held.
     fn put_head_packets(
         &mut self,
-        capabilities: CapabilityFlags,
+        context: Context,
         columns: &[Column],
         out: &mut Vec<u8>,
     ) -> Result<(), ReplyRefusal>
-        ensures ok { OnOk result (PutsPayloads self.old (lenenc_int (length columns.now) ∷
-            group_payloads capabilities.0 (column_views columns.now)) self.new out.old.items out.new.items) }
+        ensures ok { OnOk result (PutsPayloads self.old (count_payload context (length columns.now) ∷
+            group_payloads context (column_views columns.now)) self.new out.old.items out.new.items) }
         ensures fit { OnOk result (ColumnsFit (column_views columns.now)) }
         ensures err { IfErr result
-            (RefusesPayload self.old (lenenc_int (length columns.now) ∷
-            group_payloads capabilities.0 (column_views columns.now))) }
+            (RefusesPayload self.old (count_payload context (length columns.now) ∷
+            group_payloads context (column_views columns.now))) }
         ensures kept { take (length out.old.items) out.new.items ≡ out.old.items }
         ensures limit { self.new.limit ≡ self.old.limit }
     {
         self.payload.clear();
+        put_follow(&mut self.payload, context)?;
         self.payload.put_lenenc_int(columns.len() as u64)?;
         self.put_made(self.limit, out)?;
-        self.put_group(capabilities, columns, out)
+        self.put_group(context, columns, out)
     }
 
     /// Appends a count of columns, the columns, and the EOF that is due. After a refusal nothing has
     /// changed.
     pub(crate) fn put_head(
         &mut self,
-        capabilities: CapabilityFlags,
+        context: Context,
         columns: &[Column],
         out: &mut Vec<u8>,
     ) -> Result<(), ReplyRefusal>
-        ensures ok { OnOk result (PutsPayloads self.old (lenenc_int (length columns.now) ∷
-            group_payloads capabilities.0 (column_views columns.now)) self.new out.old.items out.new.items) }
+        ensures ok { OnOk result (PutsPayloads self.old (count_payload context (length columns.now) ∷
+            group_payloads context (column_views columns.now)) self.new out.old.items out.new.items) }
         ensures fit { OnOk result (ColumnsFit (column_views columns.now)) }
         ensures err { IfErr result
-            (RefusesPayload self.old (lenenc_int (length columns.now) ∷
-            group_payloads capabilities.0 (column_views columns.now))) }
+            (RefusesPayload self.old (count_payload context (length columns.now) ∷
+            group_payloads context (column_views columns.now))) }
         ensures kept { OnErr result (out.new.items ≡ out.old.items) }
         ensures place { OnErr result (place_view self.new ≡ place_view self.old) }
         ensures limit { self.new.limit ≡ self.old.limit }
@@ -279,7 +280,7 @@ impl Packets {
         let start = out.len();
         let number = self.number;
         let payloads = self.payloads;
-        let answer = self.put_head_packets(capabilities, columns, out);
+        let answer = self.put_head_packets(context, columns, out);
         if answer.is_err() {
             out.truncate(start);
             self.number = number;
@@ -291,6 +292,7 @@ impl Packets {
     /// Appends a statement packet with these counts.
     fn put_statement(
         &mut self,
+        context: Context,
         statement: &StmtPacket,
         parameters: usize,
         columns: usize,
@@ -299,10 +301,12 @@ impl Packets {
         requires parameters { parameters ≤ 65535 }
         requires columns { columns ≤ 65535 }
         ensures ok { OnOk result
-            (PutsPayloads self.old (prepare_ok (with_counts statement.now parameters columns) ∷ [])
+            (PutsPayloads self.old ((prepare_ok (with_counts statement.now parameters columns) ++
+            columns_follow context) ∷ [])
             self.new out.old.items out.new.items) }
         ensures err { IfErr result
-            (RefusesPayload self.old (prepare_ok (with_counts statement.now parameters columns) ∷ [])) }
+            (RefusesPayload self.old ((prepare_ok (with_counts statement.now parameters columns) ++
+            columns_follow context) ∷ [])) }
         ensures kept { OnErr result (out.new.items ≡ out.old.items) }
         ensures limit { self.new.limit ≡ self.old.limit }
     {
@@ -312,14 +316,17 @@ impl Packets {
             parameters as u16,
             statement.warning_count(),
         );
-        self.put(&packet, out)
+        self.payload.clear();
+        packet.serialize(&mut self.payload)?;
+        put_follow(&mut self.payload, context)?;
+        self.put_made(self.limit, out)
     }
 
     /// Appends a statement packet with the counts of these lists, and each list as a group. After a
     /// refusal `out` still begins with what it held.
     fn put_prepared_packets(
         &mut self,
-        capabilities: CapabilityFlags,
+        context: Context,
         statement: &StmtPacket,
         parameters: &[Column],
         columns: &[Column],
@@ -328,25 +335,25 @@ impl Packets {
         requires parameters { length parameters.now ≤ 65535 }
         requires columns { length columns.now ≤ 65535 }
         ensures ok { OnOk result
-            (PutsPayloads self.old (prepared_payloads capabilities.0 (prepare_ok_view statement.now)
+            (PutsPayloads self.old (prepared_payloads context (prepare_ok_view statement.now)
             (column_views parameters.now) (column_views columns.now)) self.new out.old.items out.new.items) }
         ensures fit { OnOk result (ColumnsFit (column_views parameters.now) × ColumnsFit (column_views columns.now)) }
         ensures err { IfErr result
-            (RefusesPayload self.old (prepared_payloads capabilities.0 (prepare_ok_view statement.now)
+            (RefusesPayload self.old (prepared_payloads context (prepare_ok_view statement.now)
             (column_views parameters.now) (column_views columns.now))) }
         ensures kept { take (length out.old.items) out.new.items ≡ out.old.items }
         ensures limit { self.new.limit ≡ self.old.limit }
     {
-        self.put_statement(statement, parameters.len(), columns.len(), out)?;
-        self.put_group(capabilities, parameters, out)?;
-        self.put_group(capabilities, columns, out)
+        self.put_statement(context, statement, parameters.len(), columns.len(), out)?;
+        self.put_group(context, parameters, out)?;
+        self.put_group(context, columns, out)
     }
 
     /// Appends a statement packet with the counts of these lists, and each list as a group. After a
     /// refusal nothing has changed.
     pub(crate) fn put_prepared(
         &mut self,
-        capabilities: CapabilityFlags,
+        context: Context,
         statement: &StmtPacket,
         parameters: &[Column],
         columns: &[Column],
@@ -355,11 +362,11 @@ impl Packets {
         requires parameters { length parameters.now ≤ 65535 }
         requires columns { length columns.now ≤ 65535 }
         ensures ok { OnOk result
-            (PutsPayloads self.old (prepared_payloads capabilities.0 (prepare_ok_view statement.now)
+            (PutsPayloads self.old (prepared_payloads context (prepare_ok_view statement.now)
             (column_views parameters.now) (column_views columns.now)) self.new out.old.items out.new.items) }
         ensures fit { OnOk result (ColumnsFit (column_views parameters.now) × ColumnsFit (column_views columns.now)) }
         ensures err { IfErr result
-            (RefusesPayload self.old (prepared_payloads capabilities.0 (prepare_ok_view statement.now)
+            (RefusesPayload self.old (prepared_payloads context (prepare_ok_view statement.now)
             (column_views parameters.now) (column_views columns.now))) }
         ensures kept { OnErr result (out.new.items ≡ out.old.items) }
         ensures place { OnErr result (place_view self.new ≡ place_view self.old) }
@@ -368,7 +375,7 @@ impl Packets {
         let start = out.len();
         let number = self.number;
         let payloads = self.payloads;
-        let answer = self.put_prepared_packets(capabilities, statement, parameters, columns, out);
+        let answer = self.put_prepared_packets(context, statement, parameters, columns, out);
         if answer.is_err() {
             out.truncate(start);
             self.number = number;

@@ -16,7 +16,7 @@ pub enum ReplyRefusal {
     /// A reply has at least one result.
     #[error("the reply has no result")]
     NoResults,
-    /// The result, or a progress report in its place, stands behind the last one of a reply.
+    /// The result, or a progress report in its place, comes behind the last one of a reply.
     ///
     /// The last one is an error, the request of a file, a prepared statement or what was written as
     /// the last.
@@ -31,7 +31,8 @@ pub enum ReplyRefusal {
     /// The command has no such result.
     ///
     /// A prepared statement answers a prepare and nothing else; an OK packet, rows and the request
-    /// of a file answer other commands.
+    /// of a file answer a query or an execution. Rows as they came, columns of a table and lines are
+    /// read alone.
     #[error("result {0}: its command has no such result")]
     WrongKind(usize),
     /// Rows have at least one column.
@@ -40,8 +41,7 @@ pub enum ReplyRefusal {
     /// Rows have at most 65535 columns, a prepared statement as many parameters and as many columns.
     #[error("result {0}: it has more than 65535 columns")]
     TooManyColumns(usize),
-    /// A bit of the status has no name at MySQL, and can't be read; MariaDB's bit of ANSI_QUOTES is
-    /// one.
+    /// A bit of the status has no name at MySQL or MariaDB, and can't be read: bit 2 is one.
     #[error("result {0}: a bit of its status has no name")]
     Status(usize),
     /// An error of the code 65535 is read as a progress report, where these were agreed on.

@@ -1,6 +1,7 @@
 //! A whole reply, appended or refused.
 
 ghost use Rattle.std.specs.Prelude.{◌≡◌, IfErr, OnErr, OnOk};
+ghost use Rattle.mysql_replies.specs.Reply.{context_by};
 ghost use Rattle.mysql_replies.specs.Views.{outcome_views, report_views};
 ghost use Rattle.mysql_reply_writer.specs.Refusals.{refusal_of};
 ghost use Rattle.mysql_reply_writer.specs.Puts.{IsCause};
@@ -23,7 +24,8 @@ use std::alloc::Global;
 /// first chunk has the number `first_id`. A payload has at most `limit` bytes, as calls that read
 /// count them: without the headers of its chunks. Another result follows each but the last: of each
 /// status the writer sets or clears SERVER_MORE_RESULTS_EXISTS itself. Progress reports go only to a
-/// client that knows them, by the capability PROGRESS_OBSOLETE. After a refusal `out` is as it was.
+/// client that knows them, by the capability PROGRESS_OBSOLETE. Rows as they came, columns of a table
+/// and lines are read alone: they are `WrongKind`. After a refusal `out` is as it was.
 ///
 /// Promise: refused by the first cause in the order of the stream. Else the framings of a reply are
 /// appended that reads as these results and reports, and so does each prefix (`refusal_of`,
@@ -34,7 +36,7 @@ use std::alloc::Global;
 /// - else the first cause in the order of the stream, each payload's `PacketTooLarge` behind the
 ///   other causes of what is written with it. A payload is of a progress report, a result that
 ///   isn't rows, the columns of rows, a row, or the end of rows;
-/// - `Memory`, which may stand in place of any answer.
+/// - `Memory`, which may come in place of any answer.
 ///
 /// MySQL: Client/Server Protocol, "COM_QUERY Response", "Text Resultset", "Binary Protocol Resultset" and
 /// "COM_STMT_PREPARE Response"; MariaDB: 'Progress report' of "ERR_Packet".
@@ -49,11 +51,11 @@ pub fn write_reply(
     out: &mut Vec<u8>,
 ) -> Result<(), ReplyRefusal>
     ensures refused { IfErr result
-        (IsCause (refusal_of (record { kind = kind; capabilities = capabilities }) limit
+        (IsCause (refusal_of (context_by kind capabilities) limit
         (outcome_views results.now) (report_views progress.now))) }
     ensures kept { OnErr result (out.new.items ≡ out.old.items) }
     ensures delivered { OnOk result
-        (Replies (record { kind = kind; capabilities = capabilities }) first_id limit
+        (Replies (context_by kind capabilities) first_id limit
         (outcome_views results.now) (report_views progress.now) out.old.items out.new.items) }
 {
     written_replies_are_whole();

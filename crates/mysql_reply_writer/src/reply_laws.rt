@@ -6,9 +6,7 @@ ghost use Rattle.mysql_reply_writer.specs.Own.{EqualFormsWereReadEqually, ReadFo
 ghost use Rattle.mysql_reply_writer.specs.Own.{ReadRepliesCanBeWritten, ReadReportsAreTheirOwn, ReadResultsAreTheirOwn};
 
 use mysql_ok_packets::laws::packets_are_their_own;
-use mysql_replies::laws::{
-    each_reply_has_one_answer, whole_bytes_are_framed_results, whole_replies_are_results,
-};
+use mysql_replies::laws::{whole_bytes_are_framed_results, whole_replies_are_results};
 use mysql_rows::laws::{
     binary_rows_begin, binary_rows_read_back, read_binary_rows_are_written,
     read_text_rows_are_written, text_rows_begin, text_rows_read_back,
@@ -17,6 +15,7 @@ use mysql_rows::laws::{
 /// The payloads of a reply against which nothing speaks are a whole reply as the manual has it.
 ///
 /// It has what its results and its progress reports are read as; their framings are such a reply's.
+/// None of MariaDB's own capabilities is in force, in these laws.
 pub fn written_replies_are_whole()
     ensures whole { WrittenRepliesAreWhole }
     ensures framed { WrittenRepliesAreFramed }
@@ -63,5 +62,4 @@ pub fn read_replies_have_one_form()
     read_replies_are_their_own();
     written_replies_are_whole();
     whole_replies_are_results();
-    each_reply_has_one_answer();
 }

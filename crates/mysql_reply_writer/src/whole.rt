@@ -2,7 +2,7 @@
 
 ghost use Rattle.std.specs.Prelude.{◌≡◌, IfErr, None, OnOk, length, map, option_map, take};
 ghost use Rattle.mysql_ok_packets.specs.Views.{ok_packet_view};
-ghost use Rattle.mysql_replies.specs.Grammar.{RowsResult};
+ghost use Rattle.mysql_replies.specs.Together.{RowsResult};
 ghost use Rattle.mysql_replies.specs.Views.{outcome_view, outcome_views, report_views, row_views};
 ghost use Rattle.mysql_rows.specs.Views.{shared_columns};
 ghost use Rattle.mysql_reply_writer.specs.Refusals.{end_cause, whole_cause};
@@ -104,6 +104,15 @@ fn put_result(
         } => writer.prepared(stmt, params, columns, out),
         ReplyResult::Error(error) => writer.error(error, out),
         ReplyResult::File(file) => writer.file(file, out),
+        ReplyResult::RawRows {
+            rows: _,
+            terminator: _,
+        }
+        | ReplyResult::Fields {
+            fields: _,
+            terminator: _,
+        }
+        | ReplyResult::Line(_) => writer.check_unwritten(),
     }
 }
 

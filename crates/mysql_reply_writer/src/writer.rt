@@ -5,25 +5,28 @@ ghost use Rattle.mysql_columns.specs.Columns.{ColumnDefinition};
 ghost use Rattle.mysql_ok_packets.specs.Views.{ok_packet_view};
 ghost use Rattle.mysql_server_packets.specs.Views.{local_infile_view, prepare_ok_view, progress_report_view};
 ghost use Rattle.mysql_server_packets.specs.Views.{server_error_view};
-ghost use Rattle.mysql_replies.specs.Grammar.{is_prepare};
+ghost use Rattle.mysql_reply_events.specs.Table as table;
+ghost use Rattle.mysql_replies.specs.Manual.{is_prepare};
+ghost use Rattle.mysql_replies.specs.Reply.{context_by};
 ghost use Rattle.mysql_replies.specs.Views.{column_views};
 ghost use Rattle.mysql_rows.specs.Views.{row_view, shared_columns};
 ghost use Rattle.mysql_reply_writer.specs.Refusals.{count_cause, end_cause, error_number, first_cause, kind_cause};
 ghost use Rattle.mysql_reply_writer.specs.Refusals.{over_cause, place_cause, rows_cause, status_cause, step_checks};
 ghost use Rattle.mysql_reply_writer.specs.Written.{ColumnsStep, EndStep, ErrorStep, FileStep, OkStep, PreparedStep};
-ghost use Rattle.mysql_reply_writer.specs.Written.{ReportStep, RowStep};
+ghost use Rattle.mysql_reply_writer.specs.Written.{ReportStep, RowStep, UnwrittenStep};
 ghost use Rattle.mysql_reply_writer.specs.Views.{cause_in};
 ghost use Rattle.mysql_reply_writer.specs.Writer.{Refuses, Wrote, columns_of, fresh_writer};
 
 use crate::facts::{error_fits, ok_fits, report_fits, statement_fits};
 use crate::made::{
-    end_room, error_packet, is_binary, make_ok, make_terminator, report_packet, tells_progress,
+    end_room, error_packet, make_ok, make_terminator, report_packet, tells_progress,
 };
 use crate::packets::Packets;
 use crate::refusal::ReplyRefusal;
+use bitflags::Flags;
 use mysql_columns::Column;
-use mysql_const::CapabilityFlags;
-use mysql_ok_packets::{OkPacket, has_mysql_status};
+use mysql_const::{Capabilities, CapabilityFlags, MariadbCapabilities};
+use mysql_ok_packets::{OkPacket, has_named_status};
 use mysql_replies::{Context, ReplyKind};
 use mysql_rows::Row;
 use mysql_server_packets::{LocalInfilePacket, ProgressReport, ServerError, StmtPacket};
@@ -101,8 +104,12 @@ impl ReplyWriter {
         first_id: u8,
         limit: usize,
     ) -> ReplyWriter
-        ensures { result ≡ fresh_writer (record { kind = kind; capabilities = capabilities }) first_id limit }
+        ensures { result ≡ fresh_writer (context_by kind capabilities) first_id limit }
     {
+        let capabilities = Capabilities {
+            protocol: capabilities,
+            mariadb: MariadbCapabilities::empty(),
+        };
         ReplyWriter {
             context: Context { kind, capabilities },
             packets: Packets::new(alloc, first_id, limit),
@@ -150,7 +157,17 @@ impl ReplyWriter {
     {
         match self.context.kind {
             ReplyKind::Prepare => true,
-            ReplyKind::Text | ReplyKind::Binary => false,
+            _ => false,
+        }
+    }
+
+    // Whether the command has results one after another.
+    fn has_results(&self) -> bool
+        ensures { result ≡ table.has_results self.now.so_far.context.kind }
+    {
+        match self.context.kind {
+            ReplyKind::Text | ReplyKind::Binary => true,
+            _ => false,
         }
     }
 
@@ -164,11 +181,11 @@ impl ReplyWriter {
         Ok(())
     }
 
-    // Refused where a bit of the status has no name at MySQL.
+    // Refused where a bit of the status has no name.
     fn check_status(&self, ok: &OkPacket<'_>) -> Result<(), ReplyRefusal>
         ensures { cause_in result ≡ status_cause self.now.so_far (ok_packet_view ok.now) }
     {
-        if !has_mysql_status(ok.status_flags()) {
+        if !has_named_status(ok.status_flags()) {
             return Err(ReplyRefusal::Status(self.results));
         }
         Ok(())
@@ -190,7 +207,7 @@ impl ReplyWriter {
     {
         let _more = more;
         self.check_place()?;
-        self.check_kind(self.is_prepare())?;
+        self.check_kind(!self.has_results())?;
         self.check_status(ok)
     }
 
@@ -200,7 +217,7 @@ impl ReplyWriter {
             first_cause (step_checks self.now.so_far (ColumnsStep (column_views columns.now))) }
     {
         self.check_place()?;
-        self.check_kind(self.is_prepare())?;
+        self.check_kind(!self.has_results())?;
         if columns.is_empty() {
             return Err(ReplyRefusal::NoColumns(self.results));
         }
@@ -234,7 +251,7 @@ impl ReplyWriter {
             first_cause (step_checks self.now.so_far (ErrorStep (server_error_view error.now))) }
     {
         self.check_over()?;
-        if error.error_code() == 0xffff && tells_progress(self.context.capabilities) {
+        if error.error_code() == 0xffff && tells_progress(self.context) {
             return Err(ReplyRefusal::ReadsAsReport(self.error_number()));
         }
         Ok(())
@@ -247,7 +264,7 @@ impl ReplyWriter {
     {
         let _file = file;
         self.check_place()?;
-        self.check_kind(self.is_prepare())
+        self.check_kind(!self.has_results())
     }
 
     // Refused where no prepared statement may be written.
@@ -267,6 +284,14 @@ impl ReplyWriter {
         self.check_kind(!self.is_prepare())?;
         self.check_count(parameters)?;
         self.check_count(columns)
+    }
+
+    // Refuses a result that is read alone.
+    pub(crate) fn check_unwritten(&self) -> Result<(), ReplyRefusal>
+        ensures { cause_in result ≡ first_cause (step_checks self.now.so_far UnwrittenStep) }
+    {
+        self.check_place()?;
+        self.check_kind(true)
     }
 
     /// Writes an OK packet as a result, and whether another result follows it.
@@ -292,7 +317,7 @@ impl ReplyWriter {
     {
         self.check_ok(more, ok)?;
         ok_fits(ok);
-        let capabilities = self.context.capabilities;
+        let capabilities = self.context.capabilities.protocol;
         make_ok(&mut self.packets.payload, capabilities, more, ok)?;
         let room = self.packets.limit;
         self.packets.put_made(room, out)?;
@@ -326,9 +351,8 @@ impl ReplyWriter {
     {
         self.check_end(more, ok)?;
         ok_fits(ok);
-        let capabilities = self.context.capabilities;
-        make_terminator(&mut self.packets.payload, capabilities, more, ok)?;
-        let room = end_room(capabilities, self.packets.limit);
+        make_terminator(&mut self.packets.payload, self.context, more, ok)?;
+        let room = end_room(self.context, self.packets.limit);
         self.packets.put_made(room, out)?;
         self.results += 1;
         self.rows = None;
@@ -351,7 +375,7 @@ impl ReplyWriter {
     {
         self.check_error(error)?;
         error_fits(error);
-        let packet = error_packet(self.context.capabilities, error);
+        let packet = error_packet(self.context.capabilities.protocol, error);
         let results = self.error_number();
         self.packets.put(&packet, out)?;
         self.results = results + 1;
@@ -385,10 +409,10 @@ impl ReplyWriter {
         Ok(())
     }
 
-    /// Writes a progress report, which may stand before any payload of a result.
+    /// Writes a progress report, which may come before any payload of a result.
     ///
     /// To a client that doesn't know progress reports, by the capability PROGRESS_OBSOLETE, nothing
-    /// is written.
+    /// is written, nor in a reply of the kind `Line`.
     ///
     /// # Errors
     /// - In this order `AfterEnd`, `PacketTooLarge`, `Memory`.
@@ -407,7 +431,7 @@ impl ReplyWriter {
     {
         self.check_over()?;
         report_fits(report);
-        if !tells_progress(self.context.capabilities) {
+        if !tells_progress(self.context) {
             return Ok(());
         }
         let packet = report_packet(report);
@@ -434,7 +458,7 @@ impl ReplyWriter {
         self.check_columns(columns.as_slice())?;
         let share = columns.clone()?;
         self.packets
-            .put_head(self.context.capabilities, columns.as_slice(), out)?;
+            .put_head(self.context, columns.as_slice(), out)?;
         self.rows = Some(OpenRows {
             columns: share,
             count: 0,
@@ -442,7 +466,7 @@ impl ReplyWriter {
         Ok(())
     }
 
-    /// Writes a row under the columns that the rows began with, whatever columns it has itself.
+    /// Writes a row under the columns that the rows began with, also where it has others itself.
     ///
     /// # Errors
     /// - In this order `AfterEnd`, `NotBegun`, `CellCount`, `NoForm`, `PacketTooLarge`, `Memory`.
@@ -458,7 +482,7 @@ impl ReplyWriter {
         ensures stays { OnErr result (self.new ≡ self.old) }
     {
         self.check_rows()?;
-        let binary = is_binary(self.context.kind);
+        let binary = self.context.kind.has_binary_rows();
         let results = self.results;
         let Some(rows) = mem::replace(&mut self.rows, None) else {
             unreachable!()
@@ -478,7 +502,7 @@ impl ReplyWriter {
 
     /// Writes a prepared statement with its parameters and its columns. The reply ends here.
     ///
-    /// The counts of these lists stand in place of those that the packet has.
+    /// The counts of these lists are written in place of those that the packet has.
     ///
     /// # Errors
     /// - In this order `AfterEnd`, `NotEnded`, `WrongKind`, `TooManyColumns`, `PacketTooLarge`, `Memory`.
@@ -502,13 +526,8 @@ impl ReplyWriter {
     {
         self.check_prepared(statement, parameters, columns)?;
         statement_fits(statement);
-        self.packets.put_prepared(
-            self.context.capabilities,
-            statement,
-            parameters,
-            columns,
-            out,
-        )?;
+        self.packets
+            .put_prepared(self.context, statement, parameters, columns, out)?;
         self.results += 1;
         self.rows = None;
         self.over = true;

@@ -1,5 +1,5 @@
 use Rattle.mysql_replies.proofs.ManualSome.{each_such_list}
-use Rattle.mysql_replies.proofs.ManualOnly.{only_such_lists}
+use Rattle.mysql_replies.proofs.ManualWhole.{only_such_lists}
 use Rattle.mysql_replies.proofs.laws.whole_replies_are_results.Goals as goal
 
 pub returns-clause-some : goal.returns-clause-some

@@ -6,7 +6,6 @@ use Rattle.mysql_replies.specs.declared.fault.ReplyFault.TheVariants as faults
 use Rattle.mysql_replies.specs.declared.state.ReplyState.{ReplyState}
 use Rattle.mysql_replies.specs.Holding.{ReaderGoesOn, StandsShort}
 use Rattle.mysql_replies.specs.States.{reader_state_of, reader_state, NumberedStateGoesOn, OnMemory, UnlessMemory, fault_named}
-use Rattle.mysql_replies.specs.Views.{awaited_view}
 use Rattle.mysql_replies.proofs.Receiving.{taking_starts, paused_empty, not_empty, elsewhere, piece_bytes, piece_goes_on, piece_runs_short, goes_on_over, taken_goes_on, taken_short, taking_next, no_ok, reading_faulty, taken_ok, taken_unless, refused_goes_on, failed_short, over_taken, waits_taken}
 use Rattle.mysql_replies.proofs.reader.take_payloads.Goals as goal
 
@@ -58,7 +57,7 @@ returns-then-is_empty c =
     let t = c.packets.invariant.taking in
     let over = c.is_over.ensures.over c.if-is_over.true in
     let used : c.packets.rest.now ≡ [] = nil_from_length c.packets.rest.now (search rules) in
-    let taken = over_taken c.framing_laws.ensures c.args.state.now c.packets.state c.args.packets.now c.packets.packets c.args.piece.now c.packets.rest.now t c.requires.going over (c.packets.invariant.over (ap awaited_view over)) used in
+    let taken = over_taken c.framing_laws.ensures c.args.state.now c.packets.state c.args.packets.now c.packets.packets c.args.piece.now c.packets.rest.now t c.requires.going over (c.packets.invariant.over over) used in
     record { reading = t.reading; paused = (t.going, taken.0); fault = tt; took = taken.1; goes_on = taken.2; short = tt }
 
 pub returns-then-is_over : goal.returns-then-is_over
@@ -73,8 +72,8 @@ returns-then-is_over c =
     let src = now.bytes ++ c.packets.rest.now in
     let t = c.packets.invariant.taking in
     let over = c.is_over.ensures.over c.if-is_over.true in
-    let begun = t.nothing_begun (ap awaited_view over) in
-    let kept = c.packets.invariant.over (ap awaited_view over) in
+    let begun = t.nothing_begun over in
+    let kept = c.packets.invariant.over over in
     let some : src ≡ [] → ⊥ = λ none. not_empty c.packets.rest.now c.is_empty.result c.is_empty.ensures c.if-is_empty.false (ap (λ l. l ++ c.packets.rest.now) (sym kept) ∙ none) in
     let after = c.fail.new.self in
     record {
@@ -86,7 +85,7 @@ returns-then-is_over c =
           subst (λ f. UnlessMemory {X = Unit {0}} (Err f) (ReaderGoesOn (reader_state start old) piece (reader_state after now))) (sym c.fail.ensures.same)
           (piece_goes_on laws start (codec_by old) old.bytes fed [] piece (reader_state after now) (Err faults.AfterEnd) c.requires.going refl
           (elsewhere (reader_state_of start (codec_by old) fed []) after (reader_state_of after (codec_by now) src []) (reader_state after now) (Err faults.AfterEnd) refl (ap (λ (s : ReplyState). s.fault) c.fail.ensures.state) refl refl
-          (goes_on_over laws start s after (codec_by old) (codec_by now) fed [] src [] t.payloads t.received c.requires.going t.going c.fail.ensures.state (ap awaited_view over) begun.0 begun.1 begun.2 t.bytes some)));
+          (goes_on_over laws start s after (codec_by old) (codec_by now) fed [] src [] t.payloads t.received c.requires.going t.going c.fail.ensures.state over begun.0 begun.1 begun.2 t.bytes some)));
       short = subst (λ f. OnMemory {X = Unit {0}} (Err f) (StandsShort (reader_state start old) ((reader_state start old).bytes ++ piece) (reader_state after now))) (sym c.fail.ensures.same) tt;
     }
 

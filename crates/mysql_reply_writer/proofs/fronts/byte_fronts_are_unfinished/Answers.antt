@@ -4,12 +4,12 @@ use Rattle.mysql_reply_writer.proofs.fronts.byte_fronts_are_unfinished.Goals as 
 
 pub returns-clause-unfinished : goal.returns-clause-unfinished
 returns-clause-unfinished c =
-    framed_fronts_are_unfinished c.fronts_split.ensures (fronts_are_unfinished c.each_reply_has_one_answer.ensures.only c.answers_have_what_stands.ensures c.whole_replies_are_results.ensures.some)
+    framed_fronts_are_unfinished c.fronts_split.ensures (fronts_are_unfinished c.answers_have_what_stands.ensures c.whole_replies_are_results.ensures.some)
 
 pub returns-clause-longer : goal.returns-clause-longer
 returns-clause-longer c =
-    longer_framed_fronts_go_on c.fronts_split.ensures (longer_fronts_go_on c.each_reply_has_one_answer.ensures.only c.answers_have_what_stands.ensures c.whole_replies_are_results.ensures.some)
+    longer_framed_fronts_go_on c.fronts_split.ensures (longer_fronts_go_on c.answers_have_what_stands.ensures c.whole_replies_are_results.ensures.some)
 
 pub returns-clause-whole : goal.returns-clause-whole
 returns-clause-whole c =
-    framed_replies_are_whole c.fronts_split.ensures c.reader_laws.ensures.rests c.each_reply_has_one_answer.ensures.only c.whole_replies_are_results.ensures.some
+    framed_replies_are_whole c.fronts_split.ensures c.reader_laws.ensures.rests c.whole_replies_are_results.ensures.some

@@ -7,7 +7,6 @@ use Rattle.mysql_replies.specs.declared.state.ReplyState.{ReplyState}
 use Rattle.mysql_replies.specs.Holding.{ReaderGoesOn}
 use Rattle.mysql_replies.specs.RowSteps.{StateBorrowsNext, StateBorrows}
 use Rattle.mysql_replies.specs.States.{reader_state_of, reader_state, NumberedStateGoesOn, UnlessMemory, fault_named}
-use Rattle.mysql_replies.specs.Views.{awaited_view}
 use Rattle.mysql_replies.proofs.RowSteps.{borrow_failed, borrow_short, borrowed_behind, paused_behind}
 use Rattle.mysql_replies.proofs.Receiving.{taking_starts, paused_empty, not_empty, elsewhere, piece_bytes, piece_goes_on, piece_runs_short, goes_on_over, taking_next, refused_goes_on, failed_short, over_taken, waits_taken}
 use Rattle.mysql_replies.proofs.reader.ReaderParts.take_to_row.Goals as goal
@@ -32,7 +31,7 @@ returns-then-is_empty-clause-paused c =
     let t = c.packets.invariant.taking in
     let over = c.is_over.ensures.over c.if-is_over.true in
     let used : c.packets.rest.now ≡ [] = nil_from_length c.packets.rest.now (search rules) in
-    let taken = over_taken c.framing_laws.ensures c.args.self.now.state c.packets.self.state c.args.self.now.packets c.packets.self.packets c.args.rest.now.now c.packets.rest.now t c.requires.going over (c.packets.invariant.over (ap awaited_view over)) used in
+    let taken = over_taken c.framing_laws.ensures c.args.self.now.state c.packets.self.state c.args.self.now.packets c.packets.self.packets c.args.rest.now.now c.packets.rest.now t c.requires.going over (c.packets.invariant.over over) used in
     (t.going, taken.0)
 
 pub returns-then-is_empty-clause-found : goal.returns-then-is_empty-clause-found
@@ -40,7 +39,7 @@ returns-then-is_empty-clause-found c =
     let t = c.packets.invariant.taking in
     let over = c.is_over.ensures.over c.if-is_over.true in
     let used : c.packets.rest.now ≡ [] = nil_from_length c.packets.rest.now (search rules) in
-    let taken = over_taken c.framing_laws.ensures c.args.self.now.state c.packets.self.state c.args.self.now.packets c.packets.self.packets c.args.rest.now.now c.packets.rest.now t c.requires.going over (c.packets.invariant.over (ap awaited_view over)) used in
+    let taken = over_taken c.framing_laws.ensures c.args.self.now.state c.packets.self.state c.args.self.now.packets c.packets.self.packets c.args.rest.now.now c.packets.rest.now t c.requires.going over (c.packets.invariant.over over) used in
     (used, taken.1, taken.2)
 
 pub returns-then-is_over-clause-goes_on : goal.returns-then-is_over-clause-goes_on
@@ -55,14 +54,14 @@ returns-then-is_over-clause-goes_on c =
     let src = now.bytes ++ c.packets.rest.now in
     let t = c.packets.invariant.taking in
     let over = c.is_over.ensures.over c.if-is_over.true in
-    let begun = t.nothing_begun (ap awaited_view over) in
-    let kept = c.packets.invariant.over (ap awaited_view over) in
+    let begun = t.nothing_begun over in
+    let kept = c.packets.invariant.over over in
     let some : src ≡ [] → ⊥ = λ none. not_empty c.packets.rest.now c.is_empty.result c.is_empty.ensures c.if-is_empty.false (ap (λ l. l ++ c.packets.rest.now) (sym kept) ∙ none) in
     let after = c.fail.new.self in
     subst (λ f. UnlessMemory {X = Unit {0}} (Err f) (ReaderGoesOn (reader_state start old) piece (reader_state after now))) (sym c.fail.ensures.same)
     (piece_goes_on laws start (codec_by old) old.bytes fed [] piece (reader_state after now) (Err faults.AfterEnd) c.requires.going refl
     (elsewhere (reader_state_of start (codec_by old) fed []) after (reader_state_of after (codec_by now) src []) (reader_state after now) (Err faults.AfterEnd) refl (ap (λ (s : ReplyState). s.fault) c.fail.ensures.state) refl refl
-    (goes_on_over laws start s after (codec_by old) (codec_by now) fed [] src [] t.payloads t.received c.requires.going t.going c.fail.ensures.state (ap awaited_view over) begun.0 begun.1 begun.2 t.bytes some)))
+    (goes_on_over laws start s after (codec_by old) (codec_by now) fed [] src [] t.payloads t.received c.requires.going t.going c.fail.ensures.state over begun.0 begun.1 begun.2 t.bytes some)))
 
 pub returns-in-Ok-true-clause-paused : goal.returns-in-Ok-true-clause-paused
 returns-in-Ok-true-clause-paused c =

@@ -1,0 +1,223 @@
+-- A payload whose row isn't kept: a row is lent, or the payload is put as ever.
+use Rattle.std.proofs.Common.{◌≡◌, ℕ, ◌+◌, ◌^◌, ◌<◌, List, [], ◌∷◌, ◌++◌, Bool, true, false, Option, Some, None, Result, Ok, Err, refl, ap, sym, subst, arith, ◌∙◌}
+use Rattle.std.specs.Prelude.{OnOk, IfErr, map}
+use Rattle.std.proofs.lemmas.List.{append-nil}
+use Rattle.mysql_const.specs.declared.capabilities.Capabilities.{Capabilities}
+use Rattle.mysql_columns.specs.Columns.{ColumnDefinition}
+use Rattle.mysql_row_refs.specs.declared.reader.RowReader.{RowReader}
+use Rattle.mysql_rows.specs.Rows.{Row}
+use Rattle.mysql_rows.specs.declared.row.Row.{Row as RowOf}
+use Rattle.mysql_server_packets.specs.Views.{progress_report_view}
+use Rattle.mysql_reply_events.specs.Events as events
+use Rattle.mysql_reply_events.specs.Events.{Event}
+use Rattle.mysql_reply_events.specs.Events.Event.{RowEvent}
+use Rattle.mysql_reply_events.specs.NextRows.{LendsRow}
+use Rattle.mysql_reply_events.specs.Reader.{ReaderState as EventsState, is_row_due}
+use Rattle.mysql_reply_events.specs.Views.{event_view}
+use Rattle.mysql_reply_events.specs.declared.context.Context.{Context}
+use Rattle.mysql_reply_events.specs.declared.context.ReplyKind.{ReplyKind}
+use Rattle.mysql_reply_events.specs.declared.context.ReplyKind.TheVariants as kinds
+use Rattle.mysql_reply_events.specs.declared.event.ReplyEvent.{ReplyEvent}
+use Rattle.mysql_reply_events.specs.declared.event.ReplyEvent.TheVariants as reading
+use Rattle.mysql_replies.specs.declared.fault.ReplyFault.{ReplyFault}
+use Rattle.mysql_replies.specs.declared.fault.ReplyFault.TheVariants as faults
+use Rattle.mysql_replies.specs.declared.part.Part.{Part as PartOf}
+use Rattle.mysql_replies.specs.declared.part.Part.TheVariants as parts
+use Rattle.mysql_replies.specs.declared.state.ReplyState.{ReplyState}
+use Rattle.mysql_replies.specs.Borrowing.{rows_listed}
+use Rattle.mysql_replies.specs.Together as together
+use Rattle.mysql_replies.specs.Together.{FieldsPart, NoPart, Part, RawRowsPart, RowsPart, SetPart, StatementPart}
+use Rattle.mysql_replies.specs.Reply.{Answered, GoingOn, OpenReply, Payload, behind, faulted_at}
+use Rattle.mysql_replies.specs.Putting.{HasPut, HasRead, HasStopped, PutsEvent}
+use Rattle.mysql_replies.specs.RowSteps.{StateBorrows, StateBorrowsNext, keeping, with_row}
+use Rattle.mysql_replies.specs.States.{Fits, FitsAt, HasRoom, HasSpare, IsReading, IsRowsPart, IsShortOf, NumberedStateGoesOn, OnMemory, StateGoesOn, UnlessMemory, faulted, open_reply, reply_so_far}
+use Rattle.mysql_replies.specs.Views.{outcome_views, part_view}
+use Rattle.mysql_replies.proofs.Fitting.{fits_behind}
+use Rattle.mysql_replies.proofs.KeptNone.{IsNoRow, behind_rows, faulted_rows}
+use Rattle.mysql_replies.proofs.Numbers.{goes_over_numbered}
+use Rattle.mysql_replies.proofs.RowSteps.{failed_step, row_kept}
+use Rattle.mysql_replies.proofs.Stepping.{event_went, goes_by}
+use Rattle.mysql_replies.proofs.Taken.{IsBehind, short_between}
+
+-- What a state is behind a payload whose row isn't kept, by what was answered.
+pub record IsBorrowing (old : ReplyState) (payload : Payload) (r : Result Bool ReplyFault) (new : ReplyState) : Type 0 where
+  pub reading : IsReading new
+  pub ok : OnOk r ((new.fault ≡ None) × (new.count ≡ old.count + 1))
+  pub fault : IfErr r (λ fault. new.fault ≡ Some fault)
+  pub step : StateBorrowsNext old payload r new
+  pub keeps_none : rows_listed (reply_so_far new) ≡ rows_listed (reply_so_far old)
+
+-- A FAULT
+
+-- The same is listed, with a fault.
+stopped_rows : (old new : ReplyState) (fault : ReplyFault) → old.fault ≡ None → HasStopped old fault new → rows_listed (reply_so_far new) ≡ rows_listed (reply_so_far old)
+stopped_rows old new fault going stopped =
+    ap rows_listed (ap (faulted (open_reply new)) stopped.fault ∙ ap Answered stopped.answer)
+    ∙ faulted_rows (open_reply old) fault
+    ∙ ap (λ (f : Option ReplyFault). rows_listed (faulted (open_reply old) f)) (sym going)
+
+pub large_rows : (old new : ReplyState) (fault : ReplyFault) → old.fault ≡ None → new ≡ record old { fault = Some fault } → rows_listed (reply_so_far new) ≡ rows_listed (reply_so_far old)
+large_rows old new fault going is =
+    ap (λ (s : ReplyState). rows_listed (reply_so_far s)) is
+    ∙ faulted_rows (open_reply old) fault
+    ∙ ap (λ (f : Option ReplyFault). rows_listed (faulted (open_reply old) f)) (sym going)
+
+pub borrowing_fault : (old new : ReplyState) (payload : Payload) (fault : ReplyFault) → old.fault ≡ None → old.count + 1 < 2 ^ 64 → HasStopped old fault new → IsBehind old payload (Err fault) new → IsBorrowing old payload (Err fault) new
+borrowing_fault old new payload fault going room stopped h = record {
+  reading = h.reading;
+  ok = tt;
+  fault = h.fault;
+  step = failed_step old new payload fault going room h.fault h.goes_on h.short;
+  keeps_none = stopped_rows old new fault going stopped;
+}
+
+-- AN EVENT
+
+pub no_row : (event : ReplyEvent) → ((row : RowOf) → event ≡ reading.Row row → ⊥) → IsNoRow (event_view event)
+no_row (reading.Ok ok) none = tt
+no_row (reading.Error error) none = tt
+no_row (reading.Progress report) none = tt
+no_row (reading.ColumnCount count follow) none = tt
+no_row (reading.Column column) none = tt
+no_row (reading.Field column) none = tt
+no_row (reading.ColumnsEnd ok) none = tt
+no_row (reading.Row row) none = none row refl
+no_row (reading.RawRow bytes) none = tt
+no_row (reading.RowsEnd ok) none = tt
+no_row (reading.FileRequest file) none = tt
+no_row (reading.Prepared statement follow) none = tt
+no_row (reading.Line bytes) none = tt
+
+-- What was put behind an event that is no row, or memory ran out over it.
+pub put_rows_kept : (old between next : ReplyState) (payload : Payload) (event : Event) (r : Result (Unit {0}) ReplyFault) → old.fault ≡ None → IsNoRow event → HasRead old payload event between → PutsEvent between event r next → rows_listed (reply_so_far next) ≡ rows_listed (reply_so_far old)
+put_rows_kept old between next payload event (Ok x) going none read put =
+    ap rows_listed (event_went old between next payload event going read put)
+    ∙ behind_rows (open_reply old) event between.events.so_far none
+    ∙ ap (λ (f : Option ReplyFault). rows_listed (faulted (open_reply old) f)) (sym going)
+put_rows_kept old between next payload event (Err fault) going none read (is, stopped) =
+    ap rows_listed (short_between old between next payload event read stopped)
+    ∙ faulted_rows (open_reply old) faults.Memory
+    ∙ ap (λ (f : Option ReplyFault). rows_listed (faulted (open_reply old) f)) (sym going)
+
+pub passed : (old next : ReplyState) (payload : Payload) → old.fault ≡ None → old.count + 1 < 2 ^ 64 → IsBehind old payload (Ok tt) next → rows_listed (reply_so_far next) ≡ rows_listed (reply_so_far old) → IsBorrowing old payload (Ok false) next
+passed old next payload going room h kept = record {
+  reading = h.reading;
+  ok = h.ok;
+  fault = tt;
+  step = goes_over_numbered old next payload going room (λ none. h.ok.1) h.goes_on;
+  keeps_none = kept;
+}
+
+pub not_passed : (old next : ReplyState) (payload : Payload) (fault : ReplyFault) → old.fault ≡ None → old.count + 1 < 2 ^ 64 → IsBehind old payload (Err fault) next → rows_listed (reply_so_far next) ≡ rows_listed (reply_so_far old) → IsBorrowing old payload (Err fault) next
+not_passed old next payload fault going room h kept = record {
+  reading = h.reading;
+  ok = tt;
+  fault = h.fault;
+  step = failed_step old next payload fault going room h.fault h.goes_on h.short;
+  keeps_none = kept;
+}
+
+-- A ROW
+
+-- Where a row is due that may be lent there are rows so far under the columns that stand.
+due_first : (kind : ReplyKind) (capabilities : Capabilities) (columns : Option (List ColumnDefinition)) (part : Part) (payload : Payload) → is_row_due (record { kind = kind; capabilities = capabilities }) (record { awaited = events.First; columns = columns }) payload ≡ true → FitsAt kind events.First columns part → (these : List ColumnDefinition) × IsRowsPart these part
+due_first kinds.Fetch capabilities (Some columns) part payload due fits = (columns, fits)
+due_first kinds.Fetch capabilities None part payload due fits = absurd cc
+due_first kinds.Text capabilities columns part payload due fits = absurd cc
+due_first kinds.Binary capabilities columns part payload due fits = absurd cc
+due_first kinds.Prepare capabilities columns part payload due fits = absurd cc
+due_first kinds.Plain capabilities columns part payload due fits = absurd cc
+due_first kinds.Line capabilities columns part payload due fits = absurd cc
+due_first kinds.FieldList capabilities columns part payload due fits = absurd cc
+
+due_at : (c : Context) (awaited : events.Awaited) (columns : Option (List ColumnDefinition)) (part : Part) (payload : Payload) → is_row_due c (record { awaited = awaited; columns = columns }) payload ≡ true → FitsAt c.kind awaited columns part → (these : List ColumnDefinition) × IsRowsPart these part
+due_at c (events.Rows true) (Some columns) part payload due fits = (columns, fits)
+due_at c (events.Rows true) None part payload due fits = absurd cc
+due_at c (events.Rows false) columns part payload due fits = absurd cc
+due_at c events.First columns part payload due fits = due_first c.kind c.capabilities columns part payload due fits
+due_at c (events.Columns group n earlier) columns part payload due fits = absurd cc
+due_at c (events.ColumnsEnd group known) columns part payload due fits = absurd cc
+due_at c events.Fields columns part payload due fits = absurd cc
+due_at c events.FileData columns part payload due fits = absurd cc
+due_at c events.Nothing columns part payload due fits = absurd cc
+
+rows_part : (part : Part) (these : List ColumnDefinition) → IsRowsPart these part → (columns : List ColumnDefinition) × (rows : List Row) × (part ≡ RowsPart columns rows)
+rows_part (RowsPart columns rows) these is = (columns, rows, refl)
+rows_part NoPart these is = absurd is
+rows_part (SetPart known) these is = absurd is
+rows_part (RawRowsPart rows) these is = absurd is
+rows_part (StatementPart statement parameters columns) these is = absurd is
+rows_part (FieldsPart fields) these is = absurd is
+
+-- With one row fewer it fits as well.
+fits_without : (kind : ReplyKind) (columns : Option (List ColumnDefinition)) (part : Part) (row : Row) → FitsAt kind (events.Rows true) columns (together.with_row part row) → FitsAt kind (events.Rows true) columns part
+fits_without kind (Some columns) (RowsPart these rows) row fits = fits
+fits_without kind (Some columns) NoPart row fits = fits
+fits_without kind (Some columns) (SetPart known) row fits = fits
+fits_without kind (Some columns) (RawRowsPart rows) row fits = fits
+fits_without kind (Some columns) (StatementPart statement parameters found) row fits = fits
+fits_without kind (Some columns) (FieldsPart fields) row fits = fits
+fits_without kind None part row fits = tt
+
+-- The state behind a row that was lent.
+abbrev pub lent : ReplyState → EventsState → ReplyState
+lent old events = record old { events = events; count = old.count + 1 }
+
+pub row_lent : (old : ReplyState) (payload : Payload) (now : EventsState) → IsReading old → old.fault ≡ None → old.count + 1 < 2 ^ 64 → LendsRow old.events payload true now → IsBorrowing old payload (Ok true) (lent old now)
+row_lent old payload now keeps going room (due, read) =
+    let new = lent old now in
+    let at = due_at old.events.context old.events.so_far.awaited old.events.so_far.columns (part_view old.part) payload due (keeps.fits going) in
+    let part = rows_part (part_view old.part) at.0 at.1 in
+    let kept : open_reply (keeping new read.row) ≡ behind (open_reply old) (RowEvent read.row) now.so_far = λ i. record {
+      context = read.goes_on.context i;
+      so_far = now.so_far;
+      results = sym (append-nil (outcome_views old.results.items)) i;
+      progress = sym (append-nil (map progress_report_view old.progress.items)) i;
+      part = row_kept old.part read.row i;
+      count = old.count + 1;
+    } in
+    let led : reply_so_far (keeping new read.row) ≡ GoingOn (behind (open_reply old) (RowEvent read.row) now.so_far) =
+    ap (faulted (open_reply (keeping new read.row))) going ∙ ap GoingOn kept in
+    let fits : FitsAt old.events.context.kind now.so_far.awaited now.so_far.columns (together.with_row (part_view old.part) read.row) =
+    fits_behind old.events.context old.events.so_far (part_view old.part) payload (RowEvent read.row) now.so_far (keeps.fits going) read.event in
+    let fewer : FitsAt old.events.context.kind (events.Rows true) now.so_far.columns (part_view old.part) =
+    fits_without old.events.context.kind now.so_far.columns (part_view old.part) read.row
+    (subst (λ (a : events.Awaited). FitsAt old.events.context.kind a now.so_far.columns (together.with_row (part_view old.part) read.row)) read.awaits fits) in
+    let fitting : FitsAt now.context.kind now.so_far.awaited now.so_far.columns (part_view old.part) =
+    subst (λ (a : events.Awaited). FitsAt now.context.kind a now.so_far.columns (part_view old.part)) (sym read.awaits)
+    (subst (λ (c : Context). FitsAt c.kind (events.Rows true) now.so_far.columns (part_view old.part)) (sym read.goes_on.context) fewer) in
+    record {
+      reading = record { no_fault = λ none. read.goes_on.fault; fits = λ none. fitting; room = keeps.room; spared = keeps.spared; empty = keeps.empty };
+      ok = (going, refl);
+      fault = tt;
+      step = record {
+        row = read.row;
+        lies = read.lies;
+        columns = part.0;
+        rows = part.1;
+        part = part.2;
+        goes_on = goes_over_numbered old (keeping new read.row) payload going room (λ none. refl)
+            (goes_by old (keeping new read.row) payload (Ok (RowEvent read.row, now.so_far)) going read.event led);
+      };
+      keeps_none = ap (λ (f : Option ReplyFault). rows_listed (faulted (open_reply new) f)) going ∙ ap (λ (f : Option ReplyFault). rows_listed (faulted (open_reply old) f)) (sym going);
+    }
+
+-- Nothing but what reads rows has changed before.
+abbrev pub reading_by : ReplyState → Option RowReader → ReplyState
+reading_by old rows = record old { events = record old.events { rows = rows } }
+
+step_same : (old next : ReplyState) (rows : Option RowReader) (payload : Payload) (r : Result Bool ReplyFault) → StateBorrowsNext (reading_by old rows) payload r next → StateBorrowsNext old payload r next
+step_same old next rows payload (Ok true) step = record { row = step.row; lies = step.lies; columns = step.columns; rows = step.rows; part = step.part; goes_on = step.goes_on }
+step_same old next rows payload (Ok false) step = step
+step_same old next rows payload (Err faults.Memory) step = step
+step_same old next rows payload (Err fault) step = step
+
+pub reading_same : (old mid : ReplyState) → mid ≡ reading_by old mid.events.rows → IsReading old → IsReading mid
+reading_same old mid same keeps =
+    let by : IsReading (reading_by old mid.events.rows) = record { no_fault = keeps.no_fault; fits = keeps.fits; room = keeps.room; spared = keeps.spared; empty = keeps.empty } in
+    subst IsReading (sym same) by
+
+pub borrowing_same : (old mid next : ReplyState) (payload : Payload) (r : Result Bool ReplyFault) → mid ≡ reading_by old mid.events.rows → IsBorrowing mid payload r next → IsBorrowing old payload r next
+borrowing_same old mid next payload r same h =
+    let k = subst (λ (s : ReplyState). IsBorrowing s payload r next) same h in
+    record { reading = k.reading; ok = k.ok; fault = k.fault; step = step_same old next mid.events.rows payload r k.step; keeps_none = k.keeps_none }
