@@ -1,12 +1,22 @@
-//! Whole connections, read and put: both streams in, events out, and back. And the payloads of a connection, each by
-//! itself: logging in, commands and replies, read and put by the capabilities in force.
+//! Whole connections, read and put: both streams in, events out, and back; and each payload by
+//! itself.
 //!
+//! A public crate. A client, a server, an auditor and a replay each use one [`Connection`]. Who
+//! frames packets by himself calls what reads and puts one payload, by the capabilities in force.
+//!
+//! | payloads of | read by | put by |
+//! |---|---|---|
+//! | logging in | [`read_greeting`], [`read_response`], .. | [`put_greeting`], .. |
+//! | commands | [`Command::read`] | [`put_command`] |
+//! | a reply | [`EventReader`] | [`put_event`] |
+//!
+//!     let mut connection = Connection::new(alloc, limits);
 //!     connection.feed(Side::Client, piece)?;
-//!     let event = connection.next_event()?;   // of a Connection: None until a payload is whole
+//!     let event = connection.next_event()?;              // None until a payload is whole
 //!
 //!     let command = Command::read(alloc, capabilities, parameters, payload)?;
-//!     write_command(&mut output, &command, Secrets::Hidden)?;  // Execute id=3 flags=0 ..
-//!     let event = reader.read(payload)?;                       // of an EventReader of the reply
+//!     write_command(&mut output, &command, Secrets::Hidden)?;   // Execute id=3 flags=0 ..
+//!     let event = reader.read(payload)?;                  // by an EventReader of the reply
 #![tactic(auto)]
 
 pub mod laws;

@@ -1,11 +1,19 @@
 -- A client, a server and an auditor between them see the same.
 use Rattle.std.proofs.Common.{◌≡◌, ◌<◌, ℕ, ◌/◌, Bool, true, false, List, [], ◌∷◌, ◌++◌, Option, Some, None, refl, sym, ap, subst, ◌∙◌, add-one, append-nil, arith}
 use Rattle.std.specs.Prelude.{◌&&◌, if◌then◌else◌, slice_index_or, IfSome}
+use Rattle.mysql_connection_contents.proofs.Executing.{executions_are_shown, queries_are_shown}
 use Rattle.mysql_connection_contents.proofs.Faults.{FailsSo, calls_fail}
+use Rattle.mysql_connection_contents.proofs.Fronts.{heard_all, is_front}
 use Rattle.mysql_connection_contents.proofs.Histories.{history}
 use Rattle.mysql_connection_contents.proofs.Parties.{IsOf, any_keeps, anybody_may, other_kept, side_keeps, side_may}
+use Rattle.mysql_connection_contents.proofs.Putting.{speaks}
+use Rattle.mysql_connection_contents.proofs.Texts.{texts_are_shown}
 use Rattle.mysql_connection_contents.specs.Calls.{Party, events_in, feeds_other, put_in, streams_in}
-use Rattle.mysql_connection_contents.specs.Promise.{AllSeeTheSame, Has, IsBeginning, at_greeting, behind_login, sent_by}
+use Rattle.mysql_connection_contents.specs.Contents.{BeginsWithNone, Heard, RunsAreHeard}
+use Rattle.mysql_connection_contents.specs.Deliveries.{DeliveredSetsAreSaid}
+use Rattle.mysql_connection_contents.specs.Promise.{AllSeeTheSame, Has, HasRecordOf, sent_by}
+use Rattle.mysql_connection_contents.specs.Records.{HasHeard}
+use Rattle.mysql_connection_contents.specs.Shown.{IsBeginning, at_greeting, behind_login}
 use Rattle.mysql_connection_machine.specs.Machines.{new_machine}
 use Rattle.mysql_connection_rules.proofs.Agreeing.{had_too}
 use Rattle.mysql_connection_rules.proofs.Packets.{PacketLaws}
@@ -16,12 +24,13 @@ use Rattle.mysql_connection_rules.specs.Laws.{FrontsReadOn, PositionsStay}
 use Rattle.mysql_connection_rules.specs.Puts.{is_of, same_side}
 use Rattle.mysql_connection_rules.specs.PuttingMachines.{HadOrPut, fresh_as}
 use Rattle.mysql_connection_rules.specs.PuttingMachines.HadOrPut.{fresh}
-use Rattle.mysql_connection_rules.specs.Runs.{HasCome, HasComeOf, IsLast, IsRun, Runs}
+use Rattle.mysql_connection_rules.specs.Runs.{HasCome, HasComeOf, IsFront, IsLast, IsRun, Runs}
 use Rattle.mysql_connection_rules.specs.Steps.{turn}
 use Rattle.mysql_connection_rules.specs.Streams.{Beginning, End, Fails, Failure, Piece, no_bytes, come, Stream, Streams, Waits, World, client_by, has_number, next, next_by, of_server, server_by, start, stream_of, with_stream, words, words_by}
 use Rattle.mysql_connection_rules.specs.declared.side.Side.{Side}
 use Rattle.mysql_connection_rules.specs.declared.side.Side.TheVariants.{Client, Server}
 use Rattle.mysql_wire.specs.FirstPacket.{Short, first_packet, packet_by}
+use Rattle.mysql_wire.specs.FirstPacketLaws.{FramingsAreFound}
 use Rattle.mysql_wire.specs.Framing.{max_payload_len}
 
 pub record LowerLaws : Type 0 where
@@ -31,6 +40,9 @@ pub record LowerLaws : Type 0 where
   pub reads : PutsAreRead
   pub numbers : NumbersAreBytes
   pub agree : ThreeAgree
+  pub found : FramingsAreFound
+  pub hear : RunsAreHeard
+  pub say : DeliveredSetsAreSaid
 
 -- ---- where nothing is unread, nothing comes next
 
@@ -93,6 +105,10 @@ small_number : (begun : Beginning) → IsBeginning begun → begun.first.number 
 small_number begun (at_greeting limits) = omega arith
 small_number begun (behind_login limits capabilities) = omega arith
 
+none_at_first : (begun : Beginning) → IsBeginning begun → BeginsWithNone begun
+none_at_first begun (at_greeting limits) = refl
+none_at_first begun (behind_login limits capabilities) = refl
+
 abbrev member_of : {begun : Beginning} → Party begun → Member
 member_of party = record { streams = streams_in party.calls; events = events_in party.calls; held = party.machine.world }
 
@@ -111,14 +127,33 @@ no_fault laws begun party sent events last (Some failure) e fails had came run w
     let no : Fails failure ≡ Waits = sym (on.1 failure its).1 ∙ waits in
     absurd (cc no)
 
-party_has : LowerLaws → (begun : Beginning) (party : Party begun) (sent : Streams) (events : List Event) (last : World) → HadOrPut begun (streams_in party.calls) (events_in party.calls) party.machine.world
+party_has : LowerLaws → (begun : Beginning) (party : Party begun) (sent : Streams) (events : List Event) (last : World) → IsBeginning begun → HadOrPut begun (streams_in party.calls) (events_in party.calls) party.machine.world
     → HasCome (streams_in party.calls) sent → IsRun begun sent events last → next last ≡ Waits → AgreesOn sent events last (member_of party) → Has sent events last party
-party_has laws begun party sent events last had came run waits agrees = record {
+party_has laws begun party sent events last begins had came run waits agrees = record {
   front = agrees.front;
+  texts = texts_are_shown begun (streams_in party.calls) (events_in party.calls) party.machine.world begins
+      (had_runs laws.packets begun (streams_in party.calls) (events_in party.calls) party.machine.world (had_too begun (streams_in party.calls) (events_in party.calls) party.machine.world had));
   no_fault = λ memory. no_fault laws begun party sent events last party.machine.failure refl
       (calls_fail laws.packets.stay (new_machine begun) party.machine party.calls party.did memory tt) had came run waits;
   all = λ same none. agrees.all same (subst IsLast (sym none) tt);
 }
+
+-- ---- a client's record
+
+record_in : LowerLaws → (begun : Beginning) (client : Party begun) (whole : Stream) (events : List Event) (last : World) → begun.first.number < 256 → HasComeOf (streams_in client.calls).server whole
+    → (heard : HasHeard begun (with_stream Server whole (streams_in client.calls)) events last) → IsFront (events_in client.calls) events → HasRecordOf client heard.payloads
+record_in laws begun client whole events last small came heard front xs spoken same =
+    let streams = streams_in client.calls in
+    let first = start begun streams in
+    let more = came.bytes.0 in
+    let closed = streams.server.closed in
+    let parts = parts_of Server more closed whole.closed in
+    let comes = whole_comes Server first whole more closed whole.closed refl refl came.read came.bytes.1 came.all in
+    let mine = (speaks laws.packets.stay laws.found laws.reads laws.numbers Client Server begun small streams xs client.machine.world spoken).heard in
+    let on : Heard (start begun (with_stream Server whole streams)) xs (come_all parts client.machine.world) =
+    subst (λ (w : World). Heard w xs (come_all parts client.machine.world)) comes.0 (heard_all laws.packets.stay parts xs first client.machine.world mine) in
+    is_front events xs heard.payloads (start begun (with_stream Server whole streams)) (come_all parts client.machine.world) heard.last last on heard.heard heard.ends
+    (subst (λ (l : List Event). IsFront l events) (sym same) front)
 
 -- ---- all
 
@@ -129,29 +164,38 @@ pub all_see_the_same : LowerLaws → AllSeeTheSame
 all_see_the_same laws begun client server auditor connected =
     let small = small_number begun connected.begins in
     let c : IsOf Client Server begun (put_in client.calls) (streams_in client.calls) (events_in client.calls) client.machine.world =
-    history (λ call. feeds_other Client call ≡ true) (is_of Client) (λ put s ev w. IsOf Client Server begun put s ev w) (side_keeps laws.packets laws.positions laws.numbers Client Server refl begun small) laws.reads
+    history (λ call. feeds_other Client call ≡ true) (is_of Client) (λ put s ev w. IsOf Client Server begun put s ev w) (side_keeps laws.packets laws.positions laws.numbers laws.reads Client Server refl begun small)
     [] no_bytes [] (new_machine begun) client.machine client.calls client.did (side_may Client client.calls connected.client_puts) (fresh_as, fresh, refl) in
     let s : IsOf Server Client begun (put_in server.calls) (streams_in server.calls) (events_in server.calls) server.machine.world =
-    history (λ call. feeds_other Server call ≡ true) (is_of Server) (λ put s ev w. IsOf Server Client begun put s ev w) (side_keeps laws.packets laws.positions laws.numbers Server Client refl begun small) laws.reads
+    history (λ call. feeds_other Server call ≡ true) (is_of Server) (λ put s ev w. IsOf Server Client begun put s ev w) (side_keeps laws.packets laws.positions laws.numbers laws.reads Server Client refl begun small)
     [] no_bytes [] (new_machine begun) server.machine server.calls server.did (side_may Server server.calls connected.server_puts) (fresh_as, fresh, refl) in
     let a : HadOrPut begun (streams_in auditor.calls) (events_in auditor.calls) auditor.machine.world =
-    history (λ call. Unit {0}) (λ event. true) (λ put s ev w. HadOrPut begun s ev w) (any_keeps laws.packets laws.numbers begun small) laws.reads
+    history (λ call. Unit {0}) (λ event. true) (λ put s ev w. HadOrPut begun s ev w) (any_keeps laws.packets laws.numbers laws.reads begun small)
     [] no_bytes [] (new_machine begun) auditor.machine auditor.calls auditor.did (anybody_may auditor.calls) fresh in
     let sent = sent_by client server in
     let all = laws.agree begun (put_in client.calls) (put_in server.calls) (member_of client) (member_of server) (member_of auditor) c.0 s.0
     (had_too begun (streams_in auditor.calls) (events_in auditor.calls) auditor.machine.world a) connected.to_client connected.to_server connected.to_auditor in
     let client_read = all_read laws.packets laws.positions Client Server begun (streams_in client.calls) (events_in client.calls) client.machine.world (streams_in server.calls).server all.events all.last refl c.1 c.2 connected.to_client all.run in
     let server_read = all_read laws.packets laws.positions Server Client begun (streams_in server.calls) (events_in server.calls) server.machine.world (streams_in client.calls).client all.events all.last refl s.1 s.2 connected.to_server all.run in
-    let waits = none_waits all.last client_read server_read in record {
+    let waits = none_waits all.last client_read server_read in
+    let payloads = laws.hear (start begun sent) all.last all.events all.run.runs in
+    let heard : HasHeard begun sent all.events all.last = record { payloads = payloads.0; last = payloads.1; heard = payloads.2; ends = payloads.3 } in
+    let said = laws.say begun sent all.events all.last (none_at_first begun connected.begins) heard in record {
       events = all.events;
       last = all.last;
       run = all.run;
       waits = waits;
       client_read = client_read;
       server_read = server_read;
+      heard = heard;
+      recorded = record_in laws begun client (streams_in server.calls).server all.events all.last small connected.to_client heard all.client_agrees.front;
+      executions = executions_are_shown begun sent all.events all.last connected.begins heard;
+      sets = said.0;
+      further = said.1;
+      queries = queries_are_shown begun sent all.events all.last heard;
       asked = all.asked_all;
       answered = all.answered_all;
-      client_has = party_has laws begun client sent all.events all.last c.1 (record { client = itself (streams_in client.calls).client; server = connected.to_client }) all.run waits all.client_agrees;
-      server_has = party_has laws begun server sent all.events all.last s.1 (record { client = connected.to_server; server = itself (streams_in server.calls).server }) all.run waits all.server_agrees;
-      auditor_has = party_has laws begun auditor sent all.events all.last a connected.to_auditor all.run waits all.auditor_agrees;
+      client_has = party_has laws begun client sent all.events all.last connected.begins c.1 (record { client = itself (streams_in client.calls).client; server = connected.to_client }) all.run waits all.client_agrees;
+      server_has = party_has laws begun server sent all.events all.last connected.begins s.1 (record { client = connected.to_server; server = itself (streams_in server.calls).server }) all.run waits all.server_agrees;
+      auditor_has = party_has laws begun auditor sent all.events all.last connected.begins a connected.to_auditor all.run waits all.auditor_agrees;
     }

@@ -1,5 +1,5 @@
 -- Executions of a prepared statement, with long data before those that need it, read behind its prepare as the sets whose values they carry.
-use Rattle.std.proofs.Common.{◌≡◌, ℕ, ◌^◌, ◌<◌, ◌≤◌, Bool, true, false, List, [], ◌∷◌, ◌++◌, length, map, refl, sym, ap, subst, ◌∙◌, arith}
+use Rattle.std.proofs.Common.{◌≡◌, ℕ, ◌^◌, ◌<◌, ◌≤◌, List, [], ◌∷◌, ◌++◌, length, map, refl, sym, ap, subst, ◌∙◌}
 use Rattle.std.specs.Prelude.{if◌then◌else◌}
 use Rattle.std.specs.List.{AllByRecursion, flat_map}
 use Rattle.std.proofs.lemmas.List.{map-append}
@@ -8,20 +8,16 @@ use Rattle.mysql_command_rules.specs.Commands.{pieces_from}
 use Rattle.mysql_command_rules.specs.Reading.{HaveContents}
 use Rattle.mysql_command_rules.specs.Sent.{SentPayload, as_execution, last_of, on_the_way, payloads_of, prepare_of, sets_of}
 use Rattle.mysql_command_rules.specs.declared.road.Road.TheVariants.{Execute}
-use Rattle.mysql_command_rules.proofs.Executable.{IsSendable}
-use Rattle.mysql_command_rules.proofs.ExecutionSizes.{sent_as}
-use Rattle.mysql_command_rules.proofs.Executions.{execution_reads, nothing_apart}
-use Rattle.mysql_command_rules.proofs.Held.{HoldsAll, contents_each, contents_in_a_row, contents_of, held}
-use Rattle.mysql_command_rules.proofs.LongData.{AfterPieces, after_pieces}
-use Rattle.mysql_command_rules.proofs.ReadEach.{ReadFrom, read_behind, read_each, state_behind}
+use Rattle.mysql_command_rules.proofs.ExecutionStreams.{MayBeSent, all_read}
+use Rattle.mysql_command_rules.proofs.Held.{HoldsAll, contents_each, contents_in_a_row, contents_of}
+use Rattle.mysql_command_rules.proofs.ReadEach.{read_each}
 use Rattle.mysql_command_rules.proofs.SentSets.{sets_are}
-use Rattle.mysql_command_rules.proofs.States.{IsReady, execution_leaves}
 use Rattle.mysql_receive.specs.Audit.{Reads}
-use Rattle.mysql_receive.specs.InForce.{StatementState, freshly_prepared, state_after}
+use Rattle.mysql_receive.specs.InForce.{freshly_prepared}
 use Rattle.mysql_receive.specs.Laws.{WrittenCellsAreHeld}
 use Rattle.mysql_receive.specs.Query.{Statement, place_count}
 use Rattle.mysql_receive.specs.Reading.{Set}
-use Rattle.mysql_send.specs.Executions.{execution_payloads, whole_execution}
+use Rattle.mysql_send.specs.Executions.{execution_payloads}
 use Rattle.mysql_send.proofs.FurtherSets.{on_the_way_of}
 use Rattle.mysql_stmt.specs.Executions.{execute_command, needs_long_data}
 use Rattle.mysql_values.specs.Value.{Value}
@@ -48,51 +44,16 @@ payloads_are statement (values ∷ sets) =
 -- ---- readings
 
 module _ (law : WrittenCellsAreHeld) (statement : Statement) (small : statement.id < 2 ^ 32) (room : ℕ) (few : place_count statement.query ≤ max_places) where
-  -- a set reads, and leaves the statement as it was
-  record ReadsOn (s : StatementState) (sent : List SentPayload) : Type 0 where
-    reads : ReadFrom statement s sent
-    ready : IsReady (state_after statement s (payloads_of sent))
-
-  abbrev MayBeSent : List Value → Type 0
-  MayBeSent values = IsSendable (whole_execution statement.id) (place_count statement.query) room values
-
-  one_reads : (apart : Bool) (s : StatementState) (values : List Value) → IsReady s → MayBeSent values → ReadsOn s (sent_as apart statement.id values)
-  one_reads false s values ready may = record {
-    reads = (execution_reads law statement s false statement.id values (map held values) ready.prepared (nothing_apart s.long_data ready.none 0 values) small refl (sym may.count) may.fit may.each, tt);
-    ready = execution_leaves statement s statement.id values false ready.prepared;
-  }
-  one_reads true s values ready may =
-      let pieces : List SentPayload = map on_the_way (pieces_from statement.id 0 values) in
-      let last : List SentPayload = last_of values (execute_command statement.id values true) ∷ [] in
-      let t : StatementState = state_after statement s (payloads_of pieces) in
-      let count : place_count statement.query ≡ length values = sym may.count in
-      let waiting : AfterPieces statement s 0 values pieces = after_pieces statement statement.id small refl s 0 values ready.prepared (λ k above. ready.none k) (omega (arith, count, few)) (omega (arith, count)) in
-      record {
-        reads = read_behind statement s pieces last waiting.reads (execution_reads law statement t true statement.id values (map held values) waiting.prepared waiting.waits small refl count may.fit may.each, tt);
-        ready = subst (λ (u : StatementState). IsReady u) (sym (state_behind statement s pieces last)) (execution_leaves statement t statement.id values true waiting.prepared);
-      }
-
-  all_read : (s : StatementState) (sets : List (List Value)) → IsReady s → AllByRecursion MayBeSent sets → ReadsOn s (flat_map (as_execution statement) sets)
-  all_read s [] ready may = record { reads = tt; ready = ready }
-  all_read s (values ∷ sets) ready may =
-      let first : ReadsOn s (as_execution statement values) = one_reads (needs_long_data values) s values ready may.0 in
-      let t : StatementState = state_after statement s (payloads_of (as_execution statement values)) in
-      let later : ReadsOn t (flat_map (as_execution statement) sets) = all_read t sets first.ready may.1 in
-      record {
-        reads = read_behind statement s (as_execution statement values) (flat_map (as_execution statement) sets) first.reads later.reads;
-        ready = subst (λ (u : StatementState). IsReady u) (sym (state_behind statement s (as_execution statement values) (flat_map (as_execution statement) sets))) later.ready;
-      }
-
-  all_held : (sets : List (List Value)) → AllByRecursion MayBeSent sets → AllByRecursion HoldsAll sets
+  all_held : (sets : List (List Value)) → AllByRecursion (MayBeSent law statement small room few) sets → AllByRecursion HoldsAll sets
   all_held [] may = tt
   all_held (values ∷ sets) may = (may.0.each, all_held sets may.1)
 
-  pub further_behind : (sets : List (List Value)) → AllByRecursion MayBeSent sets → length (flat_map (as_execution statement) sets) < 2 ^ 64 → ReadBehind statement 0 (flat_map (as_execution statement) sets)
+  pub further_behind : (sets : List (List Value)) → AllByRecursion (MayBeSent law statement small room few) sets → length (flat_map (as_execution statement) sets) < 2 ^ 64 → ReadBehind statement 0 (flat_map (as_execution statement) sets)
   further_behind sets may short =
       let sent = flat_map (as_execution statement) sets in
       let its : sets_of sent ≡ sets = sets_are Execute statement room sets (prepare_of statement ∷ sent) refl in
       record {
         reads = contents_of sent;
-        each = read_each statement freshly_prepared sent (all_read freshly_prepared sets (record { prepared = refl; none = λ place. refl }) may).reads short;
+        each = read_each statement freshly_prepared sent (all_read law statement small room few freshly_prepared sets (record { prepared = refl; none = λ place. refl }) may).reads short;
         contents = contents_in_a_row sent (contents_of sent) (contents_each sent (subst (AllByRecursion HoldsAll) (sym its) (all_held sets may)));
       }

@@ -105,6 +105,13 @@ failed_lent : (old new : Machine) (answer : Result (Option LentEvent) Connection
 failed_lent old new (Ok event) failure took e h same = absurd h
 failed_lent old new (Err fault) failure took e h same = inl (e, ap (λ (m : Machine). m.world) same)
 
+-- ---- what is put is read
+
+pub written_puts : PutsAreRead → (old : World) (event : Event) (payload : List ℕ) (new : World) (before behind : List ℕ) → old.standing.number < 256 → Written old event payload new before behind
+    → Puts old event (side_of event) (packets_for event old.standing payload) new
+written_puts reads old event payload new before behind small written =
+    subst (λ (v : World). Puts old event (side_of event) (packets_for event old.standing payload) v) (sym written.goes) (reads old event payload written.after small written.may)
+
 -- ---- what calls keep of what was had, took and put
 
 -- Whoever calls: what may be fed, which events may be put, and what is told of a history.
@@ -115,15 +122,15 @@ pub record Keeps (Fed : Call → Type 0) (says : Event → Bool) (P : List Event
       → P put (grow side (Piece piece) s) ev (come side (Piece piece) old)
   pub ends : (put : List Event) (s : Streams) (ev : List Event) (old : World) (side : Side) → P put s ev old → IsOpen old side → P put (grow side End s) ev (come side End old)
   pub takes : (put : List Event) (s : Streams) (ev : List Event) (old : World) (event : Event) (new : World) → P put s ev old → next old ≡ Says event new → P put s (ev ++ event ∷ []) new
-  pub puts : (put : List Event) (s : Streams) (ev : List Event) (old : World) (event : Event) (side : Side) (bytes : List ℕ) (new : World) → says event ≡ true → P put s ev old → Puts old event side bytes new
-      → P (put ++ event ∷ []) (grow side (Piece bytes) s) (ev ++ event ∷ []) new
+  pub puts : (put : List Event) (s : Streams) (ev : List Event) (old : World) (event : Event) (payload : List ℕ) (new : World) (before behind : List ℕ) → says event ≡ true → P put s ev old → Written old event payload new before behind
+      → P (put ++ event ∷ []) (grow (side_of event) (Piece (packets_for event old.standing payload)) s) (ev ++ event ∷ []) new
 
 -- of each of these calls: what it fed may be, and so may each event that it put
 abbrev pub MayDo : (Fed : Call → Type 0) (says : Event → Bool) → List Done → Type 0
 MayDo Fed says [] = Unit {0}
 MayDo Fed says (done ∷ calls) = Fed done.call × (list_all says done.put ≡ true) × MayDo Fed says calls
 
-module _ (Fed : Call → Type 0) (says : Event → Bool) (P : List Event → Streams → List Event → World → Type 0) (keeps : Keeps Fed says P) (reads : PutsAreRead) where
+module _ (Fed : Call → Type 0) (says : Event → Bool) (P : List Event → Streams → List Event → World → Type 0) (keeps : Keeps Fed says P) where
   told_as : (put put_too : List Event) (s s_too : Streams) (ev ev_too : List Event) (w w_too : World) → put ≡ put_too → s ≡ s_too → ev ≡ ev_too → w ≡ w_too → P put s ev w → P put_too s_too ev_too w_too
   told_as put put_too s s_too ev ev_too w w_too a b c d h = subst (λ (x : List Event). P x s_too ev_too w_too) a (subst (λ (x : Streams). P put x ev_too w_too) b (subst (λ (x : List Event). P put s x w_too) c (subst (λ (x : World). P put s ev x) d h)))
 
@@ -144,16 +151,11 @@ module _ (Fed : Call → Type 0) (says : Event → Bool) (P : List Event → Str
 
   -- ---- an event that is put
 
-  written_puts : (put : List Event) (s : Streams) (ev : List Event) (old : World) (event : Event) (payload : List ℕ) (new : World) (before behind : List ℕ) → P put s ev old → Written old event payload new before behind
-      → Puts old event (side_of event) (packets_for event old.standing payload) new
-  written_puts put s ev old event payload new before behind had written =
-      subst (λ (v : World). Puts old event (side_of event) (packets_for event old.standing payload) v) (sym written.goes) (reads old event payload written.after (keeps.small put s ev old had) written.may)
-
   one_put : (put : List Event) (s : Streams) (ev : List Event) (old : World) (event : Event) (payload : List ℕ) (new : World) (before behind : List ℕ) (side : Side) → side_of event ≡ side → says event ≡ true
       → P put s ev old → Written old event payload new before behind → P (put ++ event ∷ []) (grow side (Piece (packets_for event old.standing payload)) s) (ev ++ event ∷ []) new
   one_put put s ev old event payload new before behind side its said had written =
       subst (λ (x : Side). P (put ++ event ∷ []) (grow x (Piece (packets_for event old.standing payload)) s) (ev ++ event ∷ []) new) its
-      (keeps.puts put s ev old event (side_of event) (packets_for event old.standing payload) new said had (written_puts put s ev old event payload new before behind had written))
+      (keeps.puts put s ev old event payload new before behind said had written)
 
   event_put : (put took more : List Event) (s : Streams) (ev : List Event) (old : World) (event : Event) (payload : List ℕ) (new : World) (before appended : List ℕ) (side : Side) → side_of event ≡ side
       → took ≡ [] → more ≡ event ∷ [] → list_all says more ≡ true → P put s ev old → Written old event payload new before (before ++ appended) → Behind put took more (grow side (Piece appended) s) ev new

@@ -2,17 +2,17 @@
 use Rattle.std.proofs.Common.{◌≡◌, ◌⊎◌, ◌<◌, inl, inr, ℕ, true, false, List, [], ◌∷◌, ◌++◌, refl, sym, ap, subst, ◌∙◌}
 use Rattle.std.specs.Prelude.{not}
 use Rattle.std.specs.List.{list_all}
-use Rattle.mysql_connection_contents.proofs.Histories.{Keeps, MayDo, both_true}
+use Rattle.mysql_connection_contents.proofs.Histories.{Keeps, MayDo, both_true, written_puts}
 use Rattle.mysql_connection_contents.specs.Calls.{Done, feeds_other, is_by}
 use Rattle.mysql_connection_rules.proofs.Agreeing.{had_too}
 use Rattle.mysql_connection_rules.proofs.Packets.{PacketLaws}
 use Rattle.mysql_connection_rules.proofs.Quiet.{next_quiet}
 use Rattle.mysql_connection_rules.proofs.Running.{had_runs, runs-closed}
-use Rattle.mysql_connection_rules.specs.AgreementLaws.{NumbersAreBytes}
+use Rattle.mysql_connection_rules.specs.AgreementLaws.{NumbersAreBytes, PutsAreRead}
 use Rattle.mysql_connection_rules.specs.Events.{Event, side_of}
 use Rattle.mysql_connection_rules.specs.Laws.{PositionsStay}
 use Rattle.mysql_connection_rules.specs.Machines.{IsOpen}
-use Rattle.mysql_connection_rules.specs.Puts.{is_of, same_side}
+use Rattle.mysql_connection_rules.specs.Puts.{is_of, packets_for, same_side}
 use Rattle.mysql_connection_rules.specs.PuttingMachines.{HadAs, HadOrPut, Puts, comes_as, ends_as, puts_as, takes_as}
 use Rattle.mysql_connection_rules.specs.PuttingMachines.HadOrPut.{comes, puts, takes}
 use Rattle.mysql_connection_rules.specs.Streams.{Beginning, Coming, End, Piece, Stream, Streams, World, come, grow, start, stream_of}
@@ -21,7 +21,7 @@ use Rattle.mysql_connection_rules.specs.declared.side.Side.TheVariants.{Client, 
 
 -- ---- sides
 
-other_of : (own other side : Side) → same_side own other ≡ false → not (same_side own side) ≡ true → side ≡ other
+pub other_of : (own other side : Side) → same_side own other ≡ false → not (same_side own side) ≡ true → side ≡ other
 other_of Client Client side a b = absurd (cc a)
 other_of Client Server Client a b = absurd (cc b)
 other_of Client Server Server a b = refl
@@ -29,13 +29,13 @@ other_of Server Client Client a b = refl
 other_of Server Client Server a b = absurd (cc b)
 other_of Server Server side a b = absurd (cc a)
 
-own_of : (own side : Side) → same_side own side ≡ true → side ≡ own
+pub own_of : (own side : Side) → same_side own side ≡ true → side ≡ own
 own_of Client Client e = refl
 own_of Client Server e = absurd (cc e)
 own_of Server Client e = absurd (cc e)
 own_of Server Server e = refl
 
-whose : (own other side : Side) → same_side own other ≡ false → (side ≡ own) ⊎ (side ≡ other)
+pub whose : (own other side : Side) → same_side own other ≡ false → (side ≡ own) ⊎ (side ≡ other)
 whose Client Client side a = absurd (cc a)
 whose Client Server Client a = inl refl
 whose Client Server Server a = inr refl
@@ -51,14 +51,15 @@ other_kept Server Server coming w e = absurd (cc e)
 
 -- ---- anybody
 
-pub any_keeps : PacketLaws → NumbersAreBytes → (begun : Beginning) → begun.first.number < 256 → Keeps (λ call. Unit {0}) (λ event. true) (λ put s ev w. HadOrPut begun s ev w)
-any_keeps packets numbers begun small = record {
+pub any_keeps : PacketLaws → NumbersAreBytes → PutsAreRead → (begun : Beginning) → begun.first.number < 256 → Keeps (λ call. Unit {0}) (λ event. true) (λ put s ev w. HadOrPut begun s ev w)
+any_keeps packets numbers reads begun small = record {
   closed = λ put s ev w had side. runs-closed packets (start begun s) ev w (had_runs packets begun s ev w (had_too begun s ev w had)) side;
   small = λ put s ev w had. numbers begun s ev w small had;
   comes = λ put s ev old side piece fed had is_open. comes {old = old} side (Piece piece) had is_open refl;
   ends = λ put s ev old side had is_open. comes {old = old} side End had is_open refl;
   takes = λ put s ev old event new had is. takes {old = old} had is;
-  puts = λ put s ev old event side bytes new said had is. puts {old = old} side bytes had is;
+  puts = λ put s ev old event payload new before behind said had written.
+      puts {old = old} (side_of event) (packets_for event old.standing payload) had (written_puts reads old event payload new before behind (numbers begun s ev old small had) written);
 }
 
 all_true : (events : List Event) → list_all (λ event. true) events ≡ true
@@ -75,7 +76,7 @@ anybody_may (done ∷ calls) = (tt, all_true done.put, anybody_may calls)
 abbrev pub IsOf : (own other : Side) → Beginning → List Event → Streams → List Event → World → Type 0
 IsOf own other begun put s ev w = HadAs own other begun put s ev w × HadOrPut begun s ev w × ((stream_of own w.unread).bytes ≡ [])
 
-module _ (packets : PacketLaws) (positions : PositionsStay) (numbers : NumbersAreBytes) (own other : Side) (apart : same_side own other ≡ false) (begun : Beginning) (small : begun.first.number < 256) where
+module _ (packets : PacketLaws) (positions : PositionsStay) (numbers : NumbersAreBytes) (reads : PutsAreRead) (own other : Side) (apart : same_side own other ≡ false) (begun : Beginning) (small : begun.first.number < 256) where
   come_of : (put : List Event) (s : Streams) (ev : List Event) (old : World) (side : Side) (coming : Coming) → side ≡ other → IsOf own other begun put s ev old → IsOpen old side → IsOf own other begun put (grow side coming s) ev (come side coming old)
   come_of put s ev old side coming its had is_open =
       subst (λ (x : Side). IsOf own other begun put (grow x coming s) ev (come x coming old)) (sym its) (
@@ -107,13 +108,15 @@ module _ (packets : PacketLaws) (positions : PositionsStay) (numbers : NumbersAr
       (puts_as {old = old} bytes had.0 mine, puts {old = old} own bytes had.1 mine, mine.used)
 
   pub side_keeps : Keeps (λ call. feeds_other own call ≡ true) (is_of own) (λ put s ev w. IsOf own other begun put s ev w)
-  side_keeps = let any = any_keeps packets numbers begun small in record {
+  side_keeps = let any = any_keeps packets numbers reads begun small in record {
     closed = λ put s ev w had side. any.closed put s ev w had.1 side;
     small = λ put s ev w had. any.small put s ev w had.1;
     comes = λ put s ev old side piece fed had is_open. come_of put s ev old side (Piece piece) (other_of own other side apart fed) had is_open;
     ends = ends_of;
     takes = λ put s ev old event new had is. (takes_as {old = old} had.0 is, takes {old = old} had.1 is, (next_quiet positions old own event new had.2 is).none);
-    puts = λ put s ev old event side bytes new said had is. put_of put s ev old event side bytes new (sym is.its_own ∙ own_of own (side_of event) said) had is;
+    puts = λ put s ev old event payload new before behind said had written.
+        put_of put s ev old event (side_of event) (packets_for event old.standing payload) new (own_of own (side_of event) said) had
+        (written_puts reads old event payload new before behind (any.small put s ev old had.1) written);
   }
 
 pub side_may : (own : Side) (calls : List Done) → list_all (is_by own) calls ≡ true → MayDo (λ call. feeds_other own call ≡ true) (is_of own) calls

@@ -72,7 +72,7 @@ module _ (stay : PacketsStay) where
   found_on w Server Server End payload next rest is = is
 
   -- what was heard is heard with more bytes behind it
-  heard_on : (side : Side) (coming : Coming) (xs : List Spoken) (w last : World) → Heard w xs last → Heard (come side coming w) xs (come side coming last)
+  pub heard_on : (side : Side) (coming : Coming) (xs : List Spoken) (w last : World) → Heard w xs last → Heard (come side coming w) xs (come side coming last)
   heard_on side coming [] w last h = ap (come side coming) h
   heard_on side coming (x ∷ xs) w last h =
       let mid = h.1.0 in
@@ -193,7 +193,7 @@ module _ (found : FramingsAreFound) where
 
 -- ---- all of it
 
-had_too : (own other : Side) (begun : Beginning) (put : List Event) (streams : Streams) (events : List Event) (held : World) → HadAs own other begun put streams events held → HadOrPut begun streams events held
+pub had_too : (own other : Side) (begun : Beginning) (put : List Event) (streams : Streams) (events : List Event) (held : World) → HadAs own other begun put streams events held → HadOrPut begun streams events held
 had_too own other begun put streams events held fresh_as = fresh_too
 had_too own other begun put streams events held (comes_as {streams = before} {old = old} coming had is_open e) = comes_too other coming (had_too own other begun put before events old had) is_open e
 had_too own other begun put streams events held (ends_as {streams = before} {old = old} had is_open e) = comes_too own End (had_too own other begun put before events old had) is_open e
@@ -206,7 +206,7 @@ pub record Speaks (own other : Side) (begun : Beginning) (streams : Streams) (xs
   pub had : HadAs own other begun put streams (events_of xs) held
   pub heard : Heard (start begun streams) xs held
 
-events_behind : (xs : List Spoken) (x : Spoken) → events_of (xs ++ x ∷ []) ≡ events_of xs ++ x.event ∷ []
+pub events_behind : (xs : List Spoken) (x : Spoken) → events_of (xs ++ x ∷ []) ≡ events_of xs ++ x.event ∷ []
 events_behind xs x = map-append (λ (y : Spoken). y.event) xs (x ∷ [])
 
 module _ (stay : PacketsStay) (found : FramingsAreFound) (reads : PutsAreRead) (numbers : NumbersAreBytes) (own other : Side) (begun : Beginning) (small : begun.first.number < 256) where

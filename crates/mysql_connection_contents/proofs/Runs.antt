@@ -19,8 +19,10 @@ use Rattle.mysql_fields.specs.Wire.{Reading}
 use Rattle.mysql_server_packets.specs.Packets.{ServerError}
 use Rattle.mysql_connection_contents.specs.Contents.{Ends, Heard, HeardIsSpoken, RunsAreHeard, Spoke, Spoken}
 
-abbrev IsFarewell : Event → Type 0
-IsFarewell event = (error : ServerError) × (event ≡ Farewell error)
+-- last words: nothing changes but that the connection is over
+abbrev pub IsFarewell : World → Event → World → Type 0
+IsFarewell w event new = (error : ServerError) × (event ≡ Farewell error)
+    × (number : ℕ) × (rest : List ℕ) × (moved w Server number rest (over reasons.Farewell w.standing) ≡ new)
 
 -- an event that leads on
 led : (w : World) (side : Side) (event said : Event) (made new : World) → leads_on w side event made ≡ Says said new → (event ≡ said) × (made ≡ new)
@@ -32,41 +34,42 @@ led w side event said made new e = by (nat_le (kept made.standing) (room_to_keep
 
 -- ---- last words
 
-farewell_says : (w : World) (number : ℕ) (rest : List ℕ) (read : Reading ServerError) (said : Event) (new : World) → farewell w number rest read ≡ Says said new → IsFarewell said
-farewell_says w number rest (Ok error) said new e = (error.0, sym (led w Server (Farewell error.0) said (moved w Server number rest (over reasons.Farewell w.standing)) new e).0)
+farewell_says : (w : World) (number : ℕ) (rest : List ℕ) (read : Reading ServerError) (said : Event) (new : World) → farewell w number rest read ≡ Says said new → IsFarewell w said new
+farewell_says w number rest (Ok error) said new e =
+    let h = led w Server (Farewell error.0) said (moved w Server number rest (over reasons.Farewell w.standing)) new e in (error.0, sym h.0, number, rest, h.1)
 farewell_says w number rest (Err fault) said new e = absurd cc
 
-words_or_says : (w : World) (fault : Fault) (payload : List ℕ) (number : ℕ) (rest : List ℕ) (said : Event) (new : World) → words_or w fault payload number rest ≡ Says said new → IsFarewell said
+words_or_says : (w : World) (fault : Fault) (payload : List ℕ) (number : ℕ) (rest : List ℕ) (said : Event) (new : World) → words_or w fault payload number rest ≡ Says said new → IsFarewell w said new
 words_or_says w fault payload number rest said new e = by (begins_error payload) e
   where
-    by : (error : Bool) → (if error then farewell w number rest (early_error_at payload) else fails w Server fault) ≡ Says said new → IsFarewell said
+    by : (error : Bool) → (if error then farewell w number rest (early_error_at payload) else fails w Server fault) ≡ Says said new → IsFarewell w said new
     by true h = farewell_says w number rest (early_error_at payload) said new h
     by false h = absurd cc
 
-words_by_say : (w : World) (found : Found) (said : Event) (new : World) → words_by w found ≡ Says said new → IsFarewell said
+words_by_say : (w : World) (found : Found) (said : Event) (new : World) → words_by w found ≡ Says said new → IsFarewell w said new
 words_by_say w Short said new e = absurd cc
 words_by_say w TooLarge said new e = absurd cc
 words_by_say w (OutOfSync number) said new e = absurd cc
 words_by_say w (Whole payload number rest) said new e = words_or_says w faults.Unasked payload number rest said new e
 
-words_say : (w : World) (said : Event) (new : World) → words w ≡ Says said new → IsFarewell said
+words_say : (w : World) (said : Event) (new : World) → words w ≡ Says said new → IsFarewell w said new
 words_say w said new e = by (has_number w.standing.number w.unread.server.bytes) e
   where
-    by : (numbered : Bool) → (if numbered then words_by w (first_packet w.limits.server w.standing.number w.unread.server.bytes) else Waits) ≡ Says said new → IsFarewell said
+    by : (numbered : Bool) → (if numbered then words_by w (first_packet w.limits.server w.standing.number w.unread.server.bytes) else Waits) ≡ Says said new → IsFarewell w said new
     by true h = words_by_say w (first_packet w.limits.server w.standing.number w.unread.server.bytes) said new h
     by false h = absurd cc
 
 -- ---- a payload
 
 -- the event is what a payload of this side says
-record Payload (w : World) (side : Side) (said : Event) (new : World) : Type 0 where
-  payload : List ℕ
-  number : ℕ
-  rest : List ℕ
-  mid : Standing
-  found : first_packet (limit_of side w.limits) w.standing.number (stream_of side w.unread).bytes ≡ Whole payload number rest
-  read : step w.standing payload ≡ Ok (said, mid)
-  leads : moved w side number rest mid ≡ new
+pub record Payload (w : World) (side : Side) (said : Event) (new : World) : Type 0 where
+  pub payload : List ℕ
+  pub number : ℕ
+  pub rest : List ℕ
+  pub mid : Standing
+  pub found : first_packet (limit_of side w.limits) w.standing.number (stream_of side w.unread).bytes ≡ Whole payload number rest
+  pub read : step w.standing payload ≡ Ok (said, mid)
+  pub leads : moved w side number rest mid ≡ new
 
 said_says : (w : World) (side : Side) (payload : List ℕ) (number : ℕ) (rest : List ℕ) (read : Result (Event × Standing) Fault) (said : Event) (new : World) → first_packet (limit_of side w.limits) w.standing.number (stream_of side w.unread).bytes ≡ Whole payload number rest
     → step w.standing payload ≡ read → said_by w side number rest read ≡ Says said new → Payload w side said new
@@ -75,8 +78,8 @@ said_says w side payload number rest (Ok p) said new found is e =
     record { payload = payload; number = number; rest = rest; mid = p.1; found = found; read = is ∙ ap (λ event. Ok (event, p.1)) h.0; leads = h.1 }
 said_says w side payload number rest (Err fault) said new found is e = absurd cc
 
-abbrev SaidAt : World → Side → Event → World → Type 0
-SaidAt w side said new = Payload w side said new ⊎ IsFarewell said
+abbrev pub SaidAt : World → Side → Event → World → Type 0
+SaidAt w side said new = Payload w side said new ⊎ IsFarewell w said new
 
 server_says : (w : World) (found : Found) (said : Event) (new : World) → first_packet w.limits.server w.standing.number w.unread.server.bytes ≡ found → server_by w found ≡ Says said new → Payload w Server said new
 server_says w Short said new is e = absurd cc
@@ -99,7 +102,7 @@ of_server_says : (w : World) (bytes : List ℕ) (early : Bool) (said : Event) (n
 of_server_says w bytes true said new is e = inr (words_by_say w (first_packet w.limits.server (slice_index_or bytes 3 0) bytes) said new e)
 of_server_says w bytes false said new is e = inl (server_says w (first_packet w.limits.server w.standing.number bytes) said new (ap (first_packet w.limits.server w.standing.number) (sym is)) e)
 
-turn_says : (w : World) (due : Option Side) (said : Event) (new : World) → next_by w due ≡ Says said new → (side : Side) × (due ≡ Some side) × SaidAt w side said new
+pub turn_says : (w : World) (due : Option Side) (said : Event) (new : World) → next_by w due ≡ Says said new → (side : Side) × (due ≡ Some side) × SaidAt w side said new
 turn_says w None said new e = absurd cc
 turn_says w (Some Client) said new e = (Client, refl, client_says w (first_packet w.limits.client w.standing.number w.unread.client.bytes) said new refl e)
 turn_says w (Some Server) said new e = (Server, refl, of_server_says w w.unread.server.bytes (is_early w.standing w.unread.server.bytes) said new refl e)

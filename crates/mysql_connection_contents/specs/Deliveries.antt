@@ -27,6 +27,8 @@ use Rattle.mysql_values.specs.Sql.{Sql}
 use Rattle.mysql_values.specs.Value.{Value}
 use Rattle.mysql_values.specs.Values.{content_of}
 use Rattle.mysql_connection_contents.specs.Records.{HasHeard, HasSpoken}
+use Rattle.mysql_wire.specs.Stream.{framings}
+use Rattle.mysql_wire.specs.Stream.Numbering.{EachFromZero}
 
 -- SETS OF A STATEMENT
 
@@ -79,6 +81,16 @@ abbrev pub DeliveredSetsAreSaid : Type 0
 DeliveredSetsAreSaid = (begun : Beginning) (streams : Streams) (events : List Event)
     (held : World) → BeginsWithNone begun → (heard : HasHeard begun streams events held) →
     SetsAreSaid heard.payloads × FurtherSetsAreSaid heard.payloads
+
+-- SETS IN SEVERAL CALLS
+
+-- What `Query::send_more` appended of sets in two calls is what it appends of all of them in one.
+abbrev pub FurtherSetsJoin : Type 0
+FurtherSetsJoin = (query : KeptQuery) (limit first later : ℕ) (sets more : List (List Value))
+    (old new before behind : List ℕ) →
+    AppendsFurther query limit first sets old new → AppendsFurther query limit later more before behind →
+    AppendsFurther query limit first (sets ++ more) old
+    (old ++ framings (flat_map (execution_payloads query.id) (sets ++ more)) EachFromZero)
 
 -- THE PROMISE
 

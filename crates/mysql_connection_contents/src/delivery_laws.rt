@@ -1,7 +1,7 @@
-//! Laws of sets that are put on a connection. Each function has no code but the laws that it rests
-//! on: its contract is the law.
+//! Theorems of sets that are put on a connection. Each function has no code but the theorems that
+//! it rests on: its contract is the theorem.
 
-ghost use Rattle.mysql_connection_contents.specs.Deliveries.{DeliveredSetsAreSaid};
+ghost use Rattle.mysql_connection_contents.specs.Deliveries.{DeliveredSetsAreSaid, FurtherSetsJoin};
 ghost use Rattle.mysql_connection_contents.specs.Deliveries.{PutPayloadsAreRead, PutSetsAreRead};
 ghost use Rattle.mysql_connection_contents.specs.Records.{MachinesHear, MachinesHearWhatTheyPut};
 ghost use Rattle.mysql_connection_contents.specs.Records.{PutEventsAreSpoken, TakenEventsAreSpoken};
@@ -12,6 +12,7 @@ use mysql_connection_rules::agreement_laws::{
     numbers_are_bytes, puts_are_read, puts_are_the_run, three_agree,
 };
 use mysql_connection_rules::laws::run_exists;
+use mysql_queries::laws::tokens_of_a_text;
 use mysql_receive::laws::written_cells_are_held;
 use mysql_wire::first_packet_laws::{framings_are_found, packets_stay};
 
@@ -58,8 +59,8 @@ pub fn events_are_spoken()
 ///
 /// The sets are delivered as `Query::send` and `Query::send_more` promise, by executions or in
 /// bulk. The server's answer to a prepare gave the statement the id by which they are sent, and as
-/// many parameters as the query has places. What the client says of it behind that answer is what
-/// is sent of them, payload by payload. Whatever else is said in between doesn't matter. Then the
+/// many parameters as the query has placeholders. What the client says of it behind that answer is
+/// what is sent of them, payload by payload. What else is said in between doesn't matter. Then the
 /// executions say the contents of the sets: all of them, in order, and nothing between. The same is
 /// so where it is what `Query::send_more` alone appends of sets.
 ///
@@ -76,6 +77,17 @@ pub fn delivered_sets_are_said()
     requests_read();
     written_cells_are_held();
     streams_are_received();
+}
+
+/// What `Query::send_more` appends of sets in two calls is what it appends of all of them in one.
+///
+/// So sets of one statement may be sent in as many calls as one likes.
+///
+/// MySQL: Client/Server Protocol, "COM_STMT_EXECUTE".
+pub fn further_sets_join()
+    ensures { FurtherSetsJoin }
+{
+    tokens_of_a_text();
 }
 
 /// What a client puts on a connection, an auditor between it and the server reads.

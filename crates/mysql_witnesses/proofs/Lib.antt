@@ -16,4 +16,5 @@ pub mod AboutLogins
 pub mod OnLiterals
 pub mod AboutCommands
 pub mod AboutConnections
+pub mod AboutShown
 pub mod AboutCReplies

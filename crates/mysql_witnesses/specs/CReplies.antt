@@ -9,7 +9,7 @@ use Rattle.mysql_c_replies.specs.Spots.{spot_of}
 use Rattle.mysql_c_replies.specs.States.{ReadsAt}
 use Rattle.mysql_c_replies.specs.declared.shown.ShownResult.{ShownResult}
 use Rattle.mysql_columns.specs.Columns.{ColumnDefinition}
-use Rattle.mysql_replies.specs.Grammar.{RowsResult}
+use Rattle.mysql_replies.specs.Together.{RowsResult}
 use Rattle.mysql_replies.specs.Taking.{reports_in}
 use Rattle.mysql_reply_writer.specs.declared.refusal.ReplyRefusal.TheVariants.{CellCount}
 use Rattle.mysql_rows.specs.Rows.{Row}

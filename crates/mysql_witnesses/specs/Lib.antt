@@ -16,4 +16,5 @@ pub mod SessionReplies
 pub mod Logins
 pub mod Commands
 pub mod Connections
+pub mod Shown
 pub mod CReplies

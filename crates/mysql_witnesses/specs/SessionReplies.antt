@@ -103,7 +103,7 @@ LastResultsSayNoMore = with_more false 10 ≡ 2
 -- MySQL: Client/Server Protocol, "Text Resultset".
 abbrev pub EofsStandBehindColumns : Type 0
 EofsStandBehindColumns = (column : ColumnDefinition) →
-    eof_due 0 (column ∷ []) ≡ (254 ∷ 0 ∷ 0 ∷ 0 ∷ 0 ∷ []) ∷ []
+    eof_due (query_by 0) (column ∷ []) ≡ (254 ∷ 0 ∷ 0 ∷ 0 ∷ 0 ∷ []) ∷ []
 
 -- Behind a payload of 16777215 bytes, which takes two chunks, the number is greater by two. Excluded:
 -- by one. MySQL: Client/Server Protocol, "Sending More Than 16Mb", "Sequence ID".

@@ -34,7 +34,7 @@ pub fn no_kind_is_no_reader()
     ensures { NoKindIsNoReader }
 {}
 
-/// The result and the row of a refusal stand in their order.
+/// The result and the row of a refusal are in their order.
 ///
 /// Excluded: the two exchanged.
 pub fn results_stand_before_rows()

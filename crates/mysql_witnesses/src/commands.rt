@@ -11,16 +11,16 @@ pub fn each_flag_tells_its_mode()
     ensures { EachFlagTellsItsMode }
 {}
 
-/// A parameter's bytes are those from its place on.
+/// A parameter's bytes are those from its position on.
 ///
-/// Excluded: as many from the front.
+/// Excluded: as many from the beginning.
 pub fn bytes_begin_where_they_are_told()
     ensures { BytesBeginWhereTheyAreTold }
 {}
 
 /// A call on sets tells of another object that it is one.
 ///
-/// Excluded: want of memory.
+/// Excluded: that memory was refused.
 pub fn other_objects_are_told()
     ensures { OtherObjectsAreTold }
 {}
@@ -32,14 +32,14 @@ pub fn negative_numbers_are_shown()
     ensures { NegativeNumbersAreShown }
 {}
 
-/// The set and the place of an error stand in their order.
+/// The set and the placeholder of an error are in their order.
 ///
 /// Excluded: the two exchanged.
 pub fn sets_stand_before_places()
     ensures { SetsStandBeforePlaces }
 {}
 
-/// By a road without a name nothing is sent, and the answer says so.
+/// By a method without a name nothing is sent, and the answer says so.
 ///
 /// Excluded: the answer 0.
 pub fn no_road_is_no_sending()

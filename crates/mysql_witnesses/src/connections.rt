@@ -21,7 +21,7 @@ pub fn rows_have_their_own_values()
 
 /// The end of a connection that failed tells the fault.
 ///
-/// Excluded: 0 in its place.
+/// Excluded: 0 instead.
 pub fn ends_tell_their_fault()
     ensures { EndsTellTheirFault }
 {}

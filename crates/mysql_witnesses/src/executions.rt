@@ -41,7 +41,7 @@ pub fn nothing_else_is_put_for_waiting_data()
     ensures { NothingElseIsPutForWaitingData }
 {}
 
-/// Attributes stand in an execution with types alone.
+/// Attributes are in an execution with types alone.
 ///
 /// Excluded: an execution with attributes that says that no types follow.
 #[tactic(auto, unfolding(crate::proofs::OnLiterals::executions_on_literals))]
@@ -75,7 +75,7 @@ pub fn bulks_are_about_a_statement()
     ensures written { BulksBeginWithFa }
 {}
 
-/// The fields of a command stand in their order, and no byte behind them.
+/// The fields of a command are in their order, with no byte behind them.
 ///
 /// Excluded: a fetch whose statement's id and number of rows are exchanged, and a close that goes on.
 #[tactic(auto, unfolding(mysql_buf::specs::Reading::first))]

@@ -1,9 +1,10 @@
-//! Witnesses of connections, and of the streams of commands and of replies below them. They are of
-//! wrong answers that a contract excludes, each by a law at a smallest input.
+//! Witnesses: theorems that a contract excludes a wrong answer, each at a smallest input.
 //!
-//! A contract says what a call answers by definitions. Each function here has no code: its contract
-//! says of such a definition that it excludes an answer which a wrong body would give. So no later
-//! body can give it, as long as the contract cites the definition.
+//! A contract says by definitions what a call answers. Each function here has no code: its contract
+//! says that such a definition excludes an answer which a wrong body would give. So no later body
+//! can give it, as long as the contract cites the definition. There is a module for what each is
+//! about: connections, streams of commands, replies and the library for C. Nothing calls this crate;
+//! the gate proves it.
 #![tactic(auto)]
 
 pub mod c_replies;
@@ -20,6 +21,7 @@ pub mod replies;
 pub mod rows;
 pub mod sending;
 pub mod session_replies;
+pub mod shown;
 pub mod statements;
 pub mod steps;
 pub mod streams;

@@ -14,14 +14,14 @@ pub fn what_waits_comes_first()
     ensures { WhatWaitsComesFirst }
 {}
 
-/// A payload is due of one side.
+/// It is one side's turn.
 ///
-/// Excluded: the server's where the client's command is due.
+/// Excluded: the server's where the client's command comes next.
 pub fn payloads_are_of_their_side()
     ensures { PayloadsAreOfTheirSide }
 {}
 
-/// What is put has the number that is due.
+/// What is put has the next number.
 ///
 /// Excluded: an answer that is numbered from 0, and a packet that goes on from its own number.
 #[tactic(auto, unfolding(mysql_wire::specs::Framing::framing, mysql_wire::specs::Framing::chunks))]
@@ -30,7 +30,7 @@ pub fn what_is_put_has_the_number_due()
     ensures commands { CommandsAreNumberedAnew }
 {}
 
-/// A refusal changes nothing, whatever its cause.
+/// A refusal changes nothing, by any cause.
 ///
 /// Excluded: a number, columns or statements that have gone on where memory or room was wanting.
 pub fn refusals_change_nothing()
@@ -60,7 +60,7 @@ pub fn numbers_are_not_put_as_others()
     ensures reading { NumbersAreNotPutAsOthers }
 {}
 
-/// A row is due behind its columns alone.
+/// A row comes behind its columns alone.
 ///
 /// Excluded: one that is put behind an event which was taken for a row.
 pub fn rows_are_due_behind_columns()

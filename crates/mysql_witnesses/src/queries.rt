@@ -1,6 +1,6 @@
 //! Queries: their tokens, the server's mode, and texts over them.
 //!
-//! That `+5` is no number, which a wrong reader takes for one, is a law of `mysql_queries`
+//! That `+5` is no number, which a wrong reader takes for one, is a theorem of `mysql_queries`
 //! (`content_of_a_spelling`).
 
 ghost use Rattle.mysql_witnesses.specs.Queries.{ClosedCommentsAreLeft, CommentsInsideCount};

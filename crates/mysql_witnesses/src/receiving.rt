@@ -27,7 +27,7 @@ pub fn each_row_is_a_set()
 
 /// A stream that is cut off has no fault.
 ///
-/// Excluded: a fault of each front.
+/// Excluded: a fault of each prefix.
 pub fn fronts_are_no_faults()
     ensures { FrontsAreNoFaults }
 {}

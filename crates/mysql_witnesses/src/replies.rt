@@ -1,7 +1,7 @@
 //! Whole replies.
 
 ghost use Rattle.mysql_witnesses.specs.Replies.{BorrowedRowsAreCounted, BorrowedRowsAreNotKept};
-ghost use Rattle.mysql_witnesses.specs.Replies.{EachBitHasMySqlsName, FilesAreAskedFor};
+ghost use Rattle.mysql_witnesses.specs.Replies.{CursorsEndRows, FilesAreAskedFor, MariadbsBitIsKept};
 ghost use Rattle.mysql_witnesses.specs.Replies.{NothingFollowsTheEnd, OnlyWhatIsReadIsCounted};
 ghost use Rattle.mysql_witnesses.specs.Replies.{RepliesBeginBehindCommands, TakesLeaveTheColumns};
 
@@ -21,7 +21,7 @@ pub fn nothing_follows_the_end()
 
 /// What is read is counted, and nothing else.
 ///
-/// Excluded: a payload that has no place, and a row that is borrowed and isn't counted.
+/// Excluded: a payload that fits no reply, and a row that is borrowed and isn't counted.
 pub fn what_is_read_is_counted()
     ensures alone { OnlyWhatIsReadIsCounted }
     ensures rows { BorrowedRowsAreCounted }
@@ -34,24 +34,30 @@ pub fn borrowed_rows_are_not_kept()
     ensures { BorrowedRowsAreNotKept }
 {}
 
-/// Rows that are handed out in parts have their columns in each.
+/// Rows that are taken in parts have their columns in each.
 ///
 /// Excluded: a take that drops them.
 pub fn takes_leave_the_columns()
     ensures { TakesLeaveTheColumns }
 {}
 
-/// A request for a file is a result of its own.
+/// A request for a file is one result.
 ///
 /// Excluded: a result set of no columns.
 pub fn files_are_asked_for()
     ensures { FilesAreAskedFor }
 {}
 
-/// A whole reply has bits of a status alone that MySQL names.
+/// MariaDB's bit of ANSI_QUOTES is kept in a whole reply.
 ///
-/// Excluded: MariaDB's bit of ANSI_QUOTES.
-#[tactic(auto, unfolding(bitflags::proofs::OnLiterals::bitflags_on_literals))]
-pub fn each_bit_has_mysqls_name()
-    ensures { EachBitHasMySqlsName }
+/// Excluded: a status without it.
+pub fn mariadbs_bit_is_kept()
+    ensures { MariadbsBitIsKept }
+{}
+
+/// A cursor ends the rows of an execution.
+///
+/// Excluded: rows that are awaited for ever.
+pub fn cursors_end_rows()
+    ensures { CursorsEndRows }
 {}

@@ -33,7 +33,7 @@ pub fn no_byte_stands_behind_a_row()
     ensures { NoByteStandsBehindARow }
 {}
 
-/// Rows that are kept stand one after another.
+/// Rows that are kept come one after another.
 ///
 /// Excluded: a second row whose payload begins where the first one's does.
 pub fn kept_rows_stand_apart()

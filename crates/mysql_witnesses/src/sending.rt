@@ -1,4 +1,4 @@
-//! Sending: bulk requests, streams of commands, recodings, and what stands after a refusal.
+//! Sending: bulk requests, streams of commands, recodings, and what stays after a refusal.
 
 ghost use Rattle.std.specs.Prelude.{◌≡◌, ◌≤◌};
 ghost use Rattle.std.specs.Bool.{OnFalse};
@@ -31,9 +31,9 @@ pub fn requests_are_full_and_not_more()
     whole_is_tight();
 }
 
-/// What a failed writer took of requests is a front of those of the tight cut.
+/// What a failed writer took of requests is a prefix of those of the tight cut.
 ///
-/// Excluded: a front of the request of the first set alone.
+/// Excluded: a prefix of the request of the first set alone.
 pub fn fronts_are_of_the_tight_cut()
     ensures { FrontsAreOfTheTightCut }
 {}
@@ -87,7 +87,8 @@ pub fn writers_take_whole_sets()
     ensures refusals { RefusedSetsAreNotFlushed }
 {}
 
-/// A set is refused before it is written, and a query isn't refused for how its placeholders stand.
+/// A set is refused before it is written, and a query isn't refused for what is beside its
+/// placeholders.
 ///
 /// Excluded: a refusal that counts a set as written, and one for a placeholder that isn't alone.
 pub fn refusals_come_in_time()
@@ -95,7 +96,7 @@ pub fn refusals_come_in_time()
     ensures queries { KeptQueriesMayRunTogether }
 {}
 
-/// Sets that are refused leave the bytes that stood before them.
+/// Sets that are refused leave the bytes that were there before.
 ///
 /// Excluded: what was written of them before the refusal.
 pub fn refused_sets_leave_no_bytes(

@@ -8,7 +8,7 @@ ghost use Rattle.mysql_witnesses.specs.SessionReplies.{LaterColumnsStand, Nothin
 ghost use Rattle.mysql_witnesses.specs.SessionReplies.{NumbersCountChunks, RowsEndByTheCapabilities};
 ghost use Rattle.mysql_witnesses.specs.SessionReplies.{RowsMayBeginWithFe};
 
-/// The columns of a result set are kept as they come, and stand behind the last.
+/// The columns of a result set are kept as they come, and are in force behind the last.
 ///
 /// Excluded: a reader that goes on without a column, and later rows by the first columns.
 pub fn columns_stand_as_they_came()
@@ -23,16 +23,16 @@ pub fn rows_may_begin_with_fe()
     ensures { RowsMayBeginWithFe }
 {}
 
-/// An event isn't put whose payload reads as another one, and none is bad where nothing is due.
+/// An event isn't put whose payload reads as another one, and none is bad where nothing may come.
 ///
-/// Excluded: an OK packet with an info of no bytes, a line fb, and a cause in the other's place.
+/// Excluded: an OK packet with an info of no bytes, a line fb, and one cause instead of the other.
 pub fn events_that_read_otherwise_are_not_put()
     ensures infos { EmptyInfosAreNotPut }
     ensures lines { EventsThatReadOtherwiseAreNotPut }
     ensures due { NothingIsBadWhereNothingIsDue }
 {}
 
-/// What ends rows, and what stands before and behind columns, goes by the capabilities.
+/// What ends rows, and what comes before and behind columns, goes by the capabilities.
 ///
 /// Excluded: an EOF packet at the end of rows, MariaDB's order of a count, and no EOF behind columns.
 #[tactic(auto, unfolding(crate::proofs::OnLiterals::packets_on_literals))]

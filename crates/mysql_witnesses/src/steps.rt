@@ -74,7 +74,7 @@ pub fn ids_are_the_servers()
     ensures { IdsAreTheServers }
 {}
 
-/// Behind a dump that is refused a command is due.
+/// Behind a dump that is refused a command comes next.
 ///
 /// Excluded: a connection that is over.
 pub fn refused_dumps_go_on()

@@ -5,16 +5,16 @@ ghost use Rattle.mysql_witnesses.specs.Streams.{NoMoreIsKeptThanTheLimit, Payloa
 ghost use Rattle.mysql_witnesses.specs.Streams.{PipelinedCommandsWait, RepliesAreNumberedOn};
 ghost use Rattle.mysql_witnesses.specs.Streams.{TurnsAreOfPhases};
 
-/// A payload stands behind its packet's header, and the number behind it is one more.
+/// A payload comes behind its packet's header, and the number behind it is one more.
 ///
-/// Excluded: a row with a byte of its header, and one behind which its own number is due.
+/// Excluded: a row with a byte of its header, and one behind which its own number comes next.
 pub fn payloads_stand_behind_headers()
     ensures { PayloadsStandBehindHeaders }
 {}
 
 /// A packet's chunks are numbered on, up to one that isn't full.
 ///
-/// Excluded: a later chunk whose number isn't looked at, and a full one behind which nothing is due.
+/// Excluded: a later chunk whose number isn't looked at, and a full one behind which nothing comes.
 pub fn chunks_go_on_behind_full_ones()
     ensures numbers { LaterChunksAreNumberedOn }
     ensures ends { FullChunksGoOn }
@@ -42,7 +42,7 @@ pub fn pipelined_commands_wait()
     ensures { PipelinedCommandsWait }
 {}
 
-/// Whose payload is due is decided by what was said.
+/// Whose turn it is follows from what was said.
 ///
 /// Excluded: turns by what was fed.
 pub fn turns_are_of_phases()

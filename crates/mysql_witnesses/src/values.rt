@@ -20,7 +20,7 @@ pub fn quotes_are_written_by_the_mode()
     ensures by_default { QuotesAreEscapedElse }
 {}
 
-/// No bytes stand in quotes, in hexadecimal spelling too.
+/// No bytes are written in quotes, in hexadecimal spelling too.
 ///
 /// Excluded: `0x`, also behind an introducer, which is no literal.
 pub fn no_bytes_stand_in_quotes()
@@ -62,7 +62,7 @@ pub fn large_numbers_stay_positive()
 
 /// A value that holds no duration comes back as it was given.
 ///
-/// Excluded: NULL in its place.
+/// Excluded: NULL instead.
 pub fn a_refused_value_comes_back(value: Value) -> Option<Value>
     ensures { IfSome result (λ back. back ≡ value) }
 {
@@ -74,7 +74,7 @@ pub fn a_refused_value_comes_back(value: Value) -> Option<Value>
 
 /// A list of 1 and 2 makes a set of 1 and 2.
 ///
-/// Excluded: its first value at each place.
+/// Excluded: its first value at each position.
 pub fn each_place_has_its_value()
     ensures { EachPlaceHasItsValue }
 {}

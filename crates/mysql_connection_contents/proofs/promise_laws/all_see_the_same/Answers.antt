@@ -9,4 +9,7 @@ returns c = all_see_the_same (record {
   reads = c.puts_are_read.ensures;
   numbers = c.numbers_are_bytes.ensures;
   agree = c.three_agree.ensures;
+  found = c.framings_are_found.ensures;
+  hear = c.runs_are_heard.ensures.heard;
+  say = c.delivered_sets_are_said.ensures;
 })
