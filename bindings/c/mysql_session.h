@@ -3,13 +3,13 @@
  * whole connections, read as events and put.
  *
  * The library is compiled from proved code (crates/mysql_c). Each call below is an export whose
- * contract says of the object that a handle stands for what the library's own call promises. What
- * no contract can say stands here, and the program that calls owes it: which pointers are good,
+ * contract says of the object that a handle refers to what the library's own call promises. What
+ * no contract can say is here, and the program that calls owes it: which pointers are good,
  * and for how long.
  *
  * Handles. A handle is one pointer that the library writes; the program keeps it and hands its
- * address to each call. It starts as MYSQL_SESSION_NOTHING, which stands for no object, and is
- * that again after mysql_session_free. A call on a handle that stands for nothing, or for an
+ * address to each call. It starts as MYSQL_SESSION_NOTHING, which refers to no object, and is
+ * that again after mysql_session_free. A call on a handle that refers to nothing, or to an
  * object of another kind, answers a code and changes nothing. Never use two copies of a handle,
  * never change its pointer, and keep it in the thread that made it. Calls in different threads on
  * different handles share nothing. All handles of a call are different ones: the same handle
@@ -28,7 +28,7 @@
  * Bytes come out as a pointer and a length. They belong to the handle, are never written to, and
  * stay as they are until the next call on that handle. A pointer to no bytes must not be read.
  *
- * Each call answers a code. MYSQL_SESSION_OK is 0; the others stand in enum mysql_session_code.
+ * Each call answers a code. MYSQL_SESSION_OK is 0; the others are in enum mysql_session_code.
  * Where two of a call's codes hold, it isn't said which is the answer, but where the call says so.
  */
 #ifndef MYSQL_SESSION_H
@@ -59,7 +59,7 @@ uint32_t mysql_session_abi(void);
  * `bindings/build` makes it without --proved. */
 uint32_t mysql_session_build(void);
 
-/* The version of the library that is called, and its length without the NUL byte that stands behind
+/* The version of the library that is called, and its length without the NUL byte behind
  * it. It is good as long as the program runs. */
 void mysql_session_version(const uint8_t **text, size_t *len);
 
@@ -69,7 +69,7 @@ typedef struct mysql_session_handle {
 
 #define MYSQL_SESSION_NOTHING { NULL }
 
-/* Frees the object that the handle stands for. The handle stands for nothing then, so that a
+/* Frees the object that the handle refers to. The handle refers to nothing then, so that a
  * second call does nothing. */
 void mysql_session_free(mysql_session_handle *handle);
 
@@ -79,17 +79,17 @@ enum mysql_session_code {
     MYSQL_SESSION_OK = 0,
     /* A growth of memory was refused. */
     MYSQL_SESSION_MEMORY = 1,
-    /* The handle stands for nothing. */
+    /* The handle refers to nothing. */
     MYSQL_SESSION_EMPTY_HANDLE = 2,
-    /* The handle stands for an object of another kind. */
+    /* The handle refers to an object of another kind. */
     MYSQL_SESSION_OTHER_KIND = 3,
-    /* There is no set, place or column of this number. */
+    /* There is no set, placeholder or column of this number. */
     MYSQL_SESSION_OUT_OF_RANGE = 4,
     /* The limit is below 4. */
     MYSQL_SESSION_LIMIT_TOO_SMALL = 5,
     /* The query has both names and question marks as placeholders. */
     MYSQL_SESSION_MIXED = 6,
-    /* There is no road of this number. */
+    /* There is no method of this number. */
     MYSQL_SESSION_NO_SUCH_ROAD = 7,
     /* There is no kind of this number: of a command, of a value, of a column. */
     MYSQL_SESSION_NO_SUCH_KIND = 8,
@@ -122,15 +122,15 @@ enum mysql_session_code {
     MYSQL_SESSION_FAULT_PIECES_BEFORE_BULK = 118,
 
     /* Why parameter sets are not sent, in the order in which the causes are looked for. */
-    MYSQL_SESSION_REFUSED_NOT_ALONE = 200,         /* a place; by text */
+    MYSQL_SESSION_REFUSED_NOT_ALONE = 200,         /* a placeholder; by text */
     MYSQL_SESSION_REFUSED_TOO_MANY_PLACES = 201,   /* by execute and bulk */
     MYSQL_SESSION_REFUSED_PREPARE_TOO_LARGE = 202, /* by execute and bulk */
     MYSQL_SESSION_REFUSED_NO_PLACES = 203,         /* by bulk */
     MYSQL_SESSION_REFUSED_PARAMS = 204,            /* a set: it gives the query no values */
     MYSQL_SESSION_REFUSED_WRONG_COUNT = 205,       /* a set */
-    MYSQL_SESSION_REFUSED_FLOAT = 206,             /* a set and a place */
+    MYSQL_SESSION_REFUSED_FLOAT = 206,             /* a set and a placeholder */
     MYSQL_SESSION_REFUSED_PACKET_TOO_LARGE = 207,  /* a set */
-    MYSQL_SESSION_REFUSED_MIXED_KINDS = 208,       /* a set and a place; by bulk */
+    MYSQL_SESSION_REFUSED_MIXED_KINDS = 208,       /* a set and a placeholder; by bulk */
     MYSQL_SESSION_REFUSED_ROW_TOO_LARGE = 209,     /* a set; by bulk */
 
     /* Faults of a reply. */
@@ -166,7 +166,7 @@ enum mysql_session_code {
 
     /* Faults of a connection; one of a reply's payload is a REPLY_BAD_.. from 302 to 309. */
     MYSQL_SESSION_CONNECTION_TOO_LARGE = 510,    /* a payload is longer than its side's limit */
-    MYSQL_SESSION_CONNECTION_OUT_OF_SYNC = 511,  /* a packet's number isn't the one that is due */
+    MYSQL_SESSION_CONNECTION_OUT_OF_SYNC = 511,  /* a packet's number isn't the expected one */
     MYSQL_SESSION_CONNECTION_OLD_PROTOCOL = 512, /* the protocol isn't that of version 4.1 */
     MYSQL_SESSION_CONNECTION_BAD_GREETING = 513,
     MYSQL_SESSION_CONNECTION_BAD_LOGIN = 514,
@@ -174,13 +174,13 @@ enum mysql_session_code {
     MYSQL_SESSION_CONNECTION_UNASKED = 516,      /* the server says what nothing asked for */
     MYSQL_SESSION_CONNECTION_KEPT = 517,         /* more would be kept than the limit leaves */
     MYSQL_SESSION_CONNECTION_AFTER_QUIT = 518,   /* the client says more behind a quit */
-    MYSQL_SESSION_CONNECTION_NOT_DUE = 519,      /* no payload of that side of a reply is due */
+    MYSQL_SESSION_CONNECTION_NOT_DUE = 519,      /* that side of a reply has no payload now */
 
     /* Why a payload isn't put on a connection; or one of the faults above. */
     MYSQL_SESSION_CONNECTION_NOT_ITS_TURN = 520  /* it isn't the turn of this side's payload */
 };
 
-/* The text of a code in English, and its length without the NUL byte that stands behind it. It is
+/* The text of a code in English, and its length without the NUL byte behind it. It is
  * good as long as the program runs. Of a number that is no code it is "no such code". */
 void mysql_session_code_text(uint32_t code, const uint8_t **text, size_t *len);
 
@@ -261,11 +261,12 @@ typedef struct mysql_session_end {
     uint64_t payload;
 } mysql_session_end;
 
-/* Makes the handle stand for a receiver of a stream of commands about this query, whose statement
- * was given this id. What the handle stood for before is freed; where the answer isn't OK it stays.
- * The limit is the max_allowed_packet of the receiving side, at least 4. The query is copied. The
- * flags (of mysql_session_flag) tell the mode of the server that the stream was sent to. For one in
- * another mode texts, and the query's placeholders, may be others than this receiver reads.
+/* Makes the handle refer to a receiver of a stream of commands about this query, whose statement
+ * was given this id. What the handle referred to before is freed; where the answer isn't OK it
+ * stays. The limit is the max_allowed_packet of the receiving side, at least 4. The query is
+ * copied. The flags (of mysql_session_flag) tell the mode of the server that the stream was sent
+ * to. For one in another mode texts, and the query's placeholders, may be others than this receiver
+ * reads.
  * Answers OK, NO_SUCH_MODE (before any other), LIMIT_TOO_SMALL (before the rest), MEMORY, MIXED. */
 uint32_t mysql_session_receiver_new(mysql_session_handle *handle, const uint8_t *query,
                                     size_t len, uint32_t statement, size_t limit, uint32_t flags);
@@ -282,7 +283,7 @@ uint32_t mysql_session_receiver_sets(mysql_session_handle *handle, size_t *count
 /* How many contents the set of this number, from 0, has. Answers OK, OUT_OF_RANGE, .. */
 uint32_t mysql_session_receiver_width(mysql_session_handle *handle, size_t set, size_t *width);
 
-/* The content at a place of a set, both from 0. Its bytes are good until the next call on the
+/* The content at a position of a set, both from 0. Its bytes are good until the next call on the
  * handle other than mysql_session_receiver_sets, _width and _content. Answers OK, OUT_OF_RANGE
  * (also of a number of more than 64 bits, which no stream carries), .. */
 uint32_t mysql_session_receiver_content(mysql_session_handle *handle, size_t set, size_t place,
@@ -292,13 +293,13 @@ uint32_t mysql_session_receiver_content(mysql_session_handle *handle, size_t set
  * mysql_session_receiver_end it answers OTHER_KIND. */
 uint32_t mysql_session_receiver_clear(mysql_session_handle *handle);
 
-/* Ends the stream, and tells how. The handle stands for the audit then: it has the sets that
+/* Ends the stream, and tells how. The handle refers to the audit then: it has the sets that
  * weren't let go, takes no piece, and tells its end again. */
 uint32_t mysql_session_receiver_end(mysql_session_handle *handle, mysql_session_end *end);
 
 /* ---- Parameter sets, put together value by value --------------------------------------------- */
 
-/* Makes the handle stand for no sets. What it stood for before is freed. Answers OK, MEMORY.
+/* Makes the handle refer to no sets. What it referred to before is freed. Answers OK, MEMORY.
  * Sets have values by their order: they are sent for a query whose placeholders are question marks,
  * and one with names is refused by REFUSED_PARAMS. (Receivers and recoders take both.) */
 uint32_t mysql_session_sets_new(mysql_session_handle *handle);
@@ -323,7 +324,7 @@ uint32_t mysql_session_sets_push_time(mysql_session_handle *handle, bool negativ
                                       uint8_t hours, uint8_t minutes, uint8_t seconds,
                                       uint32_t micros);
 
-/* Ends the next set: its values stand behind the sets before it. Also a set of no values. */
+/* Ends the next set: its values come behind the sets before it. Also a set of no values. */
 uint32_t mysql_session_sets_end_set(mysql_session_handle *handle);
 
 /* A value of an array: its kind (of mysql_session_kind or mysql_session_value_kind), and the fields
@@ -363,7 +364,7 @@ uint32_t mysql_session_sets_clear(mysql_session_handle *handle);
 
 /* ---- Bytes that the library wrote ------------------------------------------------------------ */
 
-/* Makes the handle stand for no bytes. What it stood for before is freed. Answers OK, MEMORY. */
+/* Makes the handle refer to no bytes. What it referred to before is freed. Answers OK, MEMORY. */
 uint32_t mysql_session_bytes_new(mysql_session_handle *handle);
 
 /* The bytes, which belong to the handle and are good until the next call on it other than
@@ -402,7 +403,7 @@ typedef struct mysql_session_place {
  * server.
  * Answers OK, or why nothing is appended, by the first that holds: EMPTY_HANDLE or OTHER_KIND of
  * `sets`, then of `out`. Then come NO_SUCH_ROAD, NO_SUCH_MODE, LIMIT_TOO_SMALL, MIXED, REFUSED_..
- * with the set and the place. Or it is MEMORY. */
+ * with the set and the placeholder. Or it is MEMORY. */
 uint32_t mysql_session_send(mysql_session_handle *sets, const uint8_t *query, size_t len,
                             uint32_t road, uint32_t statement, size_t limit, uint32_t flags,
                             mysql_session_handle *out, mysql_session_place *place);
@@ -449,7 +450,7 @@ typedef struct mysql_session_stop {
     size_t set;
 } mysql_session_stop;
 
-/* Makes the handle stand for a recoder of a stream of commands about this query, whose statement
+/* Makes the handle refer to a recoder of a stream of commands about this query, whose statement
  * was given this id. The flags tell the mode of the server that the stream was sent to, as those of
  * mysql_session_receiver_new do. What is recoded is safe for any server that reads the query's own
  * text as one in this mode does.
@@ -466,7 +467,7 @@ uint32_t mysql_session_recoder_feed(mysql_session_handle *handle, const uint8_t 
                                     mysql_session_handle *out, mysql_session_stop *stop);
 
 /* Ends the stream: where it carried no set the prepare is appended to the bytes of `out`. The
- * handle stands for nothing then, also where the answer is UNFINISHED, what a feed refused, or
+ * handle refers to nothing then, also where the answer is UNFINISHED, what a feed refused, or
  * MEMORY. With a handle `out` of another kind nothing has changed. */
 uint32_t mysql_session_recoder_end(mysql_session_handle *handle, mysql_session_handle *out,
                                    mysql_session_stop *stop);
@@ -615,7 +616,7 @@ enum mysql_session_state_type {
     MYSQL_SESSION_SESSION_TRACK_TRANSACTION_STATE = 5
 };
 
-/* Some collations by their ids. A server lists all of its own in information_schema.COLLATIONS. */
+/* Some collations by their ids. A server lists all that it has in information_schema.COLLATIONS. */
 enum mysql_session_collation {
     MYSQL_SESSION_COLLATION_LATIN1_SWEDISH_CI = 8,
     MYSQL_SESSION_COLLATION_ASCII_GENERAL_CI = 11,
@@ -643,7 +644,10 @@ enum mysql_session_result_kind {
                                         * warnings, states and text of the packet that ends them */
     MYSQL_SESSION_RESULT_PREPARED = 2, /* statement, params, columns, warnings */
     MYSQL_SESSION_RESULT_ERROR = 3,    /* error_code, state, and the message as text */
-    MYSQL_SESSION_RESULT_FILE = 4      /* the file's name as text */
+    MYSQL_SESSION_RESULT_FILE = 4,     /* the file's name as text */
+    MYSQL_SESSION_RESULT_RAW_ROWS = 5  /* as rows, but their columns aren't known: the server left
+                                        * them out, by MySQL's optional metadata. Their bytes aren't
+                                        * shown */
 };
 
 typedef struct mysql_session_result {
@@ -665,7 +669,7 @@ typedef struct mysql_session_result {
     bool ended;          /* of rows: the packet that ends them came; else true */
 } mysql_session_result;
 
-/* Makes the handle stand for a reader of the reply to a command of this kind (of
+/* Makes the handle refer to a reader of the reply to a command of this kind (of
  * mysql_session_reply_kind), whose first chunk has the number `first`. The capabilities are those
  * that client and server agreed on: they say how packets are read. A payload has at most `limit`
  * bytes, any number; a longer one is the fault REPLY_TOO_LARGE. Answers OK, NO_SUCH_KIND (before
@@ -677,7 +681,7 @@ uint32_t mysql_session_reply_new(mysql_session_handle *handle, uint32_t kind,
  * fault, and changes nothing), MEMORY (a fault too), EMPTY_HANDLE, OTHER_KIND. */
 uint32_t mysql_session_reply_feed(mysql_session_handle *handle, const uint8_t *piece, size_t len);
 
-/* Takes the results so far: those that stand whole, and of a result set that goes on its rows so
+/* Takes the results so far: those that are whole, and of a result set that goes on its rows so
  * far. They are numbered from 0; those that were taken before are freed, and so are the progress
  * reports that came. After mysql_session_reply_end it answers OTHER_KIND. */
 uint32_t mysql_session_reply_take(mysql_session_handle *handle);
@@ -776,7 +780,7 @@ typedef struct mysql_session_spot {
     uint64_t payload;
 } mysql_session_spot;
 
-/* Makes the handle stand for a writer of the reply to a command of this kind (of
+/* Makes the handle refer to a writer of the reply to a command of this kind (of
  * mysql_session_reply_kind) for a client with these capabilities. The reply's first chunk has the
  * number `first`; a payload has at most `limit` bytes, any number. Answers OK, NO_SUCH_KIND (before
  * any other), MEMORY. */
@@ -784,10 +788,9 @@ uint32_t mysql_session_writer_new(mysql_session_handle *handle, uint32_t kind,
                                   uint32_t capabilities, uint8_t first, size_t limit);
 
 /* Each appends to the bytes of `out` the packets of the next result, or of a part of it. Or it
- * appends nothing and tells why: by MEMORY, EMPTY_HANDLE, OTHER_KIND or one of WRITE_.., whose
- * place `spot` has.
- * SERVER_MORE_RESULTS_EXISTS is set or cleared in a status by `more`. An error's SQL state has five
- * bytes or none; else BAD_PACKET is the answer, before any other. For a client with
+ * appends nothing and tells why: by MEMORY, EMPTY_HANDLE, OTHER_KIND or one of WRITE_..; `spot`
+ * says where. SERVER_MORE_RESULTS_EXISTS is set or cleared in a status by `more`. An error's SQL
+ * state has five bytes or none; else BAD_PACKET is the answer, before any other. For a client with
  * CLIENT_PROTOCOL_41 an error without a state is written with HY000. */
 uint32_t mysql_session_writer_ok(mysql_session_handle *handle, uint64_t affected_rows,
                                  uint64_t last_insert_id, uint16_t status, uint16_t warnings,
@@ -824,22 +827,22 @@ uint32_t mysql_session_writer_prepared(mysql_session_handle *handle, uint32_t st
                                        size_t params, uint16_t warnings, mysql_session_handle *out,
                                        mysql_session_spot *spot);
 
-/* Whether the reply stands whole: OK, or WRITE_NO_RESULTS, WRITE_NOT_ENDED. */
+/* Whether the reply is whole: OK, or WRITE_NO_RESULTS, WRITE_NOT_ENDED. */
 uint32_t mysql_session_writer_end(mysql_session_handle *handle, mysql_session_spot *spot);
 
 /* ---- Packets: a stream cut into payloads, and payloads framed -------------------------------- */
 
-/* Makes the handle stand for a reader of packets, of which the first chunk has the number `first`.
+/* Makes the handle refer to a reader of packets, of which the first chunk has the number `first`.
  * A payload has at most `limit` bytes, any number. Answers OK, MEMORY. */
 uint32_t mysql_session_packets_new(mysql_session_handle *handle, uint8_t first, size_t limit);
 
 /* Reads on to the end of the next packet, and tells how many bytes of the piece it used. `whole` is
- * true where a payload stands whole then; else all of the piece was used. Answers OK,
+ * true where a payload is whole then; else all of the piece was used. Answers OK,
  * FAULT_TOO_LARGE, FAULT_OUT_OF_SYNC, MEMORY (each from then on), EMPTY_HANDLE, OTHER_KIND. */
 uint32_t mysql_session_packets_feed(mysql_session_handle *handle, const uint8_t *piece, size_t len,
                                     size_t *used, bool *whole);
 
-/* The payload that stands whole, or no bytes. It is good until the next call on the handle other
+/* The payload that is whole, or no bytes. It is good until the next call on the handle other
  * than this one. */
 uint32_t mysql_session_packets_payload(mysql_session_handle *handle, const uint8_t **data,
                                        size_t *len);
@@ -961,9 +964,10 @@ uint32_t mysql_session_binlog_dump_gtid_put(mysql_session_handle *out, uint32_t 
 /* ---- Whole connections ----------------------------------------------------------------------- */
 
 /* A connection is fed the bytes of both of its sides, in any pieces and order. It tells what was
- * said: each payload is one event. In each state one side's payload is due. What comes of the other
- * waits until its turn, so the events don't depend on how the bytes arrive. Payloads are put on it
- * too: a client puts what it asks, and feeds what the server sends; a server does the reverse.
+ * said: each payload is one event. In each state one side's payload comes next. What comes of the
+ * other waits until its turn, so the events don't depend on how the bytes arrive. Payloads are put
+ * on it too: a client puts what it asks, and feeds what the server sends; a server does the
+ * reverse.
  *
  * Its handle has another type, and begins as MYSQL_SESSION_NOTHING too. What is said above of
  * handles holds for it. No call looks whether it got a handle of the other type by a cast: that is
@@ -979,14 +983,14 @@ enum mysql_session_side {
     MYSQL_SESSION_NOBODY = 2
 };
 
-/* Makes the handle stand for a connection of which no byte came. What it stood for before is freed.
- * `client` and `server` are the longest payloads of the sides. `held` limits what is held in all.
- * Of each side as much waits unread as its longest payload takes with its headers. What `held`
+/* Makes the handle refer to a connection of which no byte came. What it referred to before is
+ * freed. `client` and `server` are the longest payloads of the sides. `held` limits what is held in
+ * all. Of each side as much waits unread as its longest payload takes with its headers. What `held`
  * leaves beside both is for what is kept of statements, columns and long data. Take twice as much
  * as both. Where nothing is left, no statement is prepared and no column is read: CONNECTION_KEPT.
- * It counts payloads, not memory. What is kept takes up to 25 bytes of memory for each byte counted.
- * One event takes up to 320 for each byte of its payload, until the next call. These were measured
- * (docs/COSTS.md), and no contract has them.
+ * It counts payloads, not memory. What is kept takes up to 25 bytes of memory for each byte
+ * counted. One event takes up to 320 for each byte of its payload, until the next call. These were
+ * measured (docs/COSTS.md), and no contract has them.
  * Answers OK, MEMORY. */
 uint32_t mysql_session_connection_new(mysql_session_connection *connection, size_t client,
                                       size_t server, size_t held);
@@ -1016,7 +1020,7 @@ uint32_t mysql_session_connection_close(mysql_session_connection *connection, ui
  * last_insert_id, status, warnings, text (their info) and data (changes of the session's state as
  * the packet has them). Errors have error_code, state and text (the message). */
 enum mysql_session_event_kind {
-    /* None: the payload that is due isn't there whole, or the connection is over. */
+    /* None: the next payload isn't there whole, or the connection is over. */
     MYSQL_SESSION_EVENT_NONE = 0,
     MYSQL_SESSION_EVENT_REJECTED = 1, /* an error in place of a greeting */
     /* text (the server's version), number (the connection's id), capabilities,
@@ -1082,7 +1086,7 @@ enum mysql_session_event_kind {
                                                   * a cursor, others unnamed), number (the iteration
                                                   * count), data (behind the last value), text (of
                                                   * its prepare) */
-    MYSQL_SESSION_EVENT_LONG_DATA = 0x118,       /* statement, number (the place), data */
+    MYSQL_SESSION_EVENT_LONG_DATA = 0x118,       /* statement, number (the placeholder), data */
     MYSQL_SESSION_EVENT_CLOSE = 0x119,           /* statement */
     MYSQL_SESSION_EVENT_RESET_STATEMENT = 0x11a, /* statement */
     MYSQL_SESSION_EVENT_SET_OPTION = 0x11b,      /* number */
@@ -1141,32 +1145,32 @@ typedef struct mysql_session_event {
 uint32_t mysql_session_connection_next(mysql_session_connection *connection,
                                        mysql_session_event *event);
 
-/* Puts a payload of a side, where one of it is due. It appends the packets to the bytes of `out`,
- * with the numbers that are due, and goes on as if they had come. The event that it says is shown
- * as _next shows events, and the calls below are about it. A server's last words, an error where no
- * answer is due, can't be put so.
+/* Puts a payload of a side at its turn. It appends the packets to the bytes of `out`,
+ * with the next numbers, and goes on as if they had come. The event that it says is shown
+ * as _next shows events, and the calls below are about it. A server's last words, an error that
+ * answers nothing, can't be put so.
  * Answers OK, or why it isn't put. Then nothing has changed: neither the connection nor `out`, nor
  * the event that was told last. The first that holds of these is the answer: NO_SUCH_KIND (of a
  * side), EMPTY_HANDLE, OTHER_KIND (of `out`), CONNECTION_NOT_ITS_TURN, CONNECTION_TOO_LARGE. Then
  * come the fault of a payload that can't be read here, CONNECTION_KEPT and MEMORY.
  * CONNECTION_NOT_ITS_TURN is the answer where it isn't the turn of this side, or bytes of it wait
- * unread. It is so too where its stream has ended or the connection has failed.
+ * unread. The same is the answer where its stream has ended or the connection has failed.
  * No command is such a payload. One that is laid out as none, as an execution of a statement that
  * isn't known, is put, and the event is EVENT_OTHER. A server answers it by an error. */
 uint32_t mysql_session_connection_put(mysql_session_connection *connection, uint32_t side,
                                       const uint8_t *payload, size_t len,
                                       mysql_session_handle *out, mysql_session_event *event);
 
-/* Puts the payloads of packets of a side, one after another, as long as they are due, as _put does
- * each. `packets` are whole packets as the calls that send and the writers of replies append them.
- * Their numbers may be any; within a payload of more than one packet they go on. After OK `used`
- * tells how many of the bytes were taken: all, or those before the first packet whose turn hasn't
- * come. Put the rest once it has; what is cut off at the end is left. No event is shown: the calls
- * below stay about the one that was told last. So nothing tells of a command that is laid out as
- * none. See before that _statement knows the statement. See by _standing that the capabilities are
- * those for which the packets are laid out, as mysql_session_send says.
- * Answers OK, or why the packet isn't put that stands behind `used` bytes: those before it were
- * put, and what was appended of them stands. CONNECTION_TOO_LARGE, CONNECTION_OUT_OF_SYNC (the
+/* Puts the payloads of packets of a side, one after another, as long as it is its turn, as _put
+ * does each. `packets` are whole packets as the calls that send and the writers of replies append
+ * them. Their numbers may be any; within a payload of more than one packet they go on. After OK
+ * `used` tells how many of the bytes were taken: all, or those before the first packet whose turn
+ * hasn't come. Put the rest once it has; what is cut off at the end is left. No event is shown: the
+ * calls below stay about the one that was told last. So nothing tells of a command that is laid out
+ * as none. See before that _statement knows the statement. See by _standing that the capabilities
+ * are those for which the packets are laid out, as mysql_session_send says.
+ * Answers OK, or why the packet behind `used` bytes isn't put: those before it were put, and
+ * what was appended of them stays. CONNECTION_TOO_LARGE, CONNECTION_OUT_OF_SYNC (the
  * numbers of a payload's own packets), the fault of a payload that can't be read here,
  * CONNECTION_KEPT, MEMORY. Before any other NO_SUCH_KIND, EMPTY_HANDLE, OTHER_KIND, when `used`
  * stays as it was. */
@@ -1180,9 +1184,9 @@ enum mysql_session_bulk_kind {
     MYSQL_SESSION_IGNORE = 9   /* the column stays as it is */
 };
 
-/* A value of the event that was told last. It is the cell at a place of a row, or what a parameter
- * holds in a row of an execution. All are counted from 0. Only bulk executions have more rows than
- * one. Answers OK, OUT_OF_RANGE, EMPTY_HANDLE. */
+/* A value of the event that was told last. It is the cell at a position of a row, or what a
+ * parameter holds in a row of an execution. All are counted from 0. Only bulk executions have more
+ * rows than one. Answers OK, OUT_OF_RANGE, EMPTY_HANDLE. */
 uint32_t mysql_session_connection_value(mysql_session_connection *connection, size_t row,
                                         size_t place, mysql_session_value *value);
 
@@ -1217,7 +1221,7 @@ uint32_t mysql_session_connection_column(mysql_session_connection *connection, s
                                          mysql_session_column *column);
 
 /* The event that was told last as a line of text, without its end: whose it is, its name, its
- * fields. Behind mysql_session_connection_finish it is how the connection stands, as `end Whole`.
+ * fields. Behind mysql_session_connection_finish it is the state of the connection, as `end Whole`.
  * Of data of an authentication, but for a greeting's scramble, it has the length, as `(20 bytes)`.
  * So it has of a replica's password. The texts of statements are as they were sent, with passwords
  * in them. Answers OK, OUT_OF_RANGE (no event was told), MEMORY, EMPTY_HANDLE. */
@@ -1229,7 +1233,7 @@ uint32_t mysql_session_connection_line(mysql_session_connection *connection,
 uint32_t mysql_session_connection_line_with_secrets(mysql_session_connection *connection,
                                                     const uint8_t **text, size_t *len);
 
-/* What is due on a connection. */
+/* What comes next on a connection. */
 enum mysql_session_phase {
     MYSQL_SESSION_PHASE_GREETING = 0,
     MYSQL_SESSION_PHASE_RESPONSE = 1,
@@ -1253,7 +1257,7 @@ enum mysql_session_reason {
     MYSQL_SESSION_REASON_FAREWELL = 7
 };
 
-/* How a connection is: whose payload is due (of mysql_session_side), what is due, why it is over if
+/* How a connection is: whose turn it is (of mysql_session_side), what comes next, why it is over if
  * it is, and the capabilities in force. Then the fault that was found: its code, or OK; its side;
  * the byte of that side's stream at which its packet begins. Then how many bytes of each side a
  * feed takes now, and how many are held. */
@@ -1295,11 +1299,11 @@ uint32_t mysql_session_connection_statement(mysql_session_connection *connection
 uint32_t mysql_session_connection_rest(mysql_session_connection *connection, uint32_t side,
                                        const uint8_t **data, size_t *len);
 
-/* How a connection stands once both of its streams have ended. */
+/* The state of a connection once both of its streams have ended. */
 enum mysql_session_connection_end_kind {
     MYSQL_SESSION_CONNECTION_OVER = 0,       /* `reason` says why */
     MYSQL_SESSION_CONNECTION_WHOLE = 1,      /* a command was due, and all bytes were read */
-    MYSQL_SESSION_CONNECTION_UNFINISHED = 2, /* a payload of `side` is due, and isn't whole */
+    MYSQL_SESSION_CONNECTION_UNFINISHED = 2, /* a payload of `side` comes next, and isn't whole */
     MYSQL_SESSION_CONNECTION_FAULT = 3,      /* `fault`, a code, `side` and `byte` */
     MYSQL_SESSION_CONNECTION_UNREAD = 4      /* _next has an event or a fault to tell */
 };
@@ -1312,7 +1316,7 @@ typedef struct mysql_session_connection_end {
     uint64_t byte;
 } mysql_session_connection_end;
 
-/* Ends both streams, and tells how the connection stands; take all events before. Answers OK,
+/* Ends both streams, and tells how the connection ended; take all events before. Answers OK,
  * EMPTY_HANDLE. */
 uint32_t mysql_session_connection_finish(mysql_session_connection *connection,
                                          mysql_session_connection_end *end);

@@ -107,9 +107,9 @@ __all__ = [
     "NextFactorEvent", "Ok", "OkEvent", "OldAuthSwitchEvent", "OtherEvent", "PacketReader",
     "Parameter", "ParameterSets", "Params", "Phase", "PluginDataEvent", "positional", "Prepared",
     "PreparedEvent", "PrepareEvent", "ProgressEvent", "Put", "put_greeting", "put_login",
-    "put_packet", "QueryEvent", "QuitEvent", "RawRowEvent", "read_greeting", "read_login",
-    "read_reply", "Reason", "Receiver", "recode", "Recoder", "register_replica", "RejectedEvent",
-    "ReplyKind", "ReplyReader", "ReplyWriter", "ResetStatementEvent", "Result", "Road", "RowError",
+    "put_packet", "QueryEvent", "QuitEvent", "RawRowEvent", "RawRows", "read_greeting",
+    "read_login", "read_reply", "Reason", "Receiver", "recode", "Recoder", "register_replica",
+    "RejectedEvent", "ReplyKind", "ReplyReader", "ReplyWriter", "ResetStatementEvent", "Result", "Road", "RowError",
     "RowEvent", "Rows", "rows_as", "rows_as_dicts", "rows_as_tuples", "RowsEndEvent",
     "SecureRequestEvent", "send", "ServerError", "Side", "Spelling", "State", "Statement",
     "StateType", "Status", "Table", "Text", "TimeFields", "ValueRows", "Values",
@@ -242,7 +242,7 @@ class Road(_Numbers):
 
 class Spelling(_Numbers):
     """How byte strings are spelled where values are written as literals: str and bytes. Numbers and
-    NULL are spelled as ever, and dates and durations stand in quotes."""
+    NULL are spelled as ever, and dates and durations are in quotes."""
 
     QUOTED = 0
     """UTF-8 between single quotes, by the mode of the server, and other bytes as 0x and digits,
@@ -424,7 +424,7 @@ class StateType(_Numbers):
 
 
 class Collation(_Numbers):
-    """Some collations by their ids. A server lists all of its own in
+    """Some collations by their ids. A server lists all that it has in
     information_schema.COLLATIONS."""
 
     LATIN1_SWEDISH_CI = 8
@@ -477,7 +477,7 @@ class Mode:
         SQL Modes"; MariaDB: "SQL_MODE"). Names are between commas, their letters in any case, and
         blanks around them don't count.
 
-        ANSI_QUOTES is also told by each name that stands for it and others. These are ANSI, and
+        ANSI_QUOTES is also told by each name that includes it. These are ANSI, and
         DB2, MAXDB, ORACLE and POSTGRESQL, which MariaDB has, and MySQL before 8.0. Other names of
         both manuals say nothing of how a text is read.
 
@@ -827,8 +827,8 @@ class ParameterSets(_Object):
 
     A set is a sequence with a value for each placeholder, in their order: see `Parameter`. A bool
     is 0 or 1. An int below 2**63 is signed, and one of 2**63 and more has no sign: `Road.BULK`
-    refuses the two in one place. A float has 64 bits. A str is its UTF-8. A datetime has to be
-    naive.
+    refuses the two for one placeholder. A float has 64 bits. A str is its UTF-8. A datetime has to
+    be naive.
     """
 
     def __init__(self, sets: Iterable[Sequence[Parameter]] = ()) -> None:
@@ -859,8 +859,8 @@ _NAME = re.compile(rb":([a-z_][a-z0-9_]*)")
 
 
 def names_of(query: Text, *, mode: Mode = Mode()) -> Tuple[str, ...]:
-    """The names of a query's placeholders at a server in this mode. There is one for each place, in
-    the order of the places; none where they are question marks.
+    """The names of a query's placeholders at a server in this mode. There is one for each, in
+    their order; none where they are question marks.
 
     Raises MySQLSessionError: MIXED, REFUSED_TOO_MANY_PLACES.
     """
@@ -898,20 +898,20 @@ def send(query: Text, sets: Union[ParameterSets, Iterable[Params]], road: Road,
     """The commands that carry these sets to a server, as framed packets.
 
     By `Road.EXECUTE` and `Road.BULK` the first packet is the prepare. The others name the statement
-    by this id: a server answers the prepare with an id of its own. A receiver of the same query,
-    id, limit and mode reads the sets back. The sets stay as they are.
+    by this id: a server answers the prepare with the id that it gives. A receiver of the same
+    query, id, limit and mode reads the sets back. The sets stay as they are.
 
     By `Road.TEXT` values are literals in the query's text. Safe for a server in this mode. By
     `Spelling.QUOTED` the connection is in UTF-8 or another character set that `is_safe_to_quote`.
     By `Spelling.HEXADECIMAL` it is in any in which bytes below 80 that follow one another are
-    themselves. For a server in another mode a value may end its literal, and what stands behind the
-    quote is read as SQL. By the other roads it is safe for any server, and the mode says which
+    themselves. For a server in another mode a value may end its literal, and what follows the
+    quote is read as SQL. By the other methods it is safe for any server, and the mode says which
     bytes of the query's own text are placeholders.
 
     The query has question marks as placeholders, or names, and then each set is a dict by these.
     `ParameterSets` have an order alone: where the query has names, send them for its `positional`.
 
-    Raises MySQLSessionError with the first cause against it, by its set and place: MIXED,
+    Raises MySQLSessionError with the first cause against it, by its set and placeholder: MIXED,
     LIMIT_TOO_SMALL, REFUSED_...; KeyError where a name has no value.
     """
     if not isinstance(sets, ParameterSets):
@@ -944,7 +944,7 @@ def bind_text(query: Text, values: Params, *, mode: Mode = Mode(),
     Safe for a server in this mode. By `Spelling.QUOTED` the connection is in UTF-8 or another
     character set that `is_safe_to_quote`. By `Spelling.HEXADECIMAL` it is in any in which bytes
     below 80 that follow one another are themselves. For a server in another mode a value may end
-    its literal, and what stands behind the quote is read as SQL.
+    its literal, and what follows the quote is read as SQL.
 
     Raises MySQLSessionError: MIXED, REFUSED_NOT_ALONE, REFUSED_PARAMS, REFUSED_WRONG_COUNT,
     REFUSED_FLOAT.
@@ -957,7 +957,7 @@ def bind_text(query: Text, values: Params, *, mode: Mode = Mode(),
 
 def literal(value: Parameter, *, mode: Mode = Mode(),
             spelling: Spelling = Spelling.QUOTED) -> bytes:
-    """The literal of a value, as it stands in the text of a query.
+    """The literal of a value, as it is in the text of a query.
 
     Safe for the servers that `bind_text` is safe for by the same mode and spelling. Raises
     MySQLSessionError by REFUSED_FLOAT, as a float has none.
@@ -1125,6 +1125,16 @@ class File(NamedTuple):
     name: bytes
 
 
+class RawRows(NamedTuple):
+    """Rows whose columns the server left out, by MySQL's optional metadata. Their bytes aren't
+    shown."""
+
+    count: int
+    ended: bool
+    status: int
+    warnings: int
+
+
 class ValueRows(NamedTuple):
     """Rows with values, each of its column's type; else as `Rows`."""
 
@@ -1178,13 +1188,13 @@ class Table(NamedTuple):
                           for it in self.arrays)))
 
 
-Result = Union[Ok, Rows, Prepared, ServerError, File]
+Result = Union[Ok, Rows, Prepared, ServerError, File, RawRows]
 """A result of a reply."""
 
-ValueResult = Union[Ok, ValueRows, Prepared, ServerError, File]
+ValueResult = Union[Ok, ValueRows, Prepared, ServerError, File, RawRows]
 """A result of a reply, as `take_values` gives it."""
 
-TableResult = Union[Ok, Table, Prepared, ServerError, File]
+TableResult = Union[Ok, Table, Prepared, ServerError, File, RawRows]
 """A result of a reply, as `take_tables` gives it."""
 
 
@@ -1206,7 +1216,7 @@ class Values:
 
 def ends_reply(result: Union[Result, ValueResult, TableResult]) -> bool:
     """Whether a result is the last one of its reply."""
-    if isinstance(result, (Rows, ValueRows, Table)):
+    if isinstance(result, (Rows, ValueRows, Table, RawRows)):
         return result.ended and not result.status & MORE_RESULTS
     return not isinstance(result, Ok) or not result.status & MORE_RESULTS
 
@@ -1234,7 +1244,7 @@ class ReplyReader(_Object):
         self._native.feed(piece)
 
     def take(self) -> List[Result]:
-        """The results so far that weren't taken before: those that stand whole, and of rows that
+        """The results so far that weren't taken before: those that are whole, and of rows that
         go on those so far. `ends_reply` says of the last whether the reply is whole.
 
         All of them are shown before any is let go. Where that ends by MySQLSessionError with
@@ -1614,7 +1624,7 @@ class ReplyWriter(_Object):
     of one.
 
     The arguments are those of `ReplyReader`. Each call raises MySQLSessionError by WRITE_.. with
-    the result, the row and the place, or the payload; nothing is written then. The status of the
+    the result, the row and the position, or the payload; nothing is written then. The status of the
     results gets MORE_RESULTS by `more`.
     """
 
@@ -1720,7 +1730,7 @@ class Side(_Numbers):
 
 
 class Phase(_Numbers):
-    """What is due on a connection."""
+    """What comes next on a connection."""
 
     GREETING = 0
     RESPONSE = 1
@@ -1759,7 +1769,7 @@ class BulkKind(enum.Enum):
 
 
 class ConnectionEndKind(_Numbers):
-    """How a connection stands once both of its streams have ended."""
+    """The state of a connection once both of its streams have ended."""
 
     OVER = 0
     WHOLE = 1
@@ -1769,7 +1779,7 @@ class ConnectionEndKind(_Numbers):
 
 
 class ConnectionEnd(NamedTuple):
-    """How a connection stands once both of its streams have ended."""
+    """The state of a connection once both of its streams have ended."""
 
     kind: ConnectionEndKind
     reason: Optional[Reason] = None
@@ -1813,7 +1823,7 @@ Bound = Union[Cell, BulkKind]
 
 @dataclasses.dataclass(frozen=True)
 class Event:
-    """What one payload of a connection says; each kind is a class of its own."""
+    """What one payload of a connection says; each kind is its own class."""
 
     side = Side.CLIENT
 
@@ -2172,7 +2182,7 @@ class CommandEvent(Event):
 
 @dataclasses.dataclass(frozen=True)
 class OtherEvent(_DataBase):
-    """A payload that is laid out as no command, as it stands. Some servers run such a payload; which
+    """A payload that is laid out as no command, as it is. Some servers run such a payload; which
     reply follows goes by its first byte."""
 
 
@@ -2186,7 +2196,7 @@ class Put(NamedTuple):
 
 
 class _Standing(NamedTuple):
-    """How a connection stands, as mysql_session_standing has it."""
+    """The state of a connection, as mysql_session_standing has it."""
 
     turn: int
     phase: int
@@ -2228,8 +2238,8 @@ class Connection(_Object):
     def after_login(cls, capabilities: int, mariadb_capabilities: int = 0, *,
                     client: int = DEFAULT_LIMIT, server: int = DEFAULT_LIMIT,
                     held: Optional[int] = None) -> Connection:
-        """A connection behind a login that was made elsewhere, as over TLS: a command is due, and
-        the capabilities are those that both sides have."""
+        """A connection behind a login that was made elsewhere, as over TLS: a command comes next,
+        and the capabilities are those that both sides have."""
         made = cls(client=client, server=server, held=held)
         made._native = _native.connection_after_login(capabilities, mariadb_capabilities,
                                                       *cls._limits(client, server, held))
@@ -2251,7 +2261,7 @@ class Connection(_Object):
         return f"<Connection: {due}>" if fault is None else f"<Connection: {fault}>"
 
     def feed(self, side: Side, data: Union[bytes, bytearray, memoryview]) -> Iterator[Event]:
-        """Takes a piece of a side's stream, and gives the events that stand whole then.
+        """Takes a piece of a side's stream, and gives the events that are whole then.
 
         The piece is taken at once, whole. Events are read as they are asked for, and those that
         aren't asked for stay for the next call. Behind a fault bytes are taken too, and never read.
@@ -2269,7 +2279,7 @@ class Connection(_Object):
         return events
 
     def next_event(self) -> Optional[Event]:
-        """The next event, or None where the payload that is due isn't there whole, or the
+        """The next event, or None where the next payload isn't there whole, or the
         connection is over. Raises ConnectionFault.
 
         Where it ends by MemoryError or by KeyboardInterrupt, the next call gives the same event.
@@ -2282,7 +2292,7 @@ class Connection(_Object):
         return event
 
     def take_rows(self, values: Optional[Values] = None) -> List[Tuple[Any, ...]]:
-        """The rows that stand next, up to the next other event: with cells as a `RowEvent` has them,
+        """The rows that come next, up to the next other event: with cells as a `RowEvent` has them,
         or with values as `ReplyReader.take_values` gives them. None where the next event is no row.
 
         Raises ConnectionFault where that comes first. Raises RowError, with a row counted from those
@@ -2299,7 +2309,7 @@ class Connection(_Object):
         return rows
 
     def take_table(self, values: Optional[Values] = None) -> Optional[Table]:
-        """The rows that stand next as a table, as `ReplyReader.take_tables` gives them: `ended` is
+        """The rows that come next as a table, as `ReplyReader.take_tables` gives them: `ended` is
         false, and what ends them is the next event. None where the next event is no row.
 
         Raises as `take_rows`. The rows before one that is refused come by the next call.
@@ -2314,11 +2324,11 @@ class Connection(_Object):
         return tables[0] if tables else None
 
     def put(self, side: Side, payload: Union[bytes, bytearray, memoryview]) -> Put:
-        """Puts a payload of the side that is due, as if its packets had come. Gives these, to be
-        sent to the other side, and what the payload says. The other side reads the same event.
+        """Puts a payload of the side whose turn it is, as if its packets had come. Gives these, to
+        be sent to the other side, and what the payload says. The other side reads the same event.
 
         The payload is taken byte by byte as it is. `Command` has those of commands, `put_greeting`
-        and `put_login` those of a login. A server's last words, an error where no answer is due,
+        and `put_login` those of a login. A server's last words, an error that answers nothing,
         can't be put.
 
         No command is refused for its layout. One that is laid out as none, as an execution of a
@@ -2343,12 +2353,12 @@ class Connection(_Object):
 
     def put_packets(self, side: Side,
                     packets: Union[bytes, bytearray, memoryview]) -> Tuple[bytes, int]:
-        """Puts the payloads of packets one after another, while they are due of the side. Gives
+        """Puts the payloads of packets one after another, while it is the side's turn. Gives
         their packets as they are sent, and how many bytes of `packets` were taken.
 
         The packets are such as `send`, `executions` and `ReplyWriter` make. Of several executions
-        the first is taken, with the long data before it. The next one is due behind its reply, and
-        put by another call with what is left. A packet that is cut off at the end is left.
+        the first is taken, with the long data before it. The next one comes behind its reply, and
+        is put by another call with what is left. A packet that is cut off at the end is left.
 
         Nothing tells of a command that is laid out as none, whose event `put` gives. Such are
         executions of a statement that `statement` doesn't know, or for other capabilities than are
@@ -2380,7 +2390,7 @@ class Connection(_Object):
 
     def line(self, *, secrets: bool = False) -> str:
         """The event that was told or put last as a line of text; behind `finish` how the connection
-        stands, as `end Whole`.
+        ended, as `end Whole`.
 
         Of data of an authentication, but for a greeting's scramble, it has the length, as
         `(20 bytes)`. So it has of a replica's password. With `secrets` all bytes are there. The
@@ -2396,7 +2406,7 @@ class Connection(_Object):
         return columns
 
     def statement(self, number: int) -> Optional[Statement]:
-        """The prepared statement that this id of a command stands for: 0xffffffff for that which
+        """The prepared statement that this id of a command refers to: 0xffffffff for that which
         was prepared last."""
         statement: Optional[Statement] = self._native.statement(number)
         return statement
@@ -2421,13 +2431,13 @@ class Connection(_Object):
 
     @property
     def turn(self) -> Optional[Side]:
-        """Whose payload is due: nobody's where the connection is over, or has failed."""
+        """Whose turn it is: nobody's where the connection is over, or has failed."""
         turn = self._standing().turn
         return None if turn > Side.SERVER else Side(turn)
 
     @property
     def phase(self) -> Phase:
-        """What is due."""
+        """What comes next."""
         return Phase(self._standing().phase)
 
     @property
@@ -2475,7 +2485,7 @@ class Connection(_Object):
         self._native.close_side(Side(side))
 
     def finish(self) -> ConnectionEnd:
-        """Ends both streams, and says how the connection stands. Take all events before."""
+        """Ends both streams, and says in which state the connection is. Take all events before."""
         number, reason, side, fault, byte = self._native.finish()
         kind = ConnectionEndKind(number)
         if kind == ConnectionEndKind.OVER:
@@ -2487,7 +2497,7 @@ class Connection(_Object):
         return ConnectionEnd(kind)
 
     def _standing(self) -> _Standing:
-        """How the connection stands."""
+        """The state of the connection."""
         return _Standing(*self._native.standing())
 
 
@@ -2530,14 +2540,14 @@ class PacketReader(_Object):
         return payload
 
     def __iter__(self) -> Iterator[bytes]:
-        """The payloads that stand whole, each read when it is asked for."""
+        """The payloads that are whole, each read when it is asked for."""
         self._native.check()
         return iter(self.payload, None)
 
     def restart(self, number: int = 0) -> None:
         """The next packet has this number: 0 as the first of each command has, or as what the other
         side sent in between makes it. Raises MySQLSessionError by UNFINISHED within a packet, and
-        where a payload stands whole that `payload` couldn't give."""
+        where a payload is whole that `payload` couldn't give."""
         self._native.restart(number)
 
 
@@ -2727,8 +2737,8 @@ class Command:
 
     @staticmethod
     def long_data(statement: int, place: int, data: bytes) -> bytes:
-        """Sends a piece of the value of a parameter, by its place from 0, for the next execution:
-        it has no reply."""
+        """Sends a piece of the value of a parameter, by its position from 0, for the next
+        execution: it has no reply."""
         return b"\x18" + _number(statement, 4) + _number(place, 2) + _received(data)
 
     @staticmethod
@@ -2828,7 +2838,8 @@ _EVENTS: Dict[int, Type[Event]] = {
 _native.setup({
     "refused": _refused, "fault": _fault, "row_error": RowError, "column": Column,
     "state_change": State, "ok": Ok, "rows": Rows, "prepared": Prepared, "server_error": ServerError,
-    "file": File, "value_rows": ValueRows, "table": Table, "column_values": ColumnValues,
+    "file": File, "raw_rows": RawRows, "value_rows": ValueRows, "table": Table,
+    "column_values": ColumnValues,
     "date_fields": DateFields, "time_fields": TimeFields, "bulk_default": BulkKind.DEFAULT,
     "bulk_ignore": BulkKind.IGNORE, "statement": Statement, "put": Put, "codecs": _CODECS,
     "readers": _HOW_READERS,

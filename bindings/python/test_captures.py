@@ -72,7 +72,7 @@ def ip(packet: Packet) -> bytes:
 
 
 def framed(link: int, packet: bytes) -> bytes:
-    """A packet as it stands on a link."""
+    """A packet as it is on a link."""
     kind = struct.pack(">H", 0x86DD if packet[0] >> 4 == 6 else 0x0800)
     heads: Dict[int, bytes] = {
         captures.NULL: struct.pack("<I", 2), captures.LOOP: struct.pack(">I", 2),
@@ -184,7 +184,7 @@ class Files(unittest.TestCase):
                         self.assertEqual(since, list(range(len(packets))))
 
     def test_cut(self) -> None:
-        """A file that is cut off gives what stands whole, and then says so."""
+        """A file that is cut off gives what is whole, and then says so."""
         frames = [framed(captures.ETHERNET, ip(it))
                   for it in conversation(self.SENT, random.Random(2))]
         for capture in (pcap(frames), pcapng(frames)):
@@ -230,7 +230,7 @@ class Files(unittest.TestCase):
 
 class Order(unittest.TestCase):
     def test_disturbed(self) -> None:
-        """Whatever order segments come in, and however often: the streams are those sent."""
+        """In any order of segments, and however often they come: the streams are those sent."""
         for seed in range(300):
             at = random.Random(seed)
             sent = {it: random_bytes(at, at.randrange(4000)) for it in (CLIENT, SERVER)}
@@ -252,7 +252,7 @@ class Order(unittest.TestCase):
         self.assertEqual((direction.repeated, direction.early, direction.missing), (7, 2, 0))
 
     def test_lost(self) -> None:
-        """Where a segment is missing, a front is given, and the missing bytes are told."""
+        """Where a segment is missing, a prefix is given, and the missing bytes are told."""
         for seed in range(100):
             at = random.Random(seed)
             sent = {it: random_bytes(at, at.randrange(1, 4000)) for it in (CLIENT, SERVER)}
@@ -314,7 +314,7 @@ class Recordings(unittest.TestCase):
 
     def test_all(self) -> None:
         """All connections at once, their segments out of order and repeated: the events of each are
-        those that stand beside the recording."""
+        those beside the recording."""
         at = random.Random(6)
         queues = [disturbed(conversation(self.sent(name, 40000 + place), at), at)
                   for place, name in enumerate(self.NAMES)]
@@ -489,7 +489,7 @@ class Recordings(unittest.TestCase):
         self.assertEqual(ran.returncode, 2)
 
     def test_lost(self) -> None:
-        """Where bytes are missing, the events are a front, and the connection's line says so."""
+        """Where bytes are missing, the events are a prefix, and the connection's line says so."""
         for seed in range(12):
             at = random.Random(seed)
             name = at.choice(self.NAMES)

@@ -240,7 +240,7 @@ class Threads(Case):
         self.assertEqual(set(refused), {"an object of mysql_session stays in the thread that made it"})
 
     def test_interpreters(self) -> None:
-        """Each interpreter has the module of its own."""
+        """Each interpreter has its own module."""
         names = ("_interpreters", "_xxsubinterpreters")
         found = [it for it in (__import__(name) for name in names if is_there(name))]
         if not found:

@@ -65,7 +65,7 @@ class Case(unittest.TestCase):
     """A test that looks at errors by their codes, and at calls of other threads."""
 
     def refuses(self, code: Code, call: Callable[[], object], **where: int) -> None:
-        """The call is refused by this code, at this place and no other."""
+        """The call is refused by this code, at this position and no other."""
         with self.assertRaises(ms.MySQLSessionError) as caught:
             call()
         error = caught.exception
@@ -77,7 +77,7 @@ class Case(unittest.TestCase):
         self.assertIn(error.text, str(error))
 
     def in_thread(self, call: Callable[[], object]) -> Optional[BaseException]:
-        """What a call in a thread of its own raises."""
+        """What a call in its own thread raises."""
         raised: List[BaseException] = []
 
         def run() -> None:
@@ -188,7 +188,8 @@ class Interface(Case):
                          classes)
 
     def test_how_columns_are_read(self) -> None:
-        """Rows are read alike by `take_values` and by `Rows.tuples`, whatever their column's type."""
+        """Rows are read alike by `take_values` and by `Rows.tuples`, by any type of their
+        column."""
         texts = [b"7", b"1.50", b"2024-02-29", b"2024-02-29 01:02:03", b"-01:02:03", b"x"]
         for kind, charset in itertools.product(ColumnType, (45, 63, 8)):
             column = Column(b"c", kind, 0, charset)
@@ -218,7 +219,7 @@ class Interface(Case):
             ms.Command.change_user("ann", PROTOCOL_41, strange)
 
     def test_wrong_types(self) -> None:
-        """A str is no stream, and a word is no road; nothing is taken of either."""
+        """A str is no stream, and a word is no method; nothing is taken of either."""
         with ms.Receiver("SELECT ?") as receiver, ms.Recoder("SELECT ?") as recoder, \
                 ms.ReplyReader(ReplyKind.QUERY, 0) as reply, ms.PacketReader() as packets:
             for it in (receiver, recoder, reply, packets):
@@ -275,7 +276,7 @@ class Small(int):
 
 
 class Sets(Case):
-    """Sets are sent by each road, and come back."""
+    """Sets are sent by each method, and come back."""
 
     def test_each_value(self) -> None:
         query = "INSERT INTO t VALUES (?, ?)"
@@ -1038,7 +1039,7 @@ class Replication(Case):
 
 
 def resident() -> int:
-    """How many bytes of the process stand in memory."""
+    """How many bytes of the process are in memory."""
     pages = int(pathlib.Path("/proc/self/statm").read_text().split()[1])
     return pages * os.sysconf("SC_PAGE_SIZE")
 
@@ -1107,7 +1108,7 @@ Piece = Tuple[ms.Side, int]
 
 
 class Connections(Case):
-    """Recorded connections are read to the lines that stand beside them, however they come."""
+    """Recorded connections are read to the lines beside them, however they come."""
 
     def lines(self, client: bytes, server: bytes, pieces: Iterable[Piece]) -> List[str]:
         """The lines of a connection that comes in these pieces, and of its end."""
@@ -1186,7 +1187,8 @@ class Connections(Case):
             return [*connection.feed(ms.Side.CLIENT, client), *connection.feed(ms.Side.SERVER, server)]
 
     def test_executions(self) -> None:
-        """An execution has the text that was prepared, and as many values as that has places."""
+        """An execution has the text that was prepared, and as many values as that has
+        placeholders."""
         for name in ("php-execute", "c-direct", "java-results-deprecate-eof-binary"):
             executions = [it for it in self.events(name) if isinstance(it, ms.ExecuteEvent)]
             self.assertTrue(executions)
@@ -1658,8 +1660,8 @@ except ImportError:  # Debian: libpython3-testsuite
 
 
 class Failing:
-    """Has a call fail at a place of a number, by one of two ways. An interrupt comes as a call of
-    the extension returns, or where Python looks for one. Or a growth of memory is refused.
+    """Has a call fail at a position of a number, by one of two ways. An interrupt comes as a call
+    of the extension returns, or where Python looks for one. Or a growth of memory is refused.
     """
 
     # Of 3.13 a trace function that raises breaks the interpreter, of 3.12 refused memory does, also
@@ -1678,11 +1680,11 @@ class Failing:
 
     @property
     def number(self) -> int:
-        """The number of the place."""
+        """The number of the position."""
         return self.left if self.way == "no memory" else 0
 
     def trace(self, frame: Any, event: str, _: object) -> Any:
-        """Interrupts at a place at which Python may handle a signal, in the module's own code.
+        """Interrupts at a position at which Python may handle a signal, in the module's own code.
         These are behind a call, as a function begins, and where a loop goes on."""
         if frame.f_code.co_filename != ms.__file__:
             return None
@@ -1892,7 +1894,7 @@ class Kept(Case):
                          [ms.Prepared(1, 0, (good,), ())])
 
     def test_no_class_but_bytes(self) -> None:
-        """The library reads as many bytes as there are, whatever a class of bytes says."""
+        """The library reads as many bytes as there are, not as many as a class of bytes says."""
         class Long(bytes):
             def __len__(self) -> int:
                 return 1 << 40

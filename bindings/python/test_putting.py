@@ -49,7 +49,7 @@ class Talk:
         return event
 
     def send(self, side: Side, packets: bytes) -> Tuple[List[ms.Event], int]:
-        """A side puts packets, as far as they are due; gives what the others read of it."""
+        """A side puts packets, as far as it is its turn; gives what the others read of it."""
         put, used = self.ends[side].put_packets(side, packets)
         events = [list(it.feed(side, put)) for it in (self.ends[Side(1 - side)], self.auditor)]
         self.case.assertEqual(events[0], events[1])
@@ -264,8 +264,8 @@ class Putting(Case):
                 self.assertEqual(ms.read_login(login).mariadb_capabilities, found)
 
     def test_proxy(self) -> None:
-        """What stands between a client and a server reads of the one and puts to the other, by
-        numbers of its own."""
+        """A proxy between a client and a server reads of the one and puts to the other, by
+        its own numbers."""
         with Talk(self) as talk, ms.Connection() as proxy:
             greeting = ms.put_greeting(7, "8.0.0", CAPABILITIES, b"12345678", b"123456789012")
             packets, event = talk.ends[Side.SERVER].put(Side.SERVER, greeting)
@@ -281,7 +281,7 @@ class Refusals(Case):
 
     @contextlib.contextmanager
     def unchanged(self, connection: ms.Connection) -> Iterator[None]:
-        """Within it, nothing of how the connection stands changes, nor the line that was told."""
+        """Within it, nothing of the state of the connection changes, nor the line that was told."""
         def stands() -> object:
             return connection._standing(), connection.line(secrets=True)
 

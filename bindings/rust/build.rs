@@ -1,7 +1,7 @@
 //! Finds the library that `bindings/build` makes, and has it linked.
 //!
-//! It stands in the folder that an environment variable names, or else where `bindings/build` puts
-//! it. Whether it is proved stands in a file beside it, which [`build_word`] reads.
+//! It is in the folder that an environment variable names, or else where `bindings/build` puts
+//! it. A file beside it says whether it is proved, which [`build_word`] reads.
 
 use std::env;
 use std::fs;

@@ -4,7 +4,7 @@ knows its options.
     python3 bindings/testing/commands.py
 
 A command is a line of an indented or fenced block, behind `$` or not. Its program is a file of this
-repository, by itself or behind `python3`. It isn't run: an option is known where it stands in the
+repository, by itself or behind `python3`. It isn't run: an option is known where it is in the
 program's text. And each file that begins with `#!` can be run. The last line is `N passed, M
 failed`.
 """
@@ -40,7 +40,7 @@ def blocks_of(text):
 
 
 def commands_of(line):
-    """Returns the commands of a line, as lists of words, without what stands around them."""
+    """Returns the commands of a line, as lists of words, without what is around them."""
     line = re.sub(r"^[$>] +", "", line).partition(" #")[0]
     for part in re.split(r"&&|\|\||[|;()]", line):
         words = part.split()

@@ -227,7 +227,7 @@ class Composer(Values):
         return b"\x03" + self.query_attributes() + self.text()
 
     def query_attributes(self):
-        """What stands before a query's text."""
+        """What comes before a query's text."""
         if not self.has(QUERY_ATTRIBUTES):
             return b""
         types = self.types(self.at.choice((0, 0, 1, 3)))
@@ -242,7 +242,7 @@ class Composer(Values):
         return [(self.at.choice(TYPES), self.at.choice((0, 0x80))) for _ in range(count)]
 
     def cells(self, types, nulls, without=()):
-        """The cells of values of these types, without those that are NULL and those places."""
+        """The cells of values of these types, without those that are NULL and those positions."""
         return b"".join(self.cell(kind) for place, (kind, _) in enumerate(types)
                         if not nulls[place] and place not in without)
 
@@ -517,7 +517,7 @@ class Composer(Values):
         return payloads
 
     def result(self, is_binary, kinds, more):
-        """A result: its payloads, and the types of the columns that stand then."""
+        """A result: its payloads, and the types of the columns in force then."""
         way = self.at.randrange(10)
         if way < 3:
             return [self.ok(flags=more)], kinds

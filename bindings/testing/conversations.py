@@ -5,9 +5,9 @@
 Without a FILE it reads those of crates/connection_conformance/data, NAME.conversations. They have
 payloads of both sides, and of each what event it is. The head of a file says in which form, and
 rows.py how rows are written. A conversation is read step by step, whole in several orders, byte by
-byte and in fronts. It is put again by a client and a server. Behind them bytes that no peer sends
-are read, which has to give events or a fault. They are fronts of payloads, payloads with a changed
-byte and random ones, N times.
+byte and in prefixes. It is put again by a client and a server. Behind them bytes that no peer sends
+are read, which has to give events or a fault. They are prefixes of payloads, payloads with a
+changed byte and random ones, N times.
 """
 
 import os
@@ -88,7 +88,7 @@ def next_line(connection: ms.Connection) -> Optional[str]:
 
 
 class Reading:
-    """A reading of a conversation: each line has to be the one that is due."""
+    """A reading of a conversation: each line has to be the expected one."""
 
     def __init__(self, of: Conversation):
         self.of, self.connection = of, connection_of(of)
@@ -101,7 +101,7 @@ class Reading:
         self.connection.close()
 
     def compare(self, found: object, wanted: object, place: str) -> None:
-        """What came by the row at this place has to be that."""
+        """What came by the row at this position has to be that."""
         compare(found, wanted, self.of.title, place)
 
     def take(self) -> List[str]:
@@ -130,7 +130,7 @@ class Reading:
         return found
 
     def compare_lines(self, found: List[str], wanted: List[Wanted], place: str) -> None:
-        """The lines that came have to be those; at this place no more are wanted."""
+        """The lines that came have to be those; at this position no more are wanted."""
         for line, want in zip(found, wanted):
             if not want.is_line(line):
                 self.compare(line, want.text, want.place)
@@ -183,7 +183,7 @@ def read_pieces(of: Conversation, first: Side, counts: Tuple[int, int]) -> None:
 
 
 def read_front(of: Conversation, counts: Tuple[int, int]) -> None:
-    """A front of each stream: its events are a front of all."""
+    """A prefix of each stream: its events are a prefix of all."""
     with Reading(of) as it:
         found: List[str] = []
         for side, stream in of.streams().items():
@@ -271,7 +271,7 @@ def read_conversation(of: Conversation) -> None:
 
 
 def strange(payload: bytes, at: random.Random) -> bytes:
-    """A front of a payload, one with a changed byte, or random bytes."""
+    """A prefix of a payload, one with a changed byte, or random bytes."""
     kind = at.randrange(3)
     if kind == 0 and payload:
         return payload[:at.randrange(len(payload))]

@@ -53,7 +53,7 @@ class C:
         run([*compiler, f"-I{self.folder}", "-c", file, "-o", file + ".o"])
 
     def test(self, compiler, file, kind, tool):
-        """Builds a test in a way of its own, and runs it by itself or under a tool."""
+        """Builds a test in its own way, and runs it by itself or under a tool."""
         name = os.path.basename(file)[:-2]
         made = self.build([*compiler, "-g", *WRAPPED], [file, *self.shared], f"{name}.{kind}")
         said = run([*tool, made, *self.words.get(name, [])])
@@ -159,7 +159,7 @@ def measure_costs(library):
 
 
 def blocks_of(file):
-    """Returns the programs of a document: language, text, and the output that stands behind."""
+    """Returns the programs of a document: language, text, and the output behind it."""
     with open(file, encoding="utf-8") as it:
         fenced = re.findall(r"^```(\w*)\n(.*?)^```$", it.read(), re.M | re.S)
     behind = [*fenced[1:], ("", "")]
@@ -179,13 +179,13 @@ def has_header(line):
 
 
 class Programs:
-    """Runs programs of documents as they stand there, in the repository's folder."""
+    """Runs programs of documents as they are there, in the repository's folder."""
 
     def __init__(self, library, room):
         self.library, self.room = library, room
 
     def write(self, name, text):
-        """Writes a file in a folder of its own."""
+        """Writes a file in its own folder."""
         file = os.path.join(self.room, "readme", name)
         os.makedirs(os.path.dirname(file), exist_ok=True)
         with open(file, "w", encoding="utf-8") as it:

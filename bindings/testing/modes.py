@@ -46,7 +46,7 @@ class Server:
         return self.client.status
 
     def query(self, query):
-        """Sends a query as it stands, and returns the rows of its answer."""
+        """Sends a query as it is, and returns the rows of its answer."""
         [found] = self.client.query(query if isinstance(query, bytes) else query.encode())
         return found.rows
 

@@ -2,7 +2,7 @@
 
     python3 bindings/testing/program.py PROGRAM [--only PATTERN] [--refuse LIBRARY [--always]]
 
-PROGRAM is the executable mysql_session_program, proved or not. The rows stand in
+PROGRAM is the executable mysql_session_program, proved or not. The rows are in
 rows/program/*.txt. --only takes those of files, or with titles, that have the pattern. rows.py says
 how rows are written, and how those that fail are told. A file has these lines beside comments and
 names:
@@ -11,11 +11,11 @@ names:
     TITLE | INPUT | OUTPUT | STATUS       a row: what it shows, standard input, standard output
     TITLE | INPUT | OUTPUT | STATUS | HOW
 
-Rows are run by each of the lines of words that stand together above them. Nothing may be printed on
+Rows are run by each of the lines of words together above them. Nothing may be printed on
 standard error. A row without HOW is run twice: over its input in one piece, and byte by byte, where
 a read has one byte. Where the input has more than 4096 bytes it is run over the first alone. Where
-commas stand in INPUT and OUTPUT, the program is given a piece and has to print its output before it
-is given the next. What stands behind the last comma comes by the input's end. HOW is one of
+commas are in INPUT and OUTPUT, the program is given a piece and has to print its output before it
+is given the next. What is behind the last comma comes by the input's end. HOW is one of
 
     by bytes                  byte by byte alone, however long the input is
     cut to M-N                the input ends behind so many bytes, by each number from M to N
@@ -28,7 +28,7 @@ is given the next. What stands behind the last comma comes by the input's end. H
 With --refuse each row without HOW is run with each of its requests for memory refused in turn.
 LIBRARY does so, which is tools/refuse_memory.c. It has to print what it prints else, or `refused:
 Memory` behind some of its lines. With --always too all of them are refused at once, and it has to
-be the latter. The sanitizer of `rt try` hands out memory of its own, so this wants a proved
+be the latter. The sanitizer of `rt try` gives its own memory, so this wants a proved
 program.
 """
 
@@ -68,7 +68,7 @@ MEMORY = b"refused: Memory\n"
 
 
 class Run:
-    """A row by one line of words: its place, input, output, status and how it is run."""
+    """A row by one line of words: its position, input, output, status and how it is run."""
 
     def __init__(self, row, words):
         given, wanted, status, *how = row.fields
@@ -82,7 +82,7 @@ class Run:
 
 
 def pieces_of(field):
-    """Returns the pieces of a field, which stand between commas."""
+    """Returns the pieces of a field, which are between commas."""
     return [it.data for it in field.parts(",")]
 
 
@@ -93,7 +93,7 @@ def words_of(row):
 
 
 def runs_of(file):
-    """Returns the rows of a file, each by all lines of words that stand together above it."""
+    """Returns the rows of a file, each by all lines of words together above it."""
     runs, words, is_list = [], [], False
     for row in rows_of(file):
         with reading(row):
@@ -111,7 +111,7 @@ def runs_of(file):
 
 
 def piped(data):
-    """Returns a pipe's end to read from, and starts to write: each byte comes by a read of its own."""
+    """Returns a pipe's end to read from, and starts to write: each byte comes by its own read."""
     out, into = os.pipe2(os.O_DIRECT | os.O_CLOEXEC)
     fcntl.fcntl(into, F_SETPIPE_SZ, 1 << 20)
 
@@ -149,7 +149,7 @@ class Program:
         self.file, self.library = file, library
 
     def run(self, words, before=(), **how):
-        """Runs it, and returns its status and what it printed; nothing may stand on standard error."""
+        """Runs it, and returns its status and what it printed; nothing may be on standard error."""
         how = {"stdout": subprocess.PIPE, "stderr": subprocess.PIPE, "timeout": SECONDS, **how}
         ran = subprocess.run([*before, self.file, *words], **how)
         compare(ran.stderr[-2000:], b"", "on standard error is")
@@ -208,7 +208,7 @@ class Program:
             os.close(into)
 
     def fails_by_outputs(self, row):
-        """It fails behind what its output took: each front of what it prints, or nothing."""
+        """It fails behind what its output took: each prefix of what it prints, or nothing."""
         # So that a write past the limit fails, and no signal ends the program.
         how = {"input": row.input, "restore_signals": False}
         for count in range(len(row.output)):
@@ -269,7 +269,7 @@ class Program:
 
 
 def is_for_memory(row, status, output):
-    """Returns whether a run may end so for want of memory."""
+    """Returns whether a run may end so where memory is refused."""
     lines = output[:-len(MEMORY)]
     return (status == 1 and output.endswith(MEMORY) and row.output.startswith(lines)
             and (not lines or lines.endswith(b"\n")))

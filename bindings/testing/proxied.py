@@ -178,7 +178,7 @@ def logged_by(records):
 
 
 def in_ascii(text):
-    """Returns a text in which a question mark stands for other characters than ASCII's. The log has
+    """Returns a text in which a question mark replaces other characters than ASCII's. The log has
     bytes that aren't UTF-8 by their digits."""
     return re.sub(r"[^ -~]+|(?:\\x[0-9A-F]{2})+", "?", text).strip()
 
@@ -306,7 +306,7 @@ class Audits:
         self.unreadable("compression begins", "--skip-ssl", "--compress")
 
     def encrypted(self, mariadb):
-        """A client that goes over to TLS, with a server of its own."""
+        """A client that goes over to TLS, with its own server."""
         room = self.tests.file("tls")
         os.mkdir(room)
         key, certificate = os.path.join(room, "key.pem"), os.path.join(room, "certificate.pem")
@@ -336,7 +336,7 @@ class Audits:
             compare(query in texts, kind is None)
 
     def at_once(self):
-        """Many clients at once, each with queries of its own."""
+        """Many clients at once, each with its own queries."""
         texts = [[f"SELECT {client}, {number}" for number in range(QUERIES)]
                  for client in range(AT_ONCE)]
         with self.proxy() as (port, lines):

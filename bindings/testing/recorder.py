@@ -1,4 +1,4 @@
-"""A recorder of one connection: it stands between a client and a server, and keeps what each sends.
+"""A recorder of one connection: it is between a client and a server, and keeps what each sends.
 
 `bindings/test --server` records clients with it, whose connections are then replayed.
 """
@@ -25,7 +25,7 @@ def pass_on(source, target, kept):
 
 
 class Recorder:
-    """Records the first connection to a port of its own, within a `with`. What the client and the
+    """Records the first connection to its own port, within a `with`. What the client and the
     server at the port `upstream` send are the files NAME.client and NAME.server."""
 
     def __init__(self, upstream, name):

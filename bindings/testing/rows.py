@@ -2,14 +2,14 @@
 
     # a comment; an empty line means nothing
     NAME = TOKENS              a name, good in what follows in the file
-    NAME = FIELD | FIELD ..    a name for some fields, which stands alone between bars
+    NAME = FIELD | FIELD ..    a name for some fields, which is alone between bars
     HEAD | FIELD | FIELD ..    a row; its program says what heads there are, and what fields
 
 A field is tokens, with blanks between them. Read as bytes they are
 
     61 0a  610a                pairs of hexadecimal digits
     "text"  'text'             a text, in which nothing is escaped, and a bar is none between fields
-    NAME                       what the name stands for
+    NAME                       what the name refers to
     /                          the end of a line
     N * TOKEN                  the token's bytes N times
     first N of ..              the first N bytes of all that follows
@@ -38,7 +38,7 @@ LONG = 200
 
 
 class Failure(Exception):
-    """Why a row failed; and its place, where another one was run of which it is a part."""
+    """Why a row failed; and its position, where another one was run of which it is a part."""
 
     def __init__(self, why, place=""):
         super().__init__(why)
@@ -56,7 +56,7 @@ class Field:
 
     @functools.cached_property
     def tokens(self):
-        """Its tokens: words, texts in their quotes, and fields where names stand for them."""
+        """Its tokens: words, texts in their quotes, and fields where names refer to them."""
         found = [self.names.get(it, it) for it in TOKEN.findall(self.text)]
         if '"' in found or "'" in found:
             raise Failure("a text has no end")
@@ -79,7 +79,7 @@ class Field:
 
     @property
     def words(self):
-        """Its tokens, and in the place of names those that they stand for."""
+        """Its tokens, and in the place of names those that they refer to."""
         words = [it.words if isinstance(it, Field) else [it] for it in self.tokens]
         return [it for some in words for it in some]
 
@@ -128,7 +128,7 @@ def fields_of(text, names):
 
 
 class Row(NamedTuple):
-    """A row: its file and line, what stands in the line, before its first bar and behind it."""
+    """A row: its file and line, what is in the line, before its first bar and behind it."""
 
     place: str
     line: str

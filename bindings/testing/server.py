@@ -2,7 +2,7 @@
 MariaDB server of their own.
 
 `bindings/test --server` calls `test_server`. Everything that is started here is stopped by its
-process id, whatever happens.
+process id, in any case.
 """
 
 import contextlib
@@ -110,7 +110,7 @@ class Started:
 
 @contextlib.contextmanager
 def mariadb(room, *options):
-    """Runs a server in a folder of its own, with binary logging and a user without a password; by
+    """Runs a server in its own folder, with binary logging and a user without a password; by
     itself without TLS."""
     data, first = os.path.join(room, "data"), os.path.join(room, "first.sql")
     with open(first, "w", encoding="utf-8") as it:
@@ -321,7 +321,7 @@ class Tests:
                     "--database", DATABASE, "--query", query, *words], env=self.python, **how)
 
     def replays(self):
-        """By each road the table holds what the stream carries."""
+        """By each method the table holds what the stream carries."""
         query = "INSERT INTO replayed VALUES (?, ?)"
         stream = b"".join(text_query(query.replace("?, ?", it)) for it in
                           ("1, 'it\\'s'", "2, NULL", "3, 0x6d617465", "4, ''"))
@@ -419,7 +419,7 @@ class Tests:
         compare(positions[:len(behind)], behind)
 
     def replication_by_gtid(self):
-        """Behind a position of global transaction identifiers stand those that came later."""
+        """Behind a position of global transaction identifiers come those that came later."""
         [[position]] = self.sql("SELECT @@gtid_binlog_pos")
         self.sql("CREATE TABLE later (id INT); INSERT INTO later VALUES (1); DROP TABLE later")
         names = [name for name, _ in self.read_log("--gtid", position)]

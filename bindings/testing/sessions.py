@@ -52,7 +52,7 @@ def value_of(member):
 
 
 def sets_of(field, query):
-    """Returns the sets of a field; values by names in the order of a query's places."""
+    """Returns the sets of a field; values by names in the order of a query's placeholders."""
     names = [it.decode() for it in re.findall(rb":([a-z_][a-z0-9_]*)", query)]
     sets = []
     for given in json.loads(field.written):
@@ -102,7 +102,7 @@ def sizes_of(data):
 
 def check_reading(read, stream, lines, front_ends):
     """Compares what bytes say, by a call that reads them in pieces, with lines. The last line may
-    be about their fronts. Those end in one of two ways: within a packet, and behind one."""
+    be about their prefixes. Those end in one of two ways: within a packet, and behind one."""
     stages = {}
     if lines[-1].startswith("prefixes:"):
         stages = {int(it.partition(":")[0]): int(it.partition(":")[2])
@@ -125,7 +125,7 @@ def of_calls(lines):
 
 def feed_staying(reader, data, size, taken=None):
     """Feeds a reader in pieces; the first fault has to be answered to each piece from then on. Where
-    there is a list, empty pieces come behind each, and what stands is taken into it."""
+    there is a list, empty pieces come behind each, and what is there is taken into it."""
     fault = None
     for piece in pieces_of(data, size):
         for fed in [piece] + [b""] * (0 if taken is None else 1 + size % 2):
@@ -160,7 +160,7 @@ def read_twice(make, lines_of, data, size):
 
 
 def check_audit(query, statement, limit, stream, lines, mode=Mode(), spelling=Spelling.QUOTED):
-    """Compares what a stream says with lines, the last of which may be about its fronts."""
+    """Compares what a stream says with lines, the last of which may be about its prefixes."""
     def read(data, size):
         return read_twice(lambda: ms.Receiver(query, statement, limit, mode=mode, spelling=spelling),
                           lambda sets, end: set_lines(sets) + [end_line(end)], data, size)

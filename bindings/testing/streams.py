@@ -24,7 +24,7 @@ def framed(payloads, number=0):
 
 
 def payloads_of(stream):
-    """The payloads of a stream that stand whole, each with its packets."""
+    """The payloads of a stream that are whole, each with its packets."""
     at, began, held = 0, 0, b""
     while at + 4 <= len(stream):
         length = int.from_bytes(stream[at:at + 3], "little")

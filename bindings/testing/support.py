@@ -52,7 +52,7 @@ def run(words, status=0, **how):
 
 
 def compare(found, wanted):
-    """Fails where two texts or lists differ, by the first place where they do."""
+    """Fails where two texts or lists differ, by the first position where they do."""
     if found == wanted:
         return
     at = next((at for at, (one, other) in enumerate(zip(found, wanted)) if one != other),

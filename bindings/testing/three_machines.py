@@ -2,12 +2,12 @@
 
     three_machines.py RECORDINGS [--events N] [--seed N]
 
-Three connections stand for a client, a server and who listens to both. The client and the server
+Three connections are a client, a server and who listens to both. The client and the server
 put what a script says, and each reads what the other put, in random pieces. The auditor reads both
 streams in random pieces and any order. All three have to tell the same lines in the same order. Of
 the client they are those that the client put, and of the server those that the server put. And they
-have to stand alike behind each. A payload that is refused has to change nothing. Where its packets
-come all the same, a fourth machine has to find the fault by which it was refused.
+have to be in the same state behind each. A payload that is refused has to change nothing. Where its
+packets come all the same, a fourth machine has to find the fault by which it was refused.
 
 Each recorded connection of the folder RECORDINGS is read, and put again payload by payload: that
 gives the same bytes. A failure names the script's seed, by which --seed says it again.
@@ -55,7 +55,7 @@ def same(what, found, wanted):
 
 
 def standing(connection):
-    """Returns how a connection stands, as a tuple."""
+    """Returns the state of a connection, as a tuple."""
     return tuple(connection._standing())
 
 
@@ -96,11 +96,12 @@ class Three:
             it.close()
 
     def turn(self):
-        """Returns whose payload is due."""
+        """Returns whose turn it is."""
         return self.ends[CLIENT].turn
 
     def say(self, payload):
-        """Has the side that is due put a payload. Returns its event, or None of a refused one."""
+        """Has the side whose turn it is put a payload. Returns its event, or None of a refused
+        one."""
         side = self.turn()
         end = self.ends[side]
         before = standing(end)
@@ -133,8 +134,8 @@ class Three:
              (code, side, len(self.streams[side])))
 
     def say_all(self, payloads):
-        """Has the side that is due put payloads by one call, as packets. Returns how many were put,
-        which of the first one says whether it was refused."""
+        """Has the side whose turn it is put payloads by one call, as packets. Returns how many were
+        put, which of the first one says whether it was refused."""
         side = self.turn()
         end = self.ends[side]
         before = standing(end)
@@ -231,8 +232,8 @@ class Three:
         same("how many events the auditor has read", self.audited, len(self.said))
 
     def say_last_words(self, payload):
-        """The client's stream ends where a payload of it is due, and the server says last words. No
-        payload can be put there, so that its packet is fed to all three."""
+        """The client's stream ends where a payload of it comes next, and the server says last
+        words. No payload can be put there, so that its packet is fed to all three."""
         self.catch_up()
         phase, told = self.ends[CLIENT].phase, []
         first = 0 if phase == ms.Phase.COMMAND else (self.number + 1) % 256
@@ -290,14 +291,14 @@ class Script:
         return len(three.said)
 
     def look(self):
-        """The composer gets to know how the connection stands."""
+        """The composer gets to know the state of the connection."""
         end = self.three.ends[CLIENT]
         self.composer.capabilities = end.capabilities
         self.composer.mariadb = end.mariadb_capabilities
         return end.phase
 
     def exchange(self):
-        """What is due is said; behind a command its reply."""
+        """What comes next is said; behind a command its reply."""
         phase, composer = self.look(), self.composer
         if self.at.random() < 0.01:
             self.say_strange(composer.some(30))

@@ -268,8 +268,8 @@ DOT = (_Kind.INT, 0x2e)
 
 
 def check_binary(kind, flags, cell, wanted):
-    """`binary | type | flags | cell | value`, of which no front is a cell; or `.. | refused`. Of a
-    long cell some fronts are tried."""
+    """`binary | type | flags | cell | value`, of which no prefix is a cell; or `.. | refused`. Of a
+    long cell some prefixes are tried."""
     kind, flags, cell = ColumnType[kind.text], int(flags.text, 16), cell.data
     if wanted.text == "refused":
         compare(cells_in(ReplyKind.EXECUTE, [(kind, flags)], b"\x00\x00" + cell),
@@ -416,8 +416,8 @@ def check_marked(query, mode, wanted):
 
 
 def check_bind(query, mode, *rest):
-    """`bind | query | mode | value | .. | text`, or `.. | refused: NAME`, and the place behind it
-    where one is told."""
+    """`bind | query | mode | value | .. | text`, or `.. | refused: NAME`, and the position behind
+    it where one is told."""
     query, mode, values, wanted = query.data, mode_of(mode), rest[:-1], rest[-1]
     values = [parameter_of(value_of(it)) for it in values]
     if wanted.words[0] == "refused:":

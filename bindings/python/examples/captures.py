@@ -58,7 +58,7 @@ class Address(NamedTuple):
 
 
 class Segment(NamedTuple):
-    """A TCP segment. `length` is how many bytes it carried; of them `data` may have only a front,
+    """A TCP segment. `length` is how many bytes it carried; of them `data` may have only a prefix,
     where the capture kept no more."""
 
     time: int
@@ -94,7 +94,7 @@ def _take(file: BinaryIO, count: int) -> bytes:
 def frames(file: BinaryIO) -> Iterator[Frame]:
     """The frames of a capture, each as soon as it can be read.
 
-    Raises CaptureError where the file isn't a capture, and, behind the frames that stand whole,
+    Raises CaptureError where the file isn't a capture, and, behind the frames that are whole,
     where it is cut off.
     """
     magic = file.read(4)

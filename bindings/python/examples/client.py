@@ -133,7 +133,7 @@ class Client:
         self.close()
 
     def close(self) -> None:
-        """Says goodbye, where a command is due, and ends the connection."""
+        """Says goodbye, where a command comes next, and ends the connection."""
         try:
             if self.connection.phase == ms.Phase.COMMAND:
                 self._put(ms.Command.quit())

@@ -19,7 +19,7 @@ A connection whose greeting wasn't captured, as of a pool, is read from its firs
 --port tells the server. The capabilities that both of its sides have are guessed: those by which
 what was said can be read. So its first lines come once a reply with rows is whole. --capabilities
 tells them in place of that, as a hexadecimal word. By --lines the greeting and the login of another
-connection of that client have them: the bits that both have. MariaDB's own stand behind a comma.
+connection of that client have them: the bits that both have. MariaDB's own are behind a comma.
 Statements that were prepared before the capture aren't known: their executions are Other.
 
 Of what is said in an authentication the length alone is printed, and passwords in statements are
@@ -319,7 +319,7 @@ class Reading:
         return self.machine is not None or self._server.is_asked
 
     def take(self, piece: Piece) -> Iterator[Tuple[int, ms.Event]]:
-        """Takes the next bytes of an end; gives the events that stand whole by them, and when the
+        """Takes the next bytes of an end; gives the events that are whole by them, and when the
         last byte of each was captured."""
         self.last = piece.time
         if self.why is not None or not self._server.is_possible:
@@ -437,7 +437,7 @@ class Reading:
                 else shown_event(event, hidden))
 
     def end(self) -> str:
-        """How the connection stands, as the library writes it."""
+        """The state of the connection, as the library writes it."""
         if self.machine is None:
             return "it has no greeting"
         end = self.machine.finish()
@@ -500,7 +500,7 @@ class Reader:
             self._print_rest(skipped)
 
     def _take(self, piece: Piece) -> None:
-        """Prints the events that stand whole by the next bytes of an end."""
+        """Prints the events that are whole by the next bytes of an end."""
         number = piece.connection.number
         if number not in self._readings:
             self._readings[number] = Reading(piece.connection, self._ports, self._capabilities,
@@ -517,7 +517,7 @@ class Reader:
             print(shown_time(time), f"#{reading.of.number}", line, flush=True)
 
     def _end(self, reading: Reading) -> None:
-        """Prints how a connection stands that has ended, or with which the capture ends."""
+        """Prints the state of a connection that has ended, or with which the capture ends."""
         del self._readings[reading.of.number]
         self._print(reading, reading.take_waiting())
         reading.close()

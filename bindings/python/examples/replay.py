@@ -2,8 +2,8 @@
 """Sends the parameter sets of a recorded stream to a server again.
 
 The stream is what a client sent about one query, behind its login and before its COM_QUIT. Its sets
-are read as they come, and sent by the road that is chosen. What the server answers to each command
-is printed, and how the recorded stream ends.
+are read as they come, and sent by the method that is chosen. What the server answers to each
+command is printed, and how the recorded stream ends.
 
     replay.py captured.bin 127.0.0.1:3306 --user root --database test --query 'SELECT :a'
 

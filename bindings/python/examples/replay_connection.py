@@ -114,7 +114,7 @@ class Recorded(NamedTuple):
 
 
 def payloads_of(stream: bytes) -> Iterator[bytes]:
-    """The payloads of a stream, whatever their packets' numbers."""
+    """The payloads of a stream, by any numbers of their packets."""
     at, held = 0, b""
     while at + 4 <= len(stream):
         length = int.from_bytes(stream[at:at + 3], "little")
@@ -167,7 +167,8 @@ class Recording:
             yield command
 
     def _events(self) -> Iterator[ms.Event]:
-        """Its events, up to a fault. Of the side that is due as much is fed as there is room for."""
+        """Its events, up to a fault. Of the side whose turn it is as much is fed as there is room
+        for."""
         rest = dict(self._streams)
         turn = self._connection.turn
         while turn is not None and rest[turn]:

@@ -22,7 +22,8 @@ WAITING_LIMIT = 1 << 24
 
 
 class Direction:
-    """The bytes that one end sends, put in order. Places count from the first byte, which is 0."""
+    """The bytes that one end sends, put in order. Positions count from the first byte, which is
+    0."""
 
     def __init__(self) -> None:
         self.first: Optional[int] = None  # the number of the first byte

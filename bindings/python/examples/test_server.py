@@ -18,7 +18,7 @@ The table has a query's text and its answer, in a file of JSON or as a dict:
      "SELECT * FROM secrets": {"error": 1142, "state": "42000", "message": "SELECT is denied"}}
 
 A query with question marks is prepared and executed; of its rows those are sent that have its
-values in the columns that `where` names. In a dict a function of the values may stand in place of
+values in the columns that `where` names. In a dict a function of the values may be there instead of
 an answer; at the prepare each of them is None. Columns are of the types tinyint, smallint, int,
 bigint, year, decimal, varchar, text, json, blob, date, datetime and time. Those of numbers may be
 unsigned. Texts are compared in small letters and with one blank between their words.
@@ -171,7 +171,7 @@ def cell(value: Any, of: Column) -> ms.Parameter:
 
 
 def answer_of(given: Mapping[str, Any]) -> Answer:
-    """An answer as it stands in a table."""
+    """An answer as it is in a table."""
     if "error" in given:
         return Failure(given["error"], given.get("state", "HY000"), given.get("message", ""))
     if "columns" not in given:
@@ -292,7 +292,7 @@ class Session:
         return ms.ReplyWriter(kind, self._connection.capabilities)
 
     def _send(self, packets: bytes) -> None:
-        """Sends a reply. The connection numbers its packets as they are due."""
+        """Sends a reply. The connection numbers its packets as they follow."""
         put, used = self._connection.put_packets(Side.SERVER, packets)
         assert used == len(packets), "a reply isn't as the client awaits it"
         self._stream.sendall(put)

@@ -43,7 +43,7 @@ use std::process::ExitCode;
 
 const USAGE: &str = "usage: replay_connection CLIENT SERVER ADDRESS USER [--database NAME]";
 
-/// The id that stands for the statement that was prepared last, at a MariaDB.
+/// The id that refers to the statement that was prepared last, at a MariaDB.
 const LAST: u32 = u32::MAX;
 
 /// No server gives a statement this id.

@@ -194,7 +194,7 @@ fn print_events(
     Ok(events)
 }
 
-/// The error that an error packet tells, whose message may stand behind a state.
+/// The error that an error packet tells, whose message may follow a state.
 fn check_no_error(payload: &[u8]) -> Result<(), Failure> {
     let [0xff, low, high, text @ ..] = payload else {
         return Ok(());

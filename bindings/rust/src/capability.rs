@@ -8,7 +8,7 @@ pub const CLIENT_FOUND_ROWS: u32 = 1 << 1;
 pub const CLIENT_LONG_FLAG: u32 = 1 << 2;
 /// A database is named at the login.
 pub const CLIENT_CONNECT_WITH_DB: u32 = 1 << 3;
-/// No names of databases in front of those of tables.
+/// No names of databases before those of tables.
 pub const CLIENT_NO_SCHEMA: u32 = 1 << 4;
 /// Packets are compressed.
 pub const CLIENT_COMPRESS: u32 = 1 << 5;
@@ -16,7 +16,7 @@ pub const CLIENT_COMPRESS: u32 = 1 << 5;
 pub const CLIENT_ODBC: u32 = 1 << 6;
 /// A file of the client may be loaded.
 pub const CLIENT_LOCAL_FILES: u32 = 1 << 7;
-/// Blanks may stand in front of a bracket.
+/// Blanks may be before a bracket.
 pub const CLIENT_IGNORE_SPACE: u32 = 1 << 8;
 /// The protocol of version 4.1.
 pub const CLIENT_PROTOCOL_41: u32 = 1 << 9;
@@ -67,7 +67,7 @@ pub const CLIENT_REMEMBER_OPTIONS: u32 = 1 << 31;
 
 /// Of MariaDB's own capabilities: the server reports on progress.
 pub const MARIADB_CLIENT_PROGRESS: u32 = 1;
-/// Of MariaDB's own capabilities: several commands stand in one packet.
+/// Of MariaDB's own capabilities: several commands are in one packet.
 pub const MARIADB_CLIENT_COM_MULTI: u32 = 1 << 1;
 /// Of MariaDB's own capabilities: statements are executed in bulk.
 pub const MARIADB_CLIENT_STMT_BULK_OPERATIONS: u32 = 1 << 2;

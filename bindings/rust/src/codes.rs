@@ -38,17 +38,17 @@ codes! {
     impl Code {
         /// A growth of memory was refused.
         pub const MEMORY: Code = Code(1);
-        /// A handle stands for nothing. No safe call answers it.
+        /// A handle refers to nothing. No safe call answers it.
         pub const EMPTY_HANDLE: Code = Code(2);
-        /// A handle stands for an object of another kind. No safe call answers it.
+        /// A handle refers to an object of another kind. No safe call answers it.
         pub const OTHER_KIND: Code = Code(3);
-        /// There is no set, place or column of this number.
+        /// There is no set, placeholder or column of this number.
         pub const OUT_OF_RANGE: Code = Code(4);
         /// The limit is below 4.
         pub const LIMIT_TOO_SMALL: Code = Code(5);
         /// The query has both names and question marks as placeholders.
         pub const MIXED: Code = Code(6);
-        /// There is no road of this number. No safe call answers it.
+        /// There is no method of this number. No safe call answers it.
         pub const NO_SUCH_ROAD: Code = Code(7);
         /// There is no kind of this number: of a value, or of a column.
         pub const NO_SUCH_KIND: Code = Code(8);
@@ -64,15 +64,15 @@ codes! {
     impl Code {
         /// A packet is larger than the limit.
         pub const FAULT_TOO_LARGE: Code = Code(100);
-        /// A chunk has another number than the one that is due.
+        /// A chunk has another number than the expected one.
         pub const FAULT_OUT_OF_SYNC: Code = Code(101);
         /// A payload has no byte.
         pub const FAULT_EMPTY_COMMAND: Code = Code(102);
         /// The first byte is no command that a receiver reads.
         pub const FAULT_OTHER_COMMAND: Code = Code(103);
-        /// A text isn't the query with literals in the places.
+        /// A text isn't the query with literals for its placeholders.
         pub const FAULT_TEXT_MISMATCH: Code = Code(104);
-        /// A text comes where some placeholder of the query doesn't stand alone.
+        /// A text comes where some placeholder of the query has no blanks around it.
         pub const FAULT_NOT_ALONE: Code = Code(105);
         /// A prepare isn't the query with question marks for its placeholders.
         pub const FAULT_PREPARE_MISMATCH: Code = Code(106);
@@ -104,7 +104,7 @@ codes! {
 
     /// Why parameter sets are not sent.
     impl Code {
-        /// By text: a placeholder doesn't stand alone.
+        /// By text: a placeholder has no blanks around it.
         pub const REFUSED_NOT_ALONE: Code = Code(200);
         /// By execution and bulk: there are more than 65535 placeholders.
         pub const REFUSED_TOO_MANY_PLACES: Code = Code(201);
@@ -120,7 +120,7 @@ codes! {
         pub const REFUSED_FLOAT: Code = Code(206);
         /// The command of a set is larger than the limit.
         pub const REFUSED_PACKET_TOO_LARGE: Code = Code(207);
-        /// By bulk: a value is of another kind than those before it in its place.
+        /// By bulk: a value is of another kind than those before it for its placeholder.
         pub const REFUSED_MIXED_KINDS: Code = Code(208);
         /// By bulk: no request holds the values of a set.
         pub const REFUSED_ROW_TOO_LARGE: Code = Code(209);
@@ -130,7 +130,7 @@ codes! {
     impl Code {
         /// A packet is larger than the limit.
         pub const REPLY_TOO_LARGE: Code = Code(300);
-        /// A chunk has another number than the one that is due.
+        /// A chunk has another number than the expected one.
         pub const REPLY_OUT_OF_SYNC: Code = Code(301);
         /// The first packet of a result begins as none does.
         pub const REPLY_BAD_HEADER: Code = Code(302);
@@ -188,7 +188,7 @@ codes! {
         pub const CONNECTION_HELD: Code = Code(501);
         /// A payload is longer than the limit of its side.
         pub const CONNECTION_TOO_LARGE: Code = Code(510);
-        /// A packet has another number than the one that is due.
+        /// A packet has another number than the expected one.
         pub const CONNECTION_OUT_OF_SYNC: Code = Code(511);
         /// The protocol isn't that of version 4.1.
         pub const CONNECTION_OLD_PROTOCOL: Code = Code(512);
@@ -204,7 +204,7 @@ codes! {
         pub const CONNECTION_KEPT: Code = Code(517);
         /// The client says more behind a quit.
         pub const CONNECTION_AFTER_QUIT: Code = Code(518);
-        /// No payload of that side of a reply is due.
+        /// That side of a reply has no payload now.
         pub const CONNECTION_NOT_DUE: Code = Code(519);
         /// It isn't the turn of this side's payload, so that it can't be put.
         pub const CONNECTION_NOT_ITS_TURN: Code = Code(520);
@@ -370,7 +370,7 @@ pub enum At {
     Value {
         /// The set.
         set: usize,
-        /// The place in it.
+        /// The position in it.
         place: usize,
     },
     /// A payload of the stream that is read or written.
@@ -417,9 +417,9 @@ impl fmt::Display for At {
     }
 }
 
-/// Why a call isn't done: a code, and where, as far as the code has a place.
+/// Why a call isn't done: a code, and where, as far as the code says it.
 ///
-/// Its text is the library's, with the place behind it:
+/// Its text is the library's, with the position behind it:
 ///
 /// ```
 /// use mysql_session::{send, At, Bytes, Code, ParameterSets, Road};
@@ -452,7 +452,7 @@ impl Error {
         self.code
     }
 
-    /// Where it is; none where the code has no place.
+    /// Where it is; none where the code doesn't say it.
     pub fn at(&self) -> Option<At> {
         self.at
     }

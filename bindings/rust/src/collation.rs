@@ -1,5 +1,5 @@
 //! Some collations by their ids (MySQL Reference Manual and MariaDB, "Supported Character Sets and
-//! Collations"). A server lists all of its own in `information_schema.COLLATIONS`.
+//! Collations"). A server lists all that it has in `information_schema.COLLATIONS`.
 
 /// The old default.
 pub const LATIN1_SWEDISH_CI: u16 = 8;

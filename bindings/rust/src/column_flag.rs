@@ -12,7 +12,7 @@ pub const MULTIPLE_KEY_FLAG: u16 = 1 << 3;
 pub const BLOB_FLAG: u16 = 1 << 4;
 /// Its numbers have no sign.
 pub const UNSIGNED_FLAG: u16 = 1 << 5;
-/// Zeros stand in front of its numbers.
+/// Its numbers have zeros before them.
 pub const ZEROFILL_FLAG: u16 = 1 << 6;
 /// Its texts are compared byte by byte.
 pub const BINARY_FLAG: u16 = 1 << 7;

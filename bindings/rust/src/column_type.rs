@@ -65,7 +65,7 @@ pub const MEDIUM_BLOB: u8 = 250;
 pub const LONG_BLOB: u8 = 251;
 /// Bytes or a text of any length.
 pub const BLOB: u8 = 252;
-/// A text, or bytes, of a length of its own.
+/// A text, or bytes, each with its length.
 pub const VAR_STRING: u8 = 253;
 /// A text, or bytes, of a length that is the same in all rows.
 pub const STRING: u8 = 254;

@@ -110,8 +110,8 @@ pub fn prepare(text: &[u8]) -> Vec<u8> {
     numbered(0x16, &[text])
 }
 
-/// COM_STMT_SEND_LONG_DATA: a piece of the parameter at a place, from 0, for the next execution. It
-/// has no reply.
+/// COM_STMT_SEND_LONG_DATA: a piece of the parameter at a position, from 0, for the next execution.
+/// It has no reply.
 pub fn long_data(statement: u32, place: u16, data: &[u8]) -> Vec<u8> {
     numbered(
         0x18,

@@ -107,14 +107,14 @@ impl From<ConnectionFault> for Error {
     }
 }
 
-/// How a connection stands once both of its streams have ended.
+/// The state of a connection once both of its streams have ended.
 #[derive(Clone, Copy, Debug, PartialEq, Eq, Hash)]
 pub enum ConnectionEnd {
     /// It is over: what follows isn't read here.
     Over(Reason),
     /// A command was due, and all bytes were read.
     Whole,
-    /// A payload of this side is due, and isn't whole.
+    /// A payload of this side comes next, and isn't whole.
     Unfinished(Side),
     /// It has a fault.
     Fault(ConnectionFault),
@@ -144,7 +144,7 @@ pub(crate) struct ConnectionHandle(UnsafeCell<raw::Connection>);
 unsafe impl Send for ConnectionHandle {}
 
 impl ConnectionHandle {
-    /// A handle of the connection that `make` makes it stand for.
+    /// A handle of the connection that `make` makes it refer to.
     fn made(make: impl FnOnce(*mut raw::Connection) -> u32) -> Result<ConnectionHandle, Code> {
         check_interface();
         let handle = ConnectionHandle(UnsafeCell::new(raw::Connection { at: null_mut() }));
@@ -170,9 +170,9 @@ impl Drop for ConnectionHandle {
 /// Reads a whole connection. It is fed the bytes of both sides, in any pieces and order, and tells
 /// each payload as one event.
 ///
-/// In each state one side's payload is due. What comes of the other waits until its turn, so the
-/// events don't depend on how the bytes arrive. The payload that is due may also be put: so the
-/// same connection is a client's, a server's, or that of a proxy between them.
+/// In each state one side's payload comes next. What comes of the other waits until its turn, so
+/// the events don't depend on how the bytes arrive. The next payload may also be put: so the same
+/// connection is a client's, a server's, or that of a proxy between them.
 ///
 /// ```
 /// use mysql_session::{Connection, ConnectionEnd, Event, Limits, Side};
@@ -314,12 +314,12 @@ impl Connection {
         Ok(())
     }
 
-    /// The next event; none where the payload that is due isn't there whole, or the connection is
+    /// The next event; none where the next payload isn't there whole, or the connection is
     /// over.
     ///
     /// # Errors
-    /// The fault of the packet that stands first; each further call answers it too. The events
-    /// before it stand.
+    /// The fault of the first packet; each further call answers it too. The events before it
+    /// remain.
     pub fn next_event(&mut self) -> Result<Option<Event<'_>>, ConnectionFault> {
         self.forget();
         if !self.is_greeted {
@@ -335,12 +335,12 @@ impl Connection {
         Ok(self.event())
     }
 
-    /// Puts a payload of the side that is due: appends its packets to `out`, and goes on behind it
-    /// as if they had come. The answer is the event that it says.
+    /// Puts a payload of the side whose turn it is: appends its packets to `out`, and goes on
+    /// behind it as if they had come. The answer is the event that it says.
     ///
     /// A client puts what it asks and feeds what the server sends, and a server does the reverse. A
-    /// third connection that is fed both streams tells the same events, in whatever pieces they
-    /// come. A server's last words, which answer nothing, can't be put so.
+    /// third connection that is fed both streams tells the same events, in any pieces. A server's
+    /// last words, which answer nothing, can't be put so.
     ///
     /// No command is refused for its layout. One that is laid out as none, as an execution of a
     /// statement that isn't known, is put, and the answer is [`Event::Other`]. A server answers it
@@ -401,9 +401,9 @@ impl Connection {
         Ok(self.event().expect("what was put is an event"))
     }
 
-    /// Puts framed packets of a side, one after another while they are due, as
+    /// Puts framed packets of a side, one after another while it is its turn, as
     /// [`executions`](crate::executions), [`send`](crate::send) and a
-    /// [`ReplyWriter`](crate::ReplyWriter) make them. They get the numbers that are due. The answer
+    /// [`ReplyWriter`](crate::ReplyWriter) make them. They get the next numbers. The answer
     /// is how many bytes of them were taken: all, or those before the first packet whose turn
     /// hasn't come. A packet that is cut off at the end is left. No event is shown of what was put.
     ///
@@ -436,7 +436,7 @@ impl Connection {
     /// ```
     ///
     /// # Errors
-    /// Of the first payload that is due and isn't put, with the [`At::Byte`] of the packets at
+    /// Of the first payload that isn't put at its turn, with the [`At::Byte`] of the packets at
     /// which it begins. What was put before it stays.
     ///
     /// - [`Code::CONNECTION_TOO_LARGE`];
@@ -508,7 +508,7 @@ impl Connection {
     }
 
     /// The event that was told or put last as a line of text, without its end: whose it is, its
-    /// name, its fields. Behind [`Connection::finish`] it is how the connection stands, as
+    /// name, its fields. Behind [`Connection::finish`] it is the state of the connection, as
     /// `end Whole`.
     ///
     /// Of data of an authentication, but for a greeting's scramble, it has the length, as
@@ -557,13 +557,13 @@ impl Connection {
         self.standing().held
     }
 
-    /// Whose payload is due: nobody's where the connection is over, or has failed.
+    /// Whose turn it is: nobody's where the connection is over, or has failed.
     pub fn turn(&self) -> Option<Side> {
         let turn = self.standing().turn;
         (turn < 2).then(|| Side::of(turn))
     }
 
-    /// What is due.
+    /// What comes next.
     pub fn phase(&self) -> Phase {
         let standing = self.standing();
         match standing.phase {
@@ -612,7 +612,7 @@ impl Connection {
         })
     }
 
-    /// The prepared statement that this id of a command stands for: 0xffffffff for that which was
+    /// The prepared statement that this id of a command refers to: 0xffffffff for that which was
     /// prepared last.
     pub fn statement(&self, id: u32) -> Option<Statement<'_>> {
         let (mut text, mut parameters) = (raw::Text::default(), 0);
@@ -659,7 +659,7 @@ impl Connection {
         certain(unsafe { raw::mysql_session_connection_close(self.handle.get(), side as u32) });
     }
 
-    /// Ends both streams, and says how the connection stands. Take all events before.
+    /// Ends both streams, and says in which state the connection is. Take all events before.
     pub fn finish(&mut self) -> ConnectionEnd {
         self.forget();
         let mut end = raw::ConnectionEnd::default();
@@ -701,7 +701,7 @@ impl Connection {
         self.shown.0 = raw::Event::default();
     }
 
-    /// How the connection stands.
+    /// The state of the connection.
     fn standing(&self) -> raw::Standing {
         let mut standing = raw::Standing::default();
         // SAFETY: "Handles": by `ConnectionHandle::get`; "Results go out": a local.
@@ -711,7 +711,7 @@ impl Connection {
         standing
     }
 
-    /// The fault of this code, with its side and its place.
+    /// The fault of this code, with its side and its position.
     fn fault_of(&self, code: Code) -> ConnectionFault {
         let standing = self.standing();
         ConnectionFault {

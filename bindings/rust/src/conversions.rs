@@ -167,7 +167,7 @@ impl RowError {
     }
 }
 
-/// The name of a type, without the modules in front of it and of those that it is made of.
+/// The name of a type, without the modules before it and of those that it is made of.
 fn without_paths(name: &str) -> String {
     let parts = name.split_inclusive(|it: char| !it.is_alphanumeric() && !"_:".contains(it));
     parts

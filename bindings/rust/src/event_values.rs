@@ -12,7 +12,7 @@ use crate::results::{name_of, place_of, Column};
 use crate::values::Value;
 use std::fmt;
 
-/// A value of the current event, by its row and its place.
+/// A value of the current event, by its row and its position.
 fn value_of(handle: &ConnectionHandle, row: usize, place: usize) -> Option<raw::Value> {
     let mut shown = raw::Value::default();
     // SAFETY: "Handles": by `ConnectionHandle::get`; "Results go out": a local.
@@ -69,7 +69,7 @@ impl<'a> Values<'a> {
         self.len == 0
     }
 
-    /// The value at a place, from 0.
+    /// The value at a position, from 0.
     pub fn get(&self, place: usize) -> Option<Value<'a>> {
         // SAFETY: the bytes are "good until the next call on it" that takes its `&mut`.
         value_of(self.handle, 0, place).map(|shown| unsafe { Value::of(shown) })
@@ -289,7 +289,7 @@ impl<'a> BulkRow<'a> {
         self.width == 0
     }
 
-    /// What the parameter at a place holds, from 0.
+    /// What the parameter at a position holds, from 0.
     pub fn get(&self, place: usize) -> Option<BulkValue<'a>> {
         let shown = value_of(self.handle, self.row, place)?;
         Some(match shown.kind {

@@ -109,7 +109,7 @@ pub enum Event<'a> {
     LongData {
         /// The statement's id.
         statement: u32,
-        /// The parameter's place, from 0.
+        /// The parameter's position, from 0.
         place: u16,
         /// The piece.
         data: &'a [u8],
@@ -135,7 +135,7 @@ pub enum Event<'a> {
     ResetConnection,
     /// Any other command.
     Command(OtherCommand<'a>),
-    /// A payload that is laid out as no command, as it stands. Some servers run such a payload; which
+    /// A payload that is laid out as no command, as it is. Some servers run such a payload; which
     /// reply follows goes by its first byte.
     Other(&'a [u8]),
 
@@ -223,7 +223,7 @@ pub struct ServerGreeting<'a> {
 debug_with_texts!(ServerGreeting: connection, capabilities, status, collation; version, plugin,
     scramble);
 
-/// The front of a client's answer to a greeting.
+/// The first fields of a client's answer to a greeting.
 #[derive(Clone, Copy, Debug, PartialEq, Eq)]
 pub struct ClientRequest {
     /// What the client has. MariaDB's own are 0 where it has
@@ -238,7 +238,7 @@ pub struct ClientRequest {
 /// What a client logs in with.
 #[derive(Clone, Copy)]
 pub struct ClientLogin<'a> {
-    /// The front of it.
+    /// The first fields of it.
     pub request: ClientRequest,
     /// The user's name.
     pub user: &'a [u8],
@@ -273,7 +273,7 @@ pub struct ClientChange<'a> {
 
 debug_with_texts!(ClientChange: collation, attributes; user, database, plugin; response);
 
-/// A command without a variant of its own. What it doesn't have is 0 or empty.
+/// A command without its own variant. What it doesn't have is 0 or empty.
 #[derive(Clone, Copy, PartialEq, Eq)]
 pub struct OtherCommand<'a> {
     /// Its number in the protocol.
@@ -684,7 +684,7 @@ impl<'a> Part<'a, '_> {
         }
     }
 
-    /// A command without a variant of its own.
+    /// A command without its own variant.
     ///
     /// # Safety
     /// As that of [`Event::of`].

@@ -6,7 +6,7 @@ use std::cell::UnsafeCell;
 use std::fmt;
 use std::ptr::null_mut;
 
-/// A handle that stands for an object, which goes with it.
+/// A handle that refers to an object, which goes with it.
 ///
 /// Each call of the library takes the object out of the handle and puts it back, also one that only
 /// looks at it. So a shared handle is one that changes. It is neither `Send` nor `Sync`, as the
@@ -14,7 +14,7 @@ use std::ptr::null_mut;
 pub(crate) struct Handle(UnsafeCell<raw::Handle>);
 
 impl Handle {
-    /// A handle of the object that `make` makes it stand for.
+    /// A handle of the object that `make` makes it refer to.
     ///
     /// # Panics
     /// Where the library that was linked has another interface than the one declared here.

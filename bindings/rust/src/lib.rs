@@ -91,7 +91,7 @@ pub use recoder::{recode, recode_in, Recoder};
 pub use replication::{BinlogDump, BinlogDumpGtid, RegisterReplica, BINLOG_DUMP_NON_BLOCK};
 pub use reply::{Reply, ReplyKind, ReplyReader};
 pub use results::{
-    Column, ColumnType, Done, ErrorPacket, OkPacket, Prepared, ReplyResult, Row, Rows,
+    Column, ColumnType, Done, ErrorPacket, OkPacket, Prepared, RawRows, ReplyResult, Row, Rows,
     SessionState, SessionStates,
 };
 pub use sending::{

@@ -51,7 +51,7 @@ pub struct Greeting<'a> {
     pub version: &'a [u8],
     /// The first eight bytes that a password is scrambled with.
     pub scramble_1: &'a [u8],
-    /// The other twelve, without the zero that stands behind them.
+    /// The other twelve, without the zero behind them.
     pub scramble_2: &'a [u8],
     /// The plugin that the server asks for.
     pub plugin: &'a [u8],

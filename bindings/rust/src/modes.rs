@@ -114,7 +114,7 @@ impl Mode {
 }
 
 /// How byte strings are spelled where values are written as literals. Numbers and NULL are spelled
-/// as ever, and dates and durations stand in quotes.
+/// as ever, and dates and durations are in quotes.
 ///
 /// (MySQL Reference Manual, "String Literals", "Hexadecimal Literals", "Character Set
 /// Introducers".)

@@ -6,7 +6,7 @@ use crate::handle::Handle;
 use crate::raw;
 use std::iter::FusedIterator;
 
-/// Cuts a stream into the payloads of its packets, in whatever pieces its bytes come.
+/// Cuts a stream into the payloads of its packets, fed in any pieces.
 ///
 /// ```
 /// use mysql_session::PacketReader;
@@ -93,7 +93,7 @@ impl PacketReader {
         }
     }
 
-    /// The payload that stands whole.
+    /// The payload that is whole.
     fn payload(&mut self) -> &[u8] {
         let mut text = raw::Text::default();
         // SAFETY: "Handles": by `Handle::get`; "Results go out": fields of one local.

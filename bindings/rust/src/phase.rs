@@ -53,7 +53,7 @@ pub struct Capabilities {
     pub mariadb: u32,
 }
 
-/// What is due on a connection.
+/// What comes next on a connection.
 #[derive(Clone, Copy, Debug, PartialEq, Eq, Hash)]
 pub enum Phase {
     /// The server's first payload.

@@ -1,6 +1,6 @@
 //! The declarations of `bindings/c/mysql_session.h`, one for one.
 //!
-//! What the header promises, and what the program that calls owes it, stands there. A pointer to
+//! The header says what it promises, and what the program that calls owes it. A pointer to
 //! bytes and the field with their length behind it are one [`Text`] here, which C lays out the
 //! same.
 

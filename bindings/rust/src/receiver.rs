@@ -8,7 +8,7 @@ use crate::raw;
 use crate::values::Content;
 use std::fmt;
 
-/// Reads a stream of commands about one query, in whatever pieces its bytes come.
+/// Reads a stream of commands about one query, fed in any pieces.
 ///
 /// The sets that were read stay until they are let go by [`Receiver::clear`]; what is shown of them
 /// borrows from the receiver.
@@ -237,7 +237,7 @@ impl<'a> Set<'a> {
         self.width == 0
     }
 
-    /// The content at a place, from 0; none where there is no such place.
+    /// The content at a position, from 0; none where there is no such position.
     pub fn content(&self, place: usize) -> Option<Content<'a>> {
         let mut shown = raw::Content::default();
         // SAFETY: "Handles": by `Handle::get`; "Results go out": a local.
@@ -250,7 +250,7 @@ impl<'a> Set<'a> {
         found.then(|| unsafe { Content::of(shown) })
     }
 
-    /// The contents, place by place.
+    /// The contents, in their order.
     pub fn iter(&self) -> Iter<Set<'a>, Content<'a>> {
         Iter::new(*self, self.width, |set, place| {
             set.content(place)

@@ -88,7 +88,7 @@ pub struct BinlogDump<'a> {
     pub position: u32,
     /// 0, or [`BINLOG_DUMP_NON_BLOCK`].
     pub flags: u16,
-    /// The file's name; none stands for the first file.
+    /// The file's name; none means the first file.
     pub file: &'a [u8],
 }
 
@@ -124,7 +124,7 @@ pub struct BinlogDumpGtid<'a> {
     pub position: u64,
     /// 0, or [`BINLOG_DUMP_NON_BLOCK`]; BINLOG_THROUGH_GTID is put as there are sets.
     pub flags: u16,
-    /// The file's name; none stands for the first file.
+    /// The file's name; none means the first file.
     pub file: &'a [u8],
     /// The transactions that the replica has: none, or sets as
     /// `3e11fa47-71ca-11e1-9e33-c80aa9429562:1-5` with commas between them.

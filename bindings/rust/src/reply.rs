@@ -16,7 +16,7 @@ pub enum ReplyKind {
     Prepare = 2,
 }
 
-/// Reads a server's reply to one command, in whatever pieces its bytes come.
+/// Reads a server's reply to one command, fed in any pieces.
 ///
 /// [`ReplyReader::take`] takes the results so far, and shows them:
 ///
@@ -94,7 +94,7 @@ impl ReplyReader {
         })
     }
 
-    /// Takes the results so far, and shows them: those that stand whole, and of a result set that
+    /// Takes the results so far, and shows them: those that are whole, and of a result set that
     /// goes on its rows so far. Those that were taken before are freed.
     ///
     /// # Errors

@@ -31,14 +31,14 @@ pub enum Road {
 /// has neither NO_BACKSLASH_ESCAPES nor ANSI_QUOTES. The connection is in UTF-8 or another
 /// character set that is safe to quote ([`is_safe_to_quote`](crate::is_safe_to_quote)). For a
 /// server in another mode a value may end its literal, and what follows the quote is read as SQL.
-/// So [`send_in`] takes the mode. By the other roads it is safe for any server.
+/// So [`send_in`] takes the mode. By the other methods it is safe for any server.
 ///
 /// The limit is the `max_allowed_packet` of the receiving side, at least 4; a payload has at most
 /// `limit - 4` bytes.
 ///
 /// # Errors
 /// [`Code::LIMIT_TOO_SMALL`], [`Code::MIXED`], [`Code::MEMORY`], or one of `REFUSED_..` with the
-/// set and the place. Nothing is appended then.
+/// set and the placeholder. Nothing is appended then.
 ///
 /// ```
 /// use mysql_session::{send, Bytes, ParameterSets, Receiver, Road};
@@ -78,8 +78,8 @@ pub fn send(
 /// connection is in UTF-8 or another character set that is safe to quote
 /// ([`is_safe_to_quote`](crate::is_safe_to_quote)). By [`Spelling::Hexadecimal`] it is in any
 /// character set in which bytes below 80 that follow one another are themselves. For a server in
-/// another mode a value may end its literal. By the other roads it is safe for any server, and the
-/// mode says which bytes of the query's own text are placeholders.
+/// another mode a value may end its literal. By the other methods it is safe for any server, and
+/// the mode says which bytes of the query's own text are placeholders.
 ///
 /// # Errors
 /// Those of [`send`].
@@ -133,7 +133,7 @@ pub fn send_in(
 
 /// The packets that execute a prepared statement with each of these sets, as
 /// [`Connection::put_packets`](crate::Connection::put_packets) takes them. They are those of
-/// [`send`] by [`Road::Execute`], without the prepare in front of them. The statement's id is that
+/// [`send`] by [`Road::Execute`], without the prepare before them. The statement's id is that
 /// of the server's reply to the prepare.
 ///
 /// They are laid out for a connection where [`CLIENT_QUERY_ATTRIBUTES`] isn't in force. The server
@@ -250,7 +250,7 @@ pub fn put_execution(
     Ok(answer(code)?)
 }
 
-/// What is sent by a road behind its prepare.
+/// What is sent by one method behind its prepare.
 fn behind_prepare(
     sets: &ParameterSets,
     query: &[u8],
@@ -267,7 +267,7 @@ fn behind_prepare(
     Ok(behind_payload(&out).to_vec())
 }
 
-/// What stands behind the packets of the first payload.
+/// What follows the packets of the first payload.
 fn behind_payload(mut packets: &[u8]) -> &[u8] {
     while let Some(([low, middle, high, _], rest)) = packets.split_first_chunk() {
         let length = u32::from_le_bytes([*low, *middle, *high, 0]) as usize;
@@ -348,7 +348,7 @@ pub fn bind_text_in(
     answer(code).map_err(|code| refusal(code, place))
 }
 
-/// Appends to `out` the literal of one value, by the numbers of its set and its place, from 0.
+/// Appends to `out` the literal of one value, by the numbers of its set and its position, from 0.
 ///
 /// **Safe for** the servers that [`bind_text`] is safe for: [`value_text_in`] takes the mode.
 ///

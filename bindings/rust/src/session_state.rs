@@ -11,5 +11,5 @@ pub const SESSION_TRACK_STATE_CHANGE: u8 = 2;
 pub const SESSION_TRACK_GTIDS: u8 = 3;
 /// How the next transaction begins.
 pub const SESSION_TRACK_TRANSACTION_CHARACTERISTICS: u8 = 4;
-/// How the transaction stands.
+/// The state of the transaction.
 pub const SESSION_TRACK_TRANSACTION_STATE: u8 = 5;

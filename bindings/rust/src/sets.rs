@@ -74,7 +74,7 @@ impl ParameterSets {
         Ok(answer(code)?)
     }
 
-    /// Ends the next set: its values stand behind the sets before it. Also a set of no values.
+    /// Ends the next set: its values come behind the sets before it. Also a set of no values.
     ///
     /// # Errors
     /// [`Code::MEMORY`](crate::Code::MEMORY); nothing has changed then.

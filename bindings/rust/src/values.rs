@@ -13,7 +13,7 @@ pub enum Content<'a> {
     Int(i64),
     /// A whole number of 2^63 or more.
     UInt(u64),
-    /// Bytes, as they stand in the receiver.
+    /// Bytes, as the receiver has them.
     Bytes(&'a [u8]),
 }
 

@@ -66,7 +66,7 @@ impl ReplyWriter {
     /// An OK packet. The bit SERVER_MORE_RESULTS_EXISTS of its status is set by `more`.
     ///
     /// # Errors
-    /// One of `WRITE_..` with its place, [`Code::MEMORY`].
+    /// One of `WRITE_..` with its position, [`Code::MEMORY`].
     pub fn ok(&mut self, packet: &OkPacket<'_>, more: bool, out: &mut Bytes) -> Result<(), Error> {
         let OkPacket {
             affected_rows,
@@ -95,7 +95,7 @@ impl ReplyWriter {
     /// An error, which ends the reply.
     ///
     /// # Errors
-    /// One of `WRITE_..` with its place, [`Code::MEMORY`].
+    /// One of `WRITE_..` with its position, [`Code::MEMORY`].
     pub fn error(&mut self, error: &ErrorPacket<'_>, out: &mut Bytes) -> Result<(), Error> {
         let ErrorPacket {
             code,
@@ -149,7 +149,7 @@ impl ReplyWriter {
     /// Begins rows under the columns that were given.
     ///
     /// # Errors
-    /// One of `WRITE_..` with its place, [`Code::MEMORY`].
+    /// One of `WRITE_..` with its position, [`Code::MEMORY`].
     pub fn rows(&mut self, out: &mut Bytes) -> Result<(), Error> {
         // SAFETY: by `write`.
         self.write(out, |handle, out, spot| unsafe {
@@ -160,7 +160,7 @@ impl ReplyWriter {
     /// The next row: the values of a set, by its number from 0.
     ///
     /// # Errors
-    /// [`Code::OUT_OF_RANGE`] where there is no such set, one of `WRITE_..` with its place,
+    /// [`Code::OUT_OF_RANGE`] where there is no such set, one of `WRITE_..` with its position,
     /// [`Code::MEMORY`].
     pub fn row(&mut self, sets: &ParameterSets, set: usize, out: &mut Bytes) -> Result<(), Error> {
         // SAFETY: by `write`, and the sets' handle is a third one.
@@ -172,7 +172,7 @@ impl ReplyWriter {
     /// Ends the rows. The bit SERVER_MORE_RESULTS_EXISTS of the status is set by `more`.
     ///
     /// # Errors
-    /// One of `WRITE_..` with its place, [`Code::MEMORY`].
+    /// One of `WRITE_..` with its position, [`Code::MEMORY`].
     pub fn end_rows(
         &mut self,
         status: u16,
@@ -189,7 +189,7 @@ impl ReplyWriter {
     /// A prepared statement: the first `params` of the columns that were given are its parameters.
     ///
     /// # Errors
-    /// [`Code::OUT_OF_RANGE`] where there are fewer, one of `WRITE_..` with its place,
+    /// [`Code::OUT_OF_RANGE`] where there are fewer, one of `WRITE_..` with its position,
     /// [`Code::MEMORY`].
     pub fn prepared(
         &mut self,
@@ -204,7 +204,7 @@ impl ReplyWriter {
         })
     }
 
-    /// Ends the reply, where it stands whole.
+    /// Ends the reply, where it is whole.
     ///
     /// # Errors
     /// [`Code::WRITE_NO_RESULTS`], [`Code::WRITE_NOT_ENDED`].

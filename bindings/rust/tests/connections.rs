@@ -1,4 +1,4 @@
-//! Whole connections: the recorded ones are read to the lines that stand beside them, however their
+//! Whole connections: the recorded ones are read to the lines beside them, however their
 //! bytes come.
 
 use mysql_session::{

@@ -339,7 +339,7 @@ fn read_steps(it: &Conversation, most: usize) {
     }
 }
 
-/// Both streams end; how the connection stands then.
+/// Both streams end; the state of the connection then.
 fn finish(connection: &mut Connection, lines: &mut Vec<String>) -> String {
     connection.close(Side::Client);
     connection.close(Side::Server);
@@ -372,7 +372,7 @@ fn read_streams(it: &Conversation, first: Side, most: usize) {
     }
 }
 
-/// A client and a server put each payload that has a line of its own, as long as each has one. A
+/// A client and a server put each payload that has its own line, as long as each has one. A
 /// server's last words can't be put.
 fn put_again(it: &Conversation) -> Result<(), Error> {
     let (mut client, mut server) = (it.connection(), it.connection());

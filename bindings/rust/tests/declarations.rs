@@ -165,7 +165,7 @@ fn fields_of(text: &str) -> Vec<(String, String)> {
         .collect()
 }
 
-/// The structs of this crate, but the one that stands for a pointer and a length.
+/// The structs of this crate, but the one that is a pointer and a length.
 fn raw_structs(text: &str) -> Declared {
     let parts = text.split("pub struct ").skip(1);
     parts

@@ -1,4 +1,4 @@
-//! Errors by their codes, texts and places, and objects behind a fault.
+//! Errors by their codes, texts and positions, and objects behind a fault.
 
 use mysql_session::{
     bind_text, put_execution, put_packet, recode, send, value_text, At, Bytes, Code, End, Error,

@@ -59,7 +59,7 @@ fn query_packet(query: &[u8]) -> Vec<u8> {
     packet
 }
 
-/// What is sent of a value by a road.
+/// What is sent of a value by one method.
 fn sent(value: Value<'_>, road: Road, mode: Mode, spelling: Spelling) -> Result<Bytes, Error> {
     let (sets, mut out) = (sets_of(value)?, Bytes::new()?);
     send_in(&sets, b"SELECT ?", road, 1, LIMIT, mode, spelling, &mut out)?;

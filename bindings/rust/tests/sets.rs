@@ -1,4 +1,4 @@
-//! Parameter sets sent by each road, and read back as they come.
+//! Parameter sets sent by each method, and read back as they come.
 
 use mysql_session::{
     bind_text, recode, send, value_text, Bytes, Code, Content, Date, End, Error, ParameterSets,

@@ -121,7 +121,7 @@ pub fn put_end(end: End, text: &mut Vec<u8>) -> Result<(), Trouble> {
     Ok(())
 }
 
-/// Whether a connection that waits for more or is over stands as an end says, by what else it tells.
+/// Whether a connection that waits for more or is over is as an end says, by what else it tells.
 pub fn is_told(end: End, connection: &Connection) -> bool {
     let client = connection.rest(Side::Client);
     let server = connection.rest(Side::Server);

@@ -17,14 +17,14 @@ use std::{fs, io};
 /// Streams above this aren't read here.
 const LONG: usize = 100_000;
 
-/// What stands between two titles of a file.
+/// What is between two titles of a file.
 #[derive(Clone, Copy)]
 struct Part<'a> {
     file: &'a str,
     /// The line of the title, from 1 on.
     line: usize,
     text: &'a str,
-    /// Whether it is what stands before the first title: comments, and names for bytes.
+    /// Whether it is what comes before the first title: comments, and names for bytes.
     is_head: bool,
 }
 

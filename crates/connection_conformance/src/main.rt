@@ -1,9 +1,9 @@
 //! Recorded connections, read whole, in pieces, cut, with bytes changed and with rows that are lent.
 //!
 //! Each argument names a recording. NAME.client and NAME.server are the bytes of both sides.
-//! NAME.events has a line for each payload, in the order in which they are due, and one for the
-//! end. However the bytes arrive, these lines have to come, each as soon as its bytes are there. Or
-//! it is NAME.conversations, a file of conversations written by hand.
+//! NAME.events has a line for each payload, in the order of turns, and one for the end. However the
+//! bytes arrive, these lines have to come, each as soon as its bytes are there. Or it is
+//! NAME.conversations, a file of conversations written by hand.
 #![tactic(auto)]
 
 mod calls;

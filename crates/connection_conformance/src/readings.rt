@@ -17,7 +17,7 @@ pub struct Task<'a> {
     pub part: Part,
     pub client: &'a [u8],
     pub server: &'a [u8],
-    /// The lines of the events and of the end. Of fronts they are those of the whole streams.
+    /// The lines of the events and of the end. Of prefixes they are those of the whole streams.
     pub lines: &'a [u8],
     pub order: Order,
     /// Whether rows are lent, or are events as any other.
@@ -119,9 +119,9 @@ impl<'a> Reading<'a> {
         Ok(())
     }
 
-    /// Feeds so many bytes of a side, or as many as there is room for, and returns which side's they
-    /// are. Where there is none, the side that is due is fed. Where nobody is due, all is fed that
-    /// is left: nothing comes of it.
+    /// Feeds so many bytes of a side, or as many as there is room for, and returns which side's
+    /// they are. Where there is none, the side is fed whose turn it is. Where it is nobody's, all
+    /// is fed that is left: nothing comes of it.
     fn feed(
         &mut self,
         connection: &mut Connection,
@@ -173,7 +173,8 @@ impl<'a> Reading<'a> {
         Ok(())
     }
 
-    /// How the connection stands once both streams have ended: the line of that has to be the last one.
+    /// The state of the connection once both streams have ended: the line of that has to be the
+    /// last one.
     fn end(
         &self,
         connection: &mut Connection,
@@ -197,7 +198,7 @@ impl<'a> Reading<'a> {
         }
     }
 
-    /// Reads both streams, and how the connection stands once they have ended.
+    /// Reads both streams, and the state of the connection once they have ended.
     fn run(
         &mut self,
         connection: &mut Connection,

@@ -14,7 +14,7 @@ use std::alloc::Global;
 use std::rt::Files;
 use std::{fs, io};
 
-/// How many pairs of fronts of a recording are read, and how many of its bytes are changed.
+/// How many pairs of prefixes of a recording are read, and how many of its bytes are changed.
 pub const MANY: u64 = 8;
 
 /// As many are of a conversation, and at least of any recording.
@@ -72,7 +72,7 @@ fn least_limits(alloc: Global, task: &Task<'_>, kept: usize) -> Limits {
     }
 }
 
-/// A front of a stream: all of it, up to any byte, or up to a packet's end.
+/// A prefix of a stream: all of it, up to any byte, or up to a packet's end.
 fn front<'a>(stream: &'a [u8], numbers: &mut Numbers) -> &'a [u8] {
     let kind = numbers.below(3);
     let count = numbers.below(stream.len());
@@ -152,7 +152,7 @@ fn read_under_limits(
     Ok(())
 }
 
-/// Reads so many fronts of both streams, every other one with rows that are lent.
+/// Reads so many prefixes of both streams, every other one with rows that are lent.
 fn read_fronts(
     alloc: Global,
     task: Task<'_>,
@@ -280,8 +280,8 @@ impl Recording {
         Part::Changed(side, place)
     }
 
-    /// Reads it as it stands, of which a byte was changed, in one piece and in an order: both have
-    /// to give the same lines. For every other number rows are lent.
+    /// Reads it with its changed byte, in one piece and in an order: both have to give the same
+    /// lines. For every other number rows are lent.
     fn read_changed(
         &self,
         alloc: Global,
@@ -332,7 +332,7 @@ impl Recording {
         Ok(())
     }
 
-    /// Reads it in all ways: of fronts and of changed bytes there are so many, or fewer.
+    /// Reads it in all ways: of prefixes and of changed bytes there are so many, or fewer.
     pub fn check_once(
         &mut self,
         alloc: Global,

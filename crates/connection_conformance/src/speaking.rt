@@ -134,7 +134,7 @@ fn hear(connection: &mut Connection, line: &[u8], heard: &mut Vec<u8>) -> Result
     }
 }
 
-/// Whether two connections stand alike, but for bytes that wait.
+/// Whether two connections are in the same state, but for bytes that wait.
 fn stand_alike(one: &Connection, other: &Connection) -> bool {
     one.turn() == other.turn()
         && one.phase() == other.phase()

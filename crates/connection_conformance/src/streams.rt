@@ -7,8 +7,8 @@ pub struct Stream<'a> {
     pub untaken: &'a [u8],
 }
 
-/// How many bytes the packet that stands first takes, where its header is there. No packet of a
-/// recording is as long as a chunk, so that each is a payload.
+/// How many bytes the first packet takes, where its header is there. No packet of a recording is as
+/// long as a chunk, so that each is a payload.
 pub fn packet_length(bytes: &[u8]) -> Option<usize> {
     match bytes {
         [low, middle, high, _, ..] => {
@@ -19,7 +19,7 @@ pub fn packet_length(bytes: &[u8]) -> Option<usize> {
     }
 }
 
-/// The longest payload of a stream, by the headers of its packets, and the packets that stand whole.
+/// The longest payload of a stream, by the headers of its packets, and the packets that are whole.
 pub fn packets_of(stream: &[u8]) -> (usize, &[u8]) {
     let mut left = stream;
     let mut longest = 0;
@@ -43,7 +43,7 @@ impl<'a> Stream<'a> {
         self.untaken.len().saturating_sub(self.unfed.len())
     }
 
-    /// What stands behind the packet that stands first, where that was fed whole.
+    /// What follows the first packet, where that was fed whole.
     pub fn behind(&self) -> Option<&'a [u8]> {
         match packet_length(self.untaken) {
             Some(length) if length <= self.waiting() => self.untaken.get(length..),

@@ -1,5 +1,5 @@
-//! A conversation as the streams of both sides. What its rows say of events and of how the connection
-//! stands is looked at by `bindings/test`, in C, Rust and Python.
+//! A conversation as the streams of both sides. What its rows say of events and of the connection's
+//! state is looked at by `bindings/test`, in C, Rust and Python.
 
 use crate::recordings::Recording;
 use crate::troubles::Trouble;
@@ -33,7 +33,7 @@ fn side_of(word: &str) -> Result<Side, Trouble> {
     }
 }
 
-/// The bytes that a field stands for.
+/// The bytes that a field refers to.
 fn bytes_of_field(alloc: Global, names: &Names<'_>, field: &str) -> Result<Vec<u8>, Trouble> {
     let tokens = tokens_of(alloc, field, names)?;
     Ok(bytes_of(alloc, tokens.as_slice())?)

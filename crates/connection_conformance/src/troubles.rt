@@ -22,13 +22,13 @@ pub enum Trouble {
     Late,
     /// A fault is found where none is.
     Fault,
-    /// Another side is due.
+    /// It is another side's turn.
     Turn,
     /// Other bytes are unread.
     Rest,
     /// More or less is held than has to be.
     Held,
-    /// The end isn't how the connection stands.
+    /// The end isn't the one that the connection has.
     End,
     /// An event that was read isn't put again.
     Put,
@@ -83,7 +83,7 @@ impl From<io::Error> for Trouble {
 pub enum Part {
     /// All of it.
     Whole,
-    /// Fronts of both streams, of so many bytes of the client's and of the server's.
+    /// Prefixes of both streams, of so many bytes of the client's and of the server's.
     Fronts(usize, usize),
     /// All of it, but this byte of this side is another.
     Changed(Side, usize),

@@ -1,6 +1,6 @@
-//! What a caller proves of types of its own. An amount is sent as a parameter and read out of rows,
-//! and each row becomes a struct. docs/EXAMPLES.md shows them. Its other programs are run without
-//! proofs.
+//! What a caller proves of types that it wrote. An amount is sent as a parameter and read out of
+//! rows, and each row becomes a struct. docs/EXAMPLES.md shows them. Its other programs are run
+//! without proofs.
 #![tactic(auto)]
 
 mod cents;

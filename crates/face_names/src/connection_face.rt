@@ -1,5 +1,5 @@
-//! What a user of `mysql_connection` can name: each item that the face passes on, by each of its paths.
-//! Written by `tools/faces` from the sources. A name that the face doesn't pass on is refused here.
+//! What a user of `mysql_connection` can name: each item that it passes on, by each of its paths.
+//! Written by `tools/faces` from the sources. A name that the crate doesn't pass on is refused here.
 
 use mysql_connection::{
     Attribute, AuthenticationEvent, BadEvent, BoundType, BulkExecution, BulkValue, Capabilities,
@@ -18,9 +18,11 @@ use mysql_connection::{
 
 mod laws {
     use mysql_connection::laws::{
-        all_see_the_same, connection_executions_are_received, events_lead_on,
-        kept_lists_are_counted, packets_are_spoken, payloads_are_in_turn, read_commands_are_put,
-        read_events_are_put, sent_packets_are_put, stored_is_the_sum,
+        all_see_the_same, clients_go_on, connection_executions_are_received, events_lead_on,
+        executions_are_shown, kept_lists_are_counted, packets_are_commands, packets_are_spoken,
+        payloads_are_in_turn, put_packets_are_about, queries_are_shown, read_commands_are_put,
+        read_events_are_put, sent_packets_are_put, sent_sets_are_of_their_statement,
+        stored_is_the_sum, texts_are_shown,
     };
 
     mod agreement {
@@ -38,8 +40,8 @@ mod laws {
 
     mod deliveries {
         use mysql_connection::laws::deliveries::{
-            delivered_sets_are_said, events_are_spoken, machines_hear, machines_hear_what_they_put,
-            put_payloads_are_read, put_sets_are_read,
+            delivered_sets_are_said, events_are_spoken, further_sets_join, machines_hear,
+            machines_hear_what_they_put, put_payloads_are_read, put_sets_are_read,
         };
     }
 
@@ -79,7 +81,7 @@ mod laws {
     }
 }
 
-// The faces below: one item each, since each has a list of its own.
+// The public crates below: one item each, since each has its own list.
 mod login_face {
     use mysql_connection::mysql_login::Sid;
 

@@ -1,5 +1,5 @@
-//! What a user of `mysql_convert` can name: each item that the face passes on, by each of its paths.
-//! Written by `tools/faces` from the sources. A name that the face doesn't pass on is refused here.
+//! What a user of `mysql_convert` can name: each item that it passes on, by each of its paths.
+//! Written by `tools/faces` from the sources. A name that the crate doesn't pass on is refused here.
 
 use mysql_convert::{
     FromValue, FromValueError, Intermediate, IntoParams, OptionIr2, ParseIr, ParseIrOpt, SetError,
@@ -28,7 +28,7 @@ mod numbers {
     use mysql_convert::numbers::{Integer, Number, text_integer};
 }
 
-// The faces below: one item each, since each has a list of its own.
+// The public crates below: one item each, since each has its own list.
 mod values_face {
     use mysql_convert::mysql_values::Mode;
 

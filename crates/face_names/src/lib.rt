@@ -1,4 +1,4 @@
-//! What a user of each face can name, a module for each.
+//! What a user of each public crate can name, a module for each.
 //! Written by `tools/faces` from the sources.
 #![tactic(auto)]
 

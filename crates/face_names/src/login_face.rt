@@ -1,5 +1,5 @@
-//! What a user of `mysql_login` can name: each item that the face passes on, by each of its paths.
-//! Written by `tools/faces` from the sources. A name that the face doesn't pass on is refused here.
+//! What a user of `mysql_login` can name: each item that it passes on, by each of its paths.
+//! Written by `tools/faces` from the sources. A name that the crate doesn't pass on is refused here.
 
 use mysql_login::{
     AuthMoreData, AuthMoreDataHeader, AuthNextFactor, AuthNextFactorHeader, AuthPlugin,
@@ -38,7 +38,7 @@ mod laws {
     }
 }
 
-// The faces below: one item each, since each has a list of its own.
+// The public crates below: one item each, since each has its own list.
 mod wire_face {
     use mysql_login::mysql_wire::Seq;
 }

@@ -1,5 +1,5 @@
-//! What a user of `mysql_packets` can name: each item that the face passes on, by each of its paths.
-//! Written by `tools/faces` from the sources. A name that the face doesn't pass on is refused here.
+//! What a user of `mysql_packets` can name: each item that it passes on, by each of its paths.
+//! Written by `tools/faces` from the sources. A name that the crate doesn't pass on is refused here.
 
 use mysql_packets::{
     BitmapBytes, BulkExecuteRequestBuilderError, BulkExecuteRequestError, BulkRequests, Catalog,
@@ -58,7 +58,7 @@ mod statement {
     use mysql_packets::statement::StmtPacket;
 }
 
-// The faces below: one item each, since each has a list of its own.
+// The public crates below: one item each, since each has its own list.
 mod convert_face {
     use mysql_packets::mysql_convert::ParseIr;
 

@@ -1,5 +1,5 @@
-//! What a user of `mysql_session` can name: each item that the face passes on, by each of its paths.
-//! Written by `tools/faces` from the sources. A name that the face doesn't pass on is refused here.
+//! What a user of `mysql_session` can name: each item that it passes on, by each of its paths.
+//! Written by `tools/faces` from the sources. A name that the crate doesn't pass on is refused here.
 
 use mysql_session::{
     Audit, BindError, ByteString, CapabilityFlags, ChunkHeader, Column, ColumnIndex, Content, End,
@@ -44,9 +44,8 @@ mod laws {
 
     mod replies {
         use mysql_session::laws::replies::{
-            a_standing_goes_on, answers_have_what_stands, bytes_have_one_answer,
-            each_reader_decides, each_reply_has_one_answer, each_standing_decides,
-            events_are_the_answer, lent_rows_are_handed_out, taken_results_are_the_reply,
+            answers_have_what_stands, bytes_have_one_answer, each_reader_decides,
+            lent_rows_are_handed_out, payloads_go_on, taken_results_are_the_reply,
             whole_bytes_are_framed_results, whole_replies_are_results,
         };
     }
@@ -107,7 +106,7 @@ mod laws {
     }
 }
 
-// The faces below: one item each, since each has a list of its own.
+// The public crates below: one item each, since each has its own list.
 mod packets_face {
     use mysql_session::mysql_packets::Row;
 

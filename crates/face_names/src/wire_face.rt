@@ -1,5 +1,5 @@
-//! What a user of `mysql_wire` can name: each item that the face passes on, by each of its paths.
-//! Written by `tools/faces` from the sources. A name that the face doesn't pass on is refused here.
+//! What a user of `mysql_wire` can name: each item that it passes on, by each of its paths.
+//! Written by `tools/faces` from the sources. A name that the crate doesn't pass on is refused here.
 
 use mysql_wire::{
     BareBytes, BareU8Bytes, BareU16Bytes, Binary, BufMutExt, BytesRepr, ChunkDecoder, ChunkHeader,

@@ -1,4 +1,17 @@
-//! Authentication: plugins, their data, and the packets of an exchange.
+//! Authentication: plugins, their data, and the packets of an exchange. It hashes no password.
+//!
+//! The crates of logging in use it. A user names its items by `mysql_login`.
+//!
+//! | packet of the exchange | from | type |
+//! |---|---|---|
+//! | switch to another plugin | the server | [`AuthSwitchRequest`], [`OldAuthSwitchRequest`] |
+//! | more data of a plugin | the server | [`AuthMoreData`], [`PublicKeyResponse`] |
+//! | one more factor | the server | [`AuthNextFactor`] |
+//! | the key of `caching_sha2_password`, asked for | the client | [`PublicKeyRequest`] |
+//!
+//!     let plugin = AuthPlugin::from_bytes(b"caching_sha2_password");
+//!     let switch: AuthSwitchRequest = ParseBuf(payload).parse(alloc, ())?;
+//!     let scramble = switch.plugin_data();
 #![tactic(auto)]
 
 mod caching_sha2_password;

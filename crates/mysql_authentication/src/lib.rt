@@ -1,5 +1,17 @@
-//! Logging in, payload by payload: what a server says and what a client says, each in its phase. It
-//! is read and written by the capabilities in force.
+//! Logging in, payload by payload: what a server says and what a client says, each in its phase.
+//!
+//! `mysql_connection_state` and `mysql_connection_writer` call it, and a user by
+//! `mysql_connection`. It reads and writes by the capabilities in force.
+//!
+//! | phase | whose turn | read by | put by |
+//! |---|---|---|---|
+//! | greeting | server | [`read_greeting`] | [`put_greeting`] |
+//! | response, or a request for TLS | client | [`read_response`] | [`put_response`] |
+//! | the exchange, to OK or an error | server | [`read_authentication`] | [`put_authentication`] |
+//!
+//!     let said = read_response(alloc, greeting.capabilities(), payload)?;
+//!     let both = capabilities_in_force(&greeting, login.request());
+//!     let event = read_authentication(alloc, both.protocol, payload)?;
 #![tactic(auto)]
 
 mod authentication;

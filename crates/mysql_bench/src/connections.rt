@@ -22,8 +22,8 @@ fn sum_of_lent(connection: &Connection) -> usize {
     }
 }
 
-/// Takes the events that stand, at most so many, and looks at each row where it lies. Answers what
-/// the rows come to, and 1 for each other event.
+/// Takes the events that are there, at most so many, and looks at each row where it lies. Answers
+/// what the rows come to, and 1 for each other event.
 fn lent_events(connection: &mut Connection, most: usize) -> Result<usize, ConnectionFault> {
     let mut sum: usize = 0;
     for _ in 0..most {
@@ -37,8 +37,7 @@ fn lent_events(connection: &mut Connection, most: usize) -> Result<usize, Connec
     Ok(sum)
 }
 
-/// Feeds bytes of a side: whether they were taken. What `feed` promises is long, so it is called here
-/// alone.
+/// Feeds bytes of a side: whether they were taken. Only this calls `feed`, whose promise is long.
 pub fn feed(connection: &mut Connection, side: Side, bytes: &[u8]) -> bool {
     connection.feed(side, bytes).is_ok()
 }

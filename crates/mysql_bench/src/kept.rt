@@ -6,7 +6,7 @@ use mysql_session::{Params, Query, Refusal, Road};
 use std::alloc::Global;
 use std::slice;
 
-/// Sends a set: by a command of its own, or as an execution of a statement that was prepared before.
+/// Sends a set: by one command, or as an execution of a statement that was prepared before.
 fn send_one(
     alloc: Global,
     query: &Query<'_>,

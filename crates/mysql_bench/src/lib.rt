@@ -23,7 +23,7 @@ pub const LIMIT: usize = 67108864;
 /// The id of the statement.
 pub const STATEMENT: u32 = 1;
 
-/// The road of this number: 0 is text, 1 is execute, and any other is bulk.
+/// The method of this number: 0 is text, 1 is execute, and any other is bulk.
 pub fn road_of(number: u8) -> Road {
     match number {
         0 => Road::Text,

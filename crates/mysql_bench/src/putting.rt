@@ -238,7 +238,7 @@ fn put_replies(
 
 /// Puts a command and its reply on one connection so many times, each row by its cells.
 ///
-/// The buffer is emptied before each time. The rows stand in the reply's stream from one place to
+/// The buffer is emptied before each time. The rows are in the reply's stream from one position to
 /// another. A prepare and its reply are put before, where there are any. Answers the bytes of one
 /// time.
 #[unsafe(no_mangle)]

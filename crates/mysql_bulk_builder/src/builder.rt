@@ -137,7 +137,7 @@ impl<'a> ComStmtBulkExecuteRequestBuilder<'a> {
     ghost use Rattle.mysql_bulk_builder.specs.Builder.{after_build, request_of, HasOneMore, IsFilled};
     ghost use Rattle.mysql_bulk_builder.specs.RequestView.{execution_of};
     ghost use Rattle.mysql_bulk_builder.specs.Views.{bulk_view};
-    ghost use Rattle.mysql_bulk_builder.specs.declared.request_error.BulkExecuteRequestError.TheVariants as request_error;
+    ghost use Rattle.mysql_bulk_builder.specs.declared.request_error.BulkExecuteRequestError.TheVariants as refusals;
     ghost use Rattle.mysql_bulk_builder.specs.Adds.{Adds, AddsGiven, GivesBack};
 
     /// A builder of requests of at most `max_allowed_packet - 4` bytes for a prepared statement.
@@ -337,8 +337,8 @@ impl<'a> ComStmtBulkExecuteRequestBuilder<'a> {
         ensures fits { OnOk result (IsFilled self.old) }
         ensures new { OnOk result (self.new ≡ after_build self.old) }
         ensures unchanged { OnErr result (self.new ≡ self.old) }
-        ensures err { IfErr result (λ e. (e ≡ request_error.Memory) ⊎
-            ((e ≡ request_error.NoParams) × (self.old.rows ≡ []))) }
+        ensures err { IfErr result (λ e. (e ≡ refusals.Memory) ⊎
+            ((e ≡ refusals.NoParams) × (self.old.rows ≡ []))) }
     {
         if self.count == 0 {
             return Err(BulkExecuteRequestError::NoParams);

@@ -1,4 +1,15 @@
-//! Rows cut into bulk execute requests.
+//! Bulk execute requests of MariaDB: rows cut into requests, and one request, read and written.
+//!
+//! `ComStmtBulkExecuteRequestBuilder` takes rows one by one and gives the requests, each as full as
+//! the limit lets it be. `bulk_cut` says which rows go into which request. Sending in bulk calls it,
+//! and a user who sends requests alone.
+//!
+//! | modules | of what |
+//! |---|---|
+//! | `request`, `headers`, `param_type`, `param_value` | one request, its types and its values |
+//! | `reading` | one row of a request, read |
+//! | `builder`, `requests`, `search`, `row_size` | rows cut into requests |
+//! | `first_values`, `kinds` | the types of columns, by their first values |
 #![tactic(auto)]
 
 pub mod builder;

@@ -32,7 +32,7 @@ use mysql_c_commands::{
 use mysql_c_handles::{Handle, ShownEnd, bytes_clear, bytes_data, bytes_new};
 use std::alloc::Global;
 
-/// Makes the handle stand for no bytes.
+/// Makes the handle refer to no bytes.
 #[unsafe(no_mangle)]
 pub extern "C" fn mysql_session_bytes_new(alloc: Global, handle: &mut Handle) -> u32
     ensures made { result ≡ 0 → IsBytes handle.new.object (λ bytes. bytes ≡ []) }
@@ -90,7 +90,7 @@ pub extern "C" fn mysql_session_is_safe_to_quote(collation: u16) -> u32
     is_safe_to_quote(collation)
 }
 
-/// Makes the handle stand for a receiver of a stream of commands about this query.
+/// Makes the handle refer to a receiver of a stream of commands about this query.
 ///
 /// `id` is that of the query's statement. The flags tell the mode of the server that the stream was
 /// sent to, and how its texts spell byte strings.
@@ -124,7 +124,7 @@ pub extern "C" fn mysql_session_receiver_feed(
 
 /// Ends a receiver, and shows how the stream ends.
 ///
-/// The handle stands for the audit of what was fed, and holds the sets that weren't let go. Of an
+/// The handle refers to the audit of what was fed, and holds the sets that weren't let go. Of an
 /// audit it shows the same again.
 #[unsafe(no_mangle)]
 pub extern "C" fn mysql_session_receiver_end(
@@ -191,7 +191,7 @@ pub extern "C" fn mysql_session_receiver_clear(alloc: Global, handle: &mut Handl
     receiver_clear(alloc, handle)
 }
 
-/// Makes the handle stand for parameter sets, of which there are none yet.
+/// Makes the handle refer to parameter sets, of which there are none yet.
 #[unsafe(no_mangle)]
 pub extern "C" fn mysql_session_sets_new(alloc: Global, handle: &mut Handle) -> u32
     ensures made { result ≡ 0 → IsSets handle.new.object HasNone }
@@ -362,8 +362,8 @@ pub extern "C" fn mysql_session_sets_clear(alloc: Global, handle: &mut Handle) -
 
 /// Appends the whole parameter sets of one handle, as commands, to the bytes of another.
 ///
-/// The number of the road is 0 for text, 1 for execute, 2 for bulk. Where the sets aren't sent it
-/// shows the set and the place that are refused, and the bytes stay.
+/// The number of the method is 0 for text, 1 for execute, 2 for bulk. Where the sets aren't sent it
+/// shows the set and the placeholder that are refused, and the bytes stay.
 #[unsafe(no_mangle)]
 pub extern "C" fn mysql_session_send(
     alloc: Global,
@@ -401,7 +401,7 @@ pub extern "C" fn mysql_session_execution_put(
 }
 
 /// Appends the text of the set of this number over a query to the bytes of another handle. Where
-/// there is none it shows the set and the place that are refused, and the bytes stay.
+/// there is none it shows the set and the placeholder that are refused, and the bytes stay.
 ///
 /// The flags tell the mode of the server that the text is for, and how byte strings are spelled.
 #[unsafe(no_mangle)]
@@ -443,7 +443,7 @@ pub extern "C" fn mysql_session_value_text(
     value_text(alloc, sets, set, place, flags, out)
 }
 
-/// Makes the handle stand for a recoder of a stream of commands about this query.
+/// Makes the handle refer to a recoder of a stream of commands about this query.
 ///
 /// `id` is that of the query's statement. The flags tell the mode of the server that the stream was
 /// sent to, and how its texts spell byte strings.
@@ -465,7 +465,7 @@ pub extern "C" fn mysql_session_recoder_new(
 
 /// Feeds a recoder with the next piece of its stream, and appends the executions it makes.
 ///
-/// They are those of the sets that are whole with the piece. The prepare stands before the first of
+/// They are those of the sets that are whole with the piece. The prepare comes before the first of
 /// all. They go to the bytes of another handle. Where it is refused it shows where, and the bytes
 /// stay.
 #[unsafe(no_mangle)]
@@ -482,7 +482,7 @@ pub extern "C" fn mysql_session_recoder_feed(
 }
 
 /// Ends a recoder: where its stream carried no set the prepare is appended to the bytes of another
-/// handle. The handle stands for nothing then, also where the end is refused.
+/// handle. The handle refers to nothing then, also where the end is refused.
 #[unsafe(no_mangle)]
 pub extern "C" fn mysql_session_recoder_end(
     alloc: Global,

@@ -26,7 +26,7 @@ use mysql_const::{Capabilities, CapabilityFlags, MariadbCapabilities};
 use std::alloc::Global;
 use std::mem::replace;
 
-/// Makes the handle stand for a connection of which no byte came.
+/// Makes the handle refer to a connection of which no byte came.
 #[unsafe(no_mangle)]
 pub extern "C" fn mysql_session_connection_new(
     alloc: Global,
@@ -42,7 +42,7 @@ pub extern "C" fn mysql_session_connection_new(
     mysql_c_connection::connection_new(alloc, handle, client, server, held)
 }
 
-/// Makes the handle stand for a connection behind a login that was made elsewhere.
+/// Makes the handle refer to a connection behind a login that was made elsewhere.
 #[unsafe(no_mangle)]
 pub extern "C" fn mysql_session_connection_after_login(
     alloc: Global,
@@ -65,7 +65,7 @@ pub extern "C" fn mysql_session_connection_after_login(
     mysql_c_connection::connection_after_login(alloc, handle, capabilities, client, server, held)
 }
 
-/// Frees the connection that the handle stands for. It stands for nothing then.
+/// Frees the connection that the handle refers to. It refers to nothing then.
 #[unsafe(no_mangle)]
 pub extern "C" fn mysql_session_connection_free(alloc: Global, handle: &mut Handle)
     ensures { handle.new.object ≡ Empty }
@@ -102,7 +102,7 @@ pub extern "C" fn mysql_session_connection_close(
 
 /// Takes the next event, and shows it.
 ///
-/// It is one of kind 0 where the payload that is due isn't there whole, or the connection is over.
+/// It is one of kind 0 where the next payload isn't there whole, or the connection is over.
 #[unsafe(no_mangle)]
 pub extern "C" fn mysql_session_connection_next(
     alloc: Global,
@@ -115,9 +115,10 @@ pub extern "C" fn mysql_session_connection_next(
     mysql_c_connection::connection_next(alloc, handle, shown)
 }
 
-/// Puts a payload of a side, where it is due.
+/// Puts a payload of a side at its turn.
 ///
-/// Its packets are appended to the bytes that a handle stands for, and the event that it says is shown.
+/// Its packets are appended to the bytes that a handle refers to, and the event that it says is
+/// shown.
 #[unsafe(no_mangle)]
 pub extern "C" fn mysql_session_connection_put(
     alloc: Global,
@@ -134,7 +135,7 @@ pub extern "C" fn mysql_session_connection_put(
     mysql_c_connection::connection_put(alloc, handle, side, payload, out, shown)
 }
 
-/// Puts the payloads of packets of a side, one after another, as long as they are due.
+/// Puts the payloads of packets of a side, one after another, as long as it is its turn.
 #[unsafe(no_mangle)]
 pub extern "C" fn mysql_session_connection_put_packets(
     alloc: Global,
@@ -259,7 +260,7 @@ pub extern "C" fn mysql_session_connection_line_with_secrets(
     mysql_c_connection::connection_line(alloc, handle, Secrets::Shown, text, len)
 }
 
-/// Shows how a connection stands.
+/// Shows the state of a connection.
 #[unsafe(no_mangle)]
 pub extern "C" fn mysql_session_connection_standing(
     alloc: Global,
@@ -274,7 +275,7 @@ pub extern "C" fn mysql_session_connection_standing(
 
 /// The flags that tell the mode of a connection's session.
 ///
-/// They are 8 where it isn't known, and for a handle that stands for nothing.
+/// They are 8 where it isn't known, and for a handle that refers to nothing.
 #[unsafe(no_mangle)]
 pub extern "C" fn mysql_session_connection_mode(alloc: Global, handle: &mut Handle) -> u32
     ensures kept { handle.new.object ≡ handle.old.object }
@@ -284,7 +285,7 @@ pub extern "C" fn mysql_session_connection_mode(alloc: Global, handle: &mut Hand
     mode_flags(mysql_c_connection::connection_mode(alloc, handle))
 }
 
-/// Shows the prepared statement that an id of a command stands for: its text, and how many
+/// Shows the prepared statement that an id of a command refers to: its text, and how many
 /// parameters it has.
 #[unsafe(no_mangle)]
 pub extern "C" fn mysql_session_connection_statement(
@@ -316,7 +317,7 @@ pub extern "C" fn mysql_session_connection_rest(
     mysql_c_connection::connection_rest(alloc, handle, side, data, len)
 }
 
-/// Ends both streams, and shows how the connection stands.
+/// Ends both streams, and shows the state of the connection.
 #[unsafe(no_mangle)]
 pub extern "C" fn mysql_session_connection_finish(
     alloc: Global,

@@ -19,7 +19,7 @@ use mysql_c_commands::{
 use mysql_c_handles::Handle;
 use std::alloc::Global;
 
-/// Makes the handle stand for a reader of packets, of which the first chunk has this number.
+/// Makes the handle refer to a reader of packets, of which the first chunk has this number.
 #[unsafe(no_mangle)]
 pub extern "C" fn mysql_session_packets_new(
     alloc: Global,
@@ -34,7 +34,7 @@ pub extern "C" fn mysql_session_packets_new(
 }
 
 /// Reads on to the end of the next packet. Tells how many bytes of the piece were used, and whether
-/// a payload stands whole then.
+/// a payload is whole then.
 #[unsafe(no_mangle)]
 pub extern "C" fn mysql_session_packets_feed(
     alloc: Global,
@@ -49,7 +49,7 @@ pub extern "C" fn mysql_session_packets_feed(
     packets_feed(alloc, handle, piece, used, whole)
 }
 
-/// Shows the payload that stands whole. It stays where it is until the next call on the handle.
+/// Shows the payload that is whole. It stays where it is until the next call on the handle.
 #[unsafe(no_mangle)]
 pub extern "C" fn mysql_session_packets_payload(
     alloc: Global,
@@ -70,7 +70,7 @@ pub extern "C" fn mysql_session_packets_restart(alloc: Global, handle: &mut Hand
     packets_restart(alloc, handle)
 }
 
-/// Appends a payload to the bytes that a handle stands for, framed in chunks.
+/// Appends a payload to the bytes that a handle refers to, framed in chunks.
 ///
 /// The first has this number, which goes on behind the last one.
 #[unsafe(no_mangle)]
@@ -100,7 +100,7 @@ pub extern "C" fn mysql_session_greeting_read(
     greeting_read(alloc, payload, greeting)
 }
 
-/// Appends the payload of a server's first packet to the bytes that a handle stands for.
+/// Appends the payload of a server's first packet to the bytes that a handle refers to.
 #[unsafe(no_mangle)]
 pub extern "C" fn mysql_session_greeting_put(
     alloc: Global,
@@ -160,7 +160,7 @@ pub extern "C" fn mysql_session_login_read(
     login_read(alloc, payload, login)
 }
 
-/// Appends the payload of a client's answer to a greeting to the bytes that a handle stands for.
+/// Appends the payload of a client's answer to a greeting to the bytes that a handle refers to.
 #[unsafe(no_mangle)]
 pub extern "C" fn mysql_session_login_put(
     alloc: Global,
@@ -201,7 +201,7 @@ pub extern "C" fn mysql_session_login_put(
     )
 }
 
-/// Appends to the bytes that a handle stands for what a replica says of itself.
+/// Appends to the bytes that a handle refers to what a replica says of itself.
 #[unsafe(no_mangle)]
 pub extern "C" fn mysql_session_register_replica_put(
     alloc: Global,
@@ -227,7 +227,7 @@ pub extern "C" fn mysql_session_register_replica_put(
 
 /// Appends the request for the binary log from a position of a file.
 ///
-/// It goes to the bytes that a handle stands for.
+/// It goes to the bytes that a handle refers to.
 #[unsafe(no_mangle)]
 pub extern "C" fn mysql_session_binlog_dump_put(
     alloc: Global,
@@ -246,7 +246,7 @@ pub extern "C" fn mysql_session_binlog_dump_put(
 
 /// Appends the request for the binary log without the transactions that a text's sets name.
 ///
-/// It goes to the bytes that a handle stands for.
+/// It goes to the bytes that a handle refers to.
 #[unsafe(no_mangle)]
 pub extern "C" fn mysql_session_binlog_dump_gtid_put(
     alloc: Global,

@@ -20,7 +20,7 @@ use mysql_c_handles::{Handle, ShownEnd};
 use mysql_c_replies::{ShownColumn, ShownResult, ShownSpot, ShownValue};
 use std::alloc::Global;
 
-/// Makes the handle stand for a reader of the reply to a command of this kind.
+/// Makes the handle refer to a reader of the reply to a command of this kind.
 ///
 /// The kinds are 0 a query, 1 an execution, 2 a prepare. The reply's first chunk has the number
 /// `first`.
@@ -49,7 +49,7 @@ pub extern "C" fn mysql_session_reply_feed(alloc: Global, handle: &mut Handle, p
     mysql_c_replies::reply_feed(alloc, handle, piece)
 }
 
-/// Takes the results that stand whole, and the rows so far of a result set that goes on.
+/// Takes the results that are whole, and the rows so far of a result set that goes on.
 ///
 /// Those that were taken before are let go, and so are the progress reports that came.
 #[unsafe(no_mangle)]
@@ -59,7 +59,7 @@ pub extern "C" fn mysql_session_reply_take(alloc: Global, handle: &mut Handle) -
     mysql_c_replies::reply_take(alloc, handle)
 }
 
-/// Ends a reply: the handle stands for what was read and not taken. Shows how the reply ends. Of an
+/// Ends a reply: the handle refers to what was read and not taken. Shows how the reply ends. Of an
 /// ended one it shows the same again.
 #[unsafe(no_mangle)]
 pub extern "C" fn mysql_session_reply_end(
@@ -174,7 +174,7 @@ pub extern "C" fn mysql_session_reply_param(
     mysql_c_replies::reply_param(alloc, handle, number, param, shown)
 }
 
-/// Makes the handle stand for a writer of the reply to a command of this kind.
+/// Makes the handle refer to a writer of the reply to a command of this kind.
 ///
 /// The kinds are 0 a query, 1 an execution, 2 a prepare. The reply's first chunk has the number
 /// `first`, and a payload has at most `limit` bytes.
@@ -348,7 +348,7 @@ pub extern "C" fn mysql_session_writer_prepared(
     mysql_c_replies::writer_prepared(alloc, handle, statement, params, warnings, out, spot)
 }
 
-/// Tells whether the reply that a writer wrote stands whole, and else why not.
+/// Tells whether the reply that a writer wrote is whole, and else why not.
 #[unsafe(no_mangle)]
 pub extern "C" fn mysql_session_writer_end(
     alloc: Global,

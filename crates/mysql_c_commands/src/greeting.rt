@@ -34,7 +34,7 @@ pub struct ShownGreeting {
     pub plugin: ShownText,
 }
 
-/// The eight bytes from a place on.
+/// The eight bytes from a position on.
 fn eight_from(bytes: &[u8], start: usize) -> &[u8]
     requires { start + 8 ≤ length bytes.now }
     ensures { result.now ≡ take 8 (drop start bytes.now) }
@@ -42,8 +42,8 @@ fn eight_from(bytes: &[u8], start: usize) -> &[u8]
     &bytes[start..start + 8]
 }
 
-/// The first scramble where it stands in the payload: behind a byte, the server's version and its
-/// zero, and the connection's number.
+/// The first scramble where it is in the payload: behind a byte, the server's version and its zero,
+/// and the connection's number.
 fn scramble_1_in<'a>(payload: &'a [u8], packet: &HandshakePacket<'_>) -> &'a [u8]
     requires { (rest : List ℕ) × (handshake_at payload.now ≡ Ok (handshake_view packet.now, rest)) }
     ensures { result.now ≡ (handshake_view packet.now).scramble_1 }
@@ -51,7 +51,7 @@ fn scramble_1_in<'a>(payload: &'a [u8], packet: &HandshakePacket<'_>) -> &'a [u8
     eight_from(payload, packet.server_version_ref().len() + 6)
 }
 
-/// Shows a greeting. Its texts stay where they stand in the payload.
+/// Shows a greeting. Its texts stay where they are in the payload.
 fn show_greeting(packet: &HandshakePacket<'_>, payload: &[u8], greeting: &mut ShownGreeting)
     requires { (rest : List ℕ) × (handshake_at payload.now ≡ Ok (handshake_view packet.now, rest)) }
     ensures { ShowsGreeting (handshake_view packet.now) greeting.new }
@@ -145,7 +145,7 @@ fn packet_of<'a>(
     .with_mariadb_ext_capabilities(MariadbCapabilities(mariadb_capabilities))
 }
 
-/// Appends the payload of a server's first packet to the bytes that a handle stands for.
+/// Appends the payload of a server's first packet to the bytes that a handle refers to.
 ///
 /// Promise: exactly the bytes of the greeting's layout are appended, or the bytes stay (`PutsIf`).
 pub fn greeting_put(

@@ -1,7 +1,10 @@
-//! Commands for C: receivers of their streams, parameter sets that are put together and sent, texts
-//! of these, and recoders.
+//! Commands and logins for C. Commands: receivers of their streams, parameter sets that are put
+//! together and sent, texts of these, and recoders. Logins: packets cut out of a stream, greetings,
+//! logins, and a replica's requests for the binary log.
 //!
-//! Each public function is a call of the library for C, with the contract of its export.
+//! Each public function is a call of the library for C, with the contract of its export in
+//! `mysql_c`. The modules are apart: `greeting`, `login`, `packets`, `gtids`, `replication` are of
+//! logging in, and `shown_text` and `putting` are what these share.
 #![tactic(auto)]
 
 mod executing;

@@ -30,7 +30,7 @@ pub struct ShownLogin {
     pub plugin: ShownText,
 }
 
-/// The name of a plugin, or no bytes where there is none. It stands in the packet, or in the library.
+/// The name of a plugin, or no bytes where there is none. It is in the packet, or in the library.
 fn plugin_name<'p>(plugin: Option<&'p AuthPlugin<'_>>) -> &'p [u8]
     ensures { result.now ≡ plugin_shown (option_map (λ p. plugin_view p.now) plugin.entry) }
 {
@@ -40,7 +40,7 @@ fn plugin_name<'p>(plugin: Option<&'p AuthPlugin<'_>>) -> &'p [u8]
     }
 }
 
-/// Shows a login. Its texts stay where they stand.
+/// Shows a login. Its texts stay where they are.
 fn show_login(packet: &HandshakeResponse<'_>, login: &mut ShownLogin)
     ensures { ShowsLogin (response_view packet.now) login.new }
 {
@@ -142,7 +142,7 @@ fn packet_of<'a>(
     Ok(packet.with_mariadb_ext_capabilities(MariadbCapabilities(mariadb_capabilities)))
 }
 
-/// Appends the payload of a client's answer to a greeting to the bytes that a handle stands for.
+/// Appends the payload of a client's answer to a greeting to the bytes that a handle refers to.
 ///
 /// Promise: exactly the bytes of the login's layout are appended, or the bytes stay (`PutsIf`).
 pub fn login_put(

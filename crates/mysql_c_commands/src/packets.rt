@@ -61,7 +61,7 @@ fn feed(object: &mut Object, piece: &[u8], used: &mut usize, whole: &mut bool) -
     }
 }
 
-/// Shows the payload that stands whole.
+/// Shows the payload that is whole.
 fn show_payload(object: &Object, data: &mut *const u8, len: &mut usize) -> Code
     ensures { OfPackets object.now (code_number result) object.now
         (ShowsPayload (code_number result) len.new object.now) }
@@ -118,7 +118,7 @@ fn frame_in(object: &mut Object, payload: &[u8], number: &mut u8, limit: usize) 
     }
 }
 
-/// Makes the handle stand for a reader of packets, of which the first chunk has this number.
+/// Makes the handle refer to a reader of packets, of which the first chunk has this number.
 pub fn packets_new(alloc: Global, handle: &mut Handle, first: u8, limit: usize) -> u32
     ensures made { result ≡ 0 → IsPackets handle.new.object (λ r. r ≡ incoming_at first limit) }
     ensures kept { result ≢ 0 → (result ≡ 1) × (handle.new.object ≡ handle.old.object) }
@@ -131,7 +131,7 @@ pub fn packets_new(alloc: Global, handle: &mut Handle, first: u8, limit: usize) 
 }
 
 /// Reads on to the end of the next packet. Tells how many bytes of the piece were used, and whether
-/// a payload stands whole then.
+/// a payload is whole then.
 ///
 /// Promise: a piece is read on as `PacketReader` reads it (`IsReadOnIn`).
 pub fn packets_feed(
@@ -152,7 +152,7 @@ pub fn packets_feed(
     code.number()
 }
 
-/// Shows the payload that stands whole. It stays where it is until the next call on the handle.
+/// Shows the payload that is whole. It stays where it is until the next call on the handle.
 pub fn packets_payload(
     alloc: Global,
     handle: &mut Handle,
@@ -181,7 +181,7 @@ pub fn packets_restart(alloc: Global, handle: &mut Handle) -> u32
     code.number()
 }
 
-/// Appends a payload to the bytes that a handle stands for, framed in chunks.
+/// Appends a payload to the bytes that a handle refers to, framed in chunks.
 ///
 /// The first has this number, which goes on behind the last one.
 ///

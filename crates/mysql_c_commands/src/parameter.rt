@@ -34,7 +34,7 @@ pub struct Parameter {
     pub len: usize,
 }
 
-/// A copy of so many of the bytes from a place on.
+/// A copy of so many of the bytes from a position on.
 fn copied(alloc: Global, bytes: &[u8], start: usize, len: usize) -> Result<Value, Code>
     ensures ok { IfOk result (λ made. bytes_from bytes.now start len ≡ Ok made) }
     ensures err { IfErr result (λ e. (e ≡ code.Memory) ⊎ (bytes_from bytes.now start len ≡ Err e)) }

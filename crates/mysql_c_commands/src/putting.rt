@@ -1,4 +1,4 @@
-//! Payloads put behind the bytes that a handle stands for.
+//! Payloads put behind the bytes that a handle refers to.
 
 ghost use Rattle.mysql_c_commands.specs.Putting.{Puts, PutsIf};
 
@@ -6,7 +6,7 @@ use mysql_c_handles::{Code, Handle, append};
 use mysql_login::MySerialize;
 use std::alloc::Global;
 
-/// Puts what is written of a value behind the bytes that a handle stands for.
+/// Puts what is written of a value behind the bytes that a handle refers to.
 pub(crate) fn put<T: MySerialize>(alloc: Global, out: &mut Handle, value: &T) -> u32
     ensures { Puts (T.written value.now) out.old.object result out.new.object }
 {
@@ -17,7 +17,7 @@ pub(crate) fn put<T: MySerialize>(alloc: Global, out: &mut Handle, value: &T) ->
     }
 }
 
-/// Puts what is written of a value that has to be allowed behind the bytes that a handle stands for.
+/// Puts what is written of a value that has to be allowed behind the bytes that a handle refers to.
 pub(crate) fn put_if<T: MySerialize>(
     alloc: Global,
     out: &mut Handle,

@@ -178,7 +178,7 @@ fn clear_sets(object: &mut Object) -> Code
     }
 }
 
-/// Makes the handle stand for a receiver of a stream of commands about this query.
+/// Makes the handle refer to a receiver of a stream of commands about this query.
 ///
 /// `id` is that of the query's statement. The flags tell the mode of the server that the stream was
 /// sent to, and how its texts spell byte strings. In hexadecimal, literals behind an introducer are
@@ -227,10 +227,10 @@ pub fn receiver_feed(alloc: Global, handle: &mut Handle, piece: &[u8]) -> u32
 
 /// Ends a receiver, and shows how the stream ends.
 ///
-/// The handle stands for the audit of what was fed, and holds the sets that weren't let go. Of an
+/// The handle refers to the audit of what was fed, and holds the sets that weren't let go. Of an
 /// audit it shows the same again.
 ///
-/// Promise: the handle stands for the audit of what was fed, and its end is shown (`EndsAs`).
+/// Promise: the handle refers to the audit of what was fed, and its end is shown (`EndsAs`).
 pub fn receiver_end(alloc: Global, handle: &mut Handle, end: &mut ShownEnd) -> u32
     ensures { EndsAs handle.old.object result handle.new.object end.new }
 {

@@ -121,7 +121,7 @@ fn recode_to(recoder: &mut Recoder, piece: &[u8], object: &mut Object, stop: &mu
     }
 }
 
-/// Takes a piece, and appends to the bytes that a handle stands for.
+/// Takes a piece, and appends to the bytes that a handle refers to.
 fn recode_onto(
     alloc: Global,
     recoder: &mut Recoder,
@@ -188,7 +188,7 @@ fn end_to(held: &mut Object, object: &mut Object, stop: &mut ShownStop) -> Code
     }
 }
 
-/// Ends the recoder that an object is, and appends to the bytes that a handle stands for.
+/// Ends the recoder that an object is, and appends to the bytes that a handle refers to.
 fn end_onto(alloc: Global, held: &mut Object, out: &mut Handle, stop: &mut ShownStop) -> Code
     ensures { EndsTo held.old out.old.object (code_number result) stop.new held.new out.new.object }
 {
@@ -211,7 +211,7 @@ fn end_from(alloc: Global, held: &mut Object, out: &mut Handle, stop: &mut Shown
     }
 }
 
-/// Makes the handle stand for a recoder of a stream of commands about this query.
+/// Makes the handle refer to a recoder of a stream of commands about this query.
 ///
 /// `id` is that of the query's statement. The flags tell the mode of the server that the stream was
 /// sent to, and how its texts spell byte strings. In hexadecimal, literals behind an introducer are
@@ -245,7 +245,7 @@ pub fn recoder_new(
 
 /// Feeds a recoder with the next piece of its stream, and appends the executions it makes.
 ///
-/// They are those of the sets that are whole with the piece. The prepare stands before the first of
+/// They are those of the sets that are whole with the piece. The prepare comes before the first of
 /// all. They go to the bytes of another handle. Where it is refused it shows where, and the bytes
 /// stay.
 ///
@@ -267,7 +267,7 @@ pub fn recoder_feed(
     code.number()
 }
 
-/// Ends a recoder; the handle stands for nothing then, also where the end is refused.
+/// Ends a recoder; the handle refers to nothing then, also where the end is refused.
 ///
 /// Where its stream carried no set the prepare is appended to the bytes of another handle.
 ///

@@ -40,7 +40,7 @@ fn registration<'a>(
         .with_port(port)
 }
 
-/// Appends to the bytes that a handle stands for what a replica says of itself.
+/// Appends to the bytes that a handle refers to what a replica says of itself.
 ///
 /// Promise: exactly the bytes of the packet's layout are appended, or the bytes stay (`PutsIf`).
 pub fn register_replica_put(
@@ -69,7 +69,7 @@ pub fn register_replica_put(
 
 /// Appends the request for the binary log from a position of a file.
 ///
-/// It goes to the bytes that a handle stands for.
+/// It goes to the bytes that a handle refers to.
 ///
 /// Promise: exactly the bytes of the packet's layout are appended, or the bytes stay (`Puts`).
 pub fn binlog_dump_put(
@@ -117,7 +117,7 @@ fn dump_by_sids<'a>(
 
 /// Appends the request for the binary log without the transactions that a text's sets name.
 ///
-/// It goes to the bytes that a handle stands for.
+/// It goes to the bytes that a handle refers to.
 ///
 /// Promise: exactly the bytes of the packet's layout are appended, or the bytes stay
 /// (`PutsBySids`).

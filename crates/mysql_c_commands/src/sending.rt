@@ -16,7 +16,7 @@ use mysql_session::{Params, Query, Refusal, Road};
 use mysql_values::{Mode, Spelling};
 use std::alloc::Global;
 
-/// The road of a number.
+/// The method of a number.
 fn road_of(number: u32) -> Option<Road>
     ensures { result ≡ road_numbered number }
 {
@@ -157,7 +157,7 @@ fn append_to(
     }
 }
 
-/// Appends parameter sets to the bytes that a handle stands for.
+/// Appends parameter sets to the bytes that a handle refers to.
 fn send_to(
     object: &Object,
     alloc: Global,
@@ -181,7 +181,7 @@ fn send_to(
     }
 }
 
-/// Appends sets to the bytes that a handle stands for.
+/// Appends sets to the bytes that a handle refers to.
 fn append_sets(
     alloc: Global,
     query: &[u8],
@@ -216,12 +216,12 @@ fn append_sets(
 
 /// Appends the whole parameter sets of one handle, as commands, to the bytes of another.
 ///
-/// The number of the road is 0 for text, 1 for execute, 2 for bulk. The flags tell the mode of the
-/// server and, by text, how byte strings are spelled. Where the sets aren't sent it shows the set
-/// and the place that are refused, and the bytes stay.
+/// The number of the method is 0 for text, 1 for execute, 2 for bulk. The flags tell the mode of
+/// the server and, by text, how byte strings are spelled. Where the sets aren't sent it shows the
+/// set and the placeholder that are refused, and the bytes stay.
 ///
 /// Promise: what is appended delivers the sets to a server in this mode. Or nothing is appended,
-/// and the code and the place are those of the first cause (`SendsFrom`).
+/// and the code, the set and the placeholder are those of the first cause (`SendsFrom`).
 pub fn send(
     alloc: Global,
     sets: &mut Handle,

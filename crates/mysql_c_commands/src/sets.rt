@@ -153,7 +153,7 @@ fn clear_in(object: &mut Object) -> Code
     }
 }
 
-/// Hands the next value to the sets that a handle stands for.
+/// Hands the next value to the sets that a handle refers to.
 fn push(alloc: Global, handle: &mut Handle, value: Value) -> u32
     ensures { OfSets handle.old.object result handle.new.object (TakesValueIn value result handle.new.object) }
 {
@@ -165,7 +165,7 @@ fn push(alloc: Global, handle: &mut Handle, value: Value) -> u32
     code.number()
 }
 
-/// Makes the handle stand for parameter sets, of which there are none yet.
+/// Makes the handle refer to parameter sets, of which there are none yet.
 pub fn sets_new(alloc: Global, handle: &mut Handle) -> u32
     ensures made { result ≡ 0 → IsSets handle.new.object HasNone }
     ensures kept { result ≢ 0 → (result ≡ 1) × (handle.new.object ≡ handle.old.object) }

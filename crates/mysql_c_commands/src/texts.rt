@@ -91,7 +91,7 @@ fn bind_to(
     }
 }
 
-/// Appends the text of a set to the bytes that a handle stands for.
+/// Appends the text of a set to the bytes that a handle refers to.
 fn bind_onto(
     alloc: Global,
     query: &[u8],
@@ -122,7 +122,7 @@ fn bind_onto(
     code
 }
 
-/// Appends the text of the set of a number to the bytes that a handle stands for.
+/// Appends the text of the set of a number to the bytes that a handle refers to.
 fn bind_from(
     alloc: Global,
     held: &Object,
@@ -164,7 +164,7 @@ fn put_literal_to(value: &Value, mode: Mode, spelling: Spelling, object: &mut Ob
     }
 }
 
-/// Appends the literal of a value to the bytes that a handle stands for.
+/// Appends the literal of a value to the bytes that a handle refers to.
 fn put_literal_onto(
     alloc: Global,
     value: &Value,
@@ -182,7 +182,7 @@ fn put_literal_onto(
     code
 }
 
-/// Appends the literal of the value at a place of a set to the bytes that a handle stands for.
+/// Appends the literal of the value at a position of a set to the bytes that a handle refers to.
 fn put_literal_from(
     alloc: Global,
     held: &Object,
@@ -201,7 +201,7 @@ fn put_literal_from(
 }
 
 /// Appends the text of the set of this number over a query to the bytes of another handle. Where
-/// there is none it shows the set and the place that are refused, and the bytes stay.
+/// there is none it shows the set and the placeholder that are refused, and the bytes stay.
 ///
 /// The flags tell the mode of the server that the text is for, and how byte strings are spelled.
 ///

@@ -13,7 +13,7 @@ use Rattle.std_heap.specs.contracts.GlobalAllocator.TheImpl.{ghosts, dict}
 use Rattle.std_heap.proofs.Global.TheLaws as heap
 use Rattle.mysql_c_connection.specs.contracts.object.Object as Object
 use Rattle.mysql_c_connection.proofs.object.Object.TheLaws as object
-use Rattle.mysql_c_connection.specs.contracts.handle.parts.Parts as Parts
+use Rattle.mysql_c_handles.specs.contracts.parts.Parts as Parts
 use Rattle.mysql_c_connection.specs.contracts.handle.Handle as Handle
 
 abbrev pub E : Bx

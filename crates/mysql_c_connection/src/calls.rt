@@ -20,7 +20,7 @@ use mysql_connection_state::Event;
 use std::alloc::Global;
 use std::io;
 
-/// Makes the handle stand for a connection of which no byte came.
+/// Makes the handle refer to a connection of which no byte came.
 pub fn connection_new(
     alloc: Global,
     handle: &mut Handle,
@@ -85,7 +85,7 @@ impl OpenConnection {
         }
     }
 
-    /// Ends both streams, and shows how the connection stands.
+    /// Ends both streams, and shows the state of the connection.
     fn finish(&mut self, shown: &mut ShownConnectionEnd)
         ensures { Finishes self.old self.new shown.new }
     {
@@ -97,7 +97,7 @@ impl OpenConnection {
         *shown = telling_end(end);
     }
 
-    /// Writes the line of the event, or of the end, unless it stands.
+    /// Writes the line of the event, or of the end, unless it is written.
     fn write_line(&mut self, secrets: Secrets) -> ConnectionCode
         ensures { Lines self.old self.new }
     {
@@ -260,7 +260,7 @@ fn next_in(object: &mut Object, shown: &mut ShownEvent) -> ConnectionCode
 
 /// Takes the next event, and shows it.
 ///
-/// It is one of kind 0 where the payload that is due isn't there whole, or the connection is over.
+/// It is one of kind 0 where the next payload isn't there whole, or the connection is over.
 ///
 /// Promise: exactly what comes next of the two streams is held and shown, or its fault told (`Tells`).
 pub fn connection_next(alloc: Global, handle: &mut Handle, shown: &mut ShownEvent) -> u32
@@ -289,7 +289,7 @@ fn finish_in(object: &mut Object, shown: &mut ShownConnectionEnd) -> ConnectionC
     }
 }
 
-/// Ends both streams, and shows how the connection stands.
+/// Ends both streams, and shows the state of the connection.
 pub fn connection_finish(alloc: Global, handle: &mut Handle, shown: &mut ShownConnectionEnd) -> u32
     ensures { OfOpen handle.old.object result handle.new.object
         (λ old. IsOpen handle.new.object (λ new. (result ≡ 0) × Finishes old new shown.new)) }

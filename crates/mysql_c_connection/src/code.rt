@@ -14,9 +14,9 @@ pub enum ConnectionCode {
     Done,
     /// A growth of memory was refused.
     Memory,
-    /// The handle stands for nothing.
+    /// The handle refers to nothing.
     EmptyHandle,
-    /// The handle stands for an object of another kind.
+    /// The handle refers to an object of another kind.
     OtherKind,
     /// There is no event, value, attribute, column or statement of this number.
     OutOfRange,
@@ -52,7 +52,7 @@ impl ConnectionCode {
     }
 }
 
-/// The number of why a reply's payload has no place there: that of a reply by itself.
+/// The number of why a payload fits no reply there: that of a reply by itself.
 fn number_of_reply_fault(fault: ReplyFault) -> u32
     ensures { result ≡ reply_fault_number fault }
 {

@@ -13,7 +13,7 @@ use mysql_commands::Command;
 use mysql_connection_machine::Connection;
 use mysql_connection_state::Event;
 
-/// The text of the prepared statement that an id of a command stands for, or no bytes.
+/// The text of the prepared statement that an id of a command refers to, or no bytes.
 fn prepared_text(connection: &Connection, id: u32) -> &[u8]
     ensures { result.now ≡ prepared_text connection.now.world.standing.statements id }
 {

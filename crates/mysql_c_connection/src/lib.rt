@@ -1,6 +1,16 @@
 //! The part of the library for C that reads whole connections: what its exports do.
 //!
-//! A connection has a handle of its own kind: it stands for a connection, or for nothing.
+//! `mysql_c` exports its functions. A connection has a handle of its kind: it is a connection, or
+//! nothing. [`connection_next`] fills one struct for events of all kinds; what has lists is asked
+//! for behind it.
+//!
+//! | of the event that came last | call |
+//! |---|---|
+//! | its line of text | [`connection_line`] |
+//! | a cell, a value, an attribute of the login, a column | [`connection_value`] and others |
+//!
+//!     let code = connection_feed(alloc, &mut handle, side, piece);
+//!     let code = connection_next(alloc, &mut handle, &mut shown);
 #![tactic(auto)]
 
 mod calls;

@@ -1,4 +1,4 @@
-//! What a handle of a connection stands for.
+//! What a handle of a connection refers to.
 
 use mysql_connection_machine::{Connection, End};
 use mysql_connection_state::Event;
@@ -28,7 +28,7 @@ impl Drop for OpenConnection {
     }
 }
 
-/// What a handle stands for.
+/// What a handle refers to.
 pub enum Object {
     /// Nothing.
     Empty,

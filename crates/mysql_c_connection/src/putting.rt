@@ -1,4 +1,5 @@
-//! Payloads and packets that are put on a connection, behind the bytes that another handle stands for.
+//! Payloads and packets that are put on a connection, behind the bytes that another handle refers
+//! to.
 
 ghost use Rattle.std.specs.Prelude.{◌≡◌, ◌≢◌};
 ghost use Rattle.mysql_connection_rules.specs.Streams.{from_login};
@@ -17,7 +18,7 @@ use mysql_connection_rules::{Fault, Limits, Side};
 use mysql_const::Capabilities;
 use std::alloc::Global;
 
-/// Makes the handle stand for a connection behind a login that was made elsewhere.
+/// Makes the handle refer to a connection behind a login that was made elsewhere.
 pub fn connection_after_login(
     alloc: Global,
     handle: &mut Handle,
@@ -131,9 +132,10 @@ fn put_in(
     }
 }
 
-/// Puts a payload of a side, where it is due.
+/// Puts a payload of a side at its turn.
 ///
-/// Its packets are appended to the bytes that a handle stands for, and the event that it says is shown.
+/// Its packets are appended to the bytes that a handle refers to, and the event that it says is
+/// shown.
 ///
 /// Promise: this payload is put, and its event held and shown; or it is refused, and nothing has
 /// changed (`IsPut`).
@@ -187,7 +189,7 @@ fn put_packets_in(
     }
 }
 
-/// Puts the payloads of packets of a side, one after another, as long as they are due.
+/// Puts the payloads of packets of a side, one after another, as long as it is its turn.
 ///
 /// Promise: they are put as the machine puts them. It is told how many bytes of the packets were
 /// taken, also where one is refused. The event that was told last stays (`ArePut`).

@@ -1,6 +1,6 @@
 //! What C sees of a connection beside its events.
 
-/// How a connection stands. The fault is its code, or 0.
+/// The state of a connection. The fault is its code, or 0.
 #[repr(C)]
 #[derive(Clone, Copy)]
 pub struct ShownStanding {

@@ -1,4 +1,4 @@
-//! How a connection stands.
+//! The state of a connection.
 
 ghost use Rattle.std.specs.Prelude.{◌≡◌};
 ghost use Rattle.mysql_c_connection.specs.Codes.{code_number, side_numbered};
@@ -26,7 +26,7 @@ fn number_of_turn(turn: Option<Side>) -> u32
     }
 }
 
-/// The number of what is due.
+/// The number of what comes next.
 fn number_of_phase(phase: Phase) -> u32
     ensures { result ≡ phase_number phase }
 {
@@ -42,7 +42,7 @@ fn number_of_phase(phase: Phase) -> u32
     }
 }
 
-/// The number of why nothing is due, or 0.
+/// The number of why nothing comes any more, or 0.
 fn reason_in(phase: Phase) -> u32
     ensures { result ≡ over_number phase }
 {
@@ -52,7 +52,7 @@ fn reason_in(phase: Phase) -> u32
     }
 }
 
-/// What C sees of how a connection stands.
+/// What C sees of the state of a connection.
 fn telling(connection: &Connection) -> ShownStanding
     ensures { ShowsStanding connection.now result }
 {
@@ -78,7 +78,7 @@ fn telling(connection: &Connection) -> ShownStanding
     shown
 }
 
-/// Shows how the connection stands that an object is.
+/// Shows the state of the connection that an object is.
 fn standing_of(object: &Object, shown: &mut ShownStanding) -> ConnectionCode
     ensures { StandingIn object.now (code_number result) shown.new }
 {
@@ -91,7 +91,7 @@ fn standing_of(object: &Object, shown: &mut ShownStanding) -> ConnectionCode
     }
 }
 
-/// Shows how a connection stands.
+/// Shows the state of a connection.
 pub fn connection_standing(alloc: Global, handle: &mut Handle, shown: &mut ShownStanding) -> u32
     ensures kept { handle.new.object ≡ handle.old.object }
     ensures shown { StandingIn handle.old.object result shown.new }
@@ -151,7 +151,7 @@ fn statement_of(
     }
 }
 
-/// Shows the prepared statement that an id of a command stands for: its text, and how many
+/// Shows the prepared statement that an id of a command refers to: its text, and how many
 /// parameters it has.
 pub fn connection_statement(
     alloc: Global,

@@ -7,7 +7,7 @@ use mysql_c_handles::{code_text, start_of};
 
 /// Shows the text of a code, that of a connection too.
 ///
-/// Its length is without the NUL byte that stands behind it.
+/// Its length is without the NUL byte behind it.
 pub fn connection_code_text(number: u32, text: &mut *const u8, len: &mut usize)
     ensures { (shown : List ℕ) × IsTrue (ends_at_nul shown) × (len.new ≡ length shown - 1) }
 {

@@ -140,7 +140,7 @@ fn telling_other(payload: &[u8]) -> ShownEvent
 
 /// What the client asks for. The text is that of the statement that it executes, if it does.
 ///
-/// Promise: each field but where its texts stand is the command's (`command_shown`).
+/// Promise: each field but the addresses of its texts is the command's (`command_shown`).
 ///
 /// MySQL: Client/Server Protocol, "Command Phase".
 pub fn telling_command(command: &Command<'_>, text: &[u8]) -> ShownEvent

@@ -46,7 +46,7 @@ pub fn telling_greeting(said: &GreetingEvent<'_>) -> ShownEvent
     }
 }
 
-/// The front of a client's answer to the greeting.
+/// The first fields of a client's answer to the greeting.
 fn telling_request(kind: u32, request: &SslRequest) -> ShownEvent
     ensures { result ≡ request_shown kind (ssl_request_view request.now) result }
 {

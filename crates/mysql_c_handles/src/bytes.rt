@@ -55,7 +55,7 @@ impl Object {
     }
 }
 
-/// Makes the handle stand for no bytes.
+/// Makes the handle refer to no bytes.
 pub fn bytes_new(alloc: Global, handle: &mut Handle) -> u32
     ensures made { result ≡ 0 → IsBytes handle.new.object (λ bytes. bytes ≡ []) }
     ensures kept { result ≢ 0 → (result ≡ 1) × (handle.new.object ≡ handle.old.object) }
@@ -90,7 +90,7 @@ pub fn bytes_clear(alloc: Global, handle: &mut Handle) -> u32
     code.number()
 }
 
-/// Appends these bytes to the bytes that a handle stands for.
+/// Appends these bytes to the bytes that a handle refers to.
 pub fn append(alloc: Global, out: &mut Handle, added: &[u8]) -> Code
     ensures { OfBytes out.old.object (code_number result) out.new.object
         (Appends added.now (code_number result) out.new.object) }

@@ -14,17 +14,17 @@ pub enum Code {
     Done,
     /// A growth of memory was refused.
     Memory,
-    /// The handle stands for nothing.
+    /// The handle refers to nothing.
     EmptyHandle,
-    /// The handle stands for an object of another kind.
+    /// The handle refers to an object of another kind.
     OtherKind,
-    /// There is no set, place or column of this number.
+    /// There is no set, placeholder or column of this number.
     OutOfRange,
     /// The limit is below 4.
     LimitTooSmall,
     /// The query has both names and question marks.
     Mixed,
-    /// There is no road of this number.
+    /// There is no method of this number.
     NoSuchRoad,
     /// There is no kind of this number: of a command, of a value, of a column.
     NoSuchKind,
@@ -34,7 +34,7 @@ pub enum Code {
     Unfinished,
     /// No mode has these flags.
     NoSuchMode,
-    /// By text: a placeholder doesn't stand alone.
+    /// By text: a placeholder has no blanks around it.
     NotAlone,
     /// By execute and bulk: the query has more than 65535 placeholders.
     TooManyPlaces,
@@ -52,7 +52,7 @@ pub enum Code {
     PacketTooLarge,
     /// By bulk: a value is of another kind than the earlier ones of its column.
     MixedKinds,
-    /// By bulk: no request with types of its own holds the values of a set.
+    /// By bulk: no request with its own types holds the values of a set.
     RowTooLarge,
     /// The stream has this fault.
     Stream(StreamFault),

@@ -5,10 +5,8 @@ ghost use Rattle.mysql_c_handles.specs.declared.object.Object.{Object};
 ghost use Rattle.mysql_c_handles.specs.declared.object.Object.TheVariants.{Empty};
 ghost use Rattle.mysql_c_handles.specs.Owned.{handle_owns, object_coded};
 
-mod parts;
-
 use crate::object::Object;
-use parts::Parts;
+use crate::parts::Parts;
 use std::alloc::{AllocError, Global};
 use std::marker::Model;
 use std::mem::replace;
@@ -33,7 +31,7 @@ impl Drop for Handle {
 }
 
 impl Handle {
-    /// A handle that stands for nothing.
+    /// A handle that refers to nothing.
     pub fn empty(alloc: Global) -> Handle
         ensures { result.object ≡ Empty }
     {
@@ -75,7 +73,7 @@ impl Handle {
         replace(self, Handle::empty(alloc)).into_box()
     }
 
-    /// Makes the handle stand for an object in place of what it stood for. Where memory is refused the handle stays.
+    /// Makes the handle refer to another object. Where memory is refused the handle stays.
     pub fn set(&mut self, alloc: Global, object: Object) -> Result<(), AllocError>
         ensures done { OnOk result (self.new.object ≡ object) }
         ensures kept { OnErr result (self.new.object ≡ self.old.object) }
@@ -85,14 +83,14 @@ impl Handle {
         Ok(())
     }
 
-    /// Puts the object in place of what the handle stands for.
+    /// Puts the object in place of what the handle refers to.
     pub fn put(&mut self, object: Box<Object>)
         ensures { self.new.object ≡ object.value }
     {
         drop(replace(self, Handle::of(object)));
     }
 
-    /// Puts the object in place of what the handle stands for, or frees it where it is empty.
+    /// Puts the object in place of what the handle refers to, or frees it where it is empty.
     ///
     /// The handle holds no pointer then.
     pub fn put_unless_empty(&mut self, alloc: Global, object: Box<Object>)

@@ -1,13 +1,23 @@
-//! What the calls of the library for C stand on: objects behind handles, codes as answers, and bytes that were written.
+//! What the calls of the library for C are made of: objects behind handles, codes as answers, and
+//! bytes that were written.
 //!
-//! A handle that C holds is one pointer; a call takes its address. An `alloc` takes no bytes, so
-//! that C passes nothing for it; a slice is a pointer, which isn't null, and a length.
+//! `mysql_c_commands`, `mysql_c_replies` and `mysql_c_connection` use it. A [`Handle`] that C holds
+//! is one pointer, to an [`Object`] or to nothing; a call takes its address.
+//!
+//!     mysql_session_handle h  ──►  Object::Receiver | Reply | Bytes | Sets | Writer | ..
+//!
+//! An `alloc` takes no bytes, so that C passes nothing for it. A slice is a pointer, which isn't
+//! null, and a length. Each answer is the number of a [`Code`], 0 for success.
+//!
+//!     let code = bytes_new(alloc, &mut handle);
+//!     let code = bytes_data(alloc, &mut handle, &mut data, &mut len);
 #![tactic(auto)]
 
 mod bytes;
 mod code;
 mod handle;
 mod object;
+mod parts;
 mod sets;
 mod shown;
 mod start;
@@ -19,6 +29,7 @@ pub use handle::Handle;
 pub use object::{
     FollowedStatement, Object, ParameterSets, ReplyInParts, Unanswered, WrittenReply,
 };
+pub use parts::Parts;
 pub use shown::ShownEnd;
 pub use start::start_of;
 pub use text::code_text;

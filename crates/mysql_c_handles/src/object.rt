@@ -1,4 +1,4 @@
-//! What a handle stands for.
+//! What a handle refers to.
 
 use mysql_columns::Column;
 use mysql_executions::{Refused, StatementParameters};
@@ -17,7 +17,7 @@ pub struct ParameterSets {
     pub open: Vec<Value>,
 }
 
-/// A reader of a reply, and the results that it handed out last.
+/// A reader of a reply, and the results that it returned last.
 #[derive(Drop)]
 pub struct ReplyInParts {
     pub reader: ReplyReader,
@@ -47,7 +47,7 @@ pub struct FollowedStatement {
     pub last: Option<Unanswered>,
 }
 
-/// What a handle stands for.
+/// What a handle refers to.
 #[derive(Drop)]
 pub enum Object {
     /// Nothing.

@@ -5,7 +5,7 @@ ghost use Rattle.mysql_c_handles.specs.Texts.{ends_at_nul};
 
 use crate::start::start_of;
 
-/// Shows the text of a code, and its length without the NUL byte that stands behind it.
+/// Shows the text of a code, and its length without the NUL byte behind it.
 pub fn code_text(number: u32, text: &mut *const u8, len: &mut usize)
     ensures { (shown : List ℕ) × IsTrue (ends_at_nul shown) × (len.new ≡ length shown - 1) }
 {

@@ -1,4 +1,16 @@
-//! Values of the client/server protocol: their cells, and their texts in a query.
+//! Values of the client/server protocol: their cells in the binary format, and their texts in a
+//! query.
+//!
+//! The crates of rows, executions and sessions use it. A user names most of it by `mysql_values`.
+//!
+//! | a value as | written by | read by |
+//! |---|---|---|
+//! | a literal of a query | `as_sql`, `push_literal_in` | `mysql_queries::read_literal` |
+//! | a cell in the binary format | [`cell_of`] and [`put_cell`] | [`read_cell`] |
+//! | a cell in the text format | `mysql_rows::write_text_row` | [`read_text_cell`] |
+//!
+//!     let text = Value::Int(-1).as_sql(alloc, false)?;                            // -1
+//!     let value = read_cell(alloc, 3, false, &mut ParseBuf(&[5, 0, 0, 0]))?;      // Value::Int(5)
 #![tactic(auto)]
 
 pub mod as_sql;

@@ -1,5 +1,5 @@
 -- What was written of a column is read back.
-use Rattle.std.proofs.Common.{◌≡◌, ℕ, ◌^◌, ◌<◌, List, [], ◌∷◌, ◌++◌, length, replicate, Ok, refl, ap, ◌∙◌, append_assoc}
+use Rattle.std.proofs.Common.{◌≡◌, ℕ, ◌<◌, List, [], ◌∷◌, ◌++◌, length, replicate, Ok, refl, ap, ◌∙◌, append_assoc}
 use Rattle.std.proofs.Common.{lit<}
 use Rattle.std.specs.List.{concat}
 use Rattle.byteorder.specs.Endian.{little_bytes}
@@ -7,26 +7,10 @@ use Rattle.mysql_buf.specs.Writing.{lenenc_str}
 use Rattle.mysql_const.specs.ColumnTypes.{column_type_named, column_type_number}
 use Rattle.mysql_const.specs.NamedLaws.{column_type-names_back}
 use Rattle.mysql_const.specs.declared.column_type.ColumnType.{ColumnType}
-use Rattle.mysql_const.specs.declared.column_type.ColumnType.TheVariants.{MYSQL_TYPE_DECIMAL, MYSQL_TYPE_TINY}
-use Rattle.mysql_const.specs.declared.column_type.ColumnType.TheVariants.{MYSQL_TYPE_SHORT, MYSQL_TYPE_LONG}
-use Rattle.mysql_const.specs.declared.column_type.ColumnType.TheVariants.{MYSQL_TYPE_FLOAT, MYSQL_TYPE_DOUBLE}
-use Rattle.mysql_const.specs.declared.column_type.ColumnType.TheVariants.{MYSQL_TYPE_NULL, MYSQL_TYPE_TIMESTAMP}
-use Rattle.mysql_const.specs.declared.column_type.ColumnType.TheVariants.{MYSQL_TYPE_LONGLONG, MYSQL_TYPE_INT24}
-use Rattle.mysql_const.specs.declared.column_type.ColumnType.TheVariants.{MYSQL_TYPE_DATE, MYSQL_TYPE_TIME}
-use Rattle.mysql_const.specs.declared.column_type.ColumnType.TheVariants.{MYSQL_TYPE_DATETIME, MYSQL_TYPE_YEAR}
-use Rattle.mysql_const.specs.declared.column_type.ColumnType.TheVariants.{MYSQL_TYPE_NEWDATE, MYSQL_TYPE_VARCHAR}
-use Rattle.mysql_const.specs.declared.column_type.ColumnType.TheVariants.{MYSQL_TYPE_BIT, MYSQL_TYPE_TIMESTAMP2}
-use Rattle.mysql_const.specs.declared.column_type.ColumnType.TheVariants.{MYSQL_TYPE_DATETIME2, MYSQL_TYPE_TIME2}
-use Rattle.mysql_const.specs.declared.column_type.ColumnType.TheVariants.{MYSQL_TYPE_TYPED_ARRAY, MYSQL_TYPE_VECTOR}
-use Rattle.mysql_const.specs.declared.column_type.ColumnType.TheVariants.{MYSQL_TYPE_UNKNOWN, MYSQL_TYPE_JSON}
-use Rattle.mysql_const.specs.declared.column_type.ColumnType.TheVariants.{MYSQL_TYPE_NEWDECIMAL, MYSQL_TYPE_ENUM}
-use Rattle.mysql_const.specs.declared.column_type.ColumnType.TheVariants.{MYSQL_TYPE_SET, MYSQL_TYPE_TINY_BLOB}
-use Rattle.mysql_const.specs.declared.column_type.ColumnType.TheVariants.{MYSQL_TYPE_MEDIUM_BLOB, MYSQL_TYPE_LONG_BLOB}
-use Rattle.mysql_const.specs.declared.column_type.ColumnType.TheVariants.{MYSQL_TYPE_BLOB, MYSQL_TYPE_VAR_STRING}
-use Rattle.mysql_const.specs.declared.column_type.ColumnType.TheVariants.{MYSQL_TYPE_STRING, MYSQL_TYPE_GEOMETRY}
 use Rattle.mysql_fields.specs.Forms.{fixed_number_at}
 use Rattle.mysql_fields.specs.Laws.{bytes_at-back, fixed_number_at-back}
 use Rattle.mysql_fields.specs.TextLaws.{lenenc_text_at-back}
+use Rattle.mysql_field_constants.specs.TypeNumberLaws.{type_number-bound}
 use Rattle.mysql_field_constants.specs.ConstantLaws.{constant_at-back, named_at-back, text_constant_at-back}
 use Rattle.mysql_field_constants.specs.Constants.{named_at}
 use Rattle.mysql_columns.specs.Columns.{ColumnDefinition, ColumnFields, IsColumn, catalog, column, column_at}
@@ -42,43 +26,6 @@ pub joined_before : (fields : List (List ℕ)) (rest : List ℕ) → concat fiel
 joined_before [] rest = refl
 joined_before (field ∷ fields) rest = append_assoc field (concat fields) rest ∙
     ap (λ (later : List ℕ). field ++ later) (joined_before fields rest)
-
--- the number of a type fits a byte
-type_number-bound : (t : ColumnType) → column_type_number t < 2 ^ 8
-type_number-bound MYSQL_TYPE_DECIMAL = lit< tt
-type_number-bound MYSQL_TYPE_TINY = lit< tt
-type_number-bound MYSQL_TYPE_SHORT = lit< tt
-type_number-bound MYSQL_TYPE_LONG = lit< tt
-type_number-bound MYSQL_TYPE_FLOAT = lit< tt
-type_number-bound MYSQL_TYPE_DOUBLE = lit< tt
-type_number-bound MYSQL_TYPE_NULL = lit< tt
-type_number-bound MYSQL_TYPE_TIMESTAMP = lit< tt
-type_number-bound MYSQL_TYPE_LONGLONG = lit< tt
-type_number-bound MYSQL_TYPE_INT24 = lit< tt
-type_number-bound MYSQL_TYPE_DATE = lit< tt
-type_number-bound MYSQL_TYPE_TIME = lit< tt
-type_number-bound MYSQL_TYPE_DATETIME = lit< tt
-type_number-bound MYSQL_TYPE_YEAR = lit< tt
-type_number-bound MYSQL_TYPE_NEWDATE = lit< tt
-type_number-bound MYSQL_TYPE_VARCHAR = lit< tt
-type_number-bound MYSQL_TYPE_BIT = lit< tt
-type_number-bound MYSQL_TYPE_TIMESTAMP2 = lit< tt
-type_number-bound MYSQL_TYPE_DATETIME2 = lit< tt
-type_number-bound MYSQL_TYPE_TIME2 = lit< tt
-type_number-bound MYSQL_TYPE_TYPED_ARRAY = lit< tt
-type_number-bound MYSQL_TYPE_VECTOR = lit< tt
-type_number-bound MYSQL_TYPE_UNKNOWN = lit< tt
-type_number-bound MYSQL_TYPE_JSON = lit< tt
-type_number-bound MYSQL_TYPE_NEWDECIMAL = lit< tt
-type_number-bound MYSQL_TYPE_ENUM = lit< tt
-type_number-bound MYSQL_TYPE_SET = lit< tt
-type_number-bound MYSQL_TYPE_TINY_BLOB = lit< tt
-type_number-bound MYSQL_TYPE_MEDIUM_BLOB = lit< tt
-type_number-bound MYSQL_TYPE_LONG_BLOB = lit< tt
-type_number-bound MYSQL_TYPE_BLOB = lit< tt
-type_number-bound MYSQL_TYPE_VAR_STRING = lit< tt
-type_number-bound MYSQL_TYPE_STRING = lit< tt
-type_number-bound MYSQL_TYPE_GEOMETRY = lit< tt
 
 type-back : (t : ColumnType) (rest : List ℕ) →
     named_at column_type_named (fixed_number_at 1) (little_bytes 1 (column_type_number t) ++ rest) ≡

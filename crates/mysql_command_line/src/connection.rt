@@ -79,7 +79,7 @@ fn answer_end<W: Write>(output: &mut W, transcript: &mut Transcript) -> Result<S
     }
 }
 
-/// Prints what the transcript on the input says, each event as soon as it stands.
+/// Prints what the transcript on the input says, each event as soon as it can be said.
 pub(crate) fn connection<R: Read, W: Write>(
     alloc: Global,
     limit: usize,

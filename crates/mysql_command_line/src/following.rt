@@ -30,7 +30,7 @@ impl<W: Write> TakesPieces for Following<'_, W> {
     }
 }
 
-/// Prints what the stream on the input says, each set as soon as it stands.
+/// Prints what the stream on the input says, each set as soon as it can be said.
 pub(crate) fn follow<R: Read, W: Write>(
     alloc: Global,
     statement: Statement<'_>,

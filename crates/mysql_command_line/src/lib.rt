@@ -1,4 +1,11 @@
-//! The command line: parameter sets encoded, streams of commands audited and recoded.
+//! The program for a shell: parameter sets encoded, streams of commands audited and recoded,
+//! connections read.
+//!
+//! `mysql_session_program` calls [`run_process`], and the tests call [`run`]. docs/PROGRAM.md has
+//! the words and what is printed. [`run`] is all of the program but the process: words and input
+//! in, output and a [`Status`] out.
+//!
+//!     let status = run(alloc, &words, &mut input, &mut output);
 #![tactic(auto)]
 
 mod commands;

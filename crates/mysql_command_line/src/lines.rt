@@ -146,7 +146,7 @@ pub(crate) fn print_line<W: Write>(output: &mut W, start: &str, rest: &str) -> R
     Ok(())
 }
 
-/// Writes a byte's digits, behind a space but at the front.
+/// Writes a byte's digits, behind a space but at the beginning.
 fn write_digits<W: Write>(output: &mut W, stream: &[u8]) -> io::Result<()> {
     for (place, byte) in stream.iter().enumerate() {
         let space = if place > 0 { " " } else { "" };

@@ -118,17 +118,17 @@ fn answer_stop<W: Write>(output: &mut W, stop: &Stop) -> Status {
 /// - `encode ROAD ID LIMIT QUERY` reads a list of parameter sets in JSON and prints the commands
 ///   that carry them by `text`, `execute` or `bulk`.
 /// - `audit ID LIMIT QUERY` reads a stream of commands and prints its audit.
-/// - `follow ID LIMIT QUERY` prints the same lines, those of sets as soon as they stand, and reads
-/// no further than to a fault.
+/// - `follow ID LIMIT QUERY` prints the same lines, those of sets as soon as they can be said, and
+///   reads no further than to a fault.
 /// - `recode ID LIMIT QUERY` reads a stream of commands and prints the executions that carry the same sets.
 /// - `connection LIMIT` reads a transcript of a connection and prints a line for each payload, as
-///   soon as it stands. It reads no further than to a fault or an end. Of an authentication's data
-///   it prints the length, but behind `--secrets`, which is before the limit.
+///   soon as it can be said. It reads no further than to a fault or an end. Of an authentication's
+///   data it prints the length, but behind `--secrets`, which is before the limit.
 /// - `help` prints these words in fourteen lines, and reads nothing.
 ///
-/// Behind a command `--mode NAMES` may stand, with `no-backslash-escapes` and `ansi-quotes` between
-/// commas: the modes of the server that reads the commands. `--hex` may follow: texts have byte strings
-/// in hexadecimal.
+/// Behind a command `--mode NAMES` may follow, with `no-backslash-escapes` and `ansi-quotes`
+/// between commas: the modes of the server that reads the commands. `--hex` may follow: texts have
+/// byte strings in hexadecimal.
 ///
 /// Other words print `usage`, and a limit that is no whole number from 4 to `usize::MAX` prints
 /// `bad limit`, before anything is read. Input that can't be read, or not by 1000000 reads, prints

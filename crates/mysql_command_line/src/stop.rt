@@ -94,7 +94,7 @@ impl From<RecodeError> for Stop {
 /// What is printed where a run stops.
 #[derive(Clone, Copy)]
 pub(crate) enum Answer {
-    /// A line of its own.
+    /// A separate line.
     Line(&'static str),
     /// A line that names a refusal.
     Refused(&'static str),

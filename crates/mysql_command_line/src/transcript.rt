@@ -103,7 +103,7 @@ impl Transcript {
         Ok(&piece[count..])
     }
 
-    /// Takes what stands first of a piece, a byte of a record's header or bytes of a side, and
+    /// Takes what comes first in a piece, a byte of a record's header or bytes of a side, and
     /// answers what follows it.
     fn take_front<'p, W: Write>(
         &mut self,
@@ -139,7 +139,8 @@ impl Transcript {
         Ok(true)
     }
 
-    /// Reads the end of the transcript, prints what that says, and answers how the connection stands.
+    /// Reads the end of the transcript, prints what that says, and answers in which state the
+    /// connection is.
     pub(crate) fn end<W: Write>(&mut self, output: &mut W) -> Result<End, Stop> {
         if !self.is_over() && !self.position.is_between_records() {
             return Err(Stop::BadTranscript);

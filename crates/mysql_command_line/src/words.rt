@@ -52,7 +52,7 @@ fn whole_number(text: &str) -> Option<usize>
     text.parse().ok()
 }
 
-/// The road of this name.
+/// The method of this name.
 fn road_of(word: &str) -> Result<Road, Stop> {
     match word.as_bytes() {
         b"text" => Ok(Road::Text),

@@ -25,12 +25,12 @@ use Rattle.mysql_command_rules.proofs.States.{IsReady, execution_leaves}
 
 module _ (law : WrittenCellsAreHeld) (statement : Statement) (small : statement.id < 2 ^ 32) (room : ℕ) (few : place_count statement.query ≤ max_places) where
   -- a set reads, and leaves the statement as it was
-  record ReadsOn (s : StatementState) (sent : List SentPayload) : Type 0 where
-    reads : ReadFrom statement s sent
-    ready : IsReady (state_after statement s (payloads_of sent))
+  pub record ReadsOn (s : StatementState) (sent : List SentPayload) : Type 0 where
+    pub reads : ReadFrom statement s sent
+    pub ready : IsReady (state_after statement s (payloads_of sent))
 
   -- values of a set of the statement that may be sent
-  abbrev MayBeSent : List Value → Type 0
+  abbrev pub MayBeSent : List Value → Type 0
   MayBeSent values = IsSendable (whole_command Execute statement) (place_count statement.query) room values
 
   -- a set as an execution reads on
@@ -51,7 +51,7 @@ module _ (law : WrittenCellsAreHeld) (statement : Statement) (small : statement.
       }
 
   -- sets as executions read on
-  all_read : (s : StatementState) (sets : List (List Value)) → IsReady s → AllByRecursion MayBeSent sets → ReadsOn s (flat_map (as_execution statement) sets)
+  pub all_read : (s : StatementState) (sets : List (List Value)) → IsReady s → AllByRecursion MayBeSent sets → ReadsOn s (flat_map (as_execution statement) sets)
   all_read s [] ready may = record { reads = tt; ready = ready }
   all_read s (values ∷ sets) ready may =
       let first : ReadsOn s (as_execution statement values) = one_reads (needs_long_data values) s values ready may.0 in

@@ -1,6 +1,18 @@
-//! The rules of commands that carry parameter sets. They say what is sent by each road, why not,
-//! and how it is read back. The manual's words say the same. What the crates that send share stands
-//! here too: sets that are made one at a time, and packets that are buffered for a writer.
+//! The rules of commands that carry parameter sets: what is sent by each [`Road`], why not, and how
+//! it is read back.
+//!
+//! `mysql_send` and `mysql_recoding` call it. A user names [`Road`], [`Refusal`] and
+//! [`SendToError`] by `mysql_session`. The rules are definitions and theorems. Beside them is what
+//! the senders share.
+//!
+//! | method | commands for the sets | refused besides |
+//! |---|---|---|
+//! | `Text` | a query with literals for each set | placeholders that touch other tokens |
+//! | `Execute` | a prepare, long data and an execution for each set | too many placeholders |
+//! | `Bulk` | a prepare, and MariaDB's bulk executions | kinds of values that differ in a column |
+//!
+//! Each refuses a float, a wrong count of values and packets over the limit. [`SetMaker`] is a
+//! caller who makes a set only when its turn comes.
 #![tactic(auto)]
 
 mod buffering;

@@ -1,6 +1,6 @@
 //! What a client asks for.
 //!
-//!     let command = Command::read(alloc, capabilities, payload)?;
+//!     let command = Command::read(alloc, capabilities, parameters, payload)?;
 //!     match &command {
 //!         Command::Query { sql, .. } => log(sql.as_slice()),
 //!         _ => (),

@@ -80,7 +80,7 @@ fn write_failure<W: Write>(output: &mut W, failure: ConnectionFault) -> io::Resu
     write_fault(output, failure.fault)
 }
 
-/// Writes how a connection stands, as a line without its end.
+/// Writes the state of a connection, as a line without its end.
 ///
 /// # Errors
 /// - Those of the output.

@@ -44,10 +44,10 @@ use std::marker::Model;
 /// Reads a connection: it is fed the bytes of both sides, and tells what was said. The pieces and
 /// their order don't matter, and each payload is one event.
 ///
-/// Each payload is due of one side, so that what comes of the other waits until its turn. So the
-/// events are those of the two streams, however their bytes arrive. Of each side as many bytes wait
-/// unread as the longest payload takes with its headers. A side that is refused is fed again once
-/// events were taken.
+/// It is always one side's turn: what comes of the other waits until its own. So the events are
+/// those of the two streams, however their bytes arrive. Of each side as many bytes wait unread as
+/// the longest payload takes with its headers. A side that is refused is fed again once events were
+/// taken.
 ///
 ///     let mut connection = Connection::new(alloc, limits);
 ///     connection.feed(Side::Server, greeting)?;
@@ -56,8 +56,8 @@ use std::marker::Model;
 ///         ..
 ///     }
 ///
-/// Contracts see it as a `Machine`: the limits, what stands, and what is unread of both streams.
-/// Beside them stand the fault that was found, and the row that was lent last.
+/// Contracts see it as a `Machine`: the limits, the state, and what is unread of both streams. It
+/// also has the fault that was found, and the row that was lent last.
 ///
 /// MySQL: Client/Server Protocol, "Connection Lifecycle".
 pub struct Connection {
@@ -105,7 +105,7 @@ impl Connection {
 
     /// A connection behind a login that was made elsewhere, by TLS or a pool.
     ///
-    /// A command is due, and no byte came since. `capabilities` are those that both sides have.
+    /// A command comes next, and no byte came since. `capabilities` are those that both sides have.
     ///
     /// MySQL: Client/Server Protocol, "Command Phase" and "Capabilities Flags".
     pub fn after_login(alloc: Global, limits: Limits, capabilities: Capabilities) -> Connection
@@ -159,16 +159,15 @@ impl Connection {
         self.reader.close(side);
     }
 
-    /// The next event. `None` where the payload that is due isn't there whole, or the connection is
-    /// over.
+    /// The next event. `None` where the next payload isn't there whole, or the connection is over.
     ///
     /// Promise: exactly what comes next of the two streams (`next`), for any bytes; an event takes
     /// its bytes and leaves all others. Exactly those values of an execution are unclear that are so
     /// by its bytes and by what is in force (`NextHasUnclear`).
     ///
     /// # Errors
-    /// - The fault of the packet that stands first, with its side and its place: `TooLarge`,
-    ///   `OutOfSync`, those of the payload that is due, `Unasked`, `Held`.
+    /// - The fault of the first packet, with its side and its position: `TooLarge`, `OutOfSync`,
+    ///   those of the next payload, `Unasked`, `Held`.
     /// - `Memory`, which is asked for only where the next packet is complete (`FindsFault`).
     ///
     /// After an error it has failed: each call answers that error from then on. Nothing else has
@@ -255,11 +254,11 @@ impl Connection {
         self.reader.row()
     }
 
-    /// Appends the packets of an event of the side that is due, and goes on behind it.
+    /// Appends the packets of an event of the side whose turn it is, and goes on behind it.
     ///
-    /// The connection stands then as if they had come. A client puts what it asks, and sends what
-    /// is appended; a server what it answers. What the other side sends is fed. Last words are put
-    /// by a server in place of an answer, or behind the end of the client's stream.
+    /// The connection is then as if they had come. A client puts what it asks, and sends what is
+    /// appended; a server what it answers. What the other side sends is fed. Last words are put by
+    /// a server in place of an answer, or behind the end of the client's stream.
     ///
     ///     connection.put(&event, &mut output)?;
     ///     socket.write_all(&output)?;
@@ -301,7 +300,7 @@ impl Connection {
         self.reader.put(event, out)
     }
 
-    /// Puts a row under the columns of the reply that is due, whatever columns it has itself.
+    /// Puts a row under the columns of the reply that goes on; the row's own columns don't matter.
     ///
     /// As [`Connection::put`] of the event that its cells are under these columns, where they are as
     /// many; else under its own. A row behind another one is written where it goes: no event is made
@@ -383,7 +382,7 @@ impl Connection {
         self.reader.put_execution(id, values, out)
     }
 
-    /// Whether a payload of a side is due to be put.
+    /// Whether a payload of a side can be put now.
     ///
     /// It is where it is the side's turn, its stream is open, nothing of it waits unread, and the
     /// connection hasn't failed.
@@ -398,22 +397,22 @@ impl Connection {
         }
     }
 
-    /// Appends the packets of this very payload, where one of its side is due, and goes on behind it.
-    /// Answers the event that it says.
+    /// Appends the packets of this very payload at its side's turn, and goes on behind it. Answers
+    /// the event that it says.
     ///
-    /// The connection stands then as if they had come. For who has payloads by packet writers of
-    /// their own, or passes on what another connection said. Last words are put by [`Connection::put`]
-    /// alone: an error that stands in place of an answer says what it says there. No command is refused
-    /// for its layout: one that is laid out as none is put as `Other`.
+    /// The connection is then as if they had come. For who has payloads by packet writers of their
+    /// own, or passes on what another connection said. Last words are put by [`Connection::put`]
+    /// alone: an error in place of an answer says what it says there. No command is refused for its
+    /// layout: one that is laid out as none is put as `Other`.
     ///
     ///     let event = connection.put_payload(Side::Client, payload, &mut output)?;
     ///     socket.write_all(&output)?;
     ///
-    /// Promise: exactly this payload's packets are appended, numbered as it is due. They are read
+    /// Promise: exactly this payload's packets are appended, numbered as they follow. They are read
     /// here as the event that is answered, by this connection and by any other that has seen the
     /// same (`AppendsPayload`, `Puts`). Or it is refused for the first cause that there is, and
-    /// nothing has changed (`RefusesPayload`). Exactly those values of an execution are unclear that are
-    /// so by its bytes and by what is in force (`EventHasUnclear`).
+    /// nothing has changed (`RefusesPayload`). Exactly those values of an execution are unclear
+    /// that are so by its bytes and by what is in force (`EventHasUnclear`).
     ///
     /// # Errors
     /// - `NotDue` where it isn't the turn of the side, or bytes of it wait unread. Or its
@@ -531,7 +530,7 @@ impl Connection {
         self.reader.stream(side).as_slice()
     }
 
-    /// Whose payload is due: nobody's where the connection is over, or has failed.
+    /// Whose turn it is: nobody's where the connection is over, or has failed.
     ///
     /// MySQL: Client/Server Protocol, "Connection Lifecycle".
     pub fn turn(&self) -> Option<Side>
@@ -543,7 +542,8 @@ impl Connection {
         }
     }
 
-    /// What is due. After an error it is what was due before the payload that has the fault.
+    /// What comes next. After an error it is what was awaited before the payload that has the
+    /// fault.
     ///
     /// MySQL: Client/Server Protocol, "Connection Phase" and "Command Phase".
     pub fn phase(&self) -> Phase
@@ -575,7 +575,7 @@ impl Connection {
         self.reader.state().session_mode()
     }
 
-    /// The prepared statement that this id of a command stands for: 0xffffffff for that which was
+    /// The prepared statement that this id of a command refers to: 0xffffffff for that which was
     /// prepared last.
     ///
     /// After an error it is the same as before the payload that has the fault.
@@ -603,7 +603,7 @@ impl Connection {
         self.fault
     }
 
-    /// Ends both streams, and says how the connection stands.
+    /// Ends both streams, and says in which state the connection is.
     ///
     /// Nothing is taken. Where an event or a fault comes next it is `Unread`, and
     /// [`Connection::next_event`] answers it. That holds of last words too, behind the end of the

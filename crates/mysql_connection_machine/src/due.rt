@@ -54,7 +54,7 @@ impl StreamsReader {
         }
     }
 
-    /// Whether an event is due: it has its place, and its side's stream is open and all read.
+    /// Whether an event may be put: it is its turn, and its side's stream is open and all read.
     pub fn is_due(&self, event: &Event) -> bool
         ensures { result ≡ is_due self.now.world (event_view event.now) }
     {

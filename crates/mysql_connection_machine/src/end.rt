@@ -1,9 +1,9 @@
-//! How a connection stands once both of its streams have ended.
+//! The state of a connection once both of its streams have ended.
 
 use crate::fault::ConnectionFault;
 use mysql_connection_rules::{Reason, Side};
 
-/// How a connection stands once both of its streams have ended.
+/// The state of a connection once both of its streams have ended.
 ///
 /// MySQL: Client/Server Protocol, "Connection Lifecycle".
 #[derive(Clone, Copy, Debug, PartialEq, Eq)]
@@ -12,7 +12,7 @@ pub enum End {
     Over(Reason),
     /// A command was due, and all bytes were read.
     Whole,
-    /// A packet of this side is due, and isn't whole.
+    /// A packet of this side comes next, and isn't whole.
     Unfinished(Side),
     /// It has a fault.
     Fault(ConnectionFault),

@@ -1,11 +1,11 @@
-//! Where the server's last words stand: an error that answers nothing.
+//! Where the server's last words are: an error that answers nothing.
 
 ghost use Rattle.std.specs.Prelude.{◌≡◌, slice_index_or};
 ghost use Rattle.mysql_connection_rules.specs.Streams.{has_number, is_early};
 
 use mysql_connection_state::State;
 
-/// Whether a packet with this number stands first.
+/// Whether the first packet has this number.
 pub fn has_number(number: u8, bytes: &[u8]) -> bool
     ensures { result ≡ has_number number bytes.now }
 {
@@ -15,7 +15,7 @@ pub fn has_number(number: u8, bytes: &[u8]) -> bool
     }
 }
 
-/// Whether an error stands first whose number is below the one that is due.
+/// Whether the first packet is an error with a number below the expected one.
 pub fn is_early(state: &State, bytes: &[u8]) -> bool
     ensures { result ≡ is_early state.now.standing bytes.now }
 {
@@ -26,7 +26,7 @@ pub fn is_early(state: &State, bytes: &[u8]) -> bool
     }
 }
 
-/// The number of the packet that stands first.
+/// The number of the first packet.
 pub fn number_of(bytes: &[u8]) -> u8
     ensures { result ≡ slice_index_or bytes.now 3 0 }
 {

@@ -1,5 +1,5 @@
-//! The law of packets that are put. The function has no code but the law that it rests on: its contract
-//! is the law.
+//! The theorem of packets that are put. The function has no code but the theorem that it rests on:
+//! its contract is the theorem.
 
 ghost use Rattle.mysql_connection_machine.specs.Laws.{SentPacketsArePut};
 

@@ -1,7 +1,14 @@
-//! A whole connection, read: bytes of both sides in, events out.
+//! A whole connection, read and put: bytes of both sides in, events out; events in, bytes out.
+//!
+//! A user names its items by `mysql_connection`; the library for C and the program call it. Steps
+//! are `mysql_connection_state`'s, payloads `mysql_connection_writer`'s. Here are framing, limits,
+//! and what waits unread.
+//!
+//!      feed(side, piece) ──► packets ──► the step of the payload ──► next_event
+//!      put(side, event)  ──► the payload of the event ──► packets ──► out
 //!
 //!     let mut connection = Connection::new(alloc, limits);
-//!     connection.feed(Side::Server, greeting)?;
+//!     connection.feed(Side::Server, greeting)?;          // Err(FeedRefusal): nothing is taken
 //!     while let Some(event) = connection.next_event()? {
 //!         ..
 //!     }

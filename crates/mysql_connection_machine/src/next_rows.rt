@@ -11,8 +11,8 @@ use mysql_connection_rules::{Limits, Side};
 use mysql_connection_state::State;
 use mysql_wire::one_chunk;
 
-/// A row of the server's behind another one, whose packet has one chunk, is lent. `false` says nothing
-/// of the payload that is due.
+/// A row of the server's behind another one, whose packet has one chunk, is lent. `false` says
+/// nothing of the next payload.
 pub fn take_row(limits: Limits, state: &mut State, server: &mut StreamBuffer) -> bool
     requires { kept state.old.standing ≤ room_to_keep limits }
     ensures { TakesRowBy limits state.old.standing server.old.stream result state.new server.new }

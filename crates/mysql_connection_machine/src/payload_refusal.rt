@@ -15,7 +15,7 @@ pub enum PayloadRefusal {
     /// It is longer than the limit of its side.
     #[error("the payload is longer than the limit")]
     TooLarge,
-    /// It can't be read where it is due.
+    /// It can't be read at this turn.
     #[error("the payload can't be read here: {0}")]
     BadPayload(Fault),
     /// More would be kept behind it than has room.

@@ -172,7 +172,7 @@ impl StreamsReader {
         }
     }
 
-    /// Appends the packets of an event that is due, and goes on behind it.
+    /// Appends the packets of an event at its turn, and goes on behind it.
     pub fn put(&mut self, event: &Event, out: &mut Vec<u8>) -> Result<(), PutRefusal>
         ensures { PutsEvent self.old (event_view event.now) out.old.items result self.new
             out.new.items }
@@ -195,7 +195,7 @@ impl StreamsReader {
     }
 }
 
-/// The bytes behind a place.
+/// The bytes behind a position.
 pub fn behind(bytes: &[u8], place: usize) -> &[u8]
     requires { place ≤ length bytes.now }
     ensures { result.now ≡ drop place bytes.now }

@@ -107,7 +107,7 @@ impl StreamsReader {
         }
     }
 
-    /// Puts the command that stands first of packets, where it is due and has one chunk.
+    /// Puts the first command of packets, where it is its turn and it has one chunk.
     ///
     /// Answers how many bytes it takes. `None` says nothing of it, and nothing has changed.
     #[inline(always)]

@@ -25,7 +25,7 @@ use mysql_wire::frame_in_place;
 use std::alloc::{AllocError, Global};
 use std::rc::RcSlice;
 
-/// What an execution leads to: the columns by which its reply is read, and the number that is due.
+/// What an execution leads to: the columns by which its reply is read, and the next number.
 struct Executed {
     columns: Option<RcSlice<Column>>,
     next: u8,

@@ -1,4 +1,4 @@
-//! Packets that are put: payload by payload, as long as they are due.
+//! Packets that are put: payload by payload, as long as it is their turn.
 
 ghost use Rattle.mysql_connection_machine.specs.PuttingPackets.{PutsFirst, PutsPackets};
 
@@ -58,15 +58,15 @@ impl Connection {
         }
     }
 
-    /// Puts the payloads of packets of a side, one after another, as long as they are due.
+    /// Puts the payloads of packets of a side, one after another, as long as it is the side's turn.
     ///
     /// It takes what `Query::send`, `Query::send_more`, `write_reply` or a `ReplyWriter` append: a
     /// set with its long data, or a whole reply, is one call. Answers how many bytes of `packets`
     /// were taken: all, or those before the first packet whose turn hasn't come. What is cut off at
     /// the end is left. The packets' own numbers are looked at in the chunks of one payload alone:
-    /// each is framed anew, by the number that is due. No event is made of a command, and none of
-    /// its values is read. One that is laid out as none is put as `Other`, which nothing tells
-    /// here. Of packets that were sent the first payloads are put, by the law
+    /// each is framed anew, by the next number. No event is made of a command, and none of its
+    /// values is read. One that is laid out as none is put as `Other`, which nothing tells here. Of
+    /// packets that were sent the first payloads are put, by the theorem
     /// [`sent_packets_are_put`](crate::laws::sent_packets_are_put).
     ///
     ///     let used = connection.put_packets(Side::Client, packets, &mut output)?;
@@ -76,8 +76,8 @@ impl Connection {
     /// [`Connection::put_payload`] puts it, and it stops exactly there (`PutsPackets`).
     ///
     /// # Errors
-    /// The cause of the first packet that is due and isn't put, and how many bytes stand before it.
-    /// Those packets were put, and what was appended of them stands.
+    /// The cause of the first packet that isn't put at its turn, and how many bytes come before it.
+    /// The packets before it were put, and what was appended of them stays.
     /// - `TooLarge` where it is longer than the limit of its side.
     /// - `BadPayload(OutOfSync)` where the numbers of its chunks don't go on from one another.
     /// - `BadPayload` where its payload can't be read here, with the fault.

@@ -14,15 +14,15 @@ use mysql_connection_state::laws::payloads_are_in_turn;
 use mysql_connection_state::{Event, peek_event};
 
 impl StreamsReader {
-    /// Whether a payload of a side is due: it is its turn, and its stream is open and all read.
+    /// Whether a payload of a side can be put: it is its turn, and its stream is open and read.
     pub fn awaits_payload(&self, side: Side) -> bool
         ensures { result ≡ awaits_payload self.now.world side }
     {
         self.state().turn() == Some(side) && is_free(self.stream(side))
     }
 
-    /// Appends the packets of a payload of a side, where it is due, and goes on behind it. Answers
-    /// the event that it says.
+    /// Appends the packets of a payload of a side at its turn, and goes on behind it. Answers the
+    /// event that it says.
     pub fn put_due_payload(
         &mut self,
         side: Side,

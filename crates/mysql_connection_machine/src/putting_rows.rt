@@ -1,5 +1,5 @@
-//! Rows that are put behind others, as most of a long result are: they are written where they go, and
-//! nothing of what stands changes.
+//! Rows that are put behind others, as most of a long result are: they are written where they go,
+//! and the state stays.
 
 ghost use Rattle.std.specs.Prelude.{◌≡◌, ◌≤◌, IfOk};
 ghost use Rattle.mysql_connection_machine.specs.PuttingRows.{AppendsRow, PutsOrStays};
@@ -60,7 +60,7 @@ fn row_due(alloc: Global, state: &State, row: &Row) -> Result<Row, AllocError>
 }
 
 impl StreamsReader {
-    /// Puts a row's cells under the columns that are due, behind another row. `false` says nothing of
+    /// Puts a row's cells under the columns in force, behind another row. `false` says nothing of
     /// them, and nothing has changed.
     #[inline(always)]
     pub fn put_next_row(&mut self, row: &Row, out: &mut Vec<u8>) -> bool
@@ -86,7 +86,7 @@ impl StreamsReader {
         false
     }
 
-    /// Puts a row's cells under the columns that are due, where they are as many.
+    /// Puts a row's cells under the columns in force, where they are as many.
     #[inline(always)]
     pub fn put_row(&mut self, row: &Row, out: &mut Vec<u8>) -> Result<(), PutRefusal>
         requires { kept self.old.world.standing ≤ room_to_keep self.old.world.limits }
@@ -110,7 +110,7 @@ impl StreamsReader {
         self.put(&event, out)
     }
 
-    /// Puts an event that is a row of the columns that are due, behind another row. `false` says
+    /// Puts an event that is a row of the columns in force, behind another row. `false` says
     /// nothing of the event, and nothing has changed.
     pub fn put_among_rows(&mut self, event: &Event, out: &mut Vec<u8>) -> bool
         requires { kept self.old.world.standing ≤ room_to_keep self.old.world.limits }

@@ -40,8 +40,8 @@ fn go_on(
     }
 }
 
-/// What the payload that is due says, behind which this number is due. After an error the state is as
-/// it was.
+/// What the next payload says, and the state behind it, with this number. After an error the state
+/// is as it was.
 pub fn say_bytes(
     alloc: Global,
     limits: Limits,
@@ -122,7 +122,7 @@ pub fn say(
     say_bytes(alloc, limits, side, next, state, payload.as_slice())
 }
 
-/// What the server's last words say, behind which this number is due.
+/// What the server's last words say, behind which this number comes next.
 #[inline(never)]
 pub fn bid(
     alloc: Global,

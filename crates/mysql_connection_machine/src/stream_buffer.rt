@@ -113,7 +113,7 @@ impl StreamBuffer {
         self.closed = true;
     }
 
-    /// Whether 64 bits tell the place behind so many bytes more.
+    /// Whether 64 bits tell the position behind so many bytes more.
     pub fn can_advance(&self, count: usize) -> bool
         ensures { IsTrue result ↔ (self.now.stream.read + count ≤ u64.MAX) }
     {

@@ -1,4 +1,4 @@
-//! Both streams of a connection, and what stands of it: the next event of them.
+//! Both streams of a connection, and its state: the next event of them.
 
 ghost use Rattle.std.specs.Prelude.{◌≡◌, ◌≤◌, IfOk, IfSome, None, OnErr, OnOk, Some, false};
 ghost use Rattle.std.specs.Prelude.{min, option_map, true};
@@ -33,7 +33,7 @@ use mysql_wire::is_short;
 use std::alloc::{AllocError, Global};
 use std::marker::Model;
 
-/// Both streams of a connection, what stands of it, the limits, and the row that was lent last.
+/// Both streams of a connection, its state, the limits, and the row that was lent last.
 ///
 /// Contracts see it as a `LendingWorld`.
 #[derive(Drop)]
@@ -62,7 +62,7 @@ impl Model for StreamsReader {
 }
 
 impl StreamsReader {
-    /// Streams of which no byte came, where this stands.
+    /// Streams of which no byte came, in this state.
     pub fn new(alloc: Global, limits: Limits, state: State) -> StreamsReader
         ensures { result ≡ lending_none (start
             (record { limits = limits; first = state.standing }) no_bytes) }
@@ -85,7 +85,7 @@ impl StreamsReader {
         self.limits
     }
 
-    /// What stands.
+    /// The state of the connection.
     pub fn state(&self) -> &State
         ensures { result.now.standing ≡ self.now.world.standing }
     {
@@ -390,7 +390,7 @@ impl StreamsReader {
         }
     }
 
-    /// How a connection stands that waits for more.
+    /// The state of a connection that waits for more.
     pub fn waiting_end(&self) -> End
         ensures { end_view result ≡ waiting_ending self.now.world
             (plain_phase self.now.world.standing.phase) (turn self.now.world.standing.phase) }

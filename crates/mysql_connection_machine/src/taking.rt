@@ -1,4 +1,4 @@
-//! The payload that stands first of a stream, taken from it.
+//! The first payload of a stream, taken from it.
 
 ghost use Rattle.std.specs.Prelude.{◌≡◌, ◌≤◌, IfOk, IfSome, OnErr};
 ghost use Rattle.mysql_wire.specs.FirstPacket.{first_packet};
@@ -20,7 +20,7 @@ use mysql_wire::{FirstPacket, first_packet, one_chunk};
 use std::alloc::Global;
 use std::borrow::CowSlice;
 
-/// A packet that stands first.
+/// The first packet of a stream.
 #[derive(Drop)]
 pub struct Packet<'a> {
     payload: CowSlice<'a, u8>,

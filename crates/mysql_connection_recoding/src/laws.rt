@@ -11,7 +11,7 @@ pub fn recoded_commands_say_the_same()
     ensures { RecodedCommandsSayTheSame }
 {}
 
-/// The types that count there are those that count here, whichever are in force there.
+/// The types that count there are those that count here, also where others are in force there.
 ///
 /// So it is of each statement that has parameters.
 ///

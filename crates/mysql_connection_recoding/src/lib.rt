@@ -3,6 +3,10 @@
 //!
 //!     ids.prepared(own, other)?;                  // as the two servers answered a prepare
 //!     let command = ids.recode(command, types)?;  // the same command, by the other server's ids
+//!
+//! A proxy calls [`StatementIds`]. The laws in `laws` say that the command says the same. Those in
+//! `content_laws` say that commands about one prepared statement say what `receive` reads of them;
+//! `mysql_connection_contents` takes these over to whole connections.
 #![tactic(auto)]
 
 pub mod content_laws;

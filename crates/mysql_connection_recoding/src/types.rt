@@ -31,7 +31,7 @@ fn nameless_types(alloc: Global, types: &[ParameterType]) -> Result<Vec<BoundTyp
 /// The types of an execution; where it carries none, those that are in force.
 ///
 /// # Errors
-/// - `AllocError` for want of memory, where it carries none and any is in force.
+/// - `AllocError` out of memory, where it carries none and any is in force.
 pub fn types_there(
     alloc: Global,
     in_force: &[ParameterType],

@@ -1,5 +1,9 @@
-//! The rules of a connection: what each payload says where it stands, and that the two streams have
-//! one list of events.
+//! The rules of a connection: what each payload says where it comes, and that the two streams have
+//! one list of events. No code reads or writes here.
+//!
+//! `Exchange`, `Side`, `Limits`, `Fault` and `Reason` are the words of these rules. The crates that
+//! read, put and print a connection use them, and the library for C. `laws` are of reading. By
+//! `agreement_laws` what is put is read as it was put; client, server and auditor agree.
 #![tactic(auto)]
 
 pub mod exchange;

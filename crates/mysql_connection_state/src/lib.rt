@@ -1,6 +1,15 @@
-//! What stands of a connection between two payloads, and behind the event that each says.
+//! What is known of a connection between two payloads, and behind the event that each says.
 //!
-//! [`State`] goes on behind the events of both sides by one table of steps, all or nothing.
+//! [`State`] goes on behind the events of both sides by one table of steps, all or nothing. A machine
+//! that reads or puts a connection calls it. `peek_event` says what the payload that comes next is,
+//! and changes nothing.
+//!
+//! | modules | of what |
+//! |---|---|
+//! | `state`, `phase`, `event` | what is known, and the words for it |
+//! | `following` and its neighbours | the step behind an event of each kind |
+//! | `peeking` and its neighbours | the event of the payload that comes next |
+//! | `farewell` | the last words of a server: an error that answers nothing |
 #![tactic(auto)]
 
 mod authentication;

@@ -6,9 +6,9 @@ use mysql_connection::{
     BadEvent, Capabilities, CapabilityFlags, CommandRefusal, Connection, MariadbCapabilities,
     PayloadRefusal, PutRefusal, Side,
 };
-use mysql_session::{ByteString, Value};
+use mysql_session::Value;
 use std::alloc::{AllocError, Global};
-use tests_support::{Assert, assert_bytes, once_more};
+use tests_support::{Assert, Given, assert_bytes, given_values, once_more};
 
 // Puts all of some packets, for want of memory once more from there on: whether they were put.
 fn put_packets(connection: &mut Connection, side: Side, packets: &[u8], out: &mut Vec<u8>) -> bool {
@@ -32,32 +32,6 @@ fn packets_of_both_sides(rt: HostRuntime) {
         assert.holds(put_packets(&mut connection, *side, packets, &mut out));
         assert_bytes(&assert, out.as_slice(), packets);
     }
-}
-
-// A value of an execution.
-#[derive(Clone, Copy)]
-enum Given {
-    Null,
-    Int(i64),
-    UInt(u64),
-    Text(&'static [u8]),
-}
-
-fn value_of(alloc: Global, given: Given) -> Result<Value, AllocError> {
-    match given {
-        Given::Null => Ok(Value::NULL),
-        Given::Int(number) => Ok(Value::Int(number)),
-        Given::UInt(number) => Ok(Value::UInt(number)),
-        Given::Text(bytes) => Ok(Value::Bytes(ByteString::copy(alloc, bytes)?)),
-    }
-}
-
-fn values_of(alloc: Global, given: &[Given]) -> Result<Vec<Value>, AllocError> {
-    let mut values = Vec::new(alloc);
-    for one in given {
-        values.push(value_of(alloc, *one)?)?;
-    }
-    Ok(values)
 }
 
 // What is put: packets of a side, or an execution of a statement.
@@ -95,7 +69,11 @@ fn refusal_of(
             None
         }
         Call::Execution(id, given) => {
-            let values = once_more(assert, values_of(alloc, given), values_of(alloc, given));
+            let values = once_more(
+                assert,
+                given_values(alloc, given),
+                given_values(alloc, given),
+            );
             put_values(connection, id, &values, out)
         }
     }
@@ -126,13 +104,13 @@ const BULK: &[u8] = b"\x0f\0\0\0\xfa\x01\0\0\0\x80\0\xfd\0\xfd\0\x01\0\x01c";
 
 const PING: &[u8] = b"\x01\0\0\0\x0e";
 
-const C: Given = Given::Text(b"c");
+const C: Given = Given::Bytes(b"c");
 
 const STEPS: [Step; 24] = [
     (Call::Packets(Side::Client, PREPARE), None, PREPARE),
     (Call::Packets(Side::Server, PREPARED), None, PREPARED),
     (
-        Call::Execution(1, &[Given::Int(7), Given::Text(b"ab")]),
+        Call::Execution(1, &[Given::Int(7), Given::Bytes(b"ab")]),
         None,
         FIRST,
     ),
@@ -146,7 +124,7 @@ const STEPS: [Step; 24] = [
     ANSWER,
     // x and c: a text in the place of a number.
     (
-        Call::Execution(1, &[Given::Text(b"x"), C]),
+        Call::Execution(1, &[Given::Bytes(b"x"), C]),
         None,
         b"\x14\0\0\0\x17\x01\0\0\0\0\x01\0\0\0\0\x01\xfd\0\xfd\0\x01x\x01c",
     ),
@@ -177,7 +155,7 @@ const STEPS: [Step; 24] = [
     (Call::Packets(Side::Client, BULK), None, BULK),
     ANSWER,
     (
-        Call::Execution(1, &[Given::Text(b"x"), C]),
+        Call::Execution(1, &[Given::Bytes(b"x"), C]),
         None,
         b"\x10\0\0\0\x17\x01\0\0\0\0\x01\0\0\0\0\0\x01x\x01c",
     ),

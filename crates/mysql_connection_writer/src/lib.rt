@@ -1,6 +1,16 @@
-//! The payload of an event of a connection, written where the table of steps reads it as that event.
+//! The payload of an event of a connection, written where the table of steps reads it as that
+//! event.
 //!
-//!     write_event(&state, &event, &mut payload)?;
+//! `mysql_connection_machine` calls it for `put`. Nothing is appended for an event that isn't this
+//! side's turn, or that would be read as another one.
+//!
+//! | what | call |
+//! |---|---|
+//! | any event | [`write_event`] |
+//! | an execution of values, by the types in force | [`execution_event`], [`write_execution`] |
+//! | one of many rows | [`write_next_row`] |
+//!
+//!     write_event(&state, &event, &mut payload)?;    // Err(EventRefusal): the cause
 #![tactic(auto)]
 
 mod authentication;

@@ -1,4 +1,15 @@
-//! The constants of the protocol: commands, types, flags and sizes.
+//! The constants of the protocol: commands, types of columns, flags and sizes.
+//!
+//! Each set is a table of names and numbers, and no bytes are read here. Every crate that knows a
+//! packet uses it. A user names it `mysql_buf::constants`.
+//!
+//! | a number is | types | how it is named |
+//! |---|---|---|
+//! | one of a list | `Command`, `ColumnType`, .. | `try_from`, or `Unknown..` has the number |
+//! | a set of flags | `CapabilityFlags`, .. | `from_bits`, `from_bits_truncate` |
+//!
+//!     let kind = ColumnType::try_from(3u8)?;            // MYSQL_TYPE_LONG
+//!     let status = StatusFlags::from_bits_truncate(2);  // SERVER_STATUS_AUTOCOMMIT
 #![tactic(auto)]
 
 pub mod binlog;

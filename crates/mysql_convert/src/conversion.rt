@@ -78,10 +78,10 @@ pub trait FromValue: Sized {
     ///
     /// An impl may spare the copy where it keeps nothing of it.
     ///
-    /// Promise: the result is that of converting a copy, or want of memory, which is outermost.
+    /// Promise: the result is that of converting a copy, or `AllocError`, which is outermost.
     ///
     /// # Errors
-    /// - `AllocError`, outermost, for want of memory alone.
+    /// - `AllocError`, outermost, out of memory alone.
     /// - `FromValueError` with a copy of the value, where it doesn't convert.
     fn from_value_ref_opt(
         alloc: Global,

@@ -33,7 +33,7 @@ pub enum ParseIrOpt<T> {
     Parsed(T, Value),
 }
 
-/// None for `NULL`, and otherwise what stands between the value and the type of an option.
+/// None for `NULL`, and otherwise what is between the value and the type of an option.
 #[derive(Drop)]
 pub enum OptionIr2<T: FromValue> {
     None,

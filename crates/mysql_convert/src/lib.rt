@@ -1,5 +1,8 @@
-//! Conversions between Rust's types and values: what values convert to, and by `mysql_to_values`
-//! the values and parameter sets of Rust's types.
+//! Conversions between Rust's types and values, in both directions.
+//!
+//! `ToValue` makes a value, and `IntoParams` a parameter set of a list, pairs, a tuple or boxed
+//! objects. `FromValue` makes a Rust value of a value; its intermediate form can be undone. Rows and
+//! recoding call these.
 #![tactic(auto)]
 
 mod booleans;

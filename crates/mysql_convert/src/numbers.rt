@@ -232,7 +232,7 @@ fn integer_in<T: Integer>(value: &Value) -> Option<T>
     }
 }
 
-/// What stands between a value and an integer type: a number is ready, a text is kept.
+/// What is between a value and an integer type: a number is ready, a text is kept.
 fn read_integer<T: Integer>(value: Value) -> Result<ParseIrOpt<T>, FromValueError>
     ensures ok { IfOk result (λ step. integer_of T.narrowed value ≡ Some (committed_of step)) }
     ensures again { IfOk result

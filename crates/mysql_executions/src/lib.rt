@@ -1,4 +1,18 @@
 //! Executions and bulk executions of a prepared statement, by what is in force of its parameters.
+//!
+//! A payload may leave its types to an earlier one, and its long values to packets before it. So
+//! both are kept in [`StatementParameters`]. `mysql_commands` and `mysql_connection_statements`
+//! call this; a user names its types by `mysql_connection`.
+//!
+//!     command           read by                    what is in force behind it
+//!     LONG_DATA         its id, place and bytes    add_long_data
+//!     EXECUTE           read_execution             execute, take_back behind an error
+//!     BULK_EXECUTE      read_bulk_execution        execute, take_back behind an error
+//!     RESET                                        reset
+//!
+//!     let mut parameters = StatementParameters::new(alloc, 2);
+//!     let execution = read_execution(alloc, capabilities, &parameters, body)?;
+//!     let before = parameters.execute(alloc, &types)?;
 #![tactic(auto)]
 
 pub mod attribute_reading;

@@ -4,3 +4,4 @@ pub mod Either
 pub mod EitherLaws
 pub mod FlagLaws
 pub mod Flags
+pub mod TypeNumberLaws

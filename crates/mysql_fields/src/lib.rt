@@ -1,4 +1,19 @@
-//! The fields of packets: how numbers and texts are written as bytes and read from them, and why bytes are no field.
+//! The fields of packets: how numbers and texts are written as bytes and read from them, and why
+//! bytes are no field.
+//!
+//! The crates of packets use it. A user names its traits and [`WireError`] by `mysql_wire` or
+//! `mysql_login`.
+//!
+//! | trait | what a type says by it |
+//! |---|---|
+//! | [`MySerialize`] | the bytes that a value is written as |
+//! | [`Readable`], [`MyDeserialize`] | how a value is read, and by what that has to be known |
+//! | [`ReadsBack`] | that a written value is read again |
+//!
+//!     let mut rest = ParseBuf(payload);
+//!     let id: RawInt<LeU32> = rest.parse(alloc, ())?;       // Err(WireError::UnexpectedEof)
+//!     let name: RawBytes<LenEnc> = rest.parse(alloc, ())?;
+//!     in_order!(id, name).serialize(&mut out)?;
 #![tactic(auto)]
 
 mod compared;

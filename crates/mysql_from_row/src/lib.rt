@@ -2,6 +2,9 @@
 //! Those of a row that is lent, where its cells lie, do so by `FromRowRef`.
 //!
 //!     let (id, name) = from_row_ref::<(u32, &str)>(&row)?;
+//!
+//! Single cells are converted by `RowExt` and `RowRefExt`, also out of a row (`take`). A user calls
+//! these on the rows that a reader of replies gives.
 #![tactic(auto)]
 
 mod cells;

@@ -1,4 +1,8 @@
 //! A client's answers to the handshake: the request for a secure connection and the answer that logs in.
+//!
+//! `HandshakeResponse` has the name, the data for the plugin, the schema, the plugin and the
+//! `ConnectAttributes`. `SslRequest` has its first fields alone. The crates of logging in call these,
+//! and a client that connects. `parts` has the fields that the change of user shares.
 #![tactic(auto)]
 
 mod handshake_response;

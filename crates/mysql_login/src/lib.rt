@@ -1,6 +1,18 @@
-//! Packets of logging in and of replication: the command that logs another user in, and the face of
-//! the crates below. Those have the client's answers, the server's handshake, authentication and
-//! the packets that a replica sends.
+//! Packets of logging in and of replication: the public crate of both.
+//!
+//! A user lists it. The crates of connections use it, and the library for C calls it. The command
+//! that logs another user in, [`ComChangeUser`], is its own; the rest is passed on.
+//!
+//! | packets | crate below |
+//! |---|---|
+//! | the server's greeting | `mysql_handshake` |
+//! | the client's answer, with its attributes | `mysql_handshake_response` |
+//! | data of a plugin, a switch of plugins | `mysql_auth` |
+//! | a replica's requests, sets of GTIDs | `mysql_replication` |
+//!
+//!     let greeting: HandshakePacket = ParseBuf(payload).parse(alloc, ())?;
+//!     let answer: HandshakeResponse = ParseBuf(payload).parse(alloc, ())?;
+//!     let user = answer.user();
 #![tactic(auto)]
 
 mod change_in_force;

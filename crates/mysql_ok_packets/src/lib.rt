@@ -1,4 +1,8 @@
 //! OK and EOF packets of a server's reply, read and written, and the session states that they tell.
+//!
+//! `OkPacketDeserializer` reads one by its kind (`CommonOkPacket`, `ResultSetTerminator` and others);
+//! `OkPacket` is what it says. `SessionStateInfo` is a part of it, and `SessionStateChange` one state:
+//! a system variable, the schema, the transaction, GTIDs. Readers and writers of replies call these.
 #![tactic(auto)]
 
 pub mod body;

@@ -1,6 +1,17 @@
-//! The public crate of packets. A server answers columns, rows, OK packets, errors, progress
-//! reports, requests for files, and statement packets. A client sends the commands of prepared
-//! statements, single and in bulk. Values and the wire are passed on with it.
+//! The public crate of packets: columns, rows, OK packets, errors, and the commands of prepared
+//! statements.
+//!
+//! A user lists it. `mysql_session` passes it on, and it passes on values and the wire.
+//!
+//! | packets of | crate below |
+//! |---|---|
+//! | a server: columns and rows | `mysql_columns`, `mysql_rows`, `mysql_from_row` |
+//! | a server: all other answers | `mysql_ok_packets`, `mysql_server_packets` |
+//! | a client: one statement, or many rows | `mysql_stmt`, `mysql_bulk_builder` |
+//!
+//!     let column: Column = ParseBuf(payload).parse(alloc, ())?;
+//!     let packet: ErrPacket = ParseBuf(payload).parse(alloc, capabilities)?;
+//!     let (id, name): (u32, String) = from_row(alloc, row)?;
 #![tactic(auto)]
 
 pub use mysql_bulk_builder::BulkExecuteRequestBuilderError;

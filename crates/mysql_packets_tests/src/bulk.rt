@@ -1,6 +1,6 @@
 //! Bulk requests, and rows and sets that are filled into them.
 
-use crate::given::{Cells, Given, NULL, ONE, SHORT, TWO, TWO_VALUES, named, row, rows};
+use crate::given::{Cells, Given, NULL, ONE, SHORT, TWO, TWO_VALUES, named, rows};
 use crate::support::{Asserting, assert_appended, assert_shown, is_made, is_shown};
 use mysql_buf::ParseBuf;
 use mysql_bulk_builder::{
@@ -16,7 +16,7 @@ use mysql_fields::{MySerialize, ParseExt, Readable, WireError};
 use mysql_values::Params;
 use std::alloc::{AllocError, Global};
 use tests_support::{
-    Assert, again, assert_bytes, assert_copied, assert_equal, assert_made, first_of,
+    Assert, again, assert_bytes, assert_copied, assert_equal, assert_made, first_of, given_values,
 };
 
 /// The requests of the statement 1 with types, over the rows of 1 and 2, and of 1 alone.
@@ -242,7 +242,7 @@ fn values(rt: HostRuntime) {
     drop(value);
     let made = again!(
         &a,
-        StmtBulkExecuteParamValues::new(alloc, again!(&a, row(alloc, ONE_AND_NULL)))
+        StmtBulkExecuteParamValues::new(alloc, again!(&a, given_values(alloc, ONE_AND_NULL)))
     );
     assert_appended(&a, alloc, &made, b"\0\x01\0\0\0\0\0\0\0\x01");
     assert_copied(&a, &made, made.clone(alloc), made.clone(alloc));
@@ -286,7 +286,7 @@ fn add(
     added: Added,
 ) -> Result<Option<Vec<Value>>, BulkExecuteRequestBuilderError> {
     match added {
-        Added::Row(cells) => builder.add_row(again!(assert, row(alloc, cells))),
+        Added::Row(cells) => builder.add_row(again!(assert, given_values(alloc, cells))),
         Added::Set(name, number) => builder.add_params(again!(assert, named(alloc, name, number))),
     }
 }

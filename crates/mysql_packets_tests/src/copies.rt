@@ -1,6 +1,6 @@
 //! Copies that borrow nothing, of what can be copied or made to own its bytes and isn't elsewhere.
 
-use crate::given::{SHORT, row};
+use crate::given::SHORT;
 use crate::support::Asserting;
 use mysql_bulk_builder::{BulkExecuteRequestBuilderError, BulkExecuteRequestError};
 use mysql_ok_packets::{SessionStateInfo, SessionStateType};
@@ -8,7 +8,7 @@ use mysql_packets::{ErrPacket, LocalInfilePacket, ProgressReport, ServerError, S
 use mysql_stmt::ComStmtSendLongData;
 use mysql_values::{ByteString, Content, MissingNamedParameterError, ParamsError};
 use std::borrow::CowSlice;
-use tests_support::{again, assert_copied};
+use tests_support::{again, assert_copied, given_values};
 
 /// Asserts that a value that is made to own its bytes is the same one, and lets go of both.
 macro_rules! assert_owned {
@@ -82,6 +82,6 @@ fn errors(rt: HostRuntime) {
     let name = again!(&a, ByteString::copy(alloc, b"abc"));
     let missing = ParamsError::Missing(MissingNamedParameterError(name));
     assert_cloned!(&a, alloc, BulkExecuteRequestBuilderError::Params(missing));
-    let error = BulkExecuteRequestError::RowTooLarge(again!(&a, row(alloc, SHORT)));
+    let error = BulkExecuteRequestError::RowTooLarge(again!(&a, given_values(alloc, SHORT)));
     assert_cloned!(&a, alloc, BulkExecuteRequestBuilderError::Request(error));
 }

@@ -3,22 +3,12 @@
 use mysql_cells::Value;
 use mysql_const::{ColumnFlags, ColumnType};
 use mysql_packets::Column;
-use mysql_values::{ByteString, Params};
+use mysql_values::Params;
 use std::alloc::{AllocError, Global};
 use std::collections::HashMap;
 use std::rc::RcSlice;
-
-/// A value of a row.
-#[derive(Clone, Copy)]
-pub enum Given {
-    Null,
-    Int(i64),
-    UInt(u64),
-    Float(u32),
-    Double(u64),
-    /// So many bytes `x`.
-    Filled(usize),
-}
+pub use tests_support::Given;
+use tests_support::given_values;
 
 /// The values of a row.
 pub type Cells = &'static [Given];
@@ -33,36 +23,11 @@ pub const SHORT: Cells = &[Given::Filled(1)];
 
 pub const TWO_VALUES: Cells = &[Given::Int(2), Given::Int(3)];
 
-/// A value.
-fn value(alloc: Global, given: Given) -> Result<Value, AllocError> {
-    match given {
-        Given::Null => Ok(Value::NULL),
-        Given::Int(number) => Ok(Value::Int(number)),
-        Given::UInt(number) => Ok(Value::UInt(number)),
-        Given::Float(bits) => Ok(Value::Float(bits)),
-        Given::Double(bits) => Ok(Value::Double(bits)),
-        Given::Filled(len) => {
-            let mut bytes = Vec::new(alloc);
-            bytes.resize(len, b'x')?;
-            Ok(Value::Bytes(ByteString::from_vec(bytes)))
-        }
-    }
-}
-
-/// A row of these values.
-pub fn row(alloc: Global, cells: Cells) -> Result<Vec<Value>, AllocError> {
-    let mut values = Vec::new(alloc);
-    for given in cells {
-        values.push(value(alloc, *given)?)?;
-    }
-    Ok(values)
-}
-
 /// Rows of these values.
 pub fn rows(alloc: Global, all: &[Cells]) -> Result<Vec<Vec<Value>>, AllocError> {
     let mut rows = Vec::new(alloc);
     for cells in all {
-        rows.push(row(alloc, *cells)?)?;
+        rows.push(given_values(alloc, *cells)?)?;
     }
     Ok(rows)
 }

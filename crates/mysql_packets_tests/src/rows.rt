@@ -1,7 +1,7 @@
 //! Rows by their own readers, calls and writers, and rows that are lent, beside the same rows copied.
 //! Those that a reply has are rows of bindings/testing/rows.
 
-use crate::given::{Cells, Given, Kind, NO_FLAG, ONE, columns_of, row};
+use crate::given::{Cells, Given, Kind, NO_FLAG, ONE, columns_of};
 use crate::support::{Asserting, assert_behind, assert_shown, converted, front, is_shown};
 use mysql_buf::ParseBuf;
 use mysql_cells::Value;
@@ -15,7 +15,7 @@ use mysql_rows::{ColumnIndex, Row, RowDeserializer, new_row};
 use std::alloc::{AllocError, Global};
 use std::rc::RcSlice;
 use tests_support::{
-    Assert, again, assert_bytes, assert_copied, assert_equal, assert_same, once_more,
+    Assert, again, assert_bytes, assert_copied, assert_equal, assert_same, given_values, once_more,
 };
 
 const ID: Kind = (b"id", ColumnType::MYSQL_TYPE_LONGLONG, NO_FLAG);
@@ -46,7 +46,7 @@ fn made(
     cells: Cells,
     is_taken: bool,
 ) -> Result<Row, AllocError> {
-    let values = row(alloc, cells)?;
+    let values = given_values(alloc, cells)?;
     let columns = columns_of(alloc, kinds)?;
     assert.holds(values.len() == columns.as_slice().len());
     let mut made = new_row(alloc, values, columns)?;
@@ -117,7 +117,7 @@ fn whole_rows(rt: HostRuntime) {
     let empty = again!(&a, made(&a, alloc, &[], &[], false));
     a.holds(empty.is_empty() & empty.is_whole());
     drop(empty);
-    let values = again!(&a, row(alloc, FIVE_AND_X));
+    let values = again!(&a, given_values(alloc, FIVE_AND_X));
     assert_equal(&a, again!(&a, unwrapped(&a, alloc)), values);
 }
 
@@ -306,7 +306,7 @@ fn written_rows(rt: HostRuntime) {
         }
     }
     // Values that are in no row.
-    let values = again!(&a, row(alloc, ONE));
+    let values = again!(&a, given_values(alloc, ONE));
     let mut out = front(&a, alloc);
     let first = write_text_row(&values, &mut out).is_ok();
     let second = write_text_row(&values, &mut out).is_ok();

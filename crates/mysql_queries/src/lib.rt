@@ -1,4 +1,17 @@
 //! Queries and the texts made of them: tokens, placeholders, literals, and what a text is read as.
+//!
+//! The crates of values, sessions and SQL modes use it. A user names most of it by `mysql_values`.
+//!
+//! | question | call |
+//! |---|---|
+//! | where are a query's placeholders, and what are their names? | [`ParsedQuery`], [`places`] |
+//! | which values does a text have where the query has placeholders? | [`read_text`] |
+//! | which literal begins a text? | [`read_literal`] |
+//! | by which SQL mode is a text read? | [`Mode`], for the calls in `_in` |
+//!
+//!     let query = ParsedQuery::new(alloc, b"SELECT :a")?;
+//!     let statement = query.with_marks(alloc)?;                  // SELECT ?
+//!     let contents = read_text(alloc, b"SELECT :a", query.places(), b"SELECT 5")?;
 #![tactic(auto)]
 
 pub mod byte_string;

@@ -1,4 +1,8 @@
 //! Replication: the packets that a replica sends, and sets of global transaction identifiers.
+//!
+//! A replica registers (`ComRegisterSlave`), asks for the binary log from a position or by what it has
+//! (`ComBinlogDump`, `ComBinlogDumpGtid`), and acknowledges (`SemiSyncAckPacket`). A `Sid` is a source
+//! with its intervals, read from a text and written. Readers of commands call these, and a replica.
 #![tactic(auto)]
 
 pub mod binlog_dump;

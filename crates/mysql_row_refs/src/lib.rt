@@ -1,5 +1,15 @@
-//! Rows of result sets that borrow their payloads: their cells are read where they lie, and nothing
-//! of them is copied.
+//! Rows of result sets that borrow their payloads: nothing of a cell is copied.
+//!
+//! The crates of replies and of connections use it. A user names its items by `mysql_session`.
+//!
+//!     payload ──► RowReader::row ──► RowRef ──► get ──► ValueRef, borrowed
+//!                                      │
+//!                                      └──► StoredRows::push, which keeps copies in three lists
+//!
+//!     let mut reader = RowReader::new(alloc, columns, RowFormat::Text)?;
+//!     let row = reader.row(payload)?;
+//!     let id = row.get("id");
+//!     stored.push(&row)?;
 #![tactic(auto)]
 
 mod calls;

@@ -1,4 +1,16 @@
-//! Rows of result sets: their cells by number or by name, and how they are read and written.
+//! Rows of result sets that own their cells: reached by number or by name, read and written.
+//!
+//! The crates of replies and of connections use it. A user names [`Row`] by `mysql_session` or
+//! `mysql_packets`. Rows that borrow are in `mysql_row_refs`, conversions in `mysql_from_row`.
+//!
+//! | format | read as | written by |
+//! |---|---|---|
+//! | text | `RowDeserializer<ServerSide, Text>` | [`write_text_row`], `Row::write_text` |
+//! | binary | `RowDeserializer<ServerSide, Binary>` | [`write_binary_row`], `Row::write_binary` |
+//!
+//!     let row = new_row(alloc, values, columns)?;
+//!     let id = row.value_at("id");            // Some(&Value), or None
+//!     row.write_text(&mut payload)?;          // Err(RowRefusal) where a value has no such form
 #![tactic(auto)]
 
 mod binary_cell;

@@ -1,5 +1,9 @@
-//! Parameter sets of a query as the commands that carry them to a server, by each road: appended to
-//! a list of bytes, or written to a writer.
+//! Parameter sets of a query as the commands that carry them to a server. They are appended to a
+//! list of bytes, or written to a writer.
+//!
+//! There is a module for each way of sending. By `text` each set is a query with literals. By
+//! `execute` each is an execution of a prepared statement. In `bulk` the sets are rows of the fewest
+//! bulk requests. `mysql_session` calls these, and `mysql_recoding` those by `execute`.
 #![tactic(auto)]
 
 mod bulk;

@@ -1,5 +1,19 @@
-//! What a server answers besides rows and OK packets: error packets and progress reports, requests
-//! for files, statement packets.
+//! What a server answers besides rows and OK packets: errors, progress reports, requests for files,
+//! statement packets.
+//!
+//! The crates of replies and of logging in use it. A user names its items by `mysql_packets`.
+//!
+//! | packet | first byte | type |
+//! |---|---|---|
+//! | an error | FF | [`ServerError`], in [`ErrPacket`] |
+//! | MariaDB's progress report | FF, code FFFF | [`ProgressReport`], in [`ErrPacket`] |
+//! | a request for a file | FB | [`LocalInfilePacket`] |
+//! | the answer to a prepare | 00 | [`StmtPacket`] |
+//!
+//!     let packet: ErrPacket = ParseBuf(payload).parse(alloc, capabilities)?;
+//!     if packet.is_error() {
+//!         let code = packet.server_error().error_code();
+//!     }
 #![tactic(auto)]
 
 pub mod err_packet;

@@ -1,5 +1,5 @@
-//! The laws of the crates below, of sets that are delivered, and of lists of objects. A function
-//! without a result does nothing: its contract is the law.
+//! The theorems of the crates below, of sets that are delivered, and of lists of objects. A
+//! function without a result does nothing: its contract is the theorem.
 
 ghost use Rattle.mysql_session.specs.WritingTo.{FailedWritersAreRead};
 ghost use Rattle.mysql_session.specs.Laws.{DeliveriesAreReadBack, DeliveriesAreReceived, FurtherSetsAreDelivered};
@@ -38,24 +38,24 @@ pub fn readable_sets_are_delivered()
 
 /// Sets that are delivered were sent, and are read back as what they mean.
 ///
-/// Each front of their stream reads as the sets that stand whole in it: what [`sent_streams_join`]
+/// Each prefix of their stream reads as the sets that are whole in it: what [`sent_streams_join`]
 /// and [`roads_read_equally`] go by.
 pub fn deliveries_are_read_back()
     ensures { DeliveriesAreReadBack }
 {}
 
-/// Whatever `receive` answers of what was appended, in whichever pieces, but Memory, is what the
-/// sets mean, and Whole.
+/// What `receive` answers of what was appended, in any pieces, but Memory, is what the sets mean,
+/// and Whole.
 pub fn deliveries_are_received()
     ensures { DeliveriesAreReceived }
 {}
 
-/// What a writer took that failed reads as the sets that stand whole in it.
+/// What a writer took that failed reads as the sets that are whole in it.
 ///
 /// Where a writer fails while sets are sent to it by [`Query::send_to`], it has taken a prefix of a
 /// stream, and not all of it. That stream carries the first of the sets, by bulk all. Where the
 /// stream has fewer than 2^64 bytes, the prefix reads, without a fault, as exactly the sets that
-/// stand whole in it. That is what `receive` answers of it, in whichever pieces, but Memory.
+/// are whole in it. That is what `receive` answers of it, in any pieces, but Memory.
 pub fn failed_writers_are_read()
     ensures { FailedWritersAreRead }
 {

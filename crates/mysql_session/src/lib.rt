@@ -1,4 +1,22 @@
-//! Parameter sets of one query as streams of commands, and back.
+//! Parameter sets of one query as streams of commands, and back; and a server's replies.
+//!
+//! A public crate, for who sends by one query or reads what one query's stream carries.
+//! `mysql_connection` is for whole connections.
+//!
+//! | you have | you want | call |
+//! |---|---|---|
+//! | parameter sets | the commands that carry them | [`send`], [`send_values`], [`Query`] |
+//! | a stream of commands | the sets that it carries | [`Receiver`], [`receive`] |
+//! | a stream of commands | the same sets in one form | [`Recoder`], [`recode`] |
+//! | bytes of a reply | its results and rows | [`ReplyReader`], [`read_reply`] |
+//! | results | a reply's bytes | [`ReplyWriter`], [`write_reply`] |
+//!
+//!     let mut sets = Vec::new(alloc);
+//!     sets.push((1u32, "it's").into_params(alloc)?)?;
+//!     send(alloc, query, &sets, Road::Execute, 1, 1 << 24, &mut out)?;
+//!     let mut receiver = Receiver::new(alloc, query, 1, 1 << 24)?;
+//!     receiver.feed(&out)?;
+//!     let audit = receiver.finish();      // audit.sets: one set; audit.end: End::Whole
 #![tactic(auto)]
 
 pub mod laws;

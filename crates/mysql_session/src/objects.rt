@@ -29,7 +29,8 @@ struct MadeSets {
     refusal: Option<SetError>,
 }
 
-/// A set of the objects' values, or why they make none: want of memory is refused by itself.
+/// A set of the objects' values, or why they make none: memory that is refused is a refusal by
+/// itself.
 fn set_or_refusal<T: ToValue>(
     alloc: Global,
     objects: &[T],
@@ -120,7 +121,7 @@ fn put_held_sets(
 }
 
 /// Appends the commands of the sets of lists of objects: but by bulk each is made when its turn
-/// comes. After a refusal what stood before stands in front of `out`.
+/// comes. After a refusal `out` begins with what it had before.
 fn put_lists(
     alloc: Global,
     query: &[u8],
@@ -173,9 +174,9 @@ fn put_lists(
 /// - By text `NotAlone`.
 /// - By execute and bulk `TooManyPlaces`, `PrepareTooLarge`.
 /// - By bulk `NoPlaces`.
-/// - List by list `Params` with `TooLong` and the least place whose object is too long for a value.
-///   `Params` with `PositionalParamsForNamedQuery` is where a query with names is given objects.
-///   Then come `WrongCount`, `Float`, and but by bulk `PacketTooLarge`.
+/// - List by list `Params` with `TooLong` and the least position whose object is too long for a
+///   value. `Params` with `PositionalParamsForNamedQuery` is where a query with names is given
+///   objects. Then come `WrongCount`, `Float`, and but by bulk `PacketTooLarge`.
 /// - By bulk over all lists `MixedKinds`, `RowTooLarge`.
 /// - `Memory` where a growth was refused.
 ///

@@ -61,9 +61,9 @@ impl<'q> Query<'q> {
     /// It is for a server in the default mode, and its texts have byte strings in quotes:
     /// [`Query::new_in`] takes the mode and the spelling.
     ///
-    /// Promise: it stands for its text and its statement's id, and is refused by `Mixed` exactly
+    /// Promise: it represents its text and its statement's id, and is refused by `Mixed` exactly
     /// where both kinds of placeholder occur. Where it is refused, so are all sets of this text and
-    /// id, by each road (`KeepsQuery`, `IsNotKept`).
+    /// id, in each way (`KeepsQuery`, `IsNotKept`).
     ///
     /// # Errors
     /// - `Mixed` where both names and question marks occur in the text.
@@ -88,9 +88,9 @@ impl<'q> Query<'q> {
     ///     let spelling = if mode.is_some() { Spelling::Quoted } else { Spelling::Hexadecimal };
     ///     let query = Query::new_in(alloc, text, 1, mode.unwrap_or_default(), spelling)?;
     ///
-    /// Promise: it stands for its text, the mode, the spelling and its statement's id. It is
+    /// Promise: it represents its text, the mode, the spelling and its statement's id. It is
     /// refused by `Mixed` exactly where both kinds of placeholder occur. Where it is refused, so
-    /// are all sets of this text and id in this mode, by each road (`KeepsQuery`, `IsNotKept`).
+    /// are all sets of this text and id in this mode, in each way (`KeepsQuery`, `IsNotKept`).
     ///
     /// # Errors
     /// - `Mixed` where both names and question marks occur in the text.
@@ -149,9 +149,9 @@ impl<'q> Query<'q> {
 
     /// Appends to `out` what [`send`](crate::send) appends of sets of this text and id.
     ///
-    /// The road and the limit are those of that call, and so are its refusals. By text **safe for**
-    /// a server in the query's mode, as `mysql_values::bind_text_in` says; by execute and bulk for
-    /// any.
+    /// The `Road` and the limit are those of that call, and so are its refusals. By text **safe
+    /// for** a server in the query's mode, as `mysql_values::bind_text_in` says; by execute and
+    /// bulk for any.
     ///
     /// Promise: what [`send`](crate::send) promises over this text and id; never `Mixed`
     /// (`RefusesGiven`, `Delivers`).
@@ -202,7 +202,7 @@ impl<'q> Query<'q> {
     ///
     /// They are those that [`Query::send`] by [`Road::Execute`] appends behind its prepare,
     /// numbered on from `first` and with it fewer than 2^64. `first` is the number of the sets that
-    /// were sent before; values stand in the order of the placeholders. A payload has at most
+    /// were sent before; values are in the order of the placeholders. A payload has at most
     /// `limit - 4` bytes, and so has an execution with all its values. Behind sets that were
     /// delivered by execute, with their number as `first`, they are delivered with them.
     ///
@@ -305,8 +305,8 @@ impl<'q> Query<'q> {
     /// Writes to `to`, as to a connection, what [`Query::send`] appends of the same sets.
     ///
     /// By text and execute it goes in parts, as the sets are made packets. By bulk it goes when all
-    /// requests stand, since what speaks against any set comes before the first of them. What `to`
-    /// holds back itself, as a `BufWriter` does, is flushed by who gave it.
+    /// requests are made, since what speaks against any set comes before the first of them. What
+    /// `to` holds back itself, as a `BufWriter` does, is flushed by who gave it.
     ///
     /// By text **safe for** a server in the query's mode, as `mysql_values::bind_text_in` says; by
     /// execute and bulk for any.
@@ -322,8 +322,8 @@ impl<'q> Query<'q> {
     ///   `PacketTooLarge`, or `Memory` where a growth was refused. All sets before it are written
     ///   then, each whole. By bulk each refusal comes before anything is written.
     /// - `SendToError::Io` where the writer fails. It has taken a prefix of a stream that carries
-    ///   the first sets, by bulk all, and not all of that stream. A receiver reads of the front,
-    ///   without a fault, exactly the sets that stand whole in it: the law
+    ///   the first sets, by bulk all, and not all of that stream. A receiver reads of that, without
+    ///   a fault, exactly the sets that are whole in it: the theorem
     ///   `laws::failed_writers_are_read`.
     ///
     /// (MySQL: Client/Server Protocol, "COM_QUERY", "COM_STMT_PREPARE", "COM_STMT_SEND_LONG_DATA",
@@ -357,7 +357,7 @@ impl<'q> Query<'q> {
     /// (`KeptQuery`).
     ///
     /// # Errors
-    /// - `AllocError` for want of memory.
+    /// - `AllocError` out of memory.
     ///
     /// (MySQL: Client/Server Protocol, "MySQL Packets" and "Command Phase".)
     pub fn receiver(&self, alloc: Global, limit: usize) -> Result<Receiver, AllocError>

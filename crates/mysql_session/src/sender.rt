@@ -19,18 +19,18 @@ use std::alloc::Global;
 /// They are framed packets, each numbered from 0. By `Road::Text` there is a query for each set,
 /// its values as literals in the places of the placeholders. By `Road::Execute` there is one
 /// prepare, also where there are no sets, and an execution of the statement `stmt_id` for each set.
-/// Where an execution would exceed 16777215 bytes, its byte strings stand before it as long data.
-/// By `Road::Bulk` there is one prepare, and the fewest bulk executions that there can be. Sets and
-/// places count from 0. `receive` with the same query, id and limit reads the sets back. Of each
-/// prefix of what was appended it reads the sets whose last command stands whole in it.
+/// Where an execution would exceed 16777215 bytes, its byte strings come before it as long data. By
+/// `Road::Bulk` there is one prepare, and the fewest bulk executions that there can be. Sets and
+/// placeholders count from 0. `receive` with the same query, id and limit reads the sets back. Of
+/// each prefix of what was appended it reads the sets whose last command is whole in it.
 ///
 /// A placeholder is a question mark, or a colon and a name. A name is of `a` to `z`, `0` to `9` and
 /// `_`, and begins with no digit. A set gives its value by the name without the colon. `:aB` is the
 /// placeholder `a` before a `B`; `:Name` is none, so that a set that names values is refused by
 /// `Params` over `SELECT :Name`.
 ///
-/// What is appended behind another stream of the same query, id and limit, by whichever road, also
-/// by [`send_values`](crate::send_values), reads behind its sets. The law is
+/// What is appended behind another stream of the same query, id and limit, in any way, also by
+/// [`send_values`](crate::send_values), reads behind its sets. The theorem is
 /// `laws::sent_streams_join`.
 ///
 /// `limit` is the `max_allowed_packet` of the server, at least 4. Calls that write count 4 bytes
@@ -43,7 +43,7 @@ use std::alloc::Global;
 ///
 /// By execute and bulk **safe for** any server. By text for one whose SQL mode has neither
 /// NO_BACKSLASH_ESCAPES nor ANSI_QUOTES over a connection in UTF-8, as `mysql_values::bind_text`
-/// is. For any other a value may end its literal, and what stands behind the quote is read as SQL.
+/// is. For any other a value may end its literal, and what is behind the quote is read as SQL.
 /// [`Query::new_in`](crate::Query::new_in) takes the mode, and [`Query::send`](crate::Query::send)
 /// sends for it.
 ///

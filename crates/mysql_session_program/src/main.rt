@@ -1,4 +1,5 @@
-//! The program: what it does stands in `mysql_command_line::run`.
+//! The program for a shell. `mysql_command_line::run` is what it does; docs/PROGRAM.md has its
+//! words and what it prints.
 #![tactic(auto)]
 
 use mysql_command_line::run_process;

@@ -1,42 +1,21 @@
 //! Sets that are written to a writer that takes them in pieces, and to one that fails.
 //!
-//! The streams stand in bindings/testing/rows/sessions, with what their fronts say. What is written of
-//! sets of which one is refused stands in rows of `conformance`.
+//! The streams are in bindings/testing/rows/sessions, with what their prefixes say. What is written
+//! of sets of which one is refused is in rows of `conformance`.
 
 use crate::output::{Asserting, Limits, Output};
-use mysql_session::{ByteString, Params, Query, Refusal, Road, SendToError, Value, send};
+use mysql_session::{Params, Query, Refusal, Road, SendToError, send};
 use std::alloc::{AllocError, Global};
 use std::io::ErrorKind;
-use tests_support::{Assert, once_more};
+use tests_support::{Assert, Given, given_value, once_more};
 
 /// The query of all sets.
 const QUERY: &[u8] = b"SELECT ?";
 
-/// A value that is sent.
-#[derive(Clone, Copy)]
-enum Given {
-    Null,
-    Float,
-    /// So many bytes `x`.
-    Filled(usize),
-}
-
-/// So many bytes `x`.
-fn filled(alloc: Global, len: usize) -> Result<Value, AllocError> {
-    let mut bytes = Vec::new(alloc);
-    bytes.resize(len, b'x')?;
-    Ok(Value::Bytes(ByteString::from_vec(bytes)))
-}
-
 /// A set of one value.
 fn set_of(alloc: Global, given: Given) -> Result<Params, AllocError> {
-    let value = match given {
-        Given::Null => Value::NULL,
-        Given::Float => Value::Float(0),
-        Given::Filled(len) => filled(alloc, len)?,
-    };
     let mut values = Vec::new(alloc);
-    values.push(value)?;
+    values.push(given_value(alloc, given)?)?;
     Ok(Params::Positional(values))
 }
 
@@ -58,8 +37,8 @@ fn stream_of(alloc: Global, sets: &[Params], road: Road) -> Result<Vec<u8>, Refu
     }
 }
 
-/// What is sent, by which road; how many of the sets can be; to which writer; how it fails, and how many bytes it
-/// took.
+/// What is sent, by which method; how many of the sets can be; to which writer; how it fails, and
+/// how many bytes it took.
 type Row = (
     Road,
     &'static [Given],
@@ -111,7 +90,8 @@ fn is_answer(answer: Result<(), SendToError>, wanted: Option<ErrorKind>) -> bool
     }
 }
 
-/// Asserts what sending to a writer answers, and that what it took is a front of the stream, of so many bytes.
+/// Asserts what sending to a writer answers, and that what it took is a prefix of the stream, of so
+/// many bytes.
 fn assert_taken(assert: &impl Assert, alloc: Global, sets: &[Params], stream: &[u8], row: Row) {
     let (road, _, _, limits, failure, taken) = row;
     let kind = failure.unwrap_or(ErrorKind::Other);
@@ -188,7 +168,7 @@ const ROWS: [Row; 27] = [
     // The writer fails at what stands before a set that is refused.
     (
         Road::Text,
-        &[X, Given::Null, Given::Float],
+        &[X, Given::Null, Given::Float(0)],
         2,
         (ANY, ANY, 20),
         RESET,

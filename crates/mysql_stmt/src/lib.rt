@@ -1,4 +1,18 @@
 //! Commands of prepared statements: executions, long data, closing and resetting.
+//!
+//! `mysql_send`, `mysql_execution_writer` and the library for C use it. A user names its items by
+//! `mysql_packets`. Executions are read by `mysql_executions`.
+//!
+//! | command | number | type |
+//! |---|---|---|
+//! | COM_STMT_EXECUTE | 23 | [`ComStmtExecuteRequest`], [`put_execution`] |
+//! | COM_STMT_SEND_LONG_DATA | 24 | [`ComStmtSendLongData`] |
+//! | COM_STMT_CLOSE | 25 | [`ComStmtClose`] |
+//! | COM_STMT_RESET | 26 | [`ComStmtReset`] |
+//!
+//!     let builder = ComStmtExecuteRequestBuilder::new(stmt_id);
+//!     let (request, apart) = builder.build(alloc, &values)?;   // apart: texts go as long data
+//!     request.serialize(&mut payload)?;
 #![tactic(auto)]
 
 pub mod execute;

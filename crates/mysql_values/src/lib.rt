@@ -1,4 +1,15 @@
-//! Values and parameters: parameter sets of a query and the texts that they make, over queries and cells.
+//! Values and parameters: parameter sets of a query and the texts that they make, over queries and
+//! cells.
+//!
+//! A public crate. The crates of sessions use it.
+//!
+//! [`Params`] is one set: no values, values in order, or values by name. A query is text with
+//! placeholders; [`bind_text`] writes it with literals instead.
+//!
+//!     let params = Params::Positional(values);
+//!     bind_text(alloc, b"SELECT ? + 1", &params, &mut out)?;   // SELECT 5 + 1
+//!     let query = ParsedNamedParams::parse(alloc, b"SELECT ? + 1")?;
+//!     let lent = params.values_for(alloc, &query)?;            // in the order of the placeholders
 #![tactic(auto)]
 
 pub mod bind;

@@ -1,6 +1,6 @@
 //! Placeholders of a query, the query as it is parsed, and the values that a set gives it.
 
-use crate::support::{Asserting, Given, Set, assert_value, byte_string, list, made_set};
+use crate::support::{Asserting, Given, Set, assert_value, byte_string, made_set};
 use mysql_values::bind::ParsedQuery;
 use mysql_values::{
     MissingNamedParameterError, MixedParamsError, NamedParamsError, ParamsError, ParsedNamedParams,
@@ -8,7 +8,7 @@ use mysql_values::{
 };
 use std::alloc::{AllocError, Global};
 use std::borrow::CowSlice;
-use tests_support::{Assert, assert_answer, assert_bytes, once_more};
+use tests_support::{Assert, assert_answer, assert_bytes, given_values, once_more};
 
 /// Start, end, whether a name, whether it stands alone.
 type Expected = (usize, usize, bool, bool);
@@ -276,7 +276,11 @@ fn values_given(rt: HostRuntime) {
     let (one, other) = (made_set(&assert, alloc, SET), made_set(&assert, alloc, SET));
     let first = one.into_values(alloc, Some(names.as_slice()));
     let second = other.into_values(alloc, Some(names.as_slice()));
-    let wanted = once_more(&assert, list(alloc, GIVEN), list(alloc, GIVEN));
+    let wanted = once_more(
+        &assert,
+        given_values(alloc, GIVEN),
+        given_values(alloc, GIVEN),
+    );
     assert_answer(&assert, first, second, Err(ParamsError::Memory), Ok(wanted));
     let (one, other) = (made_set(&assert, alloc, SET), made_set(&assert, alloc, SET));
     let first = one.into_positional(alloc, names.as_slice());

@@ -10,7 +10,8 @@ use mysql_convert::{IntoParams, ToValue};
 use mysql_values::{ByteString, Params, Value};
 use std::alloc::{AllocError, Global};
 use std::process::Abort;
-use tests_support::{Assert, assert_same, once_more};
+pub use tests_support::Given;
+use tests_support::{Assert, assert_same, given_value, given_values, once_more};
 
 /// Ends a test by an assertion.
 #[derive(Drop)]
@@ -42,39 +43,9 @@ pub fn byte_string(assert: &impl Assert, alloc: Global, bytes: &[u8]) -> ByteStr
     once_more(assert, first, ByteString::copy(alloc, bytes))
 }
 
-/// A value of a table.
-#[derive(Clone, Copy)]
-pub enum Given {
-    Null,
-    Bytes(&'static [u8]),
-    Int(i64),
-    UInt(u64),
-    Float(u32),
-    Double(u64),
-    Date(u16, u8, u8, u8, u8, u8, u32),
-    Time(bool, u32, u8, u8, u8, u32),
-}
-
-fn value(alloc: Global, given: Given) -> Result<Value, AllocError> {
-    match given {
-        Given::Null => Ok(Value::NULL),
-        Given::Bytes(bytes) => Ok(Value::Bytes(ByteString::copy(alloc, bytes)?)),
-        Given::Int(number) => Ok(Value::Int(number)),
-        Given::UInt(number) => Ok(Value::UInt(number)),
-        Given::Float(bits) => Ok(Value::Float(bits)),
-        Given::Double(bits) => Ok(Value::Double(bits)),
-        Given::Date(year, month, day, hour, minute, second, micros) => {
-            Ok(Value::Date(year, month, day, hour, minute, second, micros))
-        }
-        Given::Time(negative, days, hours, minutes, seconds, micros) => {
-            Ok(Value::Time(negative, days, hours, minutes, seconds, micros))
-        }
-    }
-}
-
 /// The value itself.
 pub fn made(assert: &impl Assert, alloc: Global, given: Given) -> Value {
-    once_more(assert, value(alloc, given), value(alloc, given))
+    once_more(assert, given_value(alloc, given), given_value(alloc, given))
 }
 
 /// Asserts that a value is this one of a table.
@@ -101,18 +72,10 @@ pub enum Set {
     Named(&'static [(&'static str, i64)]),
 }
 
-pub fn list(alloc: Global, given: &[Given]) -> Result<Vec<Value>, AllocError> {
-    let mut values = Vec::new(alloc);
-    for one in given {
-        values.push(value(alloc, *one)?)?;
-    }
-    Ok(values)
-}
-
 fn params(alloc: Global, set: Set) -> Result<Params, AllocError> {
     match set {
         Set::Empty => Ok(Params::Empty),
-        Set::List(given) => Ok(Params::Positional(list(alloc, given)?)),
+        Set::List(given) => Ok(Params::Positional(given_values(alloc, given)?)),
         Set::Named(given) => match Vec::from_slice(alloc, given)?.into_params(alloc) {
             Ok(made) => Ok(made),
             Err(_) => Err(AllocError),

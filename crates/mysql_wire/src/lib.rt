@@ -1,5 +1,9 @@
 //! The wire layer: packets in chunks and the codec that reads and writes them, over constants, numbers
 //! and the representations of fields.
+//!
+//! `PacketCodec` goes over a buffer, `PacketReader` over pieces of a stream, `packet_to_chunks` writes
+//! one payload. `FirstPacket` is the packet that comes first in bytes, where it lies. All readers and
+//! senders call these.
 #![tactic(auto)]
 
 pub mod codec;

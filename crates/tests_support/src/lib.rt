@@ -11,6 +11,7 @@
 
 mod assert;
 mod fields;
+mod given;
 
 pub use crate::assert::{
     Assert, assert_answer, assert_bytes, assert_equal, assert_same, once_more,
@@ -19,6 +20,7 @@ pub use crate::fields::{
     assert_copied, assert_cut_off, assert_made, assert_reads_back, assert_refused, assert_written,
     first_of, whole, written,
 };
+pub use crate::given::{Given, given_value, given_values};
 
 /// What a call gives, or the same call made once more where memory was refused.
 #[macro_export]

@@ -109,7 +109,7 @@ impl Client {
         Ok(text)
     }
 
-    /// Whether the server is due, which replies.
+    /// Whether it is the server's turn, which replies.
     pub fn awaits_reply(&self) -> bool {
         self.connection.turn() == Some(Side::Server)
     }
@@ -153,7 +153,7 @@ impl Client {
         Ok(self.connection.event().expect("an event was told"))
     }
 
-    /// The socket, and the server's bytes behind the last event: what goes on in a form of its own.
+    /// The socket, and the server's bytes behind the last event: what goes on in its own form.
     pub fn into_stream(self) -> (TcpStream, Vec<u8>) {
         let unread = self.connection.rest(Side::Server).to_vec();
         (self.stream, unread)

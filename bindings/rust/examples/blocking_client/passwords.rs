@@ -81,7 +81,7 @@ pub fn answer_by_sha256(password: &[u8; 32], nonce: &[u8]) -> [u8; 32] {
     answer
 }
 
-/// A message with what stands behind it in both digests: a bit, zeros, and its length in bits.
+/// A message with what follows it in both digests: a bit, zeros, and its length in bits.
 fn padded(message: &[u8]) -> Vec<u8> {
     let mut padded = message.to_vec();
     padded.push(0x80);

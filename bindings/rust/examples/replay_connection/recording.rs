@@ -32,7 +32,7 @@ pub struct Recording {
     pub commands: Vec<Command>,
     /// How it ends, as the line of its end has it.
     pub end: String,
-    /// Statements and places for which long data waits.
+    /// Statements and parameters for which long data waits.
     waiting: Vec<(u32, u16)>,
 }
 
@@ -111,7 +111,7 @@ impl Recording {
         }
     }
 
-    /// Notes for which places long data waits, behind a command about this statement.
+    /// Notes for which parameters long data waits, behind a command about this statement.
     fn note_long_data(&mut self, event: &Event<'_>, statement: Option<u32>) {
         match event {
             Event::LongData {
@@ -138,7 +138,7 @@ fn statement_of(payload: &[u8]) -> Option<u32> {
     }
 }
 
-/// A command's name, which is the second word of its line, and the front of its text.
+/// A command's name, which is the second word of its line, and the beginning of its text.
 fn title_of(event: &Event<'_>, line: &str) -> String {
     let name = line.split(' ').nth(1).unwrap_or_default();
     let text = match event {

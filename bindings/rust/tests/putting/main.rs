@@ -60,7 +60,7 @@ impl Party {
         self.lines.push(line.to_string());
     }
 
-    /// How the connection stands.
+    /// The state of the connection.
     fn standing(&self) -> (Option<Side>, Phase, Capabilities) {
         let connection = &self.connection;
         let capabilities = connection.capabilities();
@@ -109,7 +109,7 @@ impl Three {
         Ok(())
     }
 
-    /// Puts packets of a side, as far as they are due, and has the two others read them. Who puts
+    /// Puts packets of a side, as far as it is its turn, and has the two others read them. Who puts
     /// them notes the lines that the other side reads.
     fn put_packets(&mut self, side: Side, packets: &[u8]) -> Result<usize, Error> {
         let mut out = Bytes::new()?;
@@ -135,8 +135,8 @@ impl Three {
         self.passing[side as usize].extend(bytes);
     }
 
-    /// Has the auditor read some of what passed. The two others have the same events and stand
-    /// alike, and its events are a front of theirs.
+    /// Has the auditor read some of what passed. The two others have the same events and are
+    /// alike, and its events are a prefix of theirs.
     fn agree(&mut self) {
         assert!(self.client.lines == self.server.lines);
         assert_eq!(self.client.standing(), self.server.standing());

@@ -27,7 +27,7 @@ pub const OK: &[u8] = b"\0\0\0\x02\0\0\0";
 
 pub const INSERT: &[u8] = b"INSERT INTO goods VALUES (?, ?)";
 
-/// A connection on which a command is due.
+/// A connection on which a command comes next.
 pub fn after_login(limits: Limits) -> Connection {
     Connection::after_login(limits, CAPABILITIES).expect("memory isn't short")
 }

@@ -1,4 +1,4 @@
-//! A `Box` with its fields in sight of the module above.
+//! A `Box` with its fields in sight, for the handles, which are boxes of which C holds the pointer.
 
 ghost use Rattle.std.specs.Prelude.{◌≡◌};
 ghost use Rattle.std.specs.Box.Ownership.{box_owns};
@@ -8,8 +8,8 @@ use std::marker::Model;
 
 /// A box by its pointer.
 pub struct Parts<T, A: Allocator> {
-    pub(super) ptr: *mut T,
-    pub(super) alloc: A,
+    pub ptr: *mut T,
+    pub alloc: A,
     pub ghost value: { T },
 }
 
