@@ -14,7 +14,7 @@ def plain(text):
 
 
 class Comment:
-    """The blocks of a comment: paragraphs, items of lists, headings, and code as it stands."""
+    """The blocks of a comment: paragraphs, items of lists, headings, and code as it is."""
 
     def __init__(self, doc):
         self.blocks, self.promise = [], None

@@ -26,7 +26,7 @@ NEEDED = needed()
 
 
 def below(name):
-    """The crates that a crate stands on, and itself."""
+    """The crates below a crate, and itself."""
     found, waiting = set(), [name]
     while waiting:
         one = waiting.pop()
@@ -83,7 +83,7 @@ def public_items(home):
 
 
 def calls_of(home):
-    """Each item and each call of a crate, by its name, that has a promise; and each law."""
+    """Each item and each call of a crate, by its name, that has a promise; and each theorem."""
     for module in modules(crate(home)):
         is_laws = module.path.stem.endswith('laws') or module.path.stem == 'fronts' or module.path.parent.name == 'laws'
         for item in module.items.values():
@@ -125,7 +125,7 @@ def row(name, item, is_law, home):
 
 
 def tables():
-    """A table for each layer: its calls with their promises, and its laws."""
+    """A table for each layer: its calls with their promises, and its theorems."""
     lines, seen = [], set()
     for face in LAYERS:
         rows = []

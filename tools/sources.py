@@ -10,7 +10,8 @@ FACES = ['mysql_session', 'mysql_convert', 'mysql_values', 'mysql_packets', 'mys
 
 
 class Item:
-    """A public item: its kind, its name, its comment, its signature, its contract, its file, and what stands in it."""
+    """A public item: its kind, its name, its comment, its signature, its contract, its file, and
+    what is in it."""
 
     def __init__(self, kind, name, doc, signature, contract=(), path=None):
         self.kind, self.name, self.doc = kind, name, doc
@@ -136,13 +137,12 @@ class Module:
     """A file: its public items, the names that it passes on, and its modules."""
 
     def __init__(self, path):
-        self.items, self.uses, self.modules, self.doc = {}, [], {}, []
+        self.items, self.uses, self.modules = {}, [], {}
         self.impls, self.trait_impls, self.path = [], [], path
         lines = path.read_text().split('\n')
-        said = [line[3:] for line in lines if line.startswith('//!')]
-        self.example = [line.rstrip() for line in said if line.startswith('     ')]
-        self.doc = [line.strip() for line in said if not line.startswith('     ')]
-        self.doc = [line for line in self.doc if line]
+        said = [line[4:].rstrip() for line in lines if line.startswith('//!')]
+        ends = said.index('') if '' in said else len(said)
+        self.doc, self.more = said[:ends], said[ends + 1:]
         folder = path.parent if path.name == 'lib.rt' else path.with_suffix('')
         for at, found, doc in documented(lines, 0, len(lines), lambda line: re.match(r'[a-z]\w*.*', line)):
             self.take(lines, at, lines[at], doc, folder)
@@ -234,7 +234,7 @@ def crate(name):
 
 
 def resolve(owner, module, path, name):
-    """The crate and the item that a name stands for, which a module of a crate passes on."""
+    """The crate and the item that a name refers to, which a module of a crate passes on."""
     parts = [part for part in path.split('::') if part]
     if not parts:
         return name, None

@@ -131,7 +131,7 @@ ADDED = re.compile(r"  (%r\d+) = alloca |  call void @llvm\.memset\.p0\.i64\(ptr
 
 
 def without_fills(text):
-    """The lines of a module's text without the fills of fresh places."""
+    """The lines of a module's text without the fills of fresh memory."""
     fresh = None
     for line in text:
         place = ADDED.match(line)

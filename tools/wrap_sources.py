@@ -43,7 +43,7 @@ def weight(line, at, depth):
 
 
 def cut(line):
-    """A clause or a definition, cut at blanks; what goes on stands four columns further in."""
+    """A clause or a definition, cut at blanks; what goes on is four columns further in."""
     indent, out = indent_of(line) + 4, []
     while len(line) > WIDTH:
         places = [(at, depth) for at, depth in blanks(line) if at > indent_of(line)]
@@ -76,7 +76,8 @@ def cut_literal(line):
 
 
 def cut_use(line):
-    """An import, as several of the same module; one that is long by one name has it in a line of its own."""
+    """An import, as several of the same module; one that is long by one name has it in its own
+    line."""
     found = re.match(r'( *[^{]*)\{(.*)\}(;?)$', line)
     if not found:
         return [line]

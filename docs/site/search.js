@@ -71,7 +71,7 @@ function itemOf(base, { page, heading, url, text }, stems) {
 
 /** Has the field show what is found in place of the page, and the page again once the field is empty. */
 function listen() {
-  const field = document.getElementById("search"), main = document.querySelector("main");
+  const field = document.getElementById("search"), main = document.querySelector("main, [role=main]");
   const base = field.dataset.base, page = [...main.childNodes];
   const show = () => {
     const question = field.value.trim();
