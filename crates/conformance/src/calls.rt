@@ -7,9 +7,9 @@ use mysql_session::{
     Content, Params, Query, Road, SendToError, ToValue, Value, recode, send, send_contents,
     send_values,
 };
-use row_fields::{Token, Trouble, bytes_of, number};
 use std::alloc::Global;
 use std::fmt::Debug;
+use tests_support::rows::{Token, Trouble, bytes_of, number};
 
 /// What is there before something is appended.
 pub const FRONT: &[u8] = b"front";

@@ -4,9 +4,9 @@ use crate::rows::DIFFERS;
 use crate::tokens::put_field;
 use crate::writing::{Sides, reply_of, said};
 use mysql_session::{Reply, ReplyEnd, ReplyFault, ReplyReader, ReplyResult, Row, RowRef, Value};
-use row_fields::{Token, Trouble};
 use std::alloc::{AllocError, Global};
 use std::str;
+use tests_support::rows::{Token, Trouble};
 
 /// Writes a cell: `null`, a number, or a text.
 fn put_cell(words: &mut String, cell: Option<&Value>) -> Result<(), AllocError> {

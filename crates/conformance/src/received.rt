@@ -4,8 +4,8 @@ use crate::calls::Statement;
 use crate::rows::{DIFFERS, UNKNOWN};
 use crate::tokens::check_words;
 use mysql_session::{Query, Receiver};
-use row_fields::{Token, Trouble, bytes_of, number};
 use std::alloc::Global;
+use tests_support::rows::{Token, Trouble, bytes_of, number};
 
 /// Compares how many placeholders a query has, or why none is made, with what is wanted.
 pub fn run_query(

@@ -5,8 +5,8 @@ use crate::lending::check_lent;
 use crate::rows::{Fields, UNKNOWN};
 use crate::writing::{Sides, check_again, reply_of, written};
 use mysql_session::{CapabilityFlags, ReplyKind};
-use row_fields::{Token, Trouble, bytes_of, number};
 use std::alloc::Global;
+use tests_support::rows::{Token, Trouble, bytes_of, number};
 
 /// The kind of command that a reply answers.
 fn kind_of(field: &[Token<'_>]) -> Result<ReplyKind, Trouble> {

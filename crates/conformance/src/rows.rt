@@ -3,8 +3,8 @@
 use crate::calls::{Statement, run_call};
 use crate::received::{run_held, run_query};
 use crate::replies::{run_reply, run_write};
-use row_fields::{Token, Trouble, bytes_of, number};
 use std::alloc::Global;
+use tests_support::rows::{Token, Trouble, bytes_of, number};
 
 /// What a row is answered by whose kind or fields are none that the program knows.
 pub const UNKNOWN: Trouble = Trouble::Malformed("no row that is known");

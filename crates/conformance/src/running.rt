@@ -1,13 +1,13 @@
 //! Files of rows, line by line.
 
 use crate::rows::run_row;
-use row_fields::{Names, Token, Trouble, tokens_of};
 use std::alloc::Global;
 use std::env::Env;
 use std::io::Print;
 use std::process::ExitCode;
 use std::rt::Files;
 use std::{env, fs, io};
+use tests_support::rows::{Names, Token, Trouble, tokens_of};
 
 /// Runs the row of these tokens.
 fn run_tokens(alloc: Global, tokens: &[Token<'_>], words: &mut String) -> Result<(), Trouble> {

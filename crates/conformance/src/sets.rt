@@ -2,10 +2,10 @@
 
 use crate::rows::UNKNOWN;
 use mysql_session::{ByteString, Content, Params, Value};
-use row_fields::{Token, Trouble, bytes_of, number};
 use std::alloc::Global;
 use std::collections::HashMap;
 use std::time::Duration;
+use tests_support::rows::{Token, Trouble, bytes_of, number};
 
 /// What a part of a field means.
 pub trait Part: Drop + Sized {

@@ -1,8 +1,8 @@
 //! Tokens as words.
 
 use crate::rows::DIFFERS;
-use row_fields::{Token, Trouble};
 use std::alloc::{AllocError, Global};
+use tests_support::rows::{Token, Trouble};
 
 /// Writes the words of a field, each behind a space, and a bar.
 pub fn put_field(words: &mut String, field: &[Token<'_>]) -> Result<(), AllocError> {

@@ -6,8 +6,8 @@ use mysql_session::{
     CapabilityFlags, Reply, ReplyEnd, ReplyFault, ReplyKind, ReplyRefusal, ReplyResult,
     ReplyWriter, read_reply, write_reply,
 };
-use row_fields::Trouble;
 use std::alloc::{AllocError, Global};
+use tests_support::rows::Trouble;
 
 /// What a reply is read and written by.
 ///

@@ -8,11 +8,11 @@ use crate::talks::Talk;
 use crate::tallies::{NOTHING, Tally};
 use crate::troubles::{Failure, Part as Reading, Trouble};
 use mysql_connection_rules::Side;
-use row_fields::{Names, tokens_of};
 use std::alloc::Global;
 use std::io::Print;
 use std::rt::Files;
 use std::{fs, io};
+use tests_support::rows::{Names, tokens_of};
 
 /// Streams above this aren't read here.
 const LONG: usize = 100_000;

@@ -6,8 +6,8 @@ use crate::troubles::Trouble;
 use mysql_connection_rules::Side;
 use mysql_const::{Capabilities, CapabilityFlags, MariadbCapabilities};
 use mysql_wire::PacketCodec;
-use row_fields::{Names, bytes_of, tokens_of};
 use std::alloc::Global;
+use tests_support::rows::{Names, bytes_of, tokens_of};
 
 /// How far the rows of a conversation were taken.
 #[derive(Drop)]

@@ -2,9 +2,9 @@
 
 use crate::orders::Order;
 use mysql_connection_rules::Side;
-use row_fields::Trouble as FieldTrouble;
 use std::alloc::AllocError;
 use std::{fmt, io};
+use tests_support::rows::Trouble as FieldTrouble;
 
 /// What a reading gives otherwise than it has to.
 #[derive(Clone, Copy)]

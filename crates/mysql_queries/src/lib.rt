@@ -28,7 +28,7 @@ mod skipped;
 pub mod spelling;
 mod strings;
 pub mod texts;
-mod tokens;
+pub mod tokens;
 
 pub use byte_string::ByteString;
 pub use content::Content;

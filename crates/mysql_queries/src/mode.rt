@@ -4,10 +4,8 @@
 //! other. In ANSI_QUOTES double quotes are those of identifiers. What is made for a server in one
 //! mode may be something else in another.
 //!
-//! ```
-//! let mode = Mode { no_backslash_escapes: true, ansi_quotes: false };
-//! let places = places_in(alloc, b"SELECT '\\', ?", mode)?; // one placeholder, behind the string
-//! ```
+//!     let mode = Mode { no_backslash_escapes: true, ansi_quotes: false };
+//!     let places = places_in(alloc, b"SELECT '\\', ?", mode)?; // one placeholder, behind the string
 
 ghost use Rattle.mysql_queries.specs.Modes.{hides_quotes, is_known_mode, is_one_of, is_safe_to_quote as is_safe};
 ghost use Rattle.mysql_queries.specs.Modes.{mode_of_sql_mode, mode_of_status, names_of_sql_mode, within_blanks};

@@ -5,11 +5,9 @@
 //! So a status counts until the first statement alone. Session tracking of `sql_mode` tells it right,
 //! and tells each change.
 //!
-//! ```
-//! let mut session = mode_begun(&login);
-//! session = session.behind_text(b"SET sql_mode = @@sql_mode");
-//! session = mode_behind_ok(session, &reply);
-//! ```
+//!     let mut session = mode_begun(&login);
+//!     session = session.behind_text(b"SET sql_mode = @@sql_mode");
+//!     session = mode_behind_ok(session, &reply);
 
 ghost use Rattle.mysql_queries.specs.declared.spelling.Spelling.TheVariants.{Hexadecimal, Quoted};
 ghost use Rattle.mysql_session_modes.specs.SessionModes.{agrees, fresh_mode, has_bits};

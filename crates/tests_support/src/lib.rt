@@ -1,4 +1,4 @@
-//! Words that the crates of tests share.
+//! Words that the crates of tests share, and, in `rows`, the fields of rows of data.
 //!
 //! A library must not end the process, and so what a test finds is handed to an `Assert`. Each
 //! crate of tests has one, in which `holds` asserts. A branch in a test is dear to prove, the more
@@ -12,6 +12,7 @@
 mod assert;
 mod fields;
 mod given;
+pub mod rows;
 
 pub use crate::assert::{
     Assert, assert_answer, assert_bytes, assert_equal, assert_same, once_more,

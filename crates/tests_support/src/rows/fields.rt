@@ -1,7 +1,6 @@
 //! The fields of a row: bytes and numbers.
 
-use crate::tokens::Token;
-use crate::trouble::Trouble;
+use crate::rows::{Token, Trouble};
 use std::alloc::Global;
 use std::str::FromStr;
 

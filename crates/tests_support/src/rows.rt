@@ -6,7 +6,6 @@
 //!     let tokens = tokens_of(alloc, line, &names)?;
 //!     let bytes = bytes_of(alloc, field)?;
 //!     let limit: usize = number(field)?;
-#![tactic(auto)]
 
 mod fields;
 mod tokens;
