@@ -1,11 +1,12 @@
-"""Writes the inputs of all workloads into the folder given, the same for every side."""
+"""Writes the inputs of all workloads, the same for every side: inputs.py FOLDER [SETS ROWS]
+
+SETS and ROWS are those of the benchmark where they aren't named; tools/guard counts over fewer."""
 import os
 import struct
 import sys
 
 OUT = sys.argv[1]
-SETS = 10_000
-ROWS = 1_000_000
+SETS, ROWS = map(int, sys.argv[2:]) if len(sys.argv) > 2 else (10_000, 1_000_000)
 CELL_ROWS = 1_000
 BEFORE, BETWEEN, AFTER = b"INSERT INTO people (id, name, note, age) VALUES (", b", ", b")"
 QUERY = BEFORE + BETWEEN.join([b"?"] * 4) + AFTER

@@ -20,8 +20,6 @@ int64_t mysql_bench_convert(Pointer, size_t, size_t, size_t);
 #define OK_PACKET "\7\0\0\1\0\0\0\2\0\0\0"
 #define TWO_OK_PACKETS "\7\0\0\1\0\0\0\12\0\0\0\7\0\0\2\0\0\0\2\0\0\0"
 
-static Bytes of_text(const char *text, size_t len) { return (Bytes){(unsigned char *)text, len}; }
-
 static void send_sets(const char *what, Work work, int rounds) {
     Bytes query = load(work.query), sets = load(work.sets);
     uint8_t road = strcmp(work.road, "text") == 0 ? MYSQL_SESSION_TEXT : strcmp(work.road, "execute") == 0 ? MYSQL_SESSION_EXECUTE : MYSQL_SESSION_BULK;

@@ -61,6 +61,8 @@ __attribute__((unused)) static Bytes commands(const char *what, size_t copies) {
     return repeated(load("prepare"), load(strstr(what, "executes") ? "executes" : "bulks"), copies);
 }
 
+__attribute__((unused)) static Bytes of_text(const char *text, size_t len) { return (Bytes){(unsigned char *)text, len}; }
+
 __attribute__((unused)) static Bytes payload(size_t len) {
     Bytes bytes = {malloc(len), len};
     memset(bytes.at, 'a', len);

@@ -1,5 +1,5 @@
 -- What stands after some payloads decides what was decided before over them followed by others.
-use Rattle.std.proofs.Common.{◌≡◌, List, [], ◌∷◌, ◌++◌, Err, true, refl, ap, sym, ◌∙◌, subst}
+use Rattle.std.proofs.Common.{◌≡◌, List, [], ◌∷◌, ◌++◌, Err, true, refl, ap, sym, ◌∙◌}
 use Rattle.mysql_wire.specs.Stream.{Rest}
 use Rattle.mysql_reply_events.specs.Events as events
 use Rattle.mysql_reply_events.specs.Table.{event_at}

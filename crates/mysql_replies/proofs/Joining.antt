@@ -11,9 +11,9 @@ use Rattle.mysql_reply_events.specs.Events.{Event}
 use Rattle.mysql_reply_events.specs.Events.Event.{ErrorEvent, RowEvent, RowsEndEvent}
 use Rattle.mysql_reply_events.specs.Table.{Step, event_at}
 use Rattle.mysql_reply_events.specs.declared.context.Context.{Context}
-use Rattle.mysql_replies.specs.Together.{ErrorResult, FieldsResult, FileResult, LineResult, OkResult, Outcome, Part, PreparedResult, RawRowsResult}
+use Rattle.mysql_replies.specs.Together.{ErrorResult, Outcome, Part}
 use Rattle.mysql_replies.specs.Together.{FieldsPart, NoPart, RawRowsPart, RowsPart, RowsResult, SetPart, StatementPart, listed, put, reported}
-use Rattle.mysql_replies.specs.Reply.{Answer, Answered, GoingOn, OpenReply, Payload, ReplySoFar, after_all, answer_behind, behind, faulted_at, fault_of, led_by}
+use Rattle.mysql_replies.specs.Reply.{Answer, Answered, GoingOn, OpenReply, Payload, ReplySoFar, after_all, answer_behind, behind, led_by}
 use Rattle.mysql_replies.specs.Taking.{behind_part, joined, part_of, rows_before}
 use Rattle.mysql_replies.proofs.GoingOn.{answered_stays}
 

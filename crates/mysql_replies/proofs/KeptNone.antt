@@ -17,7 +17,7 @@ use Rattle.mysql_replies.specs.Borrowing.{rows_in, rows_listed}
 use Rattle.mysql_replies.specs.Reply.{Answered, GoingOn, OpenReply, behind, faulted_at}
 use Rattle.mysql_replies.specs.Taking.{rows_awaited}
 use Rattle.mysql_replies.specs.Together.{ErrorResult, FieldsPart, FileResult, LineResult, NoPart, OkResult, Outcome, Part, Put, RawRowsPart, RowsPart, SetPart, StatementPart}
-use Rattle.mysql_replies.specs.Together.{are_known, columns_in, ended, listed, makes_whole, put, put_column, put_columns_end, put_count, put_statement, put_whole, rows_due, set_at, set_behind, statement_at, statement_with}
+use Rattle.mysql_replies.specs.Together.{are_known, columns_in, ended, listed, makes_whole, put, put_column, put_columns_end, put_count, put_statement, put_whole, rows_due, set_at, set_behind, statement_at}
 use Rattle.mysql_replies.specs.declared.fault.ReplyFault.{ReplyFault}
 
 -- Rows of what is listed of a result that isn't whole.

@@ -1,10 +1,9 @@
 -- A payload whose row isn't kept: a row is lent, or the payload is put as ever.
-use Rattle.std.proofs.Common.{◌≡◌, ℕ, ◌+◌, ◌^◌, ◌<◌, List, [], ◌∷◌, ◌++◌, Bool, true, false, Option, Some, None, Result, Ok, Err, refl, ap, sym, subst, arith, ◌∙◌}
+use Rattle.std.proofs.Common.{◌≡◌, ◌+◌, ◌^◌, ◌<◌, List, Bool, true, false, Option, Some, None, Result, Ok, Err, refl, ap, sym, subst, ◌∙◌}
 use Rattle.std.specs.Prelude.{OnOk, IfErr, map}
 use Rattle.std.proofs.lemmas.List.{append-nil}
 use Rattle.mysql_const.specs.declared.capabilities.Capabilities.{Capabilities}
 use Rattle.mysql_columns.specs.Columns.{ColumnDefinition}
-use Rattle.mysql_row_refs.specs.declared.reader.RowReader.{RowReader}
 use Rattle.mysql_rows.specs.Rows.{Row}
 use Rattle.mysql_rows.specs.declared.row.Row.{Row as RowOf}
 use Rattle.mysql_server_packets.specs.Views.{progress_report_view}
@@ -21,21 +20,19 @@ use Rattle.mysql_reply_events.specs.declared.event.ReplyEvent.{ReplyEvent}
 use Rattle.mysql_reply_events.specs.declared.event.ReplyEvent.TheVariants as reading
 use Rattle.mysql_replies.specs.declared.fault.ReplyFault.{ReplyFault}
 use Rattle.mysql_replies.specs.declared.fault.ReplyFault.TheVariants as faults
-use Rattle.mysql_replies.specs.declared.part.Part.{Part as PartOf}
-use Rattle.mysql_replies.specs.declared.part.Part.TheVariants as parts
 use Rattle.mysql_replies.specs.declared.state.ReplyState.{ReplyState}
 use Rattle.mysql_replies.specs.Borrowing.{rows_listed}
 use Rattle.mysql_replies.specs.Together as together
 use Rattle.mysql_replies.specs.Together.{FieldsPart, NoPart, Part, RawRowsPart, RowsPart, SetPart, StatementPart}
-use Rattle.mysql_replies.specs.Reply.{Answered, GoingOn, OpenReply, Payload, behind, faulted_at}
-use Rattle.mysql_replies.specs.Putting.{HasPut, HasRead, HasStopped, PutsEvent}
-use Rattle.mysql_replies.specs.RowSteps.{StateBorrows, StateBorrowsNext, keeping, with_row}
-use Rattle.mysql_replies.specs.States.{Fits, FitsAt, HasRoom, HasSpare, IsReading, IsRowsPart, IsShortOf, NumberedStateGoesOn, OnMemory, StateGoesOn, UnlessMemory, faulted, open_reply, reply_so_far}
+use Rattle.mysql_replies.specs.Reply.{GoingOn, Payload, behind}
+use Rattle.mysql_replies.specs.Putting.{HasRead, PutsEvent}
+use Rattle.mysql_replies.specs.RowSteps.{StateBorrowsNext, keeping}
+use Rattle.mysql_replies.specs.States.{FitsAt, IsReading, IsRowsPart, faulted, open_reply, reply_so_far}
 use Rattle.mysql_replies.specs.Views.{outcome_views, part_view}
 use Rattle.mysql_replies.proofs.Fitting.{fits_behind}
 use Rattle.mysql_replies.proofs.KeptNone.{IsNoRow, behind_rows, faulted_rows}
 use Rattle.mysql_replies.proofs.Numbers.{goes_over_numbered}
-use Rattle.mysql_replies.proofs.RowSteps.{failed_step, row_kept}
+use Rattle.mysql_replies.proofs.RowSteps.{row_kept}
 use Rattle.mysql_replies.proofs.Stepping.{event_went, goes_by}
 use Rattle.mysql_replies.proofs.Taken.{IsBehind, short_between}
 
@@ -46,30 +43,6 @@ pub record IsBorrowing (old : ReplyState) (payload : Payload) (r : Result Bool R
   pub fault : IfErr r (λ fault. new.fault ≡ Some fault)
   pub step : StateBorrowsNext old payload r new
   pub keeps_none : rows_listed (reply_so_far new) ≡ rows_listed (reply_so_far old)
-
--- A FAULT
-
--- The same is listed, with a fault.
-stopped_rows : (old new : ReplyState) (fault : ReplyFault) → old.fault ≡ None → HasStopped old fault new → rows_listed (reply_so_far new) ≡ rows_listed (reply_so_far old)
-stopped_rows old new fault going stopped =
-    ap rows_listed (ap (faulted (open_reply new)) stopped.fault ∙ ap Answered stopped.answer)
-    ∙ faulted_rows (open_reply old) fault
-    ∙ ap (λ (f : Option ReplyFault). rows_listed (faulted (open_reply old) f)) (sym going)
-
-pub large_rows : (old new : ReplyState) (fault : ReplyFault) → old.fault ≡ None → new ≡ record old { fault = Some fault } → rows_listed (reply_so_far new) ≡ rows_listed (reply_so_far old)
-large_rows old new fault going is =
-    ap (λ (s : ReplyState). rows_listed (reply_so_far s)) is
-    ∙ faulted_rows (open_reply old) fault
-    ∙ ap (λ (f : Option ReplyFault). rows_listed (faulted (open_reply old) f)) (sym going)
-
-pub borrowing_fault : (old new : ReplyState) (payload : Payload) (fault : ReplyFault) → old.fault ≡ None → old.count + 1 < 2 ^ 64 → HasStopped old fault new → IsBehind old payload (Err fault) new → IsBorrowing old payload (Err fault) new
-borrowing_fault old new payload fault going room stopped h = record {
-  reading = h.reading;
-  ok = tt;
-  fault = h.fault;
-  step = failed_step old new payload fault going room h.fault h.goes_on h.short;
-  keeps_none = stopped_rows old new fault going stopped;
-}
 
 -- AN EVENT
 
@@ -105,15 +78,6 @@ passed old next payload going room h kept = record {
   ok = h.ok;
   fault = tt;
   step = goes_over_numbered old next payload going room (λ none. h.ok.1) h.goes_on;
-  keeps_none = kept;
-}
-
-pub not_passed : (old next : ReplyState) (payload : Payload) (fault : ReplyFault) → old.fault ≡ None → old.count + 1 < 2 ^ 64 → IsBehind old payload (Err fault) next → rows_listed (reply_so_far next) ≡ rows_listed (reply_so_far old) → IsBorrowing old payload (Err fault) next
-not_passed old next payload fault going room h kept = record {
-  reading = h.reading;
-  ok = tt;
-  fault = h.fault;
-  step = failed_step old next payload fault going room h.fault h.goes_on h.short;
   keeps_none = kept;
 }
 
@@ -201,23 +165,3 @@ row_lent old payload now keeps going room (due, read) =
       };
       keeps_none = ap (λ (f : Option ReplyFault). rows_listed (faulted (open_reply new) f)) going ∙ ap (λ (f : Option ReplyFault). rows_listed (faulted (open_reply old) f)) (sym going);
     }
-
--- Nothing but what reads rows has changed before.
-abbrev pub reading_by : ReplyState → Option RowReader → ReplyState
-reading_by old rows = record old { events = record old.events { rows = rows } }
-
-step_same : (old next : ReplyState) (rows : Option RowReader) (payload : Payload) (r : Result Bool ReplyFault) → StateBorrowsNext (reading_by old rows) payload r next → StateBorrowsNext old payload r next
-step_same old next rows payload (Ok true) step = record { row = step.row; lies = step.lies; columns = step.columns; rows = step.rows; part = step.part; goes_on = step.goes_on }
-step_same old next rows payload (Ok false) step = step
-step_same old next rows payload (Err faults.Memory) step = step
-step_same old next rows payload (Err fault) step = step
-
-pub reading_same : (old mid : ReplyState) → mid ≡ reading_by old mid.events.rows → IsReading old → IsReading mid
-reading_same old mid same keeps =
-    let by : IsReading (reading_by old mid.events.rows) = record { no_fault = keeps.no_fault; fits = keeps.fits; room = keeps.room; spared = keeps.spared; empty = keeps.empty } in
-    subst IsReading (sym same) by
-
-pub borrowing_same : (old mid next : ReplyState) (payload : Payload) (r : Result Bool ReplyFault) → mid ≡ reading_by old mid.events.rows → IsBorrowing mid payload r next → IsBorrowing old payload r next
-borrowing_same old mid next payload r same h =
-    let k = subst (λ (s : ReplyState). IsBorrowing s payload r next) same h in
-    record { reading = k.reading; ok = k.ok; fault = k.fault; step = step_same old next mid.events.rows payload r k.step; keeps_none = k.keeps_none }

@@ -1,7 +1,6 @@
 -- In the results of a reply nothing is to be joined.
-use Rattle.std.proofs.Common.{◌≡◌, ℕ, List, [], ◌∷◌, ◌++◌, length, Bool, true, false, Option, Some, None, Ok, Err, refl, ap, sym, subst, ◌∙◌, append_assoc, if◌then◌else◌}
+use Rattle.std.proofs.Common.{◌≡◌, List, [], ◌∷◌, ◌++◌, length, Bool, true, false, Ok, Err, refl, ap, sym, subst, ◌∙◌, append_assoc, if◌then◌else◌}
 use Rattle.std.specs.Prelude.{nat_lt}
-use Rattle.std.proofs.lemmas.List.{append-nil}
 use Rattle.mysql_wire.specs.Stream.{Rest}
 use Rattle.mysql_columns.specs.Columns.{ColumnDefinition}
 use Rattle.mysql_ok_packets.specs.OkPackets.{OkPacket}
@@ -13,10 +12,10 @@ use Rattle.mysql_reply_events.specs.Events.Event.{FileEvent, LineEvent, OkEvent,
 use Rattle.mysql_reply_events.specs.Events.Event.{RawRowEvent, RowEvent, RowsEndEvent}
 use Rattle.mysql_reply_events.specs.Table.{Step, event_at}
 use Rattle.mysql_reply_events.specs.declared.context.Context.{Context}
-use Rattle.mysql_replies.specs.Together.{ErrorResult, FieldsPart, FileResult, LineResult, NoPart, OkResult, Outcome, Part, PreparedResult, Put}
+use Rattle.mysql_replies.specs.Together.{ErrorResult, FieldsPart, FileResult, LineResult, NoPart, OkResult, Outcome, Part, Put}
 use Rattle.mysql_replies.specs.Together.{RawRowsPart, RowsPart, SetPart, StatementPart, columns_in, ended, listed, put, put_column, put_columns_end}
-use Rattle.mysql_replies.specs.Together.{put_count, put_statement, put_whole, rows_due, set_behind, statement_at, statement_with}
-use Rattle.mysql_replies.specs.Reply.{Answer, Answered, GoingOn, IsReply, OpenReply, Payload, ReplySoFar, after_all, answer_behind, behind, faulted_at, fault_of, fresh, led_by}
+use Rattle.mysql_replies.specs.Together.{put_count, put_statement, put_whole, rows_due, set_behind, statement_at}
+use Rattle.mysql_replies.specs.Reply.{Answer, GoingOn, IsReply, OpenReply, Payload, ReplySoFar, after_all, answer_behind, behind, faulted_at, fault_of, fresh, led_by}
 use Rattle.mysql_replies.specs.Taking.{joined}
 use Rattle.mysql_replies.proofs.GoingOn.{answered_stays}
 

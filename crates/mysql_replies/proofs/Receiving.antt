@@ -1,5 +1,5 @@
 -- Payloads that come out of a codec one after another, and what is decided over the bytes still to come.
-use Rattle.std.proofs.Common.{◌≡◌, ℕ, zero, suc, ◌+◌, ◌-◌, ◌<◌, ◌≤◌, List, [], ◌∷◌, ◌++◌, length, take, Bool, true, false, Option, Some, None, refl, ap, sym, subst, arith, ◌∙◌, append_assoc, add-one, length-append}
+use Rattle.std.proofs.Common.{◌≡◌, ℕ, zero, suc, ◌+◌, ◌<◌, ◌≤◌, List, [], ◌∷◌, ◌++◌, length, take, Bool, true, false, Option, Some, None, refl, ap, sym, subst, arith, ◌∙◌, append_assoc, add-one, length-append}
 use Rattle.std.specs.Prelude.{◌==◌, nat_le, if◌then◌else◌, Result, Ok, Err, OnOk, IfErr, is_err, ◌/◌}
 use Rattle.std.specs.List.{AllByRecursion}
 use Rattle.std.specs.Option.{IfSome}
@@ -25,7 +25,6 @@ use Rattle.mysql_replies.specs.Reply.{Answer, End, FaultAt, Payload, Unfinished,
 use Rattle.mysql_replies.specs.Reply as reply
 use Rattle.mysql_replies.specs.Bytes.{numbers_left, numbered, after_numbered, NumberedPayloadsDecide}
 use Rattle.mysql_replies.specs.Holding.{ReaderState, BytesDecide, ReaderDecidesFrom, ReaderDecides, ReaderGoesOn, TakesAll, RunsShort, StandsShort, count_of, fault_of}
-use Rattle.mysql_replies.specs.Views.{outcome_views}
 use Rattle.mysql_replies.specs.States.{open_reply, faulted, reply_so_far, NumberedStateGoesOn, reader_state, reader_state_of, answer_of, end_of_state, IsAwaiting, IsOver, IsReading, IsPaused, IsReceiving, NothingBegun, FramingLaws, UnlessMemory, OnMemory, IsShortOf, fault_named}
 use Rattle.mysql_replies.proofs.Finishing.{end_large, end_wrong_number, never, stops}
 use Rattle.mysql_replies.proofs.Numbers.{decides_none}

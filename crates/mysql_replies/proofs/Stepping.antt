@@ -1,6 +1,5 @@
 -- What a payload leads to: its event is put, or it has no place, or memory ran out.
-use Rattle.std.proofs.Common.{◌≡◌, Option, Some, None, Ok, Err, Result, refl, ap, sym, subst, ◌∙◌}
-use Rattle.mysql_rows.specs.Rows.{Row}
+use Rattle.std.proofs.Common.{◌≡◌, Option, None, Ok, Err, ap, sym, subst, ◌∙◌}
 use Rattle.mysql_reply_events.specs.Events.{Event}
 use Rattle.mysql_reply_events.specs.Events.Event.{RowEvent}
 use Rattle.mysql_reply_events.specs.Table.{Step, event_at}
@@ -8,9 +7,9 @@ use Rattle.mysql_reply_events.specs.declared.fault.ReplyFault.{ReplyFault as Eve
 use Rattle.mysql_replies.specs.declared.fault.ReplyFault.{ReplyFault}
 use Rattle.mysql_replies.specs.declared.fault.ReplyFault.TheVariants as faults
 use Rattle.mysql_replies.specs.declared.state.ReplyState.{ReplyState}
-use Rattle.mysql_replies.specs.Reply.{Answered, GoingOn, OpenReply, Payload, ReplySoFar, after, after_all, answer_behind, behind, fault_of, faulted_at, led_by}
+use Rattle.mysql_replies.specs.Reply.{Answered, GoingOn, Payload, ReplySoFar, after, after_all, answer_behind, behind, fault_of, faulted_at, led_by}
 use Rattle.mysql_replies.specs.Putting.{HasPut, HasRead, HasStopped, HasTakenRow}
-use Rattle.mysql_replies.specs.States.{IsShortOf, StateGoesOn, UnlessMemory, faulted, open_reply, reply_so_far}
+use Rattle.mysql_replies.specs.States.{IsShortOf, StateGoesOn, faulted, open_reply, reply_so_far}
 use Rattle.mysql_replies.specs.Views.{outcome_views}
 
 -- The state behind a payload's step goes on.

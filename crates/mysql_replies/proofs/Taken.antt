@@ -1,22 +1,19 @@
 -- What the state is behind a payload: its event is put, a row is taken in place, or a fault was met.
-use Rattle.std.proofs.Common.{◌≡◌, ℕ, ◌+◌, ◌<◌, ◌≤◌, List, [], ◌∷◌, ◌++◌, length, Option, Some, None, Result, Ok, Err, refl, ap, sym, subst, arith, ◌∙◌}
+use Rattle.std.proofs.Common.{◌≡◌, ◌+◌, ◌<◌, List, [], ◌∷◌, ◌++◌, Some, None, Result, Ok, Err, refl, ap, sym, subst, arith, ◌∙◌}
 use Rattle.std.specs.Prelude.{OnOk, IfErr, Vec, map, vec_len, vec_capacity}
 use Rattle.std.specs.declared.alloc.Global.{Global}
-use Rattle.std.proofs.lemmas.List.{append-nil, map_push}
+use Rattle.std.proofs.lemmas.List.{append-nil}
 use Rattle.mysql_rows.specs.Views.{row_view}
 use Rattle.mysql_rows.specs.declared.row.Row.{Row as RowOf}
 use Rattle.mysql_server_packets.specs.Views.{progress_report_view}
 use Rattle.mysql_server_packets.specs.declared.progress_report.ProgressReport.{ProgressReport}
 use Rattle.mysql_reply_events.specs.Events.{Event}
-use Rattle.mysql_reply_events.specs.Events.Event.{ProgressEvent, RowEvent}
+use Rattle.mysql_reply_events.specs.Events.Event.{RowEvent}
 use Rattle.mysql_reply_events.specs.NextRows.{KeepsRow}
-use Rattle.mysql_reply_events.specs.Reader.{ReadsOn, ReaderState as EventsState}
-use Rattle.mysql_reply_events.specs.Table.{event_at}
+use Rattle.mysql_reply_events.specs.Reader.{ReaderState as EventsState}
 use Rattle.mysql_reply_events.specs.Views.{event_view}
 use Rattle.mysql_reply_events.specs.declared.event.ReplyEvent.{ReplyEvent}
 use Rattle.mysql_reply_events.specs.declared.event.ReplyEvent.TheVariants as events
-use Rattle.mysql_reply_events.specs.declared.fault.ReplyFault.{ReplyFault as EventFault}
-use Rattle.mysql_reply_events.specs.declared.fault.ReplyFault.TheVariants as event_faults
 use Rattle.mysql_replies.specs.OpenRows.{RowsSoFar}
 use Rattle.mysql_replies.specs.declared.fault.ReplyFault.{ReplyFault}
 use Rattle.mysql_replies.specs.declared.fault.ReplyFault.TheVariants as faults
@@ -27,57 +24,12 @@ use Rattle.mysql_replies.specs.declared.results.ReplyResult.{ReplyResult}
 use Rattle.mysql_replies.specs.declared.state.ReplyState.{ReplyState}
 use Rattle.mysql_replies.specs.Together as together
 use Rattle.mysql_replies.specs.Together.{Outcome, Part, Put, RowsPart, listed, reported}
-use Rattle.mysql_replies.specs.Reply.{Answered, OpenReply, Payload, behind, fault_of, faulted_at}
-use Rattle.mysql_replies.specs.Putting.{HasPut, HasRead, HasRoomFor, HasStopped, HasTakenRow, IsPut, PutsEvent, ReadsEvent, listed_views}
-use Rattle.mysql_replies.specs.States.{Fits, HasRoom, HasSpare, IsReading, IsShortOf, NumberedStateGoesOn, OnMemory, StateGoesOn, UnlessMemory, open_reply, reply_so_far}
-use Rattle.mysql_replies.specs.Taking.{rows_awaited}
+use Rattle.mysql_replies.specs.Reply.{Answered, OpenReply, Payload, behind, faulted_at}
+use Rattle.mysql_replies.specs.Putting.{HasNoPlace, HasPut, HasRead, HasStopped, HasTakenRow, PutsEvent, listed_views}
+use Rattle.mysql_replies.specs.States.{Fits, HasRoom, IsReading, IsShortOf, OnMemory, StateGoesOn, UnlessMemory, open_reply}
 use Rattle.mysql_replies.specs.Views.{outcome_views, part_view}
 use Rattle.mysql_replies.proofs.Fitting.{fits_behind}
 use Rattle.mysql_replies.proofs.Stepping.{falls_short, read_goes, refused_goes, reply_behind, row_goes}
-
--- FAULTS
-
--- A payload of which that is known has no place, unless memory ran out.
-abbrev pub HasNoPlace : ReplyState → Payload → ReplyFault → Type 0
-HasNoPlace old payload fault = UnlessMemory {X = Unit {0}} (Err fault)
-    ((found : EventFault) × (event_at old.events.context old.events.so_far payload ≡ Err found) × (fault ≡ fault_of found))
-
--- A fault of the reader of events, by its name here.
-pub no_place : (old : ReplyState) (payload : Payload) (fault : EventFault) (new : EventsState) → ReadsOn old.events payload (Err fault) new → HasNoPlace old payload (fault_of fault)
-no_place old payload event_faults.Memory new read = tt
-no_place old payload event_faults.BadHeader new read = (event_faults.BadHeader, read.0, refl)
-no_place old payload event_faults.BadCount new read = (event_faults.BadCount, read.0, refl)
-no_place old payload event_faults.BadColumn new read = (event_faults.BadColumn, read.0, refl)
-no_place old payload event_faults.BadOk new read = (event_faults.BadOk, read.0, refl)
-no_place old payload event_faults.BadError new read = (event_faults.BadError, read.0, refl)
-no_place old payload event_faults.BadRow new read = (event_faults.BadRow, read.0, refl)
-no_place old payload event_faults.BadTerminator new read = (event_faults.BadTerminator, read.0, refl)
-no_place old payload event_faults.BadPrepare new read = (event_faults.BadPrepare, read.0, refl)
-no_place old payload event_faults.NotDue new read = (event_faults.NotDue, read.0, refl)
-
--- A fault was met, and the same is listed.
-pub stops : (old new : ReplyState) (fault : ReplyFault) → new.fault ≡ Some fault → faulted_at (open_reply new) fault ≡ faulted_at (open_reply old) fault → HasRoom (part_view new.part) new.results → HasSpare (part_view new.part) new.results new.spare → new.spare.items ≡ [] → HasStopped old fault new
-stops old new fault met answer room spared empty = record {
-  fault = met;
-  answer = answer;
-  reading = record { no_fault = λ none. absurd cc; fits = λ none. absurd cc; room = room; spared = spared; empty = empty };
-}
-
--- A state keeps what it keeps where a fault is met.
-pub still_reading : (old new : ReplyState) (fault : ReplyFault) → IsReading old → new ≡ record old { fault = Some fault } → IsReading new
-still_reading old new fault reading same =
-    let by : IsReading (record old { fault = Some fault }) = record { no_fault = λ none. absurd cc; fits = λ none. absurd cc; room = reading.room; spared = reading.spared; empty = reading.empty } in
-    subst IsReading (sym same) by
-
--- Room stays where a list grows.
-pub room_stays : (part : Part) (old new : Vec ReplyResult Global) → HasRoom part old → vec_len new ≡ vec_len old → vec_capacity old ≤ vec_capacity new → HasRoom part new
-room_stays part old new room same more = λ some. let fits = room some in omega arith
-
-pub spare_stays : (part : Part) (results others old new : Vec ReplyResult Global) → HasSpare part results old → others.items ≡ results.items → vec_len new ≡ vec_len old → vec_capacity old ≤ vec_capacity new → HasSpare part others new
-spare_stays part results others old new spared is same more = λ some any.
-    let before = subst (λ (items : List ReplyResult). 0 < length items + length (rows_awaited part)) is any in
-    let fits = spared some before in
-    omega arith
 
 -- WHAT A PAYLOAD LEADS TO
 
@@ -136,16 +88,6 @@ pub same_between : (old between : ReplyState) (payload : Payload) (event : Event
 same_between old between payload event fault read =
     ap (λ (s : ReplyState). faulted_at (open_reply s) fault) read.rest
     ∙ (λ i. faulted_at (record (open_reply old) { results = outcome_views (read.results i) }) fault)
-
--- Memory ran out over an event that was read.
-pub read_stopped : (old between next : ReplyState) (payload : Payload) (event : Event) (fault : ReplyFault) → HasRead old payload event between → next ≡ record between { fault = Some fault } → HasStopped old fault next
-read_stopped old between next payload event fault read is =
-    let fits : vec_len between.results < vec_capacity between.results = let r = read.room.results in omega arith in
-    stops old next fault (ap (λ (s : ReplyState). s.fault) is)
-    (ap (λ (s : ReplyState). faulted_at (open_reply s) fault) is ∙ same_between old between payload event fault read)
-    (λ some. subst (λ (s : ReplyState). vec_len s.results < vec_capacity s.results) (sym is) fits)
-    (λ some any. subst (λ (s : ReplyState). vec_len s.spare < vec_capacity s.spare) (sym is) read.room.spare)
-    (ap (λ (s : ReplyState). s.spare.items) is ∙ read.room.empty)
 
 pub short_between : (old between next : ReplyState) (payload : Payload) (event : Event) → HasRead old payload event between → HasStopped between faults.Memory next → IsShortOf old next
 short_between old between next payload event read stopped =
@@ -211,42 +153,6 @@ row_taken old new payload open_rows row reading going is kept same spare empty =
       };
     }
 
--- Nothing of what is listed has changed.
-pub row_stopped : (old new : ReplyState) (fault : ReplyFault) (events : EventsState) (spare : Vec ReplyResult Global) (part : PartOf) → IsReading old → part ≡ old.part →
-    new ≡ record old { events = events; spare = spare; part = part; fault = Some fault } → vec_len spare ≡ vec_len old.spare → vec_capacity old.spare ≤ vec_capacity spare → spare.items ≡ old.spare.items → HasStopped old fault new
-row_stopped old new fault events spare part reading same is len more items =
-    let kept : HasSpare (part_view old.part) old.results spare = spare_stays (part_view old.part) old.results old.results old.spare spare reading.spared refl len more in
-    stops old new fault (ap (λ (s : ReplyState). s.fault) is)
-    (ap (λ (s : ReplyState). faulted_at (open_reply s) fault) is ∙ (λ i. record (faulted_at (open_reply old) fault) { results = outcome_views old.results.items ++ listed (part_view (same i)) }))
-    (subst (λ (s : ReplyState). HasRoom (part_view s.part) s.results) (sym is) (subst (λ (p : PartOf). HasRoom (part_view p) old.results) (sym same) reading.room))
-    (subst (λ (s : ReplyState). HasSpare (part_view s.part) s.results s.spare) (sym is) (subst (λ (p : PartOf). HasSpare (part_view p) old.results spare) (sym same) kept))
-    (ap (λ (s : ReplyState). s.spare.items) is ∙ items ∙ reading.empty)
-
--- No row is due: nothing but the spare list has changed.
-pub row_passed : (old new : ReplyState) → IsReading old → new ≡ record old { spare = new.spare } → vec_len new.spare ≡ vec_len old.spare → vec_capacity old.spare ≤ vec_capacity new.spare → new.spare.items ≡ old.spare.items → IsReading new
-row_passed old new reading same len more items =
-    let by : IsReading (record old { spare = new.spare }) = record {
-      no_fault = reading.no_fault;
-      fits = reading.fits;
-      room = reading.room;
-      spared = spare_stays (part_view old.part) old.results old.results old.spare new.spare reading.spared refl len more;
-      empty = items ∙ reading.empty;
-    } in
-    subst IsReading (sym same) by
-
--- A list with more room takes the results' place, and a fault was met.
-pub room_stopped : (old new : ReplyState) (fault : ReplyFault) (events : EventsState) (results spare : Vec ReplyResult Global) → IsReading old →
-    new ≡ record old { events = events; results = results; spare = spare; fault = Some fault } → vec_len results ≡ vec_len old.results → vec_capacity old.results ≤ vec_capacity results → results.items ≡ old.results.items →
-    vec_len spare ≡ vec_len old.spare → vec_capacity old.spare ≤ vec_capacity spare → spare.items ≡ old.spare.items → HasStopped old fault new
-room_stopped old new fault events results spare reading is len more items len_spare more_spare items_spare =
-    let room : HasRoom (part_view old.part) results = room_stays (part_view old.part) old.results results reading.room len more in
-    let kept : HasSpare (part_view old.part) results spare = spare_stays (part_view old.part) old.results results old.spare spare reading.spared items len_spare more_spare in
-    stops old new fault (ap (λ (s : ReplyState). s.fault) is)
-    (ap (λ (s : ReplyState). faulted_at (open_reply s) fault) is ∙ (λ i. record (faulted_at (open_reply old) fault) { results = outcome_views (items i) ++ listed (part_view old.part) }))
-    (subst (λ (s : ReplyState). HasRoom (part_view s.part) s.results) (sym is) room)
-    (subst (λ (s : ReplyState). HasSpare (part_view s.part) s.results s.spare) (sym is) kept)
-    (ap (λ (s : ReplyState). s.spare.items) is ∙ items_spare ∙ reading.empty)
-
 -- EVENTS
 
 -- An event that is no progress report.
@@ -288,44 +194,3 @@ put_moved old new event found next none put listing same room =
       results = room;
       spare = ap (λ (s : ReplyState). s.spare) same;
     }
-
--- Memory ran out over an event.
-pub put_failed : (old new : ReplyState) (same : PartOf) → HasRoomFor old → listed (part_view same) ≡ listed (part_view old.part) → new ≡ record old { part = same; fault = Some faults.Memory } → HasStopped old faults.Memory new
-put_failed old new same room kept is =
-    let results = outcome_views old.results.items in
-    let fits : vec_len old.results < vec_capacity old.results = let r = room.results in omega arith in
-    stops old new faults.Memory (ap (λ (s : ReplyState). s.fault) is)
-    (ap (λ (s : ReplyState). faulted_at (open_reply s) faults.Memory) is ∙ (λ i. record (faulted_at (open_reply old) faults.Memory) { results = results ++ kept i }))
-    (λ some. subst (λ (s : ReplyState). vec_len s.results < vec_capacity s.results) (sym is) fits)
-    (λ some any. subst (λ (s : ReplyState). vec_len s.spare < vec_capacity s.spare) (sym is) room.spare)
-    (ap (λ (s : ReplyState). s.spare.items) is ∙ room.empty)
-
--- A progress report.
-pub report_put : (old new : ReplyState) (report : ProgressReport) → HasRoomFor old → new.progress.items ≡ old.progress.items ++ report ∷ [] → new ≡ record old { progress = new.progress; count = old.count + 1 } → HasPut old (ProgressEvent (progress_report_view report)) new
-report_put old new report room pushed same =
-    let results = outcome_views old.results.items in
-    let reports : map progress_report_view new.progress.items ≡ map progress_report_view old.progress.items ++ progress_report_view report ∷ [] =
-    ap (map progress_report_view) pushed ∙ map_push progress_report_view old.progress.items report in
-    record {
-      reply = ap open_reply same ∙ (λ i. record {
-        context = old.events.context;
-        so_far = old.events.so_far;
-        results = sym (append-nil results) i;
-        progress = reports i;
-        part = part_view old.part;
-        count = old.count + 1;
-      });
-      fault = ap (λ (s : ReplyState). s.fault) same;
-      events = ap (λ (s : ReplyState). s.events) same;
-      results = subst (λ (s : ReplyState). vec_len s.results < vec_capacity s.results) (sym same) (let r = room.results in omega arith);
-      spare = ap (λ (s : ReplyState). s.spare) same;
-    }
-
-pub report_failed : (old new : ReplyState) → HasRoomFor old → new.progress.items ≡ old.progress.items → new ≡ record old { progress = new.progress; fault = Some faults.Memory } → HasStopped old faults.Memory new
-report_failed old new room kept is =
-    let fits : vec_len old.results < vec_capacity old.results = let r = room.results in omega arith in
-    stops old new faults.Memory (ap (λ (s : ReplyState). s.fault) is)
-    (ap (λ (s : ReplyState). faulted_at (open_reply s) faults.Memory) is ∙ (λ i. record (faulted_at (open_reply old) faults.Memory) { progress = map progress_report_view (kept i) }))
-    (λ some. subst (λ (s : ReplyState). vec_len s.results < vec_capacity s.results) (sym is) fits)
-    (λ some any. subst (λ (s : ReplyState). vec_len s.spare < vec_capacity s.spare) (sym is) room.spare)
-    (ap (λ (s : ReplyState). s.spare.items) is ∙ room.empty)

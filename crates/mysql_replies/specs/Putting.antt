@@ -51,6 +51,12 @@ pub record HasRoomFor (s : ReplyState) : Type 0 where
   pub spare : vec_len s.spare < vec_capacity s.spare
   pub empty : s.spare.items ≡ []
 
+-- The payload has no place, by this fault, unless memory ran out.
+abbrev pub HasNoPlace : ReplyState → Payload → ReplyFault → Type 0
+HasNoPlace old payload fault = UnlessMemory {X = Unit {0}} (Err fault)
+    ((found : EventFault) × (event_at old.events.context old.events.so_far payload ≡ Err found) ×
+    (fault ≡ fault_of found))
+
 -- The same is listed, and a fault was met.
 pub record HasStopped (old : ReplyState) (found : ReplyFault) (new : ReplyState) : Type 0 where
   pub fault : new.fault ≡ Some found
@@ -79,9 +85,7 @@ pub record HasRead (old : ReplyState) (payload : Payload) (found : Event) (new :
 
 abbrev pub ReadsEvent : ReplyState → Payload → Result ReplyEvent ReplyFault → ReplyState → Type 0
 ReadsEvent old payload (Ok event) new = HasRead old payload (event_view event) new
-ReadsEvent old payload (Err fault) new = HasStopped old fault new × UnlessMemory {X = Unit {0}} (Err fault)
-    ((found : EventFault) × (event_at old.events.context old.events.so_far payload ≡ Err found) ×
-    (fault ≡ fault_of found))
+ReadsEvent old payload (Err fault) new = HasStopped old fault new × HasNoPlace old payload fault
 
 -- A row that was due is behind those so far; or nothing has changed; or a fault was met.
 pub record HasTakenRow (old : ReplyState) (payload : Payload) (new : ReplyState) : Type 0 where
@@ -94,6 +98,4 @@ pub record HasTakenRow (old : ReplyState) (payload : Payload) (new : ReplyState)
 abbrev pub TakesRow : ReplyState → Payload → Result Bool ReplyFault → ReplyState → Type 0
 TakesRow old payload (Ok true) new = HasTakenRow old payload new
 TakesRow old payload (Ok false) new = (new ≡ record old { spare = new.spare }) × IsReading new
-TakesRow old payload (Err fault) new = HasStopped old fault new × UnlessMemory {X = Unit {0}} (Err fault)
-    ((found : EventFault) × (event_at old.events.context old.events.so_far payload ≡ Err found) ×
-    (fault ≡ fault_of found))
+TakesRow old payload (Err fault) new = HasStopped old fault new × HasNoPlace old payload fault

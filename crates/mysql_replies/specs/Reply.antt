@@ -1,10 +1,9 @@
 -- The answer of a reply: the events of its payloads, put together one after another, and how it ends.
 -- MySQL: Client/Server Protocol, "COM_QUERY Response" and "COM_STMT_PREPARE Response"; MariaDB: 'Progress report' of
 -- "ERR_Packet".
-use Rattle.std.specs.Prelude.{◌≡◌, ℕ, ◌+◌, List, [], ◌∷◌, ◌++◌, Bool, true, false, Option, Some, None, Result, Ok, Err}
+use Rattle.std.specs.Prelude.{◌≡◌, ℕ, ◌+◌, List, [], ◌∷◌, ◌++◌, Bool, true, false, Option, None, Ok, Err}
 use Rattle.mysql_wire.specs.Stream.{Rest}
 use Rattle.mysql_wire.specs.Stream.Rest.{Empty, TooLarge, OutOfSync}
-use Rattle.mysql_const.specs.declared.capabilities.Capabilities.{Capabilities}
 use Rattle.mysql_const.specs.declared.capabilities.CapabilityFlags.{CapabilityFlags}
 use Rattle.mysql_columns.specs.Columns.{ColumnDefinition}
 use Rattle.mysql_server_packets.specs.Packets.{ProgressReport}

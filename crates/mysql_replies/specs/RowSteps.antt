@@ -1,6 +1,6 @@
 -- Words of the reader's own body, which no public call's clause has: what one more payload leads to
 -- where rows are borrowed. MySQL: Client/Server Protocol, "COM_QUERY Response" and "Text Resultset".
-use Rattle.std.specs.Prelude.{◌≡◌, Bool, true, false, List, [], ◌∷◌, ◌++◌, ℕ, Option, Some, None, Result, Ok, Err}
+use Rattle.std.specs.Prelude.{◌≡◌, Bool, true, List, [], ◌∷◌, ◌++◌, ℕ, Option, Some, None, Result, Ok, Err}
 use Rattle.mysql_rows.specs.Rows.{Row}
 use Rattle.mysql_reply_events.specs.Standing.{RowAt}
 use Rattle.mysql_wire.specs.Incoming.{Incoming}

@@ -2,7 +2,7 @@
 -- MySQL: Client/Server Protocol, "COM_QUERY Response", "Text Resultset", "Binary Protocol Resultset",
 -- "COM_STMT_PREPARE Response", "COM_STMT_FETCH Response", "COM_FIELD_LIST Response" and "COM_STATISTICS"; MariaDB:
 -- 'Progress report' of "ERR_Packet".
-use Rattle.std.specs.Prelude.{ℕ, List, [], ◌∷◌, ◌++◌, length, nat_lt, Bool, true, false, if◌then◌else◌}
+use Rattle.std.specs.Prelude.{ℕ, List, [], ◌∷◌, ◌++◌, length, nat_lt, Bool, true, if◌then◌else◌}
 use Rattle.std.specs.Prelude.{Option, Some, None}
 use Rattle.mysql_columns.specs.Columns.{ColumnDefinition}
 use Rattle.mysql_columns.specs.Extended.{ListedDefinition}

@@ -1,4 +1,4 @@
-use Rattle.std.proofs.Common.{Err, ap, arith}
+use Rattle.std.proofs.Common.{ap, arith}
 use Rattle.std.proofs.lemmas.Result.{err_from_is_err_and}
 use Rattle.mysql_reply_events.specs.Views.{event_view}
 use Rattle.mysql_replies.specs.declared.state.ReplyState.{ReplyState}
