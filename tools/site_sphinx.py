@@ -61,14 +61,25 @@ def setup(app):
     app.connect("autodoc-process-docstring", as_written)
 '''
 SEARCH = '<input id="search" type="search" placeholder="Search" aria-label="Search" data-base="{{ pathto(\'\', 1) }}">\n'
-STYLE = '''#search { width: 100%; padding: 0.4rem; font: inherit; }
+STYLE = '''#search { width: 100%; padding: 0.4rem; font: inherit; box-sizing: border-box; }
 .found { padding: 0; list-style: none; }
 .found li { margin: 0 0 1rem; }
 .found .where { color: #59636e; font-size: 0.85rem; }
 .found mark { background: #fff3bf; }
 div.body table { display: block; max-width: 100%; overflow-x: auto; }
 div.body img { max-width: 100%; }
-div.sphinxsidebar { max-height: 100vh; overflow-y: auto; position: fixed; }
+div.body code, div.body dt, div.body h1, div.body h2, div.body h3, .found { overflow-wrap: anywhere; }
+div.body pre code { overflow-wrap: normal; }
+div.body pre { overflow-x: auto; }
+@media (min-width: 876px) {
+  div.sphinxsidebar { max-height: 100vh; overflow-y: auto; position: fixed; }
+}
+@media (max-width: 875px) {
+  div.document { display: flex; flex-direction: column; width: auto; }
+  div.documentwrapper { width: 100%; }
+  div.bodywrapper { margin: 0; }
+  div.sphinxsidebar { order: -1; position: static; max-height: 40vh; overflow-y: auto; width: auto; margin: 0; }
+}
 '''
 PYTHON = '''Python's calls
 ==============
@@ -193,23 +204,21 @@ def make_c(folder, _room, root):
 
 
 def references(folder, room, root):
-    """Makes the references for which this machine has the tools; returns which ones there are, and which are missing."""
-    found, missing = ['python'], []
+    """Makes the references for which this machine has the tools; returns which ones there are."""
+    found = ['python']
     for name, tool, make in (('rust', 'cargo', make_rust), ('c', 'doxygen', make_c)):
         if shutil.which(tool):
             make(folder, room, root)
             found.append(name)
-        else:
-            missing.append(tool)
-    return found, missing
+    return found
 
 
 # ---- The site -----------------------------------------------------------------------------------
 
 
 def make(site, folder, room, root):
-    """Makes the site by Sphinx; returns the tools that are missing for references."""
-    found, missing = references(folder, room, root)
+    """Makes the site by Sphinx, with those references for which this machine has the tools."""
+    found = references(folder, room, root)
     rows = ''.join(f'| <a href="{link}">{title}</a> | {how} |\n'
                    for name, (title, how, link) in REFERENCES.items() if name in found)
     project = room / 'project'
@@ -217,4 +226,3 @@ def make(site, folder, room, root):
     (project / 'references.md').write_text(f'# References by language\n\n| what | made |\n|---|---|\n{rows}', encoding='utf-8')
     subprocess.run([interpreter(), '-m', 'sphinx', '-q', '-b', 'html', '-j', 'auto', '-d', str(room / 'doctrees'), str(project), str(folder)],
                    check=True, stdin=subprocess.DEVNULL)
-    return missing

@@ -432,8 +432,8 @@ uint32_t mysql_session_bind_text(mysql_session_handle *sets, size_t set, const u
                                  size_t len, uint32_t flags, mysql_session_handle *out,
                                  mysql_session_place *place);
 
-/* Appends to the bytes of `out` the literal of one value, by the numbers of its set and its place.
- * Safe where the text of mysql_session_bind_text with the same flags is.
+/* Appends to the bytes of `out` the literal of one value, by the numbers of its set and its
+ * placeholder. Safe where the text of mysql_session_bind_text with the same flags is.
  * Answers OK, NO_SUCH_MODE (before any other), EMPTY_HANDLE, OTHER_KIND, OUT_OF_RANGE, MEMORY. A
  * float has no literal, and is REFUSED_FLOAT. */
 uint32_t mysql_session_value_text(mysql_session_handle *sets, size_t set, size_t place,
@@ -995,8 +995,8 @@ enum mysql_session_side {
 uint32_t mysql_session_connection_new(mysql_session_connection *connection, size_t client,
                                       size_t server, size_t held);
 
-/* The same of a connection behind a login that was made elsewhere, by TLS or a pool. A command is
- * due, and no byte came since. The capabilities are those that both sides have, MariaDB's own in
+/* The same of a connection behind a login that was made elsewhere, by TLS or a pool. A command
+ * comes next, and no byte came since. The capabilities are those that both sides have, MariaDB's own in
  * the second word. Answers OK, MEMORY. */
 uint32_t mysql_session_connection_after_login(mysql_session_connection *connection,
                                               uint32_t capabilities,
@@ -1294,8 +1294,8 @@ uint32_t mysql_session_connection_mode(mysql_session_connection *connection);
 uint32_t mysql_session_connection_statement(mysql_session_connection *connection, uint32_t id,
                                             const uint8_t **text, size_t *len, uint16_t *params);
 
-/* What of a side's stream is unread. Where the connection is over that is what follows in a form of
- * its own: TLS, compressed packets, a dump. Answers OK, NO_SUCH_KIND, EMPTY_HANDLE. */
+/* What of a side's stream is unread. Where the connection is over that is what follows in its own
+ * form: TLS, compressed packets, a dump. Answers OK, NO_SUCH_KIND, EMPTY_HANDLE. */
 uint32_t mysql_session_connection_rest(mysql_session_connection *connection, uint32_t side,
                                        const uint8_t **data, size_t *len);
 

@@ -2412,8 +2412,8 @@ class Connection(_Object):
         return statement
 
     def rest(self, side: Side) -> bytes:
-        """What of a side's stream is unread. Where the connection is over, it follows in a form of
-        its own: TLS, compressed packets, a dump."""
+        """What of a side's stream is unread. Where the connection is over, it follows in its own
+        form: TLS, compressed packets, a dump."""
         rest: bytes = self._native.rest(Side(side))
         return rest
 

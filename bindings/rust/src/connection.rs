@@ -249,8 +249,8 @@ impl Connection {
         Ok(Connection::of(handle, false))
     }
 
-    /// A connection behind a login that was made elsewhere, as by TLS or by a pool. A command is
-    /// due, and these capabilities are in force, which both sides have.
+    /// A connection behind a login that was made elsewhere, as by TLS or by a pool. A command
+    /// comes next, and these capabilities are in force, which both sides have.
     ///
     /// ```
     /// use mysql_session::{capability, Capabilities, Connection, Limits, Phase};
@@ -634,8 +634,8 @@ impl Connection {
         })
     }
 
-    /// What of a side's stream is unread. Where the connection is over, it follows in a form of its
-    /// own: TLS, compressed packets, a dump.
+    /// What of a side's stream is unread. Where the connection is over, it follows in its own
+    /// form: TLS, compressed packets, a dump.
     pub fn rest(&self, side: Side) -> &[u8] {
         let mut data = raw::Text::default();
         // SAFETY: "Handles": by `ConnectionHandle::get`; "Results go out": fields of one local.
