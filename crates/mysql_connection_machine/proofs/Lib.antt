@@ -1,4 +1,5 @@
 pub mod Coming
+pub mod Lending
 pub mod Limits
 pub mod Phases
 pub mod PutEvents

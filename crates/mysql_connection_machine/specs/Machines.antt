@@ -1,10 +1,11 @@
 -- What a machine that reads a connection holds, and what its calls do.
 -- MySQL: Client/Server Protocol, "Connection Lifecycle" and "MySQL Packets".
-use Rattle.std.specs.Prelude.{◌≡◌, ◌≢◌, ◌+◌, ◌-◌, ◌≤◌, ◌<◌, ℕ, true, false, List, length}
+use Rattle.std.specs.Prelude.{◌≡◌, ◌≢◌, ◌+◌, ◌-◌, ◌≤◌, ◌<◌, ℕ, Bool, true, false, List, length}
 use Rattle.std.specs.Prelude.{if◌then◌else◌}
 use Rattle.std.specs.Prelude.{Option, Some, None, Result, Ok, Err}
 use Rattle.std.specs.Option.{option_and_then}
 use Rattle.mysql_wire.specs.FirstPacket.{Found, Whole, first_packet}
+use Rattle.mysql_wire.specs.Views.{HasManyChunks}
 use Rattle.mysql_connection_rules.specs.Laws.{WithinLimits, unread_length}
 use Rattle.mysql_connection_rules.specs.declared.fault.Fault.TheVariants as faults
 use Rattle.mysql_connection_rules.specs.declared.side.Side.{Side}
@@ -15,6 +16,7 @@ use Rattle.mysql_connection_rules.specs.Streams.{Beginning, Coming, End, Fails, 
 use Rattle.mysql_connection_rules.specs.Streams.{Stream, Waits, World, come, held, next, no_bytes}
 use Rattle.mysql_connection_rules.specs.Streams.{room, start}
 use Rattle.mysql_connection_rules.specs.Streams.{stream_of}
+use Rattle.mysql_connection_rules.specs.Events as events
 use Rattle.mysql_connection_rules.specs.Events.Event.{Replied}
 use Rattle.mysql_connection_state.specs.Views.{EventHasUnclear, event_view}
 use Rattle.mysql_connection_statements.specs.Statements.{Statement, Statements, resolved, statement_at}
@@ -152,11 +154,22 @@ NextHasUnclear w event = turn w.standing.phase ≡ Some Client → FoundHasUncle
 
 -- ROWS THAT ARE LENT
 
--- What comes next of the world, of which a row is lent; by any other answer none is.
+-- A row of a reply.
+abbrev pub is_row : events.Event → Bool
+is_row (Replied (RowEvent row)) = true
+is_row event = false
+
+-- A row that isn't lent came in more than one chunk: its payload fills one, of 2^24 - 1 bytes, at least.
+abbrev pub RowHasManyChunks : events.Event → Found → Type 0
+RowHasManyChunks event found = is_row event ≡ true → HasManyChunks found
+
+-- What comes next of the world, of which a row is lent where it has one chunk; by any other answer none is.
 abbrev pub AnswersLent : World → Result (Option LentEvent) ConnectionFault → LendingWorld → Type 0
 AnswersLent old (Ok None) new = (next old ≡ Waits) × (new ≡ lending_none old)
 AnswersLent old (Ok (Some (lent.Event event))) new =
-    (next old ≡ Says (event_view event) new.world) × (new.row ≡ None)
+    (next old ≡ Says (event_view event) new.world) × (new.row ≡ None) ×
+    RowHasManyChunks (event_view event)
+    (first_packet old.limits.server old.standing.number old.unread.server.bytes)
 AnswersLent old (Ok (Some lent.Row)) new =
     (row : Row) × (new.row ≡ Some row) × (next old ≡ Says (Replied (RowEvent row)) new.world)
 AnswersLent old (Err fault) new = FindsFault old fault new.world × (new.row ≡ None)

@@ -7,6 +7,7 @@ use Rattle.std.specs.declared.borrow.CowSlice.{CowSlice}
 use Rattle.std.specs.declared.borrow.CowSlice.TheVariants as slice
 use Rattle.mysql_wire.specs.FirstPacket.{Found, OutOfSync, Short, TooLarge, Whole}
 use Rattle.mysql_wire.specs.FirstPacket.{first_packet}
+use Rattle.mysql_wire.specs.Views.{HasManyChunks}
 use Rattle.mysql_connection_rules.specs.declared.fault.Fault.{Fault}
 use Rattle.mysql_connection_rules.specs.declared.fault.Fault.TheVariants as faults
 use Rattle.mysql_connection_rules.specs.declared.limits.Limits.{Limits}
@@ -19,6 +20,7 @@ use Rattle.mysql_connection_state.specs.Follows.{LeadsTo}
 use Rattle.mysql_connection_state.specs.Views.{ConnectionState, event_view}
 use Rattle.mysql_connection_state.specs.declared.event.Event.{Event}
 use Rattle.mysql_connection_machine.specs.Buffers.{Buffer}
+use Rattle.mysql_connection_machine.specs.Machines.{RowHasManyChunks, is_row}
 use Rattle.mysql_connection_machine.specs.declared.lent_event.LentEvent.{LentEvent}
 use Rattle.mysql_connection_machine.specs.declared.lent_event.LentEvent.TheVariants as lent
 use Rattle.mysql_connection_machine.specs.declared.taking.Packet.{Packet}
@@ -59,6 +61,16 @@ abbrev pub IsLentFrom : List ℕ → Result (Option Packet) Fault → Type 0
 IsLentFrom bytes (Ok (Some packet)) = IsLentAs (drop 4 (take packet.used bytes)) packet.payload
 IsLentFrom bytes result = Unit {0}
 
+-- A payload is lent, or its packet has more than one chunk.
+abbrev pub IsLentOrOf : {Z : Type 0} → Found → CowSlice ℕ Z → Type 0
+IsLentOrOf found (slice.Borrowed payload) = Unit {0}
+IsLentOrOf found (slice.Owned payload) = HasManyChunks found
+
+-- A packet of one chunk is lent.
+abbrev pub IsLentWhereOne : Found → Result (Option Packet) Fault → Type 0
+IsLentWhereOne found (Ok (Some packet)) = IsLentOrOf found packet.payload
+IsLentWhereOne found result = Unit {0}
+
 -- PAYLOADS
 
 -- What is kept behind a packet of the side has room.
@@ -91,7 +103,7 @@ SaysBy limits side number step (Ok event) new =
 SaysBy limits side number step (Err fault) new =
     fault ≢ faults.Memory → IsNotSaid limits side number step fault
 
--- What the payload says, where a row lies in it.
+-- What the payload says, where each row lies in it: any other event is no row.
 abbrev pub SaysInPlaceBy : Limits → Side → ℕ → Step → List ℕ → Result (Option Event) Fault →
     ConnectionState → Type 0
 SaysInPlaceBy limits side number step payload (Ok None) new =
@@ -99,7 +111,7 @@ SaysInPlaceBy limits side number step payload (Ok None) new =
     (step ≡ Ok (events.Replied (RowEvent row), s)) × (has_room limits side number s ≡ true) ×
     (new.standing ≡ numbered side number s)
 SaysInPlaceBy limits side number step payload (Ok (Some event)) new =
-    SaysBy limits side number step (Ok event) new.standing
+    SaysBy limits side number step (Ok event) new.standing × (is_row (event_view event) ≡ false)
 SaysInPlaceBy limits side number step payload (Err fault) new =
     SaysBy limits side number step (Err fault) new.standing
 
@@ -121,13 +133,14 @@ TakesBy limits side says found old stream (Err fault) new left =
     ((payload : List ℕ) × (number : ℕ) × (rest : List ℕ) × (found ≡ Whole payload number rest) ×
     (fault ≢ faults.Memory → IsNotSaid limits side number (says payload) fault))
 
--- The same, where a row lies in its payload, which is lent.
+-- The same, where each row that has one chunk lies in its payload, which is lent.
 abbrev pub TakesLentBy : Limits → Side → (List ℕ → Step) → Found → Standing → Stream →
     Result (Option LentEvent) Fault → ConnectionState → Buffer → Type 0
 TakesLentBy limits side says found old stream (Ok None) new left =
     TakesBy limits side says found old stream (Ok None) new.standing left.stream
 TakesLentBy limits side says found old stream (Ok (Some (lent.Event event))) new left =
-    TakesBy limits side says found old stream (Ok (Some event)) new.standing left.stream
+    TakesBy limits side says found old stream (Ok (Some event)) new.standing left.stream ×
+    RowHasManyChunks (event_view event) found
 TakesLentBy limits side says found old stream (Ok (Some lent.Row)) new left =
     (row : Row) × (number : ℕ) × (rest : List ℕ) × (s : Standing) × RowAt new.rows left.lent row ×
     (found ≡ Whole left.lent number rest) ×

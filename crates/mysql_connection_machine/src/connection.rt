@@ -201,8 +201,7 @@ impl Connection {
     /// The next event, as [`Connection::next_event`] tells it, but a row stays where it lies.
     ///
     /// [`Connection::row`] then lends it. None of it is copied, and memory is asked for at the first
-    /// row of a result alone. If it is refused, that row is an event as any other. So is a row of more than
-    /// one packet's chunk.
+    /// row of a result alone. A row of more than one packet's chunk is an event as any other.
     ///
     ///     while let Some(event) = connection.next_event_lent()? {
     ///         match event {
@@ -211,8 +210,9 @@ impl Connection {
     ///         }
     ///     }
     ///
-    /// Promise: exactly what comes next of the two streams, and the row that is lent is that event's
-    /// (`AnswersLent`). An execution's unclear values are those of `next_event` (`LentHasUnclear`).
+    /// Promise: exactly what comes next of the two streams, and the row that is lent is that event's.
+    /// Each row of one chunk is lent (`AnswersLent`, `RowHasManyChunks`). An execution's unclear values
+    /// are those of `next_event` (`LentHasUnclear`).
     ///
     /// # Errors
     /// - Those of [`Connection::next_event`], in the same order. Memory is asked for only where the next

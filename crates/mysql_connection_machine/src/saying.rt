@@ -1,9 +1,10 @@
 //! What a payload says, where what is kept then has room.
 
-ghost use Rattle.std.specs.Prelude.{◌≡◌, ◌≤◌, IfOk, OnErr};
+ghost use Rattle.std.specs.Prelude.{◌≡◌, ◌≤◌, IfOk, OnErr, false};
 ghost use Rattle.std.specs.Cow.{cow_slice_items};
+ghost use Rattle.mysql_connection_machine.specs.Machines.{is_row};
 ghost use Rattle.mysql_connection_machine.specs.Takes.{GoesOnBy, SaysBy, SaysInPlaceBy};
-ghost use Rattle.mysql_connection_state.specs.Peeks.{words_step};
+ghost use Rattle.mysql_connection_state.specs.Peeks.{Peeks, words_step};
 ghost use Rattle.mysql_connection_rules.specs.Standing.{kept};
 ghost use Rattle.mysql_connection_rules.specs.Steps.{step};
 ghost use Rattle.mysql_connection_rules.specs.Streams.{room_to_keep};
@@ -14,8 +15,19 @@ use crate::room::room_to_keep;
 use mysql_connection_rules::{Fault, Limits, Side};
 use mysql_connection_state::laws::payloads_are_in_turn;
 use mysql_connection_state::{Event, FollowRefusal, State, peek_event, peek_farewell};
+use mysql_reply_events::ReplyEvent;
 use std::alloc::Global;
 use std::borrow::CowSlice;
+
+// Whether an event is a row of a reply.
+fn is_row(event: &Event) -> bool
+    ensures { result ≡ is_row (event_view event.now) }
+{
+    match event {
+        Event::Reply(said) => matches!(**said, ReplyEvent::Row(_)),
+        _ => false,
+    }
+}
 
 // Goes on behind the payload of an event, behind which this number is due. It does where what is kept
 // then has room, else nothing changes.
@@ -81,7 +93,41 @@ fn bid_bytes(
     }
 }
 
-/// The same, but a row is read where it lies.
+// What the next payload says, but no row: one that wasn't lent lacked memory.
+fn peek_other(alloc: Global, state: &State, payload: &[u8]) -> Result<Event, Fault>
+    ensures peeks { Peeks (step state.now.standing payload.now) result }
+    ensures row { IfOk result (λ event. is_row (event_view event) ≡ false) }
+{
+    let event = peek_event(alloc, state, payload)?;
+    if is_row(&event) {
+        Err(Fault::Memory)
+    } else {
+        Ok(event)
+    }
+}
+
+// The same as `say_bytes` of a payload that is no row. One that is lacks memory.
+fn say_other(
+    alloc: Global,
+    limits: Limits,
+    side: Side,
+    next: u8,
+    state: &mut State,
+    payload: &[u8],
+) -> Result<Event, Fault>
+    ensures says { SaysBy limits side next (step state.old.standing payload.now) result state.new.standing }
+    ensures row { IfOk result (λ event. is_row (event_view event) ≡ false) }
+    ensures err { OnErr result (state.new ≡ state.old) }
+{
+    payloads_are_in_turn();
+    let event = peek_other(alloc, state, payload)?;
+    match go_on(limits, side, next, state, &event, payload) {
+        Ok(()) => Ok(event),
+        Err(fault) => Err(fault),
+    }
+}
+
+/// The same, but a row is read where it lies: `None`. It is never an event.
 pub fn say_in_place(
     alloc: Global,
     limits: Limits,
@@ -99,7 +145,7 @@ pub fn say_in_place(
         state.set_number(side, next);
         Ok(None)
     } else {
-        let event = say_bytes(alloc, limits, side, next, state, payload)?;
+        let event = say_other(alloc, limits, side, next, state, payload)?;
         Ok(Some(event))
     }
 }

@@ -26,6 +26,7 @@ use crate::lent_event::LentEvent;
 use crate::next_rows::take_row;
 use crate::stream_buffer::StreamBuffer;
 use crate::taking::{take_lent, take_packet, take_words};
+use mysql_connection_rules::laws::events_are_in_turn;
 use mysql_connection_rules::{Fault, Limits, Reason, Side};
 use mysql_connection_state::{Event, Phase, State};
 use mysql_row_refs::RowRef;
@@ -237,11 +238,15 @@ impl StreamsReader {
     }
 
     // An event that is no row, where the client's payload or the server's last words are due.
+    #[tactic(auto, using(crate::proofs::Lending::others_lent))]
     fn next_of_others(&mut self) -> Result<Option<LentEvent>, ConnectionFault>
+        requires { turn self.old.world.standing.phase ≡ Some Server →
+            is_early self.old.world.standing self.old.world.unread.server.bytes ≡ true }
         ensures answers { AnswersLent self.old.world result self.new }
         ensures unclear { IfOk result (λ found. IfSome found (λ event.
             LentHasUnclear self.old.world event)) }
     {
+        events_are_in_turn();
         match self.next_event() {
             Ok(None) => Ok(None),
             Ok(Some(event)) => Ok(Some(LentEvent::Event(event))),
@@ -249,7 +254,7 @@ impl StreamsReader {
         }
     }
 
-    // The next payload of a reply; a row of it is lent.
+    // The next payload of a reply; each row of it that has one chunk is lent.
     #[tactic(auto, using(crate::proofs::Coming::comes))]
     fn lend_of_server(&mut self) -> Result<Option<LentEvent>, ConnectionFault>
         requires within { kept self.old.world.standing ≤ room_to_keep self.old.world.limits }
@@ -294,7 +299,7 @@ impl StreamsReader {
         }
     }
 
-    /// The next event of both streams; a row is lent, where it has one chunk.
+    /// The next event of both streams; each row that has one chunk is lent.
     pub fn next_event_lent(&mut self) -> Result<Option<LentEvent>, ConnectionFault>
         requires { kept self.old.world.standing ≤ room_to_keep self.old.world.limits }
         ensures answers { AnswersLent self.old.world result self.new }

@@ -1,9 +1,10 @@
 //! The first payload of a stream, taken from it.
 
-ghost use Rattle.std.specs.Prelude.{◌≡◌, ◌≤◌, IfOk, IfSome, OnErr};
+ghost use Rattle.std.specs.Prelude.{◌≡◌, ◌+◌, ◌≤◌, IfOk, IfSome, OnErr};
 ghost use Rattle.mysql_wire.specs.FirstPacket.{first_packet};
 ghost use Rattle.mysql_connection_machine.specs.Machines.{FoundHasUnclear};
-ghost use Rattle.mysql_connection_machine.specs.Takes.{FindsIn, IsLentFrom, TakesBy, TakesLentBy};
+ghost use Rattle.mysql_connection_machine.specs.Takes.{FindsIn, IsLentFrom, IsLentWhereOne};
+ghost use Rattle.mysql_connection_machine.specs.Takes.{TakesBy, TakesLentBy};
 ghost use Rattle.mysql_connection_state.specs.Peeks.{words_step};
 ghost use Rattle.mysql_connection_rules.specs.Standing.{kept};
 ghost use Rattle.mysql_connection_rules.specs.Steps.{step};
@@ -29,6 +30,7 @@ pub struct Packet<'a> {
 }
 
 // The first packet, where it is whole. Most have one chunk, and pay for nothing else.
+#[tactic(auto, using(crate::proofs::Lending::joined_of_many))]
 fn find_packet(
     alloc: Global,
     limit: usize,
@@ -37,6 +39,7 @@ fn find_packet(
 ) -> Result<Option<Packet<'_>>, Fault>
     ensures found { FindsIn limit number bytes.now result }
     ensures lent { IsLentFrom bytes.now result }
+    ensures one { IsLentWhereOne (first_packet limit number bytes.now) result }
 {
     match one_chunk(limit, number, bytes) {
         Some(payload) => Ok(Some(Packet {
@@ -75,6 +78,27 @@ fn find_chunks(
     }
 }
 
+// The first packet of a stream, where it is whole and 64 bits tell the place behind it.
+#[inline]
+fn first_of(
+    alloc: Global,
+    limit: usize,
+    number: u8,
+    stream: &StreamBuffer,
+) -> Result<Option<Packet<'_>>, Fault>
+    ensures found { FindsIn limit number stream.now.stream.bytes result }
+    ensures lent { IsLentFrom stream.now.stream.bytes result }
+    ensures one { IsLentWhereOne (first_packet limit number stream.now.stream.bytes) result }
+    ensures place { IfOk result (λ found. IfSome found (λ packet.
+        stream.now.stream.read + packet.used ≤ u64.MAX)) }
+{
+    let found = find_packet(alloc, limit, number, stream.as_slice())?;
+    match &found {
+        Some(packet) if !stream.can_advance(packet.used) => Err(Fault::Memory),
+        _ => Ok(found),
+    }
+}
+
 /// The payload of a side whose turn it is.
 pub fn take_packet(
     alloc: Global,
@@ -94,7 +118,7 @@ pub fn take_packet(
 {
     let limit = limit_of(side, limits);
     let number = state.number();
-    let Some(packet) = find_packet(alloc, limit, number, stream.as_slice())? else {
+    let Some(packet) = first_of(alloc, limit, number, stream)? else {
         return Ok(None);
     };
     let Packet {
@@ -102,9 +126,6 @@ pub fn take_packet(
         next,
         used,
     } = packet;
-    if !stream.can_advance(used) {
-        return Err(Fault::Memory);
-    }
     match say(alloc, limits, side, next, state, payload) {
         Ok(event) => {
             stream.advance(used);
@@ -114,7 +135,8 @@ pub fn take_packet(
     }
 }
 
-/// The payload of a side whose turn it is; a row of one chunk is lent.
+/// The payload of a side whose turn it is; each row of one chunk is lent.
+#[tactic(auto, using(crate::proofs::Lending::no_row_lent))]
 pub fn take_lent(
     alloc: Global,
     limits: Limits,
@@ -131,7 +153,7 @@ pub fn take_lent(
 {
     let limit = limit_of(side, limits);
     let number = state.number();
-    let Some(packet) = find_packet(alloc, limit, number, stream.as_slice())? else {
+    let Some(packet) = first_of(alloc, limit, number, stream)? else {
         return Ok(None);
     };
     let Packet {
@@ -139,9 +161,6 @@ pub fn take_lent(
         next,
         used,
     } = packet;
-    if !stream.can_advance(used) {
-        return Err(Fault::Memory);
-    }
     match payload {
         CowSlice::Owned(joined) => {
             match say_bytes(alloc, limits, side, next, state, joined.as_slice()) {
@@ -186,7 +205,7 @@ pub fn take_words(
     ensures err { OnErr result (state.new ≡ state.old) }
     ensures stream { OnErr result (server.new.stream ≡ server.old.stream) }
 {
-    let Some(packet) = find_packet(alloc, limits.server, number, server.as_slice())? else {
+    let Some(packet) = first_of(alloc, limits.server, number, server)? else {
         return Ok(None);
     };
     let Packet {
@@ -194,9 +213,6 @@ pub fn take_words(
         next,
         used,
     } = packet;
-    if !server.can_advance(used) {
-        return Err(Fault::Memory);
-    }
     match bid(alloc, limits, next, state, payload) {
         Ok(event) => {
             server.advance(used);
