@@ -4,9 +4,9 @@ use crate::program::Status;
 use crate::reading::{TakesPieces, follow_input};
 use crate::stop::Stop;
 use crate::transcript::Transcript;
+use mysql_connection_lines::{Secrets, print_end};
 use mysql_connection_machine::End;
 use mysql_connection_rules::Limits;
-use mysql_transcripts::{Secrets, print_end};
 use std::alloc::Global;
 use std::io::{BufWriter, Read, Write};
 

@@ -14,6 +14,7 @@ mod following;
 mod help;
 mod json_sets;
 mod lines;
+mod position;
 mod process;
 mod program;
 mod reading;

@@ -3,8 +3,8 @@
 ghost use Rattle.std.specs.Prelude.{◌≡◌};
 ghost use Rattle.mysql_command_line.specs.declared.stop.Stop.TheVariants as stop;
 
+use crate::position::BadTranscript;
 use mysql_session::{ReceiverError, RecodeError, Refusal};
-use mysql_transcripts::BadTranscript;
 use std::alloc::{AllocError, AllocFailed};
 use std::io;
 

@@ -2,11 +2,12 @@
 
 ghost use Rattle.std.specs.Prelude.{◌<◌, ◌≤◌, IfOk, length};
 
+use crate::position::{Position, Record};
 use crate::stop::Stop;
+use mysql_connection_lines::{Secrets, print_event};
 use mysql_connection_machine::{Connection, End, FeedRefusal};
 use mysql_connection_rules::{Fault, Limits, Reason, Side};
 use mysql_connection_state::Phase;
-use mysql_transcripts::{Position, Record, Secrets, print_event};
 use std::alloc::Global;
 use std::io::Write;
 

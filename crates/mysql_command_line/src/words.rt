@@ -6,8 +6,8 @@ ghost use Rattle.mysql_command_line.specs.Words.{IsId, IsLimit};
 ghost use Rattle.mysql_command_line.specs.declared.stop.Stop.TheVariants as stop;
 
 use crate::stop::Stop;
+use mysql_connection_lines::Secrets;
 use mysql_session::{Mode, Road, Spelling};
-use mysql_transcripts::Secrets;
 
 /// A query for a server in a mode, and how byte strings are spelled in its texts. With it go its
 /// statement's id and the limit of its packets.

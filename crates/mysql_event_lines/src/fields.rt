@@ -1,169 +1,148 @@
-//! Fields of a line.
+//! Rows of the table of events, and their fields.
 
 ghost use Rattle.std.specs.Prelude.{◌≤◌, length};
 
-use crate::secrets::Secrets;
-use mysql_auth::AuthPlugin;
-use mysql_cells::Value;
-use mysql_handshake_response::ConnectAttributes;
-use mysql_row_refs::ValueRef;
-use std::io;
-use std::io::Write;
+use crate::lists::List;
 
-/// How many bytes are put into hexadecimal together.
-const RUN_LEN: usize = 4096;
+/// How many fields an event has at most.
+const FIELDS: usize = 12;
 
-/// Writes the digits of a few bytes.
-fn write_run<W: Write>(output: &mut W, run: &[u8]) -> io::Result<()>
-    requires { length run.now ≤ 4096 }
-{
-    let mut digits = [0; 2 * RUN_LEN];
-    let digits = &mut digits[..2 * run.len()];
-    let Ok(()) = hex::encode_to_slice(run, digits) else {
-        unreachable!()
-    };
-    output.write_all(digits)
+/// What a field holds.
+#[derive(Clone, Copy)]
+pub(crate) enum Held<'e> {
+    /// What is usual, which no line has.
+    Usual,
+    /// Nothing: the field isn't there.
+    Absent,
+    /// A number; a flag is 0 or 1.
+    Number(u64),
+    /// Bytes.
+    Bytes(&'e [u8]),
+    /// The bytes of an SQL state.
+    State([u8; 5]),
+    /// Bytes of an authentication, as a password or its scramble.
+    Secret(&'e [u8]),
+    /// A list.
+    List(List<'e>),
 }
 
-/// Writes bytes in hexadecimal behind an `x`.
-pub(crate) fn write_hexadecimal<W: Write>(output: &mut W, bytes: &[u8]) -> io::Result<()> {
-    output.write_all(b"x")?;
-    let mut rest = bytes;
-    while !rest.is_empty() {
-        let (run, behind) = rest.split_at(rest.len().min(RUN_LEN));
-        write_run(output, run)?;
-        rest = behind;
+/// How short lines have a field.
+#[derive(Clone, Copy)]
+pub(crate) enum Brief {
+    /// Without its name.
+    Bare,
+    /// Behind its name.
+    Named,
+    /// Not at all.
+    Without,
+}
+
+/// A field of an event.
+#[derive(Clone, Copy)]
+pub(crate) struct Field<'e> {
+    pub(crate) name: &'static str,
+    pub(crate) held: Held<'e>,
+    pub(crate) brief: Brief,
+}
+
+/// A list of fields. The prover covers a struct whose field is an array of values that borrow, where
+/// the array's type is a parameter.
+#[derive(Clone, Copy)]
+pub(crate) struct Fields<T> {
+    pub(crate) list: T,
+}
+
+fn listed<T>(list: T) -> Fields<T> {
+    Fields { list }
+}
+
+/// What an event says: its name, and its fields in their order.
+#[derive(Clone, Copy)]
+pub struct Said<'e> {
+    pub(crate) name: &'static str,
+    pub(crate) fields: Fields<[Field<'e>; FIELDS]>,
+}
+
+/// An entry of the table: what an event of this name says, where it has no fields.
+pub(crate) fn entry<'e>(name: &'static str) -> Said<'e> {
+    let fields = listed([field_of("", Held::Usual); FIELDS]);
+    Said { name, fields }
+}
+
+/// An entry of the table with one field, a number.
+pub(crate) fn number_entry<'e>(name: &'static str, field: &'static str, it: u64) -> Said<'e> {
+    entry(name).with(&[number(field, it)])
+}
+
+/// An entry of the table with one field, bytes.
+pub(crate) fn bytes_entry<'e>(name: &'static str, field: &'static str, it: &'e [u8]) -> Said<'e> {
+    entry(name).with(&[bytes(field, it)])
+}
+
+impl<'e> Said<'e> {
+    /// What an event of the same name says that has these fields.
+    pub(crate) fn with(self, fields: &[Field<'e>]) -> Said<'e>
+        requires { length fields.now ≤ 12 }
+    {
+        let mut said = self;
+        for (place, field) in fields.iter().enumerate() {
+            if let Some(free) = said.fields.list.get_mut(place) {
+                *free = *field;
+            }
+        }
+        said
     }
-    Ok(())
 }
 
-/// Writes a field that is a number.
-pub(crate) fn write_number<W: Write>(output: &mut W, name: &str, number: u64) -> io::Result<()> {
-    write!(output, " {name}={number}")
-}
+impl<'e> Field<'e> {
+    /// The field, which short lines have behind its name.
+    pub(crate) fn named(self) -> Field<'e> {
+        self.with(Brief::Named)
+    }
 
-/// Writes a field that is a flag.
-pub(crate) fn write_flag<W: Write>(output: &mut W, name: &str, flag: bool) -> io::Result<()> {
-    write_number(output, name, u64::from(flag))
-}
+    /// The field, which short lines don't have.
+    pub(crate) fn long(self) -> Field<'e> {
+        self.with(Brief::Without)
+    }
 
-/// Writes a field that has bytes.
-pub(crate) fn write_bytes<W: Write>(output: &mut W, name: &str, bytes: &[u8]) -> io::Result<()> {
-    write!(output, " {name}=")?;
-    write_hexadecimal(output, bytes)
-}
-
-/// Writes a field that has bytes of an authentication, or how many they are.
-pub(crate) fn write_secret<W: Write>(
-    output: &mut W,
-    name: &str,
-    bytes: &[u8],
-    secrets: Secrets,
-) -> io::Result<()> {
-    match secrets {
-        Secrets::Shown => write_bytes(output, name, bytes),
-        Secrets::Hidden => write!(output, " {name}=({} bytes)", bytes.len()),
+    pub(crate) fn with(self, brief: Brief) -> Field<'e> {
+        Field {
+            name: self.name,
+            held: self.held,
+            brief,
+        }
     }
 }
 
-/// Writes a field that has bytes, or `-` where it isn't there.
-pub(crate) fn write_bytes_if<W: Write>(
-    output: &mut W,
-    name: &str,
-    bytes: Option<&[u8]>,
-) -> io::Result<()> {
+/// A field that holds this.
+pub(crate) fn field_of<'e>(name: &'static str, held: Held<'e>) -> Field<'e> {
+    Field {
+        name,
+        held,
+        brief: Brief::Bare,
+    }
+}
+
+pub(crate) fn number<'e>(name: &'static str, number: u64) -> Field<'e> {
+    field_of(name, Held::Number(number))
+}
+
+pub(crate) fn bytes<'e>(name: &'static str, bytes: &'e [u8]) -> Field<'e> {
+    field_of(name, Held::Bytes(bytes))
+}
+
+/// A field that has bytes, or else holds this.
+pub(crate) fn bytes_or<'e>(
+    name: &'static str,
+    otherwise: Held<'e>,
+    bytes: Option<&'e [u8]>,
+) -> Field<'e> {
     match bytes {
-        Some(bytes) => write_bytes(output, name, bytes),
-        None => write!(output, " {name}=-"),
+        Some(bytes) => field_of(name, Held::Bytes(bytes)),
+        None => field_of(name, otherwise),
     }
 }
 
-/// Writes a value: `-` for NULL, `(i -5)`, `(f32 3fc00000)` and `(f64 ..)` by their bits, `(b x61)`,
-/// `(d (year month day hour minute second microsecond))`, and
-/// `(t (negative days hours minutes seconds microseconds))`.
-pub(crate) fn write_value<W: Write>(output: &mut W, value: &Value) -> io::Result<()> {
-    write_value_ref(output, borrowed(value))
-}
-
-/// A value that borrows its bytes.
-fn borrowed(value: &Value) -> ValueRef<'_> {
-    match value {
-        Value::NULL => ValueRef::NULL,
-        Value::Bytes(bytes) => ValueRef::Bytes(bytes.as_slice()),
-        Value::Int(number) => ValueRef::Int(*number),
-        Value::UInt(number) => ValueRef::UInt(*number),
-        Value::Float(bits) => ValueRef::Float(*bits),
-        Value::Double(bits) => ValueRef::Double(*bits),
-        Value::Date(year, month, day, hour, minute, second, micros) => {
-            ValueRef::Date(*year, *month, *day, *hour, *minute, *second, *micros)
-        }
-        Value::Time(negative, days, hours, minutes, seconds, micros) => {
-            ValueRef::Time(*negative, *days, *hours, *minutes, *seconds, *micros)
-        }
-    }
-}
-
-/// Writes a value that borrows its bytes, as [`write_value`] does.
-pub(crate) fn write_value_ref<W: Write>(output: &mut W, value: ValueRef<'_>) -> io::Result<()> {
-    match value {
-        ValueRef::NULL => output.write_all(b"-"),
-        ValueRef::Bytes(bytes) => {
-            output.write_all(b"(b ")?;
-            write_hexadecimal(output, bytes)?;
-            output.write_all(b")")
-        }
-        ValueRef::Int(number) => write!(output, "(i {number})"),
-        ValueRef::UInt(number) => write!(output, "(i {number})"),
-        ValueRef::Float(bits) => write!(output, "(f32 {bits:08x})"),
-        ValueRef::Double(bits) => write!(output, "(f64 {bits:016x})"),
-        ValueRef::Date(year, month, day, hour, minute, second, micros) => write!(
-            output,
-            "(d ({year} {month} {day} {hour} {minute} {second} {micros}))"
-        ),
-        ValueRef::Time(negative, days, hours, minutes, seconds, micros) => {
-            let negative = u8::from(negative);
-            write!(
-                output,
-                "(t ({negative} {days} {hours} {minutes} {seconds} {micros}))"
-            )
-        }
-    }
-}
-
-/// Writes what stands before an element of a list: a space, but before the first one.
-pub(crate) fn write_space<W: Write>(output: &mut W, place: usize) -> io::Result<()> {
-    if place > 0 {
-        output.write_all(b" ")?;
-    }
-    Ok(())
-}
-
-/// Writes the attributes of a connection as a list of pairs, or `-` where there are none.
-pub(crate) fn write_pairs<W: Write>(
-    output: &mut W,
-    attributes: Option<&ConnectAttributes>,
-) -> io::Result<()> {
-    let Some(attributes) = attributes else {
-        return output.write_all(b" attributes=-");
-    };
-    output.write_all(b" attributes=(")?;
-    for place in 0..attributes.len() {
-        write_space(output, place)?;
-        if let Some((key, value)) = attributes.pair(place) {
-            output.write_all(b"(")?;
-            write_hexadecimal(output, key)?;
-            output.write_all(b" ")?;
-            write_hexadecimal(output, value)?;
-            output.write_all(b")")?;
-        }
-    }
-    output.write_all(b")")
-}
-
-/// The bytes of a plugin's name, where there is one.
-pub(crate) fn name_of<'x>(plugin: Option<&'x AuthPlugin<'_>>) -> Option<&'x [u8]> {
-    match plugin {
-        Some(plugin) => Some(plugin.as_bytes()),
-        None => None,
-    }
+pub(crate) fn secret<'e>(name: &'static str, bytes: &'e [u8]) -> Field<'e> {
+    field_of(name, Held::Secret(bytes))
 }

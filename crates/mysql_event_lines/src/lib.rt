@@ -1,21 +1,28 @@
-//! Events of a connection as lines of text: a name, and the fields behind it by their names.
+//! What events of a connection say, and lines of text with it.
 //!
 //!     write_reply_event(&mut output, &event)?;     // Row cells=((i 1) (b x61) -)
 //!
-//! A number is written in decimals, bytes as `x` and hexadecimal, a flag as 0 or 1, and what isn't
-//! there as `-`. A list stands in parentheses. Of what
-//! [`Secrets::Hidden`] hides the length is there, as `(20 bytes)`.
+//! commands.rt, logins.rt and replies.rt are one table, by which each line is written: a row is an
+//! event's name and its fields. A [`Form`] says how a line has them.
 #![tactic(auto)]
 
 mod commands;
 mod fields;
+mod form;
+mod lists;
 mod logins;
 mod replies;
 mod secrets;
+mod values;
 
-pub use crate::commands::write_command;
+pub use crate::commands::{command_said, write_command};
+pub use crate::fields::Said;
+pub use crate::form::{Form, write_said};
 pub use crate::logins::{
-    write_answer, write_authentication_event, write_greeting_event, write_response_event,
+    answer_said, authentication_said, greeting_said, response_said, write_authentication_event,
+    write_greeting_event, write_response_event,
 };
-pub use crate::replies::{write_farewell, write_file_data, write_reply_event, write_row_ref};
+pub use crate::replies::{
+    farewell_said, file_data_said, reply_said, write_reply_event, write_row_ref,
+};
 pub use crate::secrets::Secrets;

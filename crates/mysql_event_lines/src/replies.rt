@@ -1,15 +1,17 @@
-//! What one payload of a reply says, as a line.
+//! The table of events, replies: what one payload of a reply says.
 
 use crate::fields::{
-    write_bytes, write_bytes_if, write_flag, write_number, write_space, write_value,
-    write_value_ref,
+    Brief, Field, Held, Said, bytes, bytes_entry, bytes_or, entry, field_of, number,
 };
-use mysql_columns::{Column, ExtendedColumn};
+use crate::form::{Form, write_said};
+use crate::lists::List;
+use crate::secrets::Secrets;
+use mysql_columns::{ExtendedColumn, ListedColumn};
 use mysql_ok_packets::OkPacket;
 use mysql_reply_events::ReplyEvent;
 use mysql_row_refs::RowRef;
 use mysql_rows::Row;
-use mysql_server_packets::{ProgressReport, ServerError, SqlState, StmtPacket};
+use mysql_server_packets::{ProgressReport, ServerError, StmtPacket};
 use std::io;
 use std::io::Write;
 
@@ -21,110 +23,127 @@ fn or_empty(bytes: Option<&[u8]>) -> &[u8] {
     }
 }
 
-/// Writes the fields of an OK or EOF packet behind its name.
-pub(crate) fn write_ok<W: Write>(output: &mut W, name: &str, ok: &OkPacket) -> io::Result<()> {
-    write!(output, "{name}")?;
-    write_number(output, "affected", ok.affected_rows())?;
-    write_number(output, "insert_id", ok.last_insert_id().unwrap_or(0))?;
-    write_number(output, "status", u64::from(ok.status_flags().0))?;
-    write_number(output, "warnings", u64::from(ok.warnings()))?;
-    write_bytes(output, "info", or_empty(ok.info_ref()))?;
-    write_bytes(output, "state", or_empty(ok.session_state_info_ref()))
+/// What an OK or EOF packet says. Short lines have what changed where it answers a command.
+pub(crate) fn ok_said<'e>(name: &'static str, ok: &'e OkPacket<'_>) -> Said<'e> {
+    let brief = if name == "Ok" {
+        Brief::Bare
+    } else {
+        Brief::Without
+    };
+    entry(name).with(&[
+        number("affected", ok.affected_rows()).with(brief),
+        number("insert_id", ok.last_insert_id().unwrap_or(0)).with(brief),
+        number("status", u64::from(ok.status_flags().0)).long(),
+        number("warnings", u64::from(ok.warnings())).long(),
+        bytes("info", or_empty(ok.info_ref())).long(),
+        bytes("state", or_empty(ok.session_state_info_ref())).long(),
+    ])
 }
 
-/// Writes the fields of an error behind its name.
-pub(crate) fn write_error<W: Write>(
-    output: &mut W,
-    name: &str,
-    error: &ServerError,
-) -> io::Result<()> {
-    write!(output, "{name}")?;
-    write_number(output, "code", u64::from(error.error_code()))?;
-    match error.sql_state_ref() {
-        Some(state) => write_bytes(output, "state", &state.as_bytes())?,
-        None => write_bytes(output, "state", &[])?,
-    }
-    write_bytes(output, "message", error.message_ref())
+/// What an error says.
+pub(crate) fn error_said<'e>(name: &'static str, error: &'e ServerError<'_>) -> Said<'e> {
+    let state = match error.sql_state_ref() {
+        Some(state) => Held::State(state.as_bytes()),
+        None => Held::Bytes(&[]),
+    };
+    entry(name).with(&[
+        number("code", u64::from(error.error_code())),
+        field_of("state", state).long(),
+        bytes("message", error.message_ref()),
+    ])
 }
 
-fn write_progress<W: Write>(output: &mut W, report: &ProgressReport) -> io::Result<()> {
-    output.write_all(b"Progress")?;
-    write_number(output, "stage", u64::from(report.stage()))?;
-    write_number(output, "max", u64::from(report.max_stage()))?;
-    write_number(output, "progress", u64::from(report.progress()))?;
-    write_bytes(output, "info", report.stage_info_ref())
+fn progress_said<'e>(report: &'e ProgressReport<'_>) -> Said<'e> {
+    entry("Progress").with(&[
+        number("stage", u64::from(report.stage())),
+        number("max", u64::from(report.max_stage())),
+        number("progress", u64::from(report.progress())),
+        bytes("info", report.stage_info_ref()),
+    ])
 }
 
-fn write_count<W: Write>(output: &mut W, count: u16, follow: bool) -> io::Result<()> {
-    output.write_all(b"ColumnCount")?;
-    write_number(output, "count", u64::from(count))?;
-    write_flag(output, "follow", follow)
-}
-
-/// Writes the names of a column.
-fn write_names<W: Write>(output: &mut W, column: &Column) -> io::Result<()> {
-    write_bytes(output, "schema", column.schema_ref())?;
-    write_bytes(output, "table", column.table_ref())?;
-    write_bytes(output, "org_table", column.org_table_ref())?;
-    write_bytes(output, "name", column.name_ref())?;
-    write_bytes(output, "org_name", column.org_name_ref())
-}
-
-/// Writes a column: its names, its metadata where it has some, and its numbers.
-fn write_column<W: Write>(output: &mut W, extended: &ExtendedColumn) -> io::Result<()> {
+/// What a column says, and the default value that a column of a table's list has.
+fn column_said<'e>(extended: &'e ExtendedColumn, default: Field<'e>) -> Said<'e> {
     let column = extended.column();
-    output.write_all(b"Column")?;
-    write_names(output, column)?;
-    if let Some(metadata) = extended.metadata_ref() {
-        write_bytes(output, "extended", metadata)?;
-    }
-    write_number(output, "charset", u64::from(column.character_set()))?;
-    write_number(output, "length", u64::from(column.column_length()))?;
-    write_number(output, "type", u64::from(u8::from(column.column_type())))?;
-    write_number(output, "flags", u64::from(column.flags().0))?;
-    write_number(output, "decimals", u64::from(column.decimals()))
+    entry("Column").with(&[
+        bytes("schema", column.schema_ref()).long(),
+        bytes("table", column.table_ref()).long(),
+        bytes("org_table", column.org_table_ref()).long(),
+        bytes("name", column.name_ref()),
+        bytes("org_name", column.org_name_ref()).long(),
+        bytes_or("extended", Held::Usual, extended.metadata_ref()).long(),
+        number("charset", u64::from(column.character_set())).long(),
+        number("length", u64::from(column.column_length())).long(),
+        number("type", u64::from(u8::from(column.column_type()))),
+        number("flags", u64::from(column.flags().0)).long(),
+        number("decimals", u64::from(column.decimals())).long(),
+        default.long(),
+    ])
 }
 
-/// Writes the cells of a row as a list; one that was taken is written as NULL is.
-fn write_row<W: Write>(output: &mut W, row: &Row) -> io::Result<()> {
-    output.write_all(b"Row cells=(")?;
-    for place in 0..row.len() {
-        write_space(output, place)?;
-        match row.as_ref(place) {
-            Some(value) => write_value(output, value)?,
-            None => output.write_all(b"-")?,
-        }
-    }
-    output.write_all(b")")
+fn plain_column_said(column: &ExtendedColumn) -> Said<'_> {
+    column_said(column, field_of("default", Held::Usual))
 }
 
-/// Writes a row that is lent, as [`write_reply_event`] writes it where it is kept.
-///
-/// # Errors
-/// - Those of the output.
-pub fn write_row_ref<W: Write>(output: &mut W, row: &RowRef<'_, '_>) -> io::Result<()> {
-    output.write_all(b"Row cells=(")?;
-    for place in 0..row.len() {
-        write_space(output, place)?;
-        match row.as_ref(place) {
-            Some(value) => write_value_ref(output, value)?,
-            None => output.write_all(b"-")?,
-        }
-    }
-    output.write_all(b")")
+fn listed_column_said(listed: &ListedColumn) -> Said<'_> {
+    let default = bytes_or("default", Held::Absent, listed.default_ref());
+    column_said(listed.column(), default)
 }
 
-fn write_statement<W: Write>(
-    output: &mut W,
-    statement: &StmtPacket,
-    follow: bool,
-) -> io::Result<()> {
-    output.write_all(b"Prepared")?;
-    write_number(output, "id", u64::from(statement.statement_id()))?;
-    write_number(output, "columns", u64::from(statement.num_columns()))?;
-    write_number(output, "params", u64::from(statement.num_params()))?;
-    write_number(output, "warnings", u64::from(statement.warning_count()))?;
-    write_flag(output, "follow", follow)
+fn count_said<'e>(count: u16, follow: bool) -> Said<'e> {
+    entry("ColumnCount").with(&[
+        number("count", u64::from(count)),
+        number("follow", u64::from(follow)).long(),
+    ])
+}
+
+fn row_said(row: &Row) -> Said<'_> {
+    entry("Row").with(&[field_of("cells", Held::List(List::Cells(row)))])
+}
+
+fn statement_said<'e>(statement: &StmtPacket, follow: bool) -> Said<'e> {
+    entry("Prepared").with(&[
+        number("id", u64::from(statement.statement_id())),
+        number("columns", u64::from(statement.num_columns())),
+        number("params", u64::from(statement.num_params())),
+        number("warnings", u64::from(statement.warning_count())).long(),
+        number("follow", u64::from(follow)).long(),
+    ])
+}
+
+/// What a payload of a reply says.
+pub fn reply_said(event: &ReplyEvent) -> Said<'_> {
+    match event {
+        ReplyEvent::Ok(ok) => ok_said("Ok", ok),
+        ReplyEvent::Error(error) => error_said("Error", error),
+        ReplyEvent::Progress(report) => progress_said(report),
+        ReplyEvent::ColumnCount {
+            count,
+            columns_follow,
+        } => count_said(*count, *columns_follow),
+        ReplyEvent::Column(column) => plain_column_said(column),
+        ReplyEvent::Field(listed) => listed_column_said(listed),
+        ReplyEvent::ColumnsEnd(ok) => ok_said("ColumnsEnd", ok),
+        ReplyEvent::Row(row) => row_said(row),
+        ReplyEvent::RawRow(data) => bytes_entry("RawRow", "data", data.as_slice()),
+        ReplyEvent::RowsEnd(ok) => ok_said("RowsEnd", ok),
+        ReplyEvent::FileRequest(file) => bytes_entry("FileRequest", "name", file.file_name_ref()),
+        ReplyEvent::Prepared {
+            statement,
+            columns_follow,
+        } => { statement_said(statement, *columns_follow) }
+        ReplyEvent::Line(data) => bytes_entry("Line", "data", data.as_slice()),
+    }
+}
+
+/// What a payload of the file says that a client was asked for.
+pub fn file_data_said(data: &[u8]) -> Said<'_> {
+    entry("FileData").with(&[bytes("data", data)])
+}
+
+/// What a server's last words say, an error that answers nothing.
+pub fn farewell_said<'e>(error: &'e ServerError<'_>) -> Said<'e> {
+    error_said("Farewell", error)
 }
 
 /// Writes what a payload of a reply says, as a line without its end.
@@ -132,54 +151,18 @@ fn write_statement<W: Write>(
 /// # Errors
 /// - Those of the output.
 pub fn write_reply_event<W: Write>(output: &mut W, event: &ReplyEvent) -> io::Result<()> {
-    match event {
-        ReplyEvent::Ok(ok) => write_ok(output, "Ok", ok),
-        ReplyEvent::Error(error) => write_error(output, "Error", error),
-        ReplyEvent::Progress(report) => write_progress(output, report),
-        ReplyEvent::ColumnCount {
-            count,
-            columns_follow,
-        } => write_count(output, *count, *columns_follow),
-        ReplyEvent::Column(column) => write_column(output, column),
-        ReplyEvent::Field(listed) => {
-            write_column(output, listed.column())?;
-            write_bytes_if(output, "default", listed.default_ref())
-        }
-        ReplyEvent::ColumnsEnd(ok) => write_ok(output, "ColumnsEnd", ok),
-        ReplyEvent::Row(row) => write_row(output, row),
-        ReplyEvent::RawRow(payload) => {
-            output.write_all(b"RawRow")?;
-            write_bytes(output, "data", payload.as_slice())
-        }
-        ReplyEvent::RowsEnd(ok) => write_ok(output, "RowsEnd", ok),
-        ReplyEvent::FileRequest(file) => {
-            output.write_all(b"FileRequest")?;
-            write_bytes(output, "name", file.file_name_ref())
-        }
-        ReplyEvent::Prepared {
-            statement,
-            columns_follow,
-        } => write_statement(output, statement, *columns_follow),
-        ReplyEvent::Line(data) => {
-            output.write_all(b"Line")?;
-            write_bytes(output, "data", data.as_slice())
-        }
-    }
+    write_said(output, Form::Long(Secrets::Hidden), &reply_said(event))
 }
 
-/// Writes a payload of the file that a client was asked for, as a line without its end.
+/// Writes a row that is lent, as [`write_reply_event`] writes it where it is kept.
 ///
 /// # Errors
 /// - Those of the output.
-pub fn write_file_data<W: Write>(output: &mut W, data: &[u8]) -> io::Result<()> {
-    output.write_all(b"FileData")?;
-    write_bytes(output, "data", data)
-}
-
-/// Writes a server's last words, an error that answers nothing, as a line without its end.
-///
-/// # Errors
-/// - Those of the output.
-pub fn write_farewell<W: Write>(output: &mut W, error: &ServerError) -> io::Result<()> {
-    write_error(output, "Farewell", error)
+pub fn write_row_ref<W: Write>(output: &mut W, row: &RowRef<'_, '_>) -> io::Result<()> {
+    let cells = field_of("cells", Held::List(List::LentCells(row)));
+    write_said(
+        output,
+        Form::Long(Secrets::Hidden),
+        &entry("Row").with(&[cells]),
+    )
 }

@@ -1,4 +1,7 @@
-//! Where a transcript stands between two bytes.
+//! Where a transcript is between two bytes.
+//!
+//! A transcript is a list of records, in the order in which bytes came. A record is the letter of a
+//! side, `c` or `s`, a length in 4 bytes, the lowest first, and the bytes.
 
 ghost use Rattle.std.specs.Prelude.{◌<◌};
 
@@ -9,17 +12,17 @@ const HEADER_LEN: usize = 5;
 
 /// A record of which bytes are still to come.
 #[derive(Clone, Copy, Debug, PartialEq, Eq)]
-pub struct Record {
+pub(crate) struct Record {
     /// Whose bytes they are.
-    pub side: Side,
+    pub(crate) side: Side,
     /// How many are still to come.
-    pub left: u32,
+    pub(crate) left: u32,
     ghost is_unfinished: { 0 < left },
 }
 
 /// Where a transcript stands between two bytes of it.
 #[derive(Clone, Copy, Debug, PartialEq, Eq)]
-pub enum Position {
+pub(crate) enum Position {
     /// So many bytes of a record's header came, which begins with them.
     Header([u8; HEADER_LEN], usize),
     /// Bytes of a record are still to come.
@@ -28,7 +31,7 @@ pub enum Position {
 
 /// A record has neither the client's letter nor the server's.
 #[derive(Clone, Copy, Debug, PartialEq, Eq)]
-pub struct BadTranscript;
+pub(crate) struct BadTranscript;
 
 /// The side that a letter stands for.
 fn side_of(letter: u8) -> Result<Side, BadTranscript> {
@@ -41,12 +44,12 @@ fn side_of(letter: u8) -> Result<Side, BadTranscript> {
 
 impl Position {
     /// Before a record.
-    pub fn before_record() -> Position {
+    pub(crate) fn before_record() -> Position {
         Position::Header([0; HEADER_LEN], 0)
     }
 
     /// Where so many bytes of a record are still to come. Where none are, the next record is due.
-    pub fn in_record(side: Side, left: u32) -> Position {
+    pub(crate) fn in_record(side: Side, left: u32) -> Position {
         if left == 0 {
             return Position::before_record();
         }
@@ -57,7 +60,7 @@ impl Position {
     ///
     /// # Errors
     /// - `BadTranscript`: its first byte is no side's letter.
-    pub fn after_header_byte(
+    pub(crate) fn after_header_byte(
         header: [u8; HEADER_LEN],
         count: usize,
         byte: u8,
@@ -76,7 +79,7 @@ impl Position {
     }
 
     /// Whether the transcript may end here: no record is cut off.
-    pub fn is_between_records(self) -> bool {
+    pub(crate) fn is_between_records(self) -> bool {
         matches!(self, Position::Header(_, 0))
     }
 }

@@ -1,0 +1,114 @@
+//! Bytes and values in lines.
+
+ghost use Rattle.std.specs.Prelude.{◌≤◌, length};
+
+use crate::form::Form;
+use mysql_cells::Value;
+use mysql_queries::Content;
+use mysql_row_refs::ValueRef;
+use std::alloc::Global;
+use std::io;
+use std::io::Write;
+
+/// How many bytes are put into hexadecimal together.
+const RUN_LEN: usize = 4096;
+
+/// Writes the digits of a few bytes.
+fn write_run<W: Write>(output: &mut W, run: &[u8]) -> io::Result<()>
+    requires { length run.now ≤ 4096 }
+{
+    let mut digits = [0; 2 * RUN_LEN];
+    let digits = &mut digits[..2 * run.len()];
+    let Ok(()) = hex::encode_to_slice(run, digits) else {
+        unreachable!()
+    };
+    output.write_all(digits)
+}
+
+/// Writes bytes in hexadecimal behind an `x`.
+pub(crate) fn write_hexadecimal<W: Write>(output: &mut W, bytes: &[u8]) -> io::Result<()> {
+    output.write_all(b"x")?;
+    let mut rest = bytes;
+    while !rest.is_empty() {
+        let (run, behind) = rest.split_at(rest.len().min(RUN_LEN));
+        write_run(output, run)?;
+        rest = behind;
+    }
+    Ok(())
+}
+
+/// A value that borrows its bytes.
+pub(crate) fn borrowed(value: &Value) -> ValueRef<'_> {
+    match value {
+        Value::NULL => ValueRef::NULL,
+        Value::Bytes(bytes) => ValueRef::Bytes(bytes.as_slice()),
+        Value::Int(number) => ValueRef::Int(*number),
+        Value::UInt(number) => ValueRef::UInt(*number),
+        Value::Float(bits) => ValueRef::Float(*bits),
+        Value::Double(bits) => ValueRef::Double(*bits),
+        Value::Date(year, month, day, hour, minute, second, micros) => {
+            ValueRef::Date(*year, *month, *day, *hour, *minute, *second, *micros)
+        }
+        Value::Time(negative, days, hours, minutes, seconds, micros) => {
+            ValueRef::Time(*negative, *days, *hours, *minutes, *seconds, *micros)
+        }
+    }
+}
+
+/// Writes a value with its kind: `-` for NULL, `(i -5)`, `(f32 3fc00000)` and `(f64 ..)` by their
+/// bits, `(b x61)`, `(d (year month day hour minute second microsecond))`, and
+/// `(t (negative days hours minutes seconds microseconds))`.
+fn write_kind<W: Write>(output: &mut W, value: ValueRef<'_>) -> io::Result<()> {
+    match value {
+        ValueRef::NULL => output.write_all(b"-"),
+        ValueRef::Bytes(bytes) => {
+            output.write_all(b"(b ")?;
+            write_hexadecimal(output, bytes)?;
+            output.write_all(b")")
+        }
+        ValueRef::Int(number) => write!(output, "(i {number})"),
+        ValueRef::UInt(number) => write!(output, "(i {number})"),
+        ValueRef::Float(bits) => write!(output, "(f32 {bits:08x})"),
+        ValueRef::Double(bits) => write!(output, "(f64 {bits:016x})"),
+        ValueRef::Date(year, month, day, hour, minute, second, micros) => write!(
+            output,
+            "(d ({year} {month} {day} {hour} {minute} {second} {micros}))"
+        ),
+        ValueRef::Time(negative, days, hours, minutes, seconds, micros) => {
+            let negative = u8::from(negative);
+            write!(
+                output,
+                "(t ({negative} {days} {hours} {minutes} {seconds} {micros}))"
+            )
+        }
+    }
+}
+
+/// Writes a value as `audit` prints contents: `null`, a number, or bytes. Of a date or a time those
+/// of its text are written. A float is `f` and its bits.
+fn write_content<W: Write>(alloc: Global, output: &mut W, value: ValueRef<'_>) -> io::Result<()> {
+    match value {
+        ValueRef::NULL => output.write_all(b"null"),
+        ValueRef::Bytes(bytes) => write_hexadecimal(output, bytes),
+        ValueRef::Int(number) => write!(output, "{number}"),
+        ValueRef::UInt(number) => write!(output, "{number}"),
+        ValueRef::Float(bits) => write!(output, "f{bits:08x}"),
+        ValueRef::Double(bits) => write!(output, "f{bits:016x}"),
+        moment => match moment.to_value(alloc)?.into_content(alloc)? {
+            Some(Content::Bytes(text)) => write_hexadecimal(output, text.as_slice()),
+            _ => Ok(()),
+        },
+    }
+}
+
+/// Writes a value.
+pub(crate) fn write_value<W: Write>(
+    output: &mut W,
+    form: Form,
+    value: ValueRef<'_>,
+) -> io::Result<()> {
+    match form {
+        Form::Long(_) => write_kind(output, value),
+        Form::Short(_, alloc) => write_content(alloc, output, value),
+    }
+}
