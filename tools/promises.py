@@ -7,9 +7,8 @@ from sources import CRATES, ROOT, crate
 
 # The faces in the order of the layers, each with what its table has: its own crate and those below it that no face
 # before it has.
-LAYERS = ['mysql_buf', 'mysql_wire', 'mysql_values', 'mysql_convert', 'mysql_packets', 'mysql_session', 'mysql_login',
-          'mysql_connection',
-          'mysql_c']
+LAYERS = ['mysql_buf', 'mysql_wire', 'mysql_values', 'mysql_digests', 'mysql_convert', 'mysql_packets', 'mysql_session',
+          'mysql_login', 'mysql_connection', 'mysql_c']
 MANUAL = re.compile(r' ?\(?(Follows the |)(MySQL|MariaDB)(:| Reference| Client/| Source).*$')
 DEFINITION = re.compile(
     r'^(?:(?:unfoldable|opaque|abbrev|data|record|pub|inductive|reducible) )+([^\s:({]+)', re.MULTILINE)

@@ -6,7 +6,7 @@ import sys
 ROOT = pathlib.Path(__file__).resolve().parent.parent
 CRATES = ROOT / 'crates'
 FACES = ['mysql_session', 'mysql_convert', 'mysql_values', 'mysql_packets', 'mysql_wire', 'mysql_buf', 'mysql_login',
-         'mysql_connection']
+         'mysql_connection', 'mysql_digests']
 
 
 class Item:

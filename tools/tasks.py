@@ -38,6 +38,9 @@ TASKS = {
         ('read the literals out of a text', ['read_text', 'read_literal']),
         ('read a cell', ['read_cell', 'read_text_cell']),
     ],
+    'mysql_digests': [
+        ('take the values out of a statement', ['digest']),
+    ],
     'mysql_packets': [
         ('read and write a column', ['Column', 'ExtendedColumn', 'ListedColumn']),
         ('read a row', ['RowDeserializer']),

@@ -5,6 +5,7 @@
 mod buf_face;
 mod connection_face;
 mod convert_face;
+mod digests_face;
 mod login_face;
 mod packets_face;
 mod session_face;

@@ -1,0 +1,57 @@
+-- What the kind of a token says of its first bytes.
+use Rattle.std.proofs.Common.{◌≡◌, ◌≢◌, ℕ, Bool, true, false, cond, ◌&&◌, ◌==◌, ◌⊎◌, inl, inr, List, [], ◌∷◌, refl, arith}
+use Rattle.std.proofs.lemmas.Bool.Decides.{nat_tests}
+use Rattle.mysql_queries.specs.Tokens.{Kind, Quoted, LineComment, BlockComment, Name, Mark, Plain, kind_of, is_quote, backslash, slash, star, colon, question, goes_on_as_block, goes_on_as_name, is_name_start}
+
+pub bool_tells : (b : Bool) → (b ≡ true) ⊎ (b ≡ false)
+bool_tells true = inl refl
+bool_tells false = inr refl
+
+pub and_true : (p q : Bool) → p && q ≡ true → (p ≡ true) × (q ≡ true)
+and_true true q h = (refl, h)
+and_true false q h = cc
+
+pub same_number : (a b : ℕ) → (a == b) ≡ true → a ≡ b
+same_number a b h = grind (arith, nat_tests)
+
+-- a fact of each kind that can be chosen is a fact of the one that is
+pub chosen : (T : Kind → Type 0) (b : ℕ) (q l k n m : Bool) → (q ≡ true → T (Quoted b)) → (l ≡ true → T LineComment) → (k ≡ true → T BlockComment) → (n ≡ true → T Name) → (m ≡ true → T Mark) → T Plain
+    → T (cond q (Quoted b) (cond l LineComment (cond k BlockComment (cond n Name (cond m Mark Plain)))))
+chosen T b true l k n m f1 f2 f3 f4 f5 f6 = f1 refl
+chosen T b false true k n m f1 f2 f3 f4 f5 f6 = f2 refl
+chosen T b false false true n m f1 f2 f3 f4 f5 f6 = f3 refl
+chosen T b false false false true m f1 f2 f3 f4 f5 f6 = f4 refl
+chosen T b false false false false true f1 f2 f3 f4 f5 f6 = f5 refl
+chosen T b false false false false false f1 f2 f3 f4 f5 f6 = f6
+
+-- what a kind says of a text
+abbrev pub Tells : ℕ → List ℕ → Kind → Type 0
+Tells b x (Quoted q) = (q ≡ b) × (is_quote b ≡ true)
+Tells b x LineComment = Unit {0}
+Tells b x BlockComment = (b ≡ slash) × (goes_on_as_block x ≡ true)
+Tells b x Name = (b ≡ colon) × (goes_on_as_name x ≡ true)
+Tells b x Mark = b ≡ question
+Tells b x Plain = Unit {0}
+
+pub kind_tells : (b : ℕ) (x : List ℕ) → Tells b x (kind_of (b ∷ x))
+kind_tells b x = chosen (Tells b x) b _ _ _ _ _ (λ h. (refl, h)) (λ h. tt)
+    (λ h. let e : ((b == slash) ≡ true) × (goes_on_as_block x ≡ true) = and_true (b == slash) (goes_on_as_block x) h in (same_number b slash e.0, e.1))
+    (λ h. let e : ((b == colon) ≡ true) × (goes_on_as_name x ≡ true) = and_true (b == colon) (goes_on_as_name x) h in (same_number b colon e.0, e.1))
+    (λ h. same_number b question h) tt
+
+-- a quoted token begins with one of the quotes
+abbrev pub HasQuote : Kind → Type 0
+HasQuote (Quoted q) = is_quote q ≡ true
+HasQuote LineComment = Unit {0}
+HasQuote BlockComment = Unit {0}
+HasQuote Name = Unit {0}
+HasQuote Mark = Unit {0}
+HasQuote Plain = Unit {0}
+
+pub kind_has_quote : (text : List ℕ) → HasQuote (kind_of text)
+kind_has_quote [] = tt
+kind_has_quote (b ∷ after) = chosen HasQuote b _ _ _ _ _ (λ h. h) (λ h. tt) (λ h. tt) (λ h. tt) (λ h. tt) tt
+
+pub name_second : (x : List ℕ) → goes_on_as_name x ≡ true → (b : ℕ) × (y : List ℕ) × (x ≡ b ∷ y) × (is_name_start b ≡ true)
+name_second [] h = cc
+name_second (b ∷ y) h = (b, y, refl, h)

@@ -1,0 +1,14 @@
+pub mod ByteTables
+pub mod FirstBytes
+pub mod FirstTokens
+pub mod TokenKinds
+pub mod Lexing
+pub mod LeftOut
+pub mod HeldPieces
+pub mod Reading
+pub mod Alone
+pub mod LiteralForms
+pub mod Forms
+pub mod Same
+pub mod LawProofs
+pub mod Worked

@@ -1,0 +1,45 @@
+-- What the code finds at the front of a text, as the definitions have it.
+-- MySQL Reference Manual, "Comments", "String Literals", "Schema Object Names".
+use Rattle.std.specs.Prelude.{◌≡◌, ℕ, Bool, true, false, not, List, [], ◌∷◌}
+use Rattle.mysql_queries.specs.Literals.{is_digit}
+use Rattle.mysql_queries.specs.Tokens.{HasTokens, Kind, Quoted, LineComment, BlockComment, Name, Mark, Plain, kind_of}
+use Rattle.mysql_queries.specs.Tokens.{quotes_identifier}
+use Rattle.mysql_queries.specs.declared.mode.Mode.{Mode}
+use Rattle.mysql_digests.specs.Digest.{Lexeme, lexemes_of}
+use Rattle.mysql_digests.specs.Digest as digest
+use Rattle.mysql_digests.specs.declared.lexemes.Found.{Found}
+use Rattle.mysql_digests.specs.declared.lexemes.Found.TheVariants.{Gap, Value, Word, Operator, Identifier, Byte}
+
+-- what was found, with its bytes
+abbrev pub lexeme_view : Found → List ℕ → Lexeme
+lexeme_view Gap bytes = digest.Gap
+lexeme_view Value bytes = digest.Value
+lexeme_view Word bytes = digest.Word bytes
+lexeme_view Operator bytes = digest.Operator bytes
+lexeme_view Identifier bytes = digest.Identifier bytes
+lexeme_view (Byte b) bytes = digest.Byte b
+
+-- The text begins with this, before the rest: whatever tokens the rest has, it and they are what the
+-- text has.
+abbrev pub BeginsWith : Mode → List ℕ → Lexeme → List ℕ → Type 0
+BeginsWith mode text lexeme rest = (tokens : List (List ℕ)) → HasTokens mode rest tokens →
+    (all : List (List ℕ)) × HasTokens mode text all × (lexemes_of mode all ≡ lexeme ∷ lexemes_of mode tokens)
+
+-- a digit comes first
+abbrev pub first_is_digit : List ℕ → Bool
+first_is_digit [] = false
+first_is_digit (b ∷ bytes) = is_digit b
+
+-- a token of the kind is a value
+abbrev pub is_value_kind : Mode → Kind → Bool
+is_value_kind mode (Quoted quote) = not (quotes_identifier mode quote)
+is_value_kind mode LineComment = false
+is_value_kind mode BlockComment = false
+is_value_kind mode Name = true
+is_value_kind mode Mark = true
+is_value_kind mode Plain = false
+
+-- a value comes first that is no word
+abbrev pub first_is_value : Mode → List ℕ → Bool
+first_is_value mode [] = false
+first_is_value mode (b ∷ bytes) = is_value_kind mode (kind_of (b ∷ bytes))

@@ -1,0 +1,4 @@
+pub mod Digest
+pub mod Lexemes
+pub mod Held
+pub mod Laws
