@@ -50,8 +50,8 @@ extern "C" {
 
 /* The number of this interface. mysql_session_abi() answers the library's: compare them before
  * any other call. It changes with each change of what the library exports and of a struct, and the
- * shared object's name has it: libmysql_session.so.8. */
-#define MYSQL_SESSION_ABI 8
+ * shared object's name has it: libmysql_session.so.9. */
+#define MYSQL_SESSION_ABI 9
 
 uint32_t mysql_session_abi(void);
 
@@ -438,6 +438,18 @@ uint32_t mysql_session_bind_text(mysql_session_handle *sets, size_t set, const u
  * float has no literal, and is REFUSED_FLOAT. */
 uint32_t mysql_session_value_text(mysql_session_handle *sets, size_t set, size_t place,
                                   uint32_t flags, mysql_session_handle *out);
+
+/* Appends to the bytes of `out` the digest of a statement: its text with the values taken out. It
+ * serves to count statements, and to show one whose values are a secret. The flags (of
+ * mysql_session_flag) tell the mode of the server that reads the text. MYSQL_SESSION_HEXADECIMAL
+ * says nothing here.
+ * Strings, numbers, placeholders, NULL, TRUE and FALSE are `?`. Values between commas are `?, ...`,
+ * alone in parentheses `(...)`. Comments are left out, and words are in lower case. The digest has
+ * at most three times the bytes of the text.
+ * Answers OK, or why nothing is appended, in this order: NO_SUCH_MODE, EMPTY_HANDLE, OTHER_KIND,
+ * MEMORY. */
+uint32_t mysql_session_digest(const uint8_t *text, size_t len, uint32_t flags,
+                              mysql_session_handle *out);
 
 /* ---- Recoding: a stream of commands as executions, as it comes ------------------------------- */
 

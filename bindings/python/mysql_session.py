@@ -99,7 +99,7 @@ __all__ = [
     "Column", "ColumnCountEvent", "ColumnEvent", "ColumnFlag", "ColumnsEndEvent", "ColumnType",
     "ColumnValues", "Command", "CommandEvent", "Connection", "ConnectionEnd", "ConnectionEndKind",
     "ConnectionFault", "Content", "Cursor", "CutOffLoginEvent", "DateFields", "DEFAULT_LIMIT",
-    "DeniedEvent", "End", "EndKind", "ends_reply", "ErrorEvent", "Event", "ExecuteEvent",
+    "DeniedEvent", "digest", "End", "EndKind", "ends_reply", "ErrorEvent", "Event", "ExecuteEvent",
     "executions", "FarewellEvent", "FetchEvent", "FieldEvent", "File", "FileDataEvent",
     "FileRequestEvent", "Greeting", "GreetingEvent", "InitDbEvent", "is_proved", "is_safe_to_quote",
     "library_version", "LineEvent", "literal", "Login", "LoginEvent", "LongDataEvent",
@@ -118,7 +118,7 @@ __all__ = [
 __version__ = "0.1.0"
 
 # The number of the interface that this module calls.
-ABI = 8
+ABI = 9
 
 # The max_allowed_packet that most servers have.
 DEFAULT_LIMIT = 1 << 24
@@ -965,6 +965,24 @@ def literal(value: Parameter, *, mode: Mode = Mode(),
     with ParameterSets([(value,)]) as sets:
         text: bytes = _native.value_text(sets._native, _flags(mode, spelling))
         return text
+
+
+def digest(text: Text, *, mode: Mode = Mode()) -> bytes:
+    """The digest of a statement: its text with the values taken out.
+
+    Statements that differ in their values alone have one digest. So it serves to count them, and to
+    show one whose values are a secret. It has no byte of the inside of a string.
+
+    Strings, numbers, placeholders, NULL, TRUE and FALSE are `?`, and a number's sign goes with it.
+    Values between commas are `?, ...`. Alone in parentheses they are `(...)`, one value `(?)`, and
+    such rows between commas `(...) /* , ... */`. Comments and blanks are one space, as there is
+    between all else. Words are in lower case. The digest has at most three times the bytes of the text.
+
+    The mode is that of the server that reads the text: a string may end elsewhere in another. (MySQL
+    Reference Manual, "Performance Schema Statement Digests and Sampling".)
+    """
+    made: bytes = _native.digest(text, _flags(mode))
+    return made
 
 
 # ---- Recoding -----------------------------------------------------------------------------------

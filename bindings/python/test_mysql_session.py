@@ -457,6 +457,17 @@ class Modes(Case):
                     self.refuses(Code.REFUSED_WRONG_COUNT, text, set=0)
                     self.assertEqual(ms.positional(named, mode=mode), named.encode(), mode)
 
+    def test_digests(self) -> None:
+        rows = [("", b""), ("SELECT a FROM t WHERE id=5 -- why", b"select a from t where id = ?"),
+                (b"SELECT a FROM t WHERE id IN (1, 'x',NULL)", b"select a from t where id in (...)"),
+                ("INSERT INTO t VALUES (1,'a'),(2,'b')", b"insert into t values (...) /* , ... */")]
+        for text, wanted in rows:
+            for mode in MODES:
+                self.assertEqual(ms.digest(text, mode=mode), wanted, mode)
+        text = r""" "a" '\' b"""
+        self.assertEqual([ms.digest(text, mode=mode) for mode in MODES],
+                         [b"? ?", b"? ? b", b'"a" ?', b'"a" ? b'])
+
     def test_one_backslash(self) -> None:
         """A backslash alone is a text of one mode, and none of the other."""
         stream = query_packet(rb"SELECT '\'")

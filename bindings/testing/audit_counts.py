@@ -5,8 +5,10 @@ import json
 import os
 import pathlib
 import re
+import shutil
 import socket
 import subprocess
+import tempfile
 import threading
 import time
 import urllib.error
@@ -108,6 +110,30 @@ def check_many_words(executable):
         lost, lines = "mysql_audit_lines_lost_total", "mysql_audit_lines_total"
         wait_for(lambda: (it := proxy.counts())[lost] == it[lines] > 300, "lines that are lost")
         proxy.stop(1)
+
+
+def check_digests(executable):
+    """Statements are counted by their digests, of which no more than some are told."""
+    with Counted(executable, "--digests", "--log", "/dev/null") as proxy:
+        pair = Pair(proxy)
+        for number in range(5):
+            pair.say(f"SELECT {number}")
+        pair.say("SELECT \"a\\\nb\" FROM `a\"\nb`", ERROR)
+        for number in range(300):
+            pair.say(f"SELECT a{number} /* {'long' * 100} */, '{'x' * 500}', " + "b" * 1000)
+        pair.close()
+        proxy.waits_for("connections", 0)
+        page = proxy.page()
+        is_well_formed(page.replace('\\"', ""))
+        counts = proxy.counts()
+        names = [it for it in counts if it.startswith("mysql_audit_digest_commands_total")]
+        check(5, counts['mysql_audit_digest_commands_total{digest="select ?"}'], "one digest")
+        check((101, 306), (len(names), sum(counts[it] for it in names)), "digests in all")
+        check(True, max(map(len, names)) < 300, "their lengths")
+        odd = 'mysql_audit_digest_commands_total{digest="select ? from `a\\"\\nb`"}'
+        check(1, counts.get(odd), "a digest with a quote and a line's end")
+        seconds = [it for name, it in counts.items() if "digest_seconds_total" in name]
+        check((101, True), (len(seconds), sum(seconds) > 0), "their times")
 
 
 def check_askers(executable):
@@ -216,11 +242,18 @@ def check_page(executable):
         cut.close()
         proxy.stop()
         text = report(executable, str(log))
+        by_text = report(executable, str(log), "--by-text", "--examples")
         lines = lines_of(log.read_text())
     page = Tables(text)
     check([], page.loads, "what the page would load")
     check(1, text.count("<script>"), "scripts")
+    by_digest = {it["statement"]: it["count"] for it in page.dicts("statements")}
+    check({"select ?": "6", "select nothing": "2"}, by_digest, "statements by their digests")
+    check(False, "alert" in text, "whether a value is in the page")
+    page = Tables(by_text)
+    check(1, by_text.count("<script>"), "scripts of a page of texts")
     statements = {it["statement"]: it for it in page.dicts("statements")}
+    check({*statements}, {it["the slowest one's text"] for it in statements.values()}, "examples")
     check(["6", "2"], [statements[it]["count"] for it in
                        ("SELECT '<script>alert(1)</script>'", "SELECT nothing")], "statements")
     check("2", statements["SELECT nothing"]["errors"], "errors of a statement")
@@ -232,6 +265,54 @@ def check_page(executable):
         check(wanted, found, f"the table {name}")
     check(1, len([it for it in page.dicts("gaps") if it["what"].startswith("cut")]), "what is cut")
     check(True, "<svg" in text, "a time line")
+
+
+# What a browser does with the page: it clicks on columns, and tells the first rows of a table.
+CLICKS = """<script>
+const told = [];
+for (const [column, clicks] of [[2, 1], [2, 1], [1, 2]]) {
+  for (let number = 0; number < clicks; number++)
+    document.querySelectorAll("#statements th")[column].click();
+  told.push(Array.from(document.querySelectorAll("#statements tbody tr"))
+    .map((row) => row.cells[column].textContent.replace(/\\s/g, "")));
+}
+const place = document.createElement("pre");
+place.id = "told";
+place.textContent = JSON.stringify(told);
+document.body.append(place);
+</script>
+"""
+
+
+def browse(text, *options):
+    """Has a browser without a screen read a page, and returns what it makes of it."""
+    with tempfile.TemporaryDirectory(prefix="mysql-audit-") as folder:
+        file = pathlib.Path(folder, "page.html")
+        file.write_text(text)
+        words = ["chromium", "--headless", "--no-sandbox", "--disable-gpu", f"--user-data-dir={folder}",
+                 "--virtual-time-budget=60000", *options, "--dump-dom", file.as_uri()]
+        ran = subprocess.run(words, stdout=subprocess.PIPE, stderr=subprocess.DEVNULL, text=True,
+                             check=True, timeout=600)
+        return ran.stdout
+
+
+def check_browser(executable):
+    """A browser shows the page, and sorts a table by the column that is clicked."""
+    if not shutil.which("chromium"):
+        print("  left out: a page in a browser (apt-get install chromium)")
+        return
+    counts = {"SELECT a": 3, "SELECT b": 12, "SELECT c": 7}
+    with log_file() as log:
+        with open(log, "w", encoding="utf-8") as file:
+            for text, count in counts.items():
+                line = {"time": "2026-11-30T10:00:00Z", "kind": "query", "text": text,
+                        "results": [{"rows": 1}], "whole": True, "seconds": 0.001}
+                file.write((json.dumps(line) + "\n") * count)
+        text = report(executable, str(log))
+    dom = browse(text.replace("</body>", CLICKS + "</body>"))
+    told = json.loads(dom.partition('<pre id="told">')[2].partition("</pre>")[0])
+    check([["12", "7", "3"], ["3", "7", "12"], ["selecta", "selectb", "selectc"]], told,
+          "rows that are sorted")
 
 
 def check_large_page(executable):
@@ -250,10 +331,13 @@ def check_large_page(executable):
                     "first": 0.0001, "traffic": [40, 90]}) + "\n")
             file.write("no line\n")
         began = time.monotonic()
-        text = report(executable, str(log), "--top", "10", "--texts", "15000")
+        text = report(executable, str(log), "--top", "10", "--texts", "15000", "--by-text")
         took = time.monotonic() - began
         size = os.path.getsize(log)
+        by_digest = Tables(report(executable, str(log))).dicts("statements")
     page = Tables(text)
+    check([("select name from goods where id = ?", "100\u202f000")],
+          [(it["statement"], it["count"]) for it in by_digest], "statements by their digests")
     rows = page.dicts("statements")
     check((11, f"SELECT name FROM goods WHERE id = {14999}"), (len(rows), rows[0]["statement"]), "rows")
     counts = sum(int(it["count"].replace("\u202f", "")) for it in rows)
@@ -265,5 +349,7 @@ def check_large_page(executable):
 
 def checks():
     """Returns all of them, by their names."""
-    return [("counts", check_counted), ("many errors", check_many_words), ("askers", check_askers),
-            ("a sample", check_sample), ("a page", check_page), ("a large page", check_large_page)]
+    return [("counts", check_counted), ("many errors", check_many_words),
+            ("counts by digests", check_digests), ("askers", check_askers),
+            ("a sample", check_sample), ("a page", check_page), ("a page in a browser", check_browser),
+            ("a large page", check_large_page)]

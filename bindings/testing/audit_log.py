@@ -1,18 +1,22 @@
-"""What becomes of the lines of bindings/audit: its log is full, slow, moved away or filtered."""
+"""What becomes of the lines of bindings/audit: its log is full, slow, moved away, packed or
+filtered, or is the system's."""
 
+import contextlib
 import fcntl
+import gzip
 import json
 import os
 import re
 import resource
 import signal
+import socket
 import sys
 import termios
 import threading
 import time
 
-from audit_support import ERROR, OK, Pair, Program, lines_of, log_file, packet, query, receive, \
-    wait_for
+from audit_support import ERROR, OK, Pair, Program, lines_of, log_file, login, packet, query, \
+    receive, wait_for
 from recorded import check
 
 # How long a file may get where the disk is to be full.
@@ -218,6 +222,69 @@ def check_rotated(executable):
         check(True, len(found) > 40, "how many there are")
 
 
+def check_packed(executable):
+    """Older files are packed by gzip, and none of their lines is lost."""
+    with log_file() as log, Program(executable, "--log", str(log), "--rotate", "5000", "--keep",
+                                    "4", "--gzip") as proxy:
+        pair = Pair(proxy)
+        for number in range(60):
+            pair.say(f"SELECT {number}")
+        pair.close()
+        proxy.stop()
+        names = {"log", *(f"log.{number}.gz" for number in range(1, 5))}
+        # The last one is packed behind the program's end, too.
+        wait_for(lambda: {it.name for it in log.parent.iterdir()} <= names, "packed files")
+        files = sorted(log.parent.glob("log.*.gz"), reverse=True)
+        check(True, len(files) > 1, "how many files are packed")
+        packed = "".join(gzip.decompress(it.read_bytes()).decode() for it in files)
+        found = texts(lines_of(packed + log.read_text()))
+        check([f"SELECT {number}" for number in range(60)][-len(found):], found, "their lines")
+        modes = {it.stat().st_mode & 0o777 for it in files}
+        check({log.stat().st_mode & 0o777}, modes, "who may read them")
+
+
+def syslog(path):
+    """Returns a socket that takes lines of the system's log."""
+    stream = socket.socket(socket.AF_UNIX, socket.SOCK_DGRAM)
+    with contextlib.suppress(FileNotFoundError):
+        os.unlink(path)
+    stream.bind(str(path))
+    stream.settimeout(60)
+    return stream
+
+
+def check_syslog(executable):
+    """A socket gets a datagram for each line, also once whoever takes them began anew. Lines that
+    are too long for one are counted."""
+    with log_file() as log, contextlib.ExitStack() as kept:
+        stream = kept.enter_context(syslog(log))
+        proxy = kept.enter_context(Program(executable, "--log", str(log), "--rotate", "1000"))
+        head = f"<30>mysql-audit[{proxy.process.pid}]: "
+
+        def next_line():
+            line = stream.recv(1 << 20).decode()
+            check(head, line[:len(head)], "what stands before a line")
+            return json.loads(line[len(head):])
+
+        pair = Pair(proxy)
+        check("login", next_line()["kind"], "the first line")
+        for number in range(50):
+            pair.say(f"SELECT {number}")
+            check(f"SELECT {number}", next_line()["text"], "a line")
+        stream.close()
+        stream = kept.enter_context(syslog(log))
+        pair.say("SELECT 'anew'")
+        check("SELECT 'anew'", next_line()["text"], "a line for one who began anew")
+        pair.say("SELECT '" + "x" * (1 << 20) + "'")
+        pair.say("SELECT 'behind'")
+        found = [next_line() for _ in range(2)]
+        check((1, "SELECT 'behind'"), (found[0].get("lines"), found[1].get("text")),
+              "lines behind one that is too long")
+        pair.close()
+        check("end", next_line()["kind"], "the last line")
+        proxy.stop()
+
+
 def told(executable, *options, sleeps=0):
     """Returns the lines about some statements of two users, of which one takes so many seconds."""
     with Program(executable, *options) as proxy:
@@ -267,6 +334,47 @@ def check_filters(executable):
         check(3, len(records) - len(ran), "ends")
 
 
+def check_digests(executable):
+    """A line has the digest of its statement, by which it may be asked for."""
+    every = told(executable, "--digests")
+    digests = sorted(it.get("digest", "") for it in every)
+    wanted = [""] * 6 + ["select ?"] * 3 + ["select sleep (?)"] * 3 + ["select nothing"] * 3
+    check(sorted(wanted), digests, "digests")
+    for asked in ("select sleep (?)", "select sleep( 7 )", "SELECT SLEEP(7) -- why"):
+        found = told(executable, "--digest", asked, "--digest", "SELECT nothing", "--user", "ann")
+        check({"SELECT SLEEP(1)", "SELECT nothing"}, {it["text"] for it in found},
+              f"statements of the digest of {asked}")
+        check({"ann"}, {it["user"] for it in found}, "their users")
+    with Program(executable, "--digests") as proxy:
+        pair = Pair(proxy)
+        secret = "hidden-in-a-statement"
+        for text in (f"SET PASSWORD = PASSWORD('{secret}')", f"ALTER USER ann IDENTIFIED AS {secret}"):
+            pair.say(text)
+        # At its login another session is told that a backslash escapes nothing.
+        other = Pair(proxy, logs_in=False)
+        other.greets()
+        said = login("bob", "shop")
+        other.client.sendall(said)
+        receive(other.server, len(said))
+        other.answer(packet(2, b"\0\0\0\x02\x02\0\0"))
+        for it in (pair, other):
+            it.say(r"SELECT '\', a")
+            it.close()
+        proxy.stop()
+        printed = proxy.process.stdout.read()
+    check(False, secret in printed, "whether a secret is in a digest")
+    for options in (["--redact"], ["--redact", "--secrets"]):
+        records = told(executable, *options)
+        check(digests, sorted(it.get("digest", "") for it in records), "digests in place of texts")
+        texts_of = {it["text"] for it in records if it["kind"] == "query" and "text" in it}
+        check(set(), texts_of, "texts beside digests")
+        messages = {result["message"] for it in records for result in it.get("results", [])
+                    if "message" in result}
+        check({"*****"}, messages, "messages of errors")
+    found = {it["user"]: it["digest"] for it in lines_of(printed) if it["kind"] == "query"}
+    check({"ann": "select ?", "bob": "select ? , a"}, found, "a digest in each session's mode")
+
+
 def checks():
     """Returns all of them, by their names."""
     return [("a full disk", check_full_disk),
@@ -274,4 +382,6 @@ def checks():
             ("a full disk for which strict lines wait", lambda it: check_waits(it, "--strict")),
             ("/dev/full", check_dev_full), ("a slow reader of the log", check_slow_reader),
             ("a log that stands still", check_stuck), ("a log that is moved", check_moved),
-            ("a log that is rotated", check_rotated), ("filters", check_filters)]
+            ("a log that is rotated", check_rotated), ("older files are packed", check_packed),
+            ("the system's log", check_syslog), ("filters", check_filters),
+            ("digests", check_digests)]

@@ -17,6 +17,7 @@ import subprocess
 import sys
 import time
 
+from .audited import test_audited
 from .proxied import test_proxied
 from .replayed import test_replayed
 from .support import (BINDINGS, C99, Failure, ROOT, archive_in, compare, has,
@@ -609,8 +610,9 @@ def pymysql_python():
     raise Failure("no Python has PyMySQL: apt-get install python3-pymysql")
 
 
-def test_server(report, room, library):
-    """Runs the five examples, texts in each mode, random queries and odd commands."""
+def test_server(report, room, library, load):
+    """Runs the five examples, texts in each mode, random queries and odd commands, and so many
+    seconds of load on the audit."""
     with contextlib.ExitStack() as stack:
         port = report.run("a MariaDB server", lambda: stack.enter_context(mariadb(room)))
         if not port:
@@ -635,3 +637,6 @@ def test_server(report, room, library):
                   "tcpdump)", flush=True)
         test_replayed(report, it)
         test_proxied(report, it, mariadb)
+    program = os.path.join(room, "target", "release", "mysql-audit")
+    if os.path.exists(program):
+        test_audited(report, room, mariadb, program, load)

@@ -138,8 +138,7 @@ impl<S: Sink> Audit<S> {
         loop {
             if phase == Phase::Command {
                 // The mode in which the server reads the text that may come next.
-                let mode = self.connection.mode().unwrap_or_default();
-                self.teller.telling.escapes = !mode.no_backslash_escapes;
+                self.teller.telling.mode = self.connection.mode().unwrap_or_default();
             }
             match self.connection.next_event() {
                 Ok(Some(event)) => self.teller.take(&event),

@@ -1,10 +1,12 @@
 //! Which lines are written, and those of a loop on their way to the log.
 
+use crate::commands::digest_of;
 use crate::counts::Counts;
 use crate::lines::{Answer, Format, Heading, Outcome, Sink, Told};
 use crate::log::Log;
 use crate::network::Network;
 use crate::options::Options;
+use mysql_session::Mode;
 use std::cell::{Cell, RefCell};
 use std::collections::hash_map::RandomState;
 use std::hash::BuildHasher;
@@ -22,6 +24,7 @@ pub struct Filter {
     databases: Vec<String>,
     hosts: Vec<Network>,
     kinds: Vec<String>,
+    digests: Vec<Vec<u8>>,
     slower: Option<Duration>,
     errors: bool,
     sample: u32,
@@ -33,11 +36,14 @@ fn is_among(names: &[String], name: &[u8]) -> bool {
 
 impl Filter {
     pub fn of(options: &Options) -> Filter {
+        let wanted = options.wanted_digests.iter().map(|it| it.as_bytes());
+        let of_texts = wanted.clone().flat_map(|it| digest_of(it, Mode::default()));
         Filter {
             users: options.users.clone(),
             databases: options.databases.clone(),
             hosts: options.hosts.clone(),
             kinds: options.kinds.clone(),
+            digests: wanted.map(<[u8]>::to_vec).chain(of_texts).collect(),
             slower: options.slower,
             errors: options.errors,
             sample: options.sample,
@@ -53,6 +59,7 @@ impl Filter {
             && is_among(&self.databases, heading.database)
             && is_among(&self.kinds, told.kind.as_bytes())
             && self.takes_host(heading.client)
+            && self.takes_digest(told)
             && answer.is_none_or(|answer| self.takes_answer(answer))
     }
 
@@ -60,6 +67,11 @@ impl Filter {
         let address = || client.and_then(|client| client.parse::<SocketAddr>().ok());
         let is_there = |address: SocketAddr| self.hosts.iter().any(|it| it.has(address.ip()));
         self.hosts.is_empty() || address().is_some_and(is_there)
+    }
+
+    fn takes_digest(&self, told: &Told) -> bool {
+        let is_wanted = |digest| self.digests.contains(digest);
+        self.digests.is_empty() || told.digest.as_ref().is_some_and(is_wanted)
     }
 
     fn takes_answer(&self, answer: &Answer) -> bool {

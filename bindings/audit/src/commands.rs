@@ -2,7 +2,7 @@
 
 use crate::lines::{Format, Told};
 use crate::masking::masked;
-use mysql_session::{Attributes, BulkRow, Event, OtherCommand};
+use mysql_session::{digest_in, Attributes, BulkRow, Bytes, Event, Mode, OtherCommand};
 
 /// What is told for a secret that isn't part of a text.
 pub const HIDDEN: &[u8] = b"*****";
@@ -18,8 +18,12 @@ pub struct Telling {
     pub format: Format,
     /// Whether passwords are told, too.
     pub secrets: bool,
-    /// Whether a backslash escapes in a string of the session.
-    pub escapes: bool,
+    /// Whether digests of statements are told.
+    pub digests: bool,
+    /// Whether they are told in place of texts and values.
+    pub redacts: bool,
+    /// The mode in which the server reads the session's texts.
+    pub mode: Mode,
     /// Whether a statement was prepared whose values are secrets.
     pub has_secrets: bool,
 }
@@ -27,14 +31,59 @@ pub struct Telling {
 impl Telling {
     /// A command about a statement's text, as it may be told.
     fn about(self, kind: &'static str, text: &[u8]) -> Told {
-        let told = Told::new(kind);
-        if self.secrets {
-            return told.with_text(self.format.text(text));
+        let mut told = Told::new(kind);
+        if self.secrets && !self.redacts {
+            return self.with_shown(told, text);
         }
-        let masked = masked(text, self.escapes);
-        let mut told = told.with_text(self.format.text(&masked.text));
+        let masked = masked(text, !self.mode.no_backslash_escapes);
         told.is_secret = masked.is_secret;
-        told
+        self.with_shown(told, &masked.text)
+    }
+
+    /// A text as it may be told, and the digest of that.
+    fn with_shown(self, mut told: Told, text: &[u8]) -> Told {
+        if self.digests || self.redacts {
+            told.digest = digest_of(text, self.mode);
+        }
+        if self.redacts {
+            // A server's message may have a part of the text.
+            told.is_secret = true;
+            return told;
+        }
+        told.with_text(self.format.text(text))
+    }
+
+    /// Values of an execution, where they are told.
+    fn with_values(self, told: Told, values: String) -> Told {
+        match self.redacts {
+            true => told,
+            false => told.with_values(values),
+        }
+    }
+
+    /// Attributes, of which some are read by servers each their way.
+    fn with_attributes(
+        self,
+        told: Told,
+        attributes: &Attributes,
+        is_unclear: impl Fn(usize) -> bool,
+    ) -> Told {
+        if attributes.is_empty() || self.redacts {
+            return told;
+        }
+        let (format, mut list) = (self.format, String::new());
+        format.list(
+            &mut list,
+            (0..).zip(attributes.iter()),
+            |list, (number, (name, value))| {
+                let pair = [Some(name.into()), (!is_unclear(number)).then_some(value)];
+                format.list(list, pair.into_iter(), |list, value| match value {
+                    Some(value) => format.value(list, value),
+                    None => list.push_str(format.unclear()),
+                });
+            },
+        );
+        told.with("attributes", list)
     }
 
     /// A payload that is laid out as no command. It may be an answer of an authentication, or have
@@ -47,11 +96,22 @@ impl Telling {
             }
             _ => false,
         };
-        if is_hidden && !self.secrets {
+        if self.redacts || is_hidden && !self.secrets {
             return Told::new("unknown").with("bytes", payload.len());
         }
-        self.about("unknown", payload)
+        let without = Telling {
+            digests: false,
+            ..self
+        };
+        without.about("unknown", payload)
     }
+}
+
+/// The digest of a text; none where there is no memory for it.
+pub fn digest_of(text: &[u8], mode: Mode) -> Option<Vec<u8>> {
+    let mut out = Bytes::new().ok()?;
+    digest_in(text, mode, &mut out).ok()?;
+    Some(out.as_slice().to_vec())
 }
 
 /// What a client asks for. None, if the event is something else, or asks for nothing: what long
@@ -62,7 +122,7 @@ pub fn asked(telling: Telling, event: &Event) -> Option<Told> {
         Event::CutOffLogin(_) => Told::new("login"),
         Event::Query { text, attributes } => {
             let told = telling.about("query", text);
-            with_attributes(told, format, attributes, |_| false)
+            telling.with_attributes(told, attributes, |_| false)
         }
         Event::Prepare { text } => telling.about("prepare", text),
         Event::Execute {
@@ -91,14 +151,14 @@ pub fn asked(telling: Telling, event: &Event) -> Option<Told> {
                     }
                 },
             );
-            let mut told = told.with_values(list);
+            let mut told = telling.with_values(told, list);
             if *nameless_flags != 0 {
                 told = told.with("flags", nameless_flags);
             }
             if *iterations != 1 {
                 told = told.with("iterations", iterations);
             }
-            let told = with_attributes(told, format, attributes, |number| {
+            let told = telling.with_attributes(told, attributes, |number| {
                 values.is_unclear(values.len() + number)
             });
             let told = with_rest(told, format, rest);
@@ -127,7 +187,7 @@ pub fn asked(telling: Telling, event: &Event) -> Option<Told> {
             };
             let mut list = String::new();
             format.list(&mut list, rows.iter(), row);
-            let told = with_rest(told.with_values(list), format, rest);
+            let told = with_rest(telling.with_values(told, list), format, rest);
             with_unclear(told, format, rows.unclear_cells())
         }
         Event::Fetch { statement, rows } => Told::new("fetch")
@@ -160,31 +220,6 @@ fn with_bytes(told: Told, format: Format, name: &'static str, bytes: &[u8]) -> T
         (_, true) => told.with(name, format.text(HIDDEN)),
         _ => told.with(name, format.text(bytes)),
     }
-}
-
-/// Attributes, of which some are read by servers each their way.
-fn with_attributes(
-    told: Told,
-    format: Format,
-    attributes: &Attributes,
-    is_unclear: impl Fn(usize) -> bool,
-) -> Told {
-    if attributes.is_empty() {
-        return told;
-    }
-    let mut list = String::new();
-    format.list(
-        &mut list,
-        (0..).zip(attributes.iter()),
-        |list, (number, (name, value))| {
-            let pair = [Some(name.into()), (!is_unclear(number)).then_some(value)];
-            format.list(list, pair.into_iter(), |list, value| match value {
-                Some(value) => format.value(list, value),
-                None => list.push_str(format.unclear()),
-            });
-        },
-    );
-    told.with("attributes", list)
 }
 
 /// A command that has no event of its own.

@@ -4,6 +4,7 @@
 use crate::lines::{Answer, Outcome, Told};
 use crate::shared::Shared;
 use mysql_session::Side;
+use std::borrow::Cow;
 use std::collections::BTreeMap;
 use std::fmt::{Display, Write};
 use std::sync::atomic::{AtomicU64, AtomicUsize, Ordering};
@@ -58,6 +59,8 @@ const BOUNDS: [u64; 16] = [
 
 /// How many different words are counted each by itself.
 const MOST_WORDS: usize = 100;
+/// So much of a digest is such a word.
+const MOST_OF_DIGEST: usize = 200;
 
 /// A number that one thread adds to.
 #[derive(Default)]
@@ -73,25 +76,52 @@ impl Count {
     }
 }
 
+/// How often something was, and how many microseconds it took in all.
+#[derive(Clone, Copy, Default)]
+struct Tally {
+    count: u64,
+    micros: u64,
+}
+
+impl Tally {
+    fn add(&mut self, other: Tally) {
+        self.count += other.count;
+        self.micros += other.micros;
+    }
+}
+
 /// Counts by words. Those that have no room are counted together.
 #[derive(Default)]
-struct ByWord(Mutex<BTreeMap<String, u64>>);
+struct ByWord(Mutex<BTreeMap<String, Tally>>);
 
 impl ByWord {
-    fn words(&self) -> MutexGuard<'_, BTreeMap<String, u64>> {
+    fn words(&self) -> MutexGuard<'_, BTreeMap<String, Tally>> {
         self.0.lock().unwrap_or_else(PoisonError::into_inner)
     }
 
     fn add(&self, word: &str) {
+        self.add_time(word, Duration::ZERO);
+    }
+
+    fn add_time(&self, word: &str, took: Duration) {
+        let (count, micros) = (1, took.as_micros() as u64);
         let mut words = self.words();
-        if let Some(count) = words.get_mut(word) {
-            *count += 1;
-        } else if words.len() < MOST_WORDS {
-            words.insert(word.to_string(), 1);
-        } else {
-            *words.entry("other".to_string()).or_insert(0) += 1;
+        let word = match words.len() < MOST_WORDS || words.contains_key(word) {
+            true => word,
+            false => "other",
+        };
+        if !words.contains_key(word) {
+            words.insert(word.to_string(), Tally::default());
+        }
+        if let Some(tally) = words.get_mut(word) {
+            tally.add(Tally { count, micros });
         }
     }
+}
+
+/// The front of a digest, by which it is counted.
+fn digest_word(digest: &[u8]) -> Cow<'_, str> {
+    String::from_utf8_lossy(&digest[..digest.len().min(MOST_OF_DIGEST)])
 }
 
 /// How long commands of a kind took.
@@ -122,6 +152,8 @@ pub struct Counts {
     ends: ByWord,
     /// Why connections can't be read any further.
     faults: ByWord,
+    /// Statements that were run, by their digest.
+    digests: ByWord,
 }
 
 /// The last part of a text that is written already, as the word by which it is counted.
@@ -141,6 +173,7 @@ impl Default for Counts {
             errors: ByWord::default(),
             ends: ByWord::default(),
             faults: ByWord::default(),
+            digests: ByWord::default(),
         }
     }
 }
@@ -159,6 +192,10 @@ impl Counts {
                 self.errors.add(&code.to_string());
             }
         }
+        let runs = matches!(told.kind, "query" | "execute" | "bulk execute");
+        if let (Some(digest), Some(answer), true) = (&told.digest, answer, runs) {
+            self.digests.add_time(&digest_word(digest), answer.took);
+        }
         match told.kind {
             "end" => self.ends.add(last_part(told)),
             "cut" | "unread" => self.faults.add(last_part(told)),
@@ -175,6 +212,17 @@ impl Counts {
     }
 }
 
+/// The sums of what loops counted by words.
+fn sums_by_word<'a>(of: impl Iterator<Item = &'a ByWord>) -> BTreeMap<String, Tally> {
+    let mut sums: BTreeMap<String, Tally> = BTreeMap::new();
+    for words in of {
+        for (word, tally) in words.words().iter() {
+            sums.entry(word.clone()).or_default().add(*tally);
+        }
+    }
+    sums
+}
+
 /// Writes the lines of numbers.
 struct Page(String);
 
@@ -189,7 +237,7 @@ impl Page {
         let _ = writeln!(self.0, "mysql_audit_{name} {number}");
     }
 
-    fn labelled(&mut self, name: &str, label: &str, word: &str, number: u64) {
+    fn labelled(&mut self, name: &str, label: &str, word: &str, number: impl Display) {
         let word = word
             .replace('\\', "\\\\")
             .replace('"', "\\\"")
@@ -205,15 +253,28 @@ impl Page {
         help: &str,
         of: impl Iterator<Item = &'a ByWord>,
     ) {
-        let mut sums = BTreeMap::new();
-        for words in of {
-            for (word, count) in words.words().iter() {
-                *sums.entry(word.clone()).or_insert(0) += count;
-            }
-        }
         self.begin(name, "counter", help);
-        for (word, sum) in sums {
-            self.labelled(name, label, &word, sum);
+        for (word, sum) in sums_by_word(of) {
+            self.labelled(name, label, &word, sum.count);
+        }
+    }
+
+    /// Writes how often statements of each digest were run, and how long that took.
+    fn digests(&mut self, loops: &[&Counts]) {
+        let sums = sums_by_word(loops.iter().map(|it| &it.digests));
+        let (count, time) = ("digest_commands_total", "digest_seconds_total");
+        self.begin(
+            count,
+            "counter",
+            "Statements that were run, by their digest.",
+        );
+        for (digest, sum) in &sums {
+            self.labelled(count, "digest", digest, sum.count);
+        }
+        self.begin(time, "counter", "How long they took, by their digest.");
+        for (digest, sum) in &sums {
+            let seconds = Duration::from_micros(sum.micros).as_secs_f64();
+            self.labelled(time, "digest", digest, seconds);
         }
     }
 
@@ -309,6 +370,7 @@ impl Page {
         let faults = loops.iter().map(|it| &it.faults);
         let help = "Connections that were cut or are passed on unread, by the reason.";
         self.words("unread_total", "why", help, faults);
+        self.digests(loops);
     }
 
     fn log(&mut self, shared: &Shared, loops: &[&Counts]) {

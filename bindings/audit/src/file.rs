@@ -1,8 +1,9 @@
 //! The file that lines are appended to: begun anew at a size or when it is asked for, and what is
-//! done where it takes no more.
+//! done where it takes no more. A socket of the system's log may stand in its place.
 
 use crate::lines::Format;
 use crate::options::LogFull;
+use crate::syslog::{is_socket, is_too_long, Syslog};
 use crate::texts::push_now;
 use std::fmt::Display;
 use std::fs::{self, File, OpenOptions};
@@ -10,7 +11,7 @@ use std::io::{self, ErrorKind, Write};
 use std::os::fd::AsFd;
 use std::os::unix::fs::OpenOptionsExt;
 use std::path::{Path, PathBuf};
-use std::process::exit;
+use std::process::{exit, Child, Command, Stdio};
 use std::sync::atomic::{AtomicBool, AtomicU64, Ordering};
 use std::sync::{Arc, Mutex, PoisonError};
 use std::thread::sleep;
@@ -42,16 +43,47 @@ impl Asked {
     }
 }
 
+/// Where lines go.
+enum Target {
+    File(File),
+    Syslog(Syslog),
+}
+
+impl Target {
+    /// Writes bytes, or the first line of them, and says how many.
+    fn write(&mut self, bytes: &[u8]) -> io::Result<usize> {
+        match self {
+            Target::File(file) => file.write(bytes),
+            Target::Syslog(syslog) => {
+                let count = front(bytes, 0);
+                let line = &bytes[..count];
+                syslog.send(line.strip_suffix(b"\n").unwrap_or(line))?;
+                Ok(count)
+            }
+        }
+    }
+
+    fn size(&self) -> u64 {
+        match self {
+            Target::File(file) => file.metadata().map_or(0, |it| it.len()),
+            Target::Syslog(_) => 0,
+        }
+    }
+}
+
 /// A file that is open, and its name; standard output has none.
 pub struct Place {
     path: Option<PathBuf>,
-    file: File,
+    target: Target,
 }
 
 impl Place {
     pub fn open(path: Option<PathBuf>) -> io::Result<Place> {
-        let file = open(path.as_deref())?;
-        Ok(Place { path, file })
+        let target = match &path {
+            Some(path) if is_socket(path) => Target::Syslog(Syslog::open(path)?),
+            path => Target::File(open(path.as_deref())?),
+        };
+        Ok(Place { path, target })
     }
 }
 
@@ -62,11 +94,13 @@ pub struct Manner {
     pub full: LogFull,
     pub rotate: u64,
     pub keep: u16,
+    /// Whether older files are packed.
+    pub gzip: bool,
 }
 
 pub struct LogFile {
     path: Option<PathBuf>,
-    file: File,
+    target: Target,
     size: u64,
     manner: Manner,
     asked: Arc<Asked>,
@@ -75,6 +109,8 @@ pub struct LogFile {
     /// How many lines were lost that no line tells yet.
     pub lost: u64,
     is_failing: bool,
+    /// What packs an older file.
+    packing: Option<Child>,
 }
 
 /// Says something on standard error, if there is one.
@@ -105,16 +141,17 @@ fn front(lines: &[u8], room: u64) -> usize {
 }
 
 impl LogFile {
-    pub fn new(Place { path, file }: Place, manner: Manner, asked: Arc<Asked>) -> LogFile {
+    pub fn new(Place { path, target }: Place, manner: Manner, asked: Arc<Asked>) -> LogFile {
         LogFile {
-            size: file.metadata().map_or(0, |it| it.len()),
+            size: target.size(),
             path,
-            file,
+            target,
             manner,
             asked,
             torn: Vec::new(),
             lost: 0,
             is_failing: false,
+            packing: None,
         }
     }
 
@@ -126,6 +163,7 @@ impl LogFile {
     /// Writes lines, or loses them. Before them it tells how many were lost.
     pub fn write(&mut self, mut lines: &[u8]) {
         self.reopen_if_asked();
+        self.end_packing(false);
         if self.lost > 0 && !self.tell_lost() {
             self.count_lost(count_lines(lines));
             return;
@@ -189,7 +227,7 @@ impl LogFile {
     fn put_all(&mut self, bytes: &[u8]) -> usize {
         let mut done = 0;
         while done < bytes.len() {
-            let error = match self.file.write(&bytes[done..]) {
+            let error = match self.target.write(&bytes[done..]) {
                 Ok(count) if count > 0 => {
                     done += count;
                     self.size += count as u64;
@@ -198,6 +236,11 @@ impl LogFile {
                 }
                 Ok(_) => ErrorKind::WriteZero.into(),
                 Err(error) if error.kind() == ErrorKind::Interrupted => continue,
+                Err(error) if is_too_long(&error) => {
+                    self.count_lost(1);
+                    done += front(&bytes[done..], 0);
+                    continue;
+                }
                 Err(error) => error,
             };
             if !self.is_tried_again(&error) {
@@ -240,11 +283,11 @@ impl LogFile {
             None => Place::open(self.path.clone()),
         };
         match place {
-            Ok(Place { path, file }) => {
+            Ok(Place { path, target }) => {
                 self.count_lost(u64::from(!self.torn.is_empty()));
                 self.torn.clear();
-                self.size = file.metadata().map_or(0, |it| it.len());
-                (self.path, self.file) = (path, file);
+                self.size = target.size();
+                (self.path, self.target) = (path, target);
             }
             Err(error) => say(&format!("the log can't be opened anew: {error}")),
         }
@@ -253,7 +296,8 @@ impl LogFile {
     /// How many of these bytes go into the file, another one where it has its size.
     fn make_room(&mut self, lines: &[u8]) -> usize {
         let rotates_no_more = self.asked.rotates_no_more.load(Ordering::Relaxed);
-        if self.manner.rotate == 0 || self.path.is_none() || rotates_no_more {
+        let is_file = matches!(self.target, Target::File(_)) && self.path.is_some();
+        if self.manner.rotate == 0 || !is_file || rotates_no_more {
             return lines.len();
         }
         let first = front(lines, 0) as u64;
@@ -269,18 +313,50 @@ impl LogFile {
 
     /// Begins another file. It is opened first, so that nothing has changed where that fails.
     fn rotate(&mut self) -> io::Result<()> {
-        let Some(path) = &self.path else {
+        let Some(path) = self.path.clone() else {
             return Ok(());
         };
-        let next = beside(path, "new");
+        let next = beside(&path, "new");
         let file = open(Some(&next))?;
-        let moved = move_on(path, self.manner.keep).and_then(|()| fs::rename(&next, path));
+        self.end_packing(true);
+        let moved = move_on(&path, self.manner.keep).and_then(|()| fs::rename(&next, &path));
         if let Err(error) = moved {
             let _ = fs::remove_file(next);
             return Err(error);
         }
-        self.file = file;
+        self.target = Target::File(file);
+        if self.manner.gzip && self.manner.keep > 0 {
+            self.pack(&beside(&path, 1));
+        }
         Ok(())
+    }
+
+    /// Has the system's gzip pack an older file. That goes on beside the lines that come.
+    fn pack(&mut self, older: &Path) {
+        let mut gzip = Command::new("gzip");
+        gzip.args(["--force", "--"]).arg(older).stdin(Stdio::null());
+        match gzip.stdout(Stdio::null()).spawn() {
+            Ok(child) => self.packing = Some(child),
+            Err(error) => say(&format!("gzip can't be begun: {error}")),
+        }
+    }
+
+    /// Notes that the packing has ended, for which it may wait. No file has another name meanwhile.
+    fn end_packing(&mut self, waits: bool) {
+        let Some(child) = &mut self.packing else {
+            return;
+        };
+        let ended = match waits {
+            true => child.wait().map(Some),
+            false => child.try_wait(),
+        };
+        match ended {
+            Ok(None) => return,
+            Ok(Some(status)) if status.success() => {}
+            Ok(Some(status)) => say(&format!("an older log isn't packed: {status}")),
+            Err(error) => say(&format!("an older log isn't packed: {error}")),
+        }
+        self.packing = None;
     }
 }
 
@@ -293,20 +369,29 @@ fn beside(path: &Path, end: impl Display) -> PathBuf {
 
 /// Gives a file, and older ones, their next numbers. Of them so many are kept.
 fn move_on(path: &Path, keep: u16) -> io::Result<()> {
+    let packed = |number: u16| beside(path, format_args!("{number}.gz"));
     for number in (1..keep).rev() {
-        is_there(fs::rename(beside(path, number), beside(path, number + 1)))?;
+        let (plain, next) = (beside(path, number), number + 1);
+        if is_there(fs::rename(packed(number), packed(next)))? {
+            is_there(fs::remove_file(beside(path, next)))?;
+        }
+        // One that isn't whole may stand beside what it was made of.
+        if is_there(fs::rename(plain, beside(path, next)))? {
+            is_there(fs::remove_file(packed(next)))?;
+        }
     }
     is_there(match keep {
         0 => fs::remove_file(path),
         _ => fs::rename(path, beside(path, 1)),
-    })
+    })?;
+    Ok(())
 }
 
-/// What came of a file, but for one that isn't there.
-fn is_there(done: io::Result<()>) -> io::Result<()> {
+/// Whether something was done to a file: not to one that isn't there.
+fn is_there(done: io::Result<()>) -> io::Result<bool> {
     match done {
-        Err(error) if error.kind() == ErrorKind::NotFound => Ok(()),
-        done => done,
+        Err(error) if error.kind() == ErrorKind::NotFound => Ok(false),
+        done => done.map(|()| true),
     }
 }
 
@@ -314,6 +399,7 @@ fn is_there(done: io::Result<()>) -> io::Result<()> {
 mod tests {
     use super::{front, Arc, Asked, Format, LogFile, LogFull, Manner, Place};
     use std::fs;
+    use std::os::unix::net::UnixDatagram;
     use std::path::PathBuf;
 
     fn log(name: &str, rotate: u64, keep: u16) -> (PathBuf, LogFile) {
@@ -325,6 +411,7 @@ mod tests {
             full: LogFull::Pass,
             rotate,
             keep,
+            gzip: false,
         };
         let place = Place::open(Some(folder.join("log"))).expect("a log");
         (
@@ -351,6 +438,62 @@ mod tests {
         assert_eq!("a line of more bytes\n", text("log.1"));
         assert_eq!("four\n", text("log.2"));
         assert!(!folder.join("log.3").exists());
+        fs::remove_dir_all(folder).expect("the folder");
+    }
+
+    #[test]
+    fn older_files_are_packed() {
+        let (folder, mut log) = log("packed", 4, 2);
+        log.manner.gzip = true;
+        for line in ["one\n", "two\n", "six\n", "ten\n"] {
+            log.write(line.as_bytes());
+        }
+        log.end_packing(true);
+        let text = |name: &str| fs::read(folder.join(name)).expect("a file");
+        assert_eq!(b"ten\n", &text("log")[..]);
+        for name in ["log.1", "log.2"] {
+            assert!(!folder.join(name).exists(), "{name}");
+            assert_eq!([0x1f, 0x8b], text(&format!("{name}.gz"))[..2], "{name}");
+        }
+        assert!(!folder.join("log.3.gz").exists());
+        fs::remove_dir_all(folder).expect("the folder");
+    }
+
+    #[test]
+    fn what_is_half_packed_stays_as_it_was() {
+        let (folder, mut log) = log("half", 4, 2);
+        fs::write(folder.join("log.1"), "one\n").expect("an older file");
+        fs::write(folder.join("log.1.gz"), "half").expect("what is half of it");
+        fs::write(folder.join("log.2.gz"), "old").expect("an older file still");
+        log.write(b"two\nsix\n");
+        let text = |name| fs::read_to_string(folder.join(name)).expect("a file");
+        assert_eq!(("one\n", "two\n"), (&*text("log.2"), &*text("log.1")));
+        assert!(!folder.join("log.1.gz").exists() && !folder.join("log.2.gz").exists());
+        fs::remove_dir_all(folder).expect("the folder");
+    }
+
+    #[test]
+    fn a_socket_gets_a_datagram_for_each_line() {
+        let (folder, mut log) = log("socket", 0, 2);
+        let path = folder.join("socket");
+        let mut reader = UnixDatagram::bind(&path).expect("a socket");
+        let place = Place::open(Some(path.clone())).expect("the socket");
+        log.asked.change(place, log.manner.clone());
+        let mut room = [0; 100];
+        let head = format!("<30>mysql-audit[{}]: ", std::process::id());
+        log.write(b"one\ntwo\n");
+        for wanted in ["one", "two"] {
+            let count = reader.recv(&mut room).expect("a datagram");
+            assert_eq!(format!("{head}{wanted}").as_bytes(), &room[..count]);
+        }
+        // One that begins anew gets the lines from then on.
+        fs::remove_file(&path).expect("the socket's name");
+        drop(reader);
+        reader = UnixDatagram::bind(&path).expect("a socket");
+        log.write(&[&[b'x'; 1 << 20], &b"\nthree\n"[..]].concat());
+        let count = reader.recv(&mut room).expect("a datagram");
+        assert_eq!(format!("{head}three").as_bytes(), &room[..count]);
+        assert_eq!(1, log.lost);
         fs::remove_dir_all(folder).expect("the folder");
     }
 

@@ -25,6 +25,8 @@ pub struct Told {
     pub fields: Vec<(&'static str, String)>,
     pub text: Option<String>,
     pub values: Option<String>,
+    /// The text's digest, where digests are told.
+    pub digest: Option<Vec<u8>>,
     /// Whether it has a secret that isn't told. Nor is what the server says of it then.
     pub is_secret: bool,
 }
@@ -92,6 +94,7 @@ impl Told {
             fields: Vec::new(),
             text: None,
             values: None,
+            digest: None,
             is_secret: false,
         }
     }
@@ -262,6 +265,10 @@ fn text_line(line: &mut String, heading: &Heading, told: &Told, answer: Option<&
     for (name, what) in &told.fields {
         let _ = write!(line, " {name}={what}");
     }
+    if let Some(digest) = &told.digest {
+        line.push_str(" digest=");
+        push_quoted(line, digest);
+    }
     for (before, what) in [(": ", &told.text), (" ", &told.values)] {
         if let Some(what) = what {
             line.push_str(before);
@@ -380,6 +387,9 @@ fn json_line(line: &mut String, heading: &Heading, told: &Told, answer: Option<&
     json_field(line, "user", heading.user);
     json_field(line, "database", heading.database);
     json_field(line, "kind", told.kind.as_bytes());
+    if let Some(digest) = &told.digest {
+        json_field(line, "digest", digest);
+    }
     let texts = told.text.iter().map(|text| ("text", text));
     let values = told.values.iter().map(|values| ("values", values));
     let fields = told.fields.iter().map(|(name, what)| (*name, what));

@@ -56,6 +56,7 @@ fn manner_of(options: &Options) -> Manner {
         full: options.log_full(),
         rotate: options.rotate,
         keep: options.keep,
+        gzip: options.gzip,
     }
 }
 

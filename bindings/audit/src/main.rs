@@ -23,6 +23,7 @@ mod shared;
 mod skipping;
 mod stage;
 mod sys;
+mod syslog;
 mod teller;
 mod texts;
 mod way;

@@ -6,7 +6,7 @@ use crate::counts::KINDS;
 use crate::lines::Format;
 use crate::network::Network;
 use crate::proxy_header::Version;
-use mysql_session::Limits;
+use mysql_session::{Limits, Mode};
 use std::fs;
 use std::path::PathBuf;
 use std::thread;
@@ -22,7 +22,9 @@ pub enum LogFull {
 }
 
 /// Names that have no value on the command line, and yes or no in a file.
-const SWITCHES: [&str; 5] = ["json", "secrets", "strict", "plain", "errors"];
+const SWITCHES: [&str; 8] = [
+    "json", "secrets", "strict", "plain", "errors", "gzip", "digests", "redact",
+];
 
 pub struct Options {
     pub listen: String,
@@ -49,12 +51,17 @@ pub struct Options {
     pub databases: Vec<String>,
     pub hosts: Vec<Network>,
     pub kinds: Vec<String>,
+    pub digests: bool,
+    pub redact: bool,
+    /// Digests, or statements that have them.
+    pub wanted_digests: Vec<String>,
     pub slower: Option<Duration>,
     pub errors: bool,
     /// Of so many commands one is told.
     pub sample: u32,
     pub rotate: u64,
     pub keep: u16,
+    pub gzip: bool,
     pub log_full: Option<LogFull>,
     pub log_held: usize,
 }
@@ -86,11 +93,15 @@ impl Default for Options {
             databases: Vec::new(),
             hosts: Vec::new(),
             kinds: Vec::new(),
+            digests: false,
+            redact: false,
+            wanted_digests: Vec::new(),
             slower: None,
             errors: false,
             sample: 1,
             rotate: 0,
             keep: 5,
+            gzip: false,
             log_full: None,
             log_held: 1 << 24,
         }
@@ -208,6 +219,10 @@ impl Options {
             "sample" => self.sample = number::<u32>(value)?.max(1),
             "rotate" => self.rotate = number(value)?,
             "keep" => self.keep = number(value)?,
+            "gzip" => self.gzip = answer(value)?,
+            "digests" => self.digests = answer(value)?,
+            "redact" => self.redact = answer(value)?,
+            "digest" => self.wanted_digests.push(value.to_string()),
             "log-held" => self.log_held = number(value)?,
             "log-full" => {
                 self.log_full = match value {
@@ -230,7 +245,9 @@ impl Options {
                 Format::Text
             },
             secrets: self.secrets,
-            escapes: true,
+            digests: self.digests || !self.wanted_digests.is_empty(),
+            redacts: self.redact,
+            mode: Mode::default(),
             has_secrets: false,
         }
     }

@@ -50,6 +50,7 @@ static void send_sets(void)
     AGAIN(mysql_session_bind_text(&sets, 1, bytes_of(QUERY), strlen(QUERY), 0, &out, &place));
     AGAIN(mysql_session_value_text(&sets, 0, 1, 0, &out));
     AGAIN(mysql_session_execution_put(&sets, 0, 1, &out));
+    AGAIN(mysql_session_digest(bytes_of(QUERY), strlen(QUERY), 0, &out));
 }
 
 static void put_columns(void)

@@ -155,6 +155,11 @@ static uint32_t execution_to(mysql_session_handle *handle)
     return mysql_session_execution_put(&good_sets, 0, 1, handle);
 }
 
+static uint32_t digest_to(mysql_session_handle *handle)
+{
+    return mysql_session_digest(some, LEN, 0, handle);
+}
+
 static uint32_t recoder_feed(mysql_session_handle *handle)
 {
     return mysql_session_recoder_feed(handle, some, 0, &good_out, &stop);
@@ -321,6 +326,7 @@ static const struct {
     { "value_text", value_from, ONLY(SETS) },
     { "execution_put, from", execution_from, ONLY(SETS) },
     { "execution_put, to", execution_to, ONLY(BYTES) },
+    { "digest", digest_to, ONLY(BYTES) },
     { "recoder_feed", recoder_feed, ONLY(RECODER) },
     { "recoder_end", recoder_end, ONLY(RECODER) },
     { "reply_feed", reply_feed, ONLY(REPLY) },

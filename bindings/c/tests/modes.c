@@ -158,6 +158,8 @@ static void no_such_mode(uint32_t flags)
     CHECK_CODE(mysql_session_bind_text(&nothing, 0, bytes_of(query), 8, flags, &out, &place),
                MYSQL_SESSION_NO_SUCH_MODE);
     CHECK_CODE(mysql_session_value_text(&nothing, 0, 0, flags, &out), MYSQL_SESSION_NO_SUCH_MODE);
+    CHECK_CODE(mysql_session_digest(bytes_of(query), 8, flags, &nothing),
+               MYSQL_SESSION_NO_SUCH_MODE);
     CHECK_CODE(mysql_session_send(&sets, bytes_of(query), 8, 0, 1, 3, flags, &out, &place),
                MYSQL_SESSION_NO_SUCH_MODE);
     CHECK_CODE(mysql_session_send(&sets, bytes_of(query), 8, 3, 1, 3, flags, &out, &place),

@@ -1,4 +1,4 @@
-/* The text of a set over a query, and the literal of one value. */
+/* The text of a set over a query, the literal of one value, and the digest of a text. */
 #include "check.h"
 
 static mysql_session_handle sets, out;
@@ -133,6 +133,46 @@ static void dates(void)
     end();
 }
 
+static uint32_t digest(const char *text, uint32_t flags)
+{
+    return mysql_session_digest(bytes_of(text), strlen(text), flags, &out);
+}
+
+/* The digest of a text alone; the bytes of `out` are emptied behind it. */
+static void digest_row(const char *text, uint32_t flags, const char *wanted)
+{
+    check_note(text, flags);
+    CHECK_DONE(digest(text, flags));
+    check_out(wanted);
+    CHECK_DONE(mysql_session_bytes_clear(&out));
+    check_note("", 0);
+}
+
+static void digests(void)
+{
+    CHECK_DONE(mysql_session_bytes_new(&out));
+    digest_row("", 0, "");
+    digest_row("SELECT a FROM t WHERE id=5 -- why", 0, "select a from t where id = ?");
+    digest_row("SELECT a FROM t WHERE id IN (1, 'x',NULL)", 0, "select a from t where id in (...)");
+    digest_row("INSERT INTO t VALUES (1,'a'),(2,'b')", 0,
+               "insert into t values (...) /* , ... */");
+    digest_row("\"a\" '\\' b", 0, "? ?");
+    digest_row("\"a\" '\\' b", MYSQL_SESSION_NO_BACKSLASH_ESCAPES, "? ? b");
+    digest_row("\"a\" '\\' b", MYSQL_SESSION_ANSI_QUOTES, "\"a\" ?");
+    digest_row("SELECT 1", MYSQL_SESSION_HEXADECIMAL, "select ?");
+    CHECK_DONE(digest("a = 1", 0));
+    CHECK_DONE(digest(" ; b", 0));
+    check_out("a = ?; b");
+    CHECK_CODE(digest("a = 1", 8), MYSQL_SESSION_NO_SUCH_MODE);
+    check_out("a = ?; b");
+    mysql_session_free(&out);
+    CHECK_CODE(digest("a = 1", 8), MYSQL_SESSION_NO_SUCH_MODE);
+    CHECK_CODE(digest("a = 1", 0), MYSQL_SESSION_EMPTY_HANDLE);
+    begin();
+    CHECK_CODE(mysql_session_digest(bytes_of("a"), 1, 0, &sets), MYSQL_SESSION_OTHER_KIND);
+    end();
+}
+
 int main(void)
 {
     texts();
@@ -140,5 +180,6 @@ int main(void)
     reads_back();
     literals();
     dates();
+    digests();
     return check_end("texts");
 }

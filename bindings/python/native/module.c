@@ -355,6 +355,7 @@ static PyMethodDef methods[] = {
     {"send", send_sets, METH_VARARGS, NULL},
     {"execution_put", execution_put, METH_VARARGS, NULL},
     {"bind_text", bind_text, METH_VARARGS, NULL},
+    {"digest", digest, METH_VARARGS, NULL},
     {"value_text", value_text, METH_VARARGS, NULL},
     {NULL, NULL, 0, NULL}};
 

@@ -251,6 +251,7 @@ PyObject *send_sets(PyObject *module, PyObject *args);
 PyObject *bind_text(PyObject *module, PyObject *args);
 PyObject *value_text(PyObject *module, PyObject *args);
 PyObject *execution_put(PyObject *module, PyObject *args);
+PyObject *digest(PyObject *module, PyObject *args);
 int sets_add_values(State *state, Object *sets, PyObject *values, const Narrow *narrow);
 int set_up_events(State *state, PyObject *classes);
 

@@ -494,6 +494,23 @@ PyObject *execution_put(PyObject *module, PyObject *args)
     return made;
 }
 
+PyObject *digest(PyObject *module, PyObject *args)
+{
+    State *state = state_of(module);
+    In text = {0};
+    uint32_t flags;
+    if (needs_setup(state) || !PyArg_ParseTuple(args, "O&O&", to_text, &text, to_u32, &flags))
+        return NULL;
+    mysql_session_handle out = MYSQL_SESSION_NOTHING;
+    uint32_t code = mysql_session_bytes_new(&out);
+    if (!code)
+        code = mysql_session_digest(text.at, text.len, flags, &out);
+    PyObject *made = code ? fail(state, code) : written(state, &out);
+    mysql_session_free(&out);
+    in_end(&text);
+    return made;
+}
+
 PyObject *bind_text(PyObject *module, PyObject *args)
 {
     State *state = state_of(module);

@@ -48,7 +48,7 @@ use audit::{Audit, OnFault};
 use commands::Telling;
 use common::{write_packet, Failure, Unread, LIMIT};
 use lines::{Answer, Format, Heading, Sink, Told};
-use mysql_session::{Limits, PacketReader};
+use mysql_session::{Limits, Mode, PacketReader};
 use passing::{Passage, Records};
 use plain::hide;
 use std::env;
@@ -130,7 +130,9 @@ impl Options {
         Telling {
             format: self.format,
             secrets: self.secrets,
-            escapes: true,
+            digests: false,
+            redacts: false,
+            mode: Mode::default(),
             has_secrets: false,
         }
     }

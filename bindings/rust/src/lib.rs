@@ -5,7 +5,8 @@
 //!   [`Recoder`] and [`recode`] make one form of it.
 //! - [`send`] appends [`ParameterSets`] as commands to [`Bytes`], by text, by execution or in bulk.
 //!   [`executions`] has those of a statement that was prepared before, [`put_execution`] one with
-//!   floats. And [`bind_text`] puts one set into the query's text.
+//!   floats. And [`bind_text`] puts one set into the query's text. [`digest`] takes the values out of
+//!   a text.
 //! - [`Mode`] is how a server reads a text, and [`Spelling`] how byte strings are written in one:
 //!   calls whose names end with `_in` take them.
 //! - [`ReplyReader`] reads a server's reply; [`ReplyWriter`] writes one.
@@ -49,6 +50,7 @@ pub mod command;
 mod connection;
 mod conversions;
 pub mod cursor;
+mod digests;
 mod event_values;
 mod events;
 mod handle;
@@ -78,6 +80,7 @@ pub use bytes::Bytes;
 pub use codes::{At, Code, End, Error, Fault};
 pub use connection::{Connection, ConnectionEnd, ConnectionFault, Side, Statement};
 pub use conversions::{FromRow, FromValue, RowError};
+pub use digests::{digest, digest_in};
 pub use event_values::{Attributes, BulkRow, BulkRows, BulkValue, EventRow, Values};
 pub use events::{ClientChange, ClientLogin, ClientRequest, Event, OtherCommand, ServerGreeting};
 pub use iter::Iter;

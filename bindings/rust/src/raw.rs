@@ -9,7 +9,7 @@ use std::ptr::null;
 use std::slice;
 
 /// `MYSQL_SESSION_ABI`: the interface that is declared here.
-pub const ABI: u32 = 8;
+pub const ABI: u32 = 9;
 
 // `enum mysql_session_flag`.
 pub const NO_BACKSLASH_ESCAPES: u32 = 1;
@@ -371,6 +371,7 @@ extern "C" {
         out: *mut Handle,
         place: *mut Place,
     ) -> u32;
+    pub fn mysql_session_digest(text: *const u8, len: usize, flags: u32, out: *mut Handle) -> u32;
     pub fn mysql_session_value_text(
         sets: *mut Handle,
         set: usize,

@@ -1,6 +1,7 @@
 //! Commands: bytes that were written, modes, receivers, parameter sets, sending, texts and recoders.
 
 ghost use Rattle.mysql_c_commands.specs.Adding.{AddsSetIn};
+ghost use Rattle.mysql_c_commands.specs.Digests.{PutsDigestTo};
 ghost use Rattle.mysql_c_commands.specs.Executing.{PutsExecutionFrom};
 ghost use Rattle.mysql_c_commands.specs.Modes.{InMode, flagged, unknown_mode};
 ghost use Rattle.mysql_c_commands.specs.Receivers.{EndsAs, IsFedBy, LetsGo, MakesReceiver, OfReceiver, content_at};
@@ -22,10 +23,10 @@ ghost use Rattle.std.specs.Prelude.{MatchOption, None, Some, [], false, length, 
 ghost use Rattle.mysql_cells.specs.declared.value.Value.TheVariants as value;
 
 use mysql_c_commands::{
-    Parameter, ShownContent, ShownPlace, ShownStop, bind_text, execution_put, is_safe_to_quote,
-    mode_of_sql_mode, mode_of_status, receiver_clear, receiver_content, receiver_end,
-    receiver_feed, receiver_new, receiver_sets, receiver_width, recoder_end, recoder_feed,
-    recoder_new, send, sets_add, sets_clear, sets_count, sets_end_set, sets_new, sets_push_bytes,
+    Parameter, ShownContent, ShownPlace, ShownStop, bind_text, digest_put, execution_put,
+    is_safe_to_quote, mode_of_sql_mode, mode_of_status, receiver_clear, receiver_content,
+    receiver_end, receiver_feed, receiver_new, receiver_sets, receiver_width, recoder_end,
+    recoder_feed, recoder_new, send, sets_add, sets_clear, sets_count, sets_end_set, sets_new, sets_push_bytes,
     sets_push_date, sets_push_double, sets_push_float, sets_push_int, sets_push_null,
     sets_push_time, sets_push_uint, value_text,
 };
@@ -441,6 +442,23 @@ pub extern "C" fn mysql_session_value_text(
         result out.new.object) }
 {
     value_text(alloc, sets, set, place, flags, out)
+}
+
+/// Appends the digest of a statement's text to the bytes of a handle.
+///
+/// It is the text with the values taken out. The flags tell the mode of the server that reads the
+/// text. How byte strings are spelled says nothing here.
+#[unsafe(no_mangle)]
+pub extern "C" fn mysql_session_digest(
+    alloc: Global,
+    text: &[u8],
+    flags: u32,
+    out: &mut Handle,
+) -> u32
+    ensures { InMode flags result out.old.object out.new.object
+        (λ mode spelling. PutsDigestTo mode text.now out.old.object result out.new.object) }
+{
+    digest_put(alloc, text, flags, out)
 }
 
 /// Makes the handle refer to a recoder of a stream of commands about this query.

@@ -1,4 +1,5 @@
 pub mod Adding
+pub mod Digests
 pub mod Executing
 pub mod Modes
 pub mod Receivers

@@ -7,6 +7,7 @@
 //! logging in, and `shown_text` and `putting` are what these share.
 #![tactic(auto)]
 
+mod digests;
 mod executing;
 mod greeting;
 mod gtids;
@@ -24,6 +25,7 @@ mod shown;
 mod shown_text;
 mod texts;
 
+pub use digests::digest_put;
 pub use executing::execution_put;
 pub use greeting::{ShownGreeting, greeting_put, greeting_read};
 pub use login::{ShownLogin, login_put, login_read};

@@ -31,6 +31,26 @@ impl<'a> Json<'a> {
             _ => "".into(),
         }
     }
+
+    /// The bytes of a text; none of another value.
+    pub fn bytes(self) -> Option<Cow<'a, [u8]>> {
+        match self {
+            Json::Text(Cow::Borrowed(text)) => Some(Cow::Borrowed(text.as_bytes())),
+            Json::Text(Cow::Owned(text)) => Some(Cow::Owned(text.into_bytes())),
+            Json::Object(raw) => match Fields::new(raw).next() {
+                Some((_, Json::Text(digits))) => Some(Cow::Owned(bytes_in(&digits)?)),
+                _ => None,
+            },
+            _ => None,
+        }
+    }
+}
+
+/// The bytes that hexadecimal digits are.
+fn bytes_in(digits: &str) -> Option<Vec<u8>> {
+    let pairs = digits.as_bytes().chunks(2);
+    let byte = |pair| u8::from_str_radix(std::str::from_utf8(pair).ok()?, 16).ok();
+    pairs.map(byte).collect()
 }
 
 /// The front of a text that is to be read.
@@ -245,7 +265,10 @@ mod tests {
         );
         assert_eq!(2, Items::new(r#"[1,{"c":"]"}]"#).count());
         assert_eq!(0, Items::new("[]").count());
-        assert_eq!("0xff00", Json::Object(r#"{"hex":"ff00"}"#).text());
+        let hex = Json::Object(r#"{"hex":"ff00"}"#);
+        assert_eq!("0xff00", hex.clone().text());
+        assert_eq!(Some(&[0xff, 0][..]), hex.bytes().as_deref());
+        assert_eq!(None, Json::Object(r#"{"hex":"f g"}"#).bytes());
     }
 
     #[test]

@@ -1,12 +1,13 @@
 //! Reads logs of `mysql-audit`, and writes a page about them.
 //!
 //! ```text
-//! audit-report LOG .. [--top N] [--texts N] [--output FILE]
+//! audit-report LOG .. [--top N] [--texts N] [--by-text] [--examples] [--output FILE]
 //! ```
 //!
 //! The logs have lines of JSON; `-` is standard input. The page has so many statements (`--top`, 500).
-//! So many different texts are counted each by itself (`--texts`, 100000). Its status is 1 where a
-//! log can't be read or nothing of it is a line, and 2 for words that it doesn't know.
+//! Statements are the same where their digests are, or their whole texts (`--by-text`). So many
+//! different ones are counted each by itself (`--texts`, 100000). Its status is 1 where a log can't
+//! be read or nothing of it is a line, and 2 for words that it doesn't know.
 
 mod json;
 mod page;
@@ -20,20 +21,22 @@ use std::fs::{self, File};
 use std::io::{self, BufRead, BufReader, Write};
 use std::path::PathBuf;
 use std::process::ExitCode;
-use sums::Sums;
+use sums::{Manner, Sums};
 
-const USAGE: &str = "usage: audit-report LOG .. [--top N] [--texts N] [--output FILE]\n\
+const USAGE: &str = "usage: audit-report LOG .. [OPTIONS]\n\
 \n\
 A page of HTML about logs of `mysql-audit --json`; `-` is standard input.\n\
 \n\
 \x20 --top N        how many statements the page has, those that took longest in all: 500\n\
-\x20 --texts N      how many different texts are counted each by itself: 100000\n\
+\x20 --texts N      how many different statements are counted each by itself: 100000\n\
+\x20 --by-text      statements are the same where their whole texts are, not their digests\n\
+\x20 --examples     the text of the slowest one of each statement, too\n\
 \x20 --output FILE  where the page is written; standard output without it";
 
 struct Words {
     logs: Vec<String>,
     top: usize,
-    texts: usize,
+    manner: Manner,
     output: Option<PathBuf>,
 }
 
@@ -42,13 +45,19 @@ impl Words {
         let mut all = Words {
             logs: Vec::new(),
             top: 500,
-            texts: 100_000,
+            manner: Manner {
+                most: 100_000,
+                by_text: false,
+                examples: false,
+            },
             output: None,
         };
         while let Some(word) = words.next() {
             match word.as_str() {
                 "--top" => all.top = words.next()?.parse().ok()?,
-                "--texts" => all.texts = words.next()?.parse().ok()?,
+                "--texts" => all.manner.most = words.next()?.parse().ok()?,
+                "--by-text" => all.manner.by_text = true,
+                "--examples" => all.manner.examples = true,
                 "--output" => all.output = Some(words.next()?.into()),
                 name if name.starts_with("--") => return None,
                 _ => all.logs.push(word),
@@ -70,7 +79,7 @@ fn read(sums: &mut Sums, log: impl io::Read) -> io::Result<()> {
 }
 
 fn run(words: Words) -> Result<bool, String> {
-    let mut sums = Sums::new(words.texts);
+    let mut sums = Sums::new(words.manner);
     for log in &words.logs {
         let is_read = match log.as_str() {
             "-" => read(&mut sums, io::stdin().lock()),
@@ -79,7 +88,7 @@ fn run(words: Words) -> Result<bool, String> {
         is_read.map_err(|error| format!("{log}: {error}"))?;
     }
     let is_log = sums.lines > sums.unread;
-    let html = page::page(sums, words.top, &words.logs);
+    let html = page::page(sums, words.manner, words.top, &words.logs);
     let written = match &words.output {
         Some(file) => fs::write(file, html),
         None => io::stdout().write_all(html.as_bytes()),

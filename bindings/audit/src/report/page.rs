@@ -1,6 +1,6 @@
 //! One page of HTML of what a log sums up to. It takes nothing from elsewhere.
 
-use crate::sums::{Part, Statement, Sum, Sums, Times};
+use crate::sums::{Manner, Part, Shown, Statement, Sum, Sums, Times};
 use crate::texts::push_readable;
 use std::collections::BTreeMap;
 use std::fmt::{Display, Write};
@@ -89,6 +89,13 @@ impl Table {
         let _ = write!(self.html, "<td class=\"t\">{}</td>", escaped(text));
     }
 
+    fn shown(&mut self, shown: &Shown) {
+        match shown.more {
+            0 => self.text(&shown.text),
+            more => self.text(&format!("{} .. and {more} bytes more", shown.text)),
+        }
+    }
+
     fn word(&mut self, text: &str) {
         let _ = write!(self.html, "<td>{}</td>", escaped(text));
     }
@@ -140,17 +147,22 @@ const SUMS: [&str; 12] = [
     "bytes answered",
 ];
 
-fn statements(top: &[Statement], others: &Statement, all: &Sum) -> String {
-    let columns = [&["kind", "statement"][..], &SUMS].concat();
+fn statements(top: &[Statement], others: &Statement, manner: Manner, all: &Sum) -> String {
+    let example = if manner.examples {
+        &["the slowest one's text"][..]
+    } else {
+        &[]
+    };
+    let columns = [&["kind", "statement"], example, &SUMS].concat();
     let mut table = Table::new("statements", "Statements", &columns);
     let others = Some(others).filter(|it| it.sum.count > 0.0);
     for statement in top.iter().chain(others) {
         table.row();
         table.word(&statement.kind);
-        table.text(&match statement.more {
-            0 => statement.text.clone(),
-            more => format!("{} .. and {more} bytes more", statement.text),
-        });
+        table.shown(&statement.shown);
+        if manner.examples {
+            table.shown(&statement.example);
+        }
         table.sum(&statement.sum, all);
     }
     table.end()
@@ -260,7 +272,7 @@ fn time_line(sums: &mut Sums) -> String {
     )
 }
 
-fn head(sums: &Sums, files: &[String]) -> String {
+fn head(sums: &Sums, manner: Manner, files: &[String]) -> String {
     let mut html = String::from("<h1>Audit of statements</h1>\n");
     let files = escaped(&files.join(", "));
     let (first, last) = (escaped(&sums.first), escaped(&sums.last));
@@ -274,11 +286,11 @@ fn head(sums: &Sums, files: &[String]) -> String {
         grouped(sums.all.errors),
         grouped(sums.logins.count),
     );
-    html.push_str(
-        "<p>Statements are the same where their whole texts are: values in a text aren't taken out. \
-         Those that are executed have question marks in their places. Numbers of 95 % are exact to a \
-         fifth.</p>\n",
-    );
+    html.push_str(match manner.by_text {
+        true => "<p>Statements are the same where their whole texts are. ",
+        false => "<p>Statements are the same where their digests are: values are taken out. ",
+    });
+    html.push_str("Numbers of 95 % are exact to a fifth.</p>\n");
     if sums.is_sample {
         html.push_str("<p class=\"warn\">Some lines are a sample: each counts for as many.</p>\n");
     }
@@ -293,10 +305,10 @@ fn head(sums: &Sums, files: &[String]) -> String {
 }
 
 /// The page, with so many statements.
-pub fn page(mut sums: Sums, most: usize, files: &[String]) -> String {
+pub fn page(mut sums: Sums, manner: Manner, most: usize, files: &[String]) -> String {
     let texts = sums.texts();
     let top = sums.top(most);
-    let mut body = head(&sums, files);
+    let mut body = head(&sums, manner, files);
     let gaps = ["what", "count", "first", "last", "text"];
     body += &told("gaps", "What wasn't audited or served", &gaps, &sums.gaps);
     body += &time_line(&mut sums);
@@ -307,7 +319,7 @@ pub fn page(mut sums: Sums, most: usize, files: &[String]) -> String {
             top.len()
         );
     }
-    body += &statements(&top, &sums.others, &sums.all);
+    body += &statements(&top, &sums.others, manner, &sums.all);
     let errors = ["error", "count", "first", "last", "the first one's message"];
     body += &told("errors", "Errors", &errors, &sums.errors);
     body += &names("users", "Users", "user", &sums.users, &sums.all);
@@ -329,7 +341,13 @@ pub fn page(mut sums: Sums, most: usize, files: &[String]) -> String {
 #[cfg(test)]
 mod tests {
     use super::{escaped, grouped, page, seconds};
-    use crate::sums::Sums;
+    use crate::sums::{Manner, Sums};
+
+    const MANNER: Manner = Manner {
+        most: 9,
+        by_text: true,
+        examples: true,
+    };
 
     #[test]
     fn numbers_are_written_for_people() {
@@ -345,7 +363,7 @@ mod tests {
             "&lt;b a=&quot;&#39;&quot;&gt;&amp;\n\\u{202e}",
             escaped("<b a=\"'\">&\n\u{202e}")
         );
-        let mut sums = Sums::new(9);
+        let mut sums = Sums::new(MANNER);
         let evil = r#"<script>alert(1)</script>{body}"#;
         for field in ["text", "user", "database", "client", "time", "kind"] {
             let text = format!(
@@ -358,7 +376,7 @@ mod tests {
             let text = format!("{{\"time\":\"{evil}\",\"kind\":\"{kind}\",\"text\":\"{evil}\"}}");
             sums.take(text.as_bytes());
         }
-        let html = page(sums, 100, &[evil.to_string()]);
+        let html = page(sums, MANNER, 100, &[evil.to_string()]);
         assert_eq!(1, html.matches("<script>").count());
         assert_eq!(0, html.matches("alert(1)</script>").count());
         assert!(html.contains("&lt;script&gt;alert(1)&lt;/script&gt;{body}"));
@@ -366,7 +384,7 @@ mod tests {
 
     #[test]
     fn an_empty_log_has_a_page() {
-        let html = page(Sums::new(9), 100, &["-".to_string()]);
+        let html = page(Sums::new(MANNER), MANNER, 100, &["-".to_string()]);
         assert!(html.starts_with("<!DOCTYPE html>") && html.ends_with("</html>\n"));
     }
 }

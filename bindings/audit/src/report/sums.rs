@@ -1,6 +1,7 @@
 //! What the lines of a log sum up to. However long a log is, it takes as much memory.
 
 use crate::json::{Fields, Items, Json};
+use mysql_session::{digest, Bytes};
 use std::collections::hash_map::RandomState;
 use std::collections::{BTreeMap, HashMap};
 use std::hash::BuildHasher;
@@ -13,6 +14,8 @@ const MOST_NAMES: usize = 2000;
 const MOST_PARTS: usize = 4096;
 /// Classes of times: four for each doubling of a microsecond.
 const TIMES: usize = 124;
+/// Kinds of lines that have a statement.
+const STATEMENTS: [&str; 4] = ["query", "prepare", "execute", "bulk execute"];
 /// What is told of all that had no room.
 pub const OTHERS: &str = "(others)";
 
@@ -22,6 +25,7 @@ pub struct Line<'a> {
     pub time: String,
     pub kind: String,
     pub text: Option<Json<'a>>,
+    digest: Option<Json<'a>>,
     client: String,
     user: String,
     database: String,
@@ -51,6 +55,7 @@ impl<'a> Line<'a> {
                 ("user", value) => line.user = value.text().into_owned(),
                 ("database", value) => line.database = value.text().into_owned(),
                 ("text", value) => line.text = Some(value),
+                ("digest", value) => line.digest = Some(value),
                 ("seconds", Json::Number(seconds)) => line.seconds = Some(seconds),
                 ("results", Json::List(list)) => line.results = list,
                 ("traffic", Json::List(list)) => {
@@ -70,6 +75,20 @@ impl<'a> Line<'a> {
         self.text
             .clone()
             .map_or(String::new(), |text| text.text().into_owned())
+    }
+
+    /// The digest that the line has, or that of its text. None where it has no statement.
+    fn digest(&self) -> Option<String> {
+        if let Some(digest) = &self.digest {
+            return Some(digest.clone().text().into_owned());
+        }
+        if !STATEMENTS.contains(&&*self.kind) {
+            return None;
+        }
+        let text = self.text.clone()?.bytes()?;
+        let mut out = Bytes::new().ok()?;
+        digest(&text, &mut out).ok()?;
+        Some(String::from_utf8_lossy(out.as_slice()).into_owned())
     }
 
     /// The address without its port.
@@ -161,11 +180,16 @@ impl Default for Sum {
 }
 
 impl Sum {
+    /// Whether no command that was added took longer.
+    fn is_slowest(&self, line: &Line) -> bool {
+        line.seconds.unwrap_or(0.0) > self.slowest || self.slowest_at.is_empty()
+    }
+
     fn add(&mut self, line: &Line, results: &Results) {
         let (weight, seconds) = (line.weight, line.seconds.unwrap_or(0.0));
         self.count += weight;
         self.seconds += weight * seconds;
-        if seconds > self.slowest || self.slowest_at.is_empty() {
+        if self.is_slowest(line) {
             self.slowest = seconds;
             self.slowest_at.clone_from(&line.time);
         }
@@ -193,13 +217,46 @@ impl Sum {
     }
 }
 
-/// Commands that have one text.
+/// A text as far as it is shown.
+#[derive(Default)]
+pub struct Shown {
+    pub text: String,
+    /// How many bytes more the text has.
+    pub more: usize,
+}
+
+impl Shown {
+    fn of(text: &str, length: usize) -> Shown {
+        let most = SHOWN.min(text.len());
+        let shown = (0..=most)
+            .rev()
+            .find(|at| text.is_char_boundary(*at))
+            .unwrap_or(0);
+        Shown {
+            text: text[..shown].to_string(),
+            more: length.max(text.len()) - shown,
+        }
+    }
+}
+
+/// Commands that have one digest, or one text.
 pub struct Statement {
     pub kind: String,
-    pub text: String,
-    /// How many bytes more the text has than are shown.
-    pub more: usize,
+    pub shown: Shown,
+    /// The text of the slowest one, where examples are asked for.
+    pub example: Shown,
     pub sum: Sum,
+}
+
+/// How statements are told apart and shown.
+#[derive(Clone, Copy)]
+pub struct Manner {
+    /// How many of them are counted each by itself.
+    pub most: usize,
+    /// Whether they are the same where their whole texts are, not their digests.
+    pub by_text: bool,
+    /// Whether the text of the slowest one is shown, too.
+    pub examples: bool,
 }
 
 /// A part of the time.
@@ -222,7 +279,7 @@ pub struct Times {
 }
 
 pub struct Sums {
-    most_statements: usize,
+    manner: Manner,
     hashers: [RandomState; 2],
     statements: HashMap<(u64, u64), Statement>,
     pub others: Statement,
@@ -267,28 +324,23 @@ impl Times {
 }
 
 impl Statement {
-    fn new(kind: &str, text: &str) -> Statement {
-        let most = SHOWN.min(text.len());
-        let shown = (0..=most)
-            .rev()
-            .find(|at| text.is_char_boundary(*at))
-            .unwrap_or(0);
+    fn new(kind: &str, shown: Shown) -> Statement {
         Statement {
             kind: kind.to_string(),
-            text: text[..shown].to_string(),
-            more: text.len() - shown,
+            shown,
+            example: Shown::default(),
             sum: Sum::default(),
         }
     }
 }
 
 impl Sums {
-    pub fn new(most_statements: usize) -> Sums {
+    pub fn new(manner: Manner) -> Sums {
         Sums {
-            most_statements,
+            manner,
             hashers: [RandomState::new(), RandomState::new()],
             statements: HashMap::new(),
-            others: Statement::new("", OTHERS),
+            others: Statement::new("", Shown::of(OTHERS, 0)),
             all: Sum::default(),
             users: BTreeMap::new(),
             hosts: BTreeMap::new(),
@@ -355,7 +407,7 @@ impl Sums {
     }
 
     fn add_command(&mut self, line: &Line, results: &Results) {
-        self.statement(line).sum.add(line, results);
+        self.add_statement(line, results);
         self.all.add(line, results);
         at(&mut self.users, &line.user).add(line, results);
         at(&mut self.hosts, line.host()).add(line, results);
@@ -374,22 +426,30 @@ impl Sums {
         }
     }
 
-    /// The commands of a line's text. Such that had no room are one.
-    fn statement(&mut self, line: &Line) -> &mut Statement {
-        let text = line.text();
-        let key = (&line.kind, &text, line.length.to_bits());
+    /// Adds a command to those of its digest, or of its text.
+    fn add_statement(&mut self, line: &Line, results: &Results) {
+        let digest = (!self.manner.by_text).then(|| line.digest()).flatten();
+        // The whole text is longer than what a line of a long payload has.
+        let length = if digest.is_none() { line.length } else { 0.0 };
+        let name = digest.unwrap_or_else(|| line.text());
+        let examples = self.manner.examples;
+        let statement = self.statement(&line.kind, &name, length);
+        if examples && statement.sum.is_slowest(line) {
+            statement.example = Shown::of(&line.text(), line.length as usize);
+        }
+        statement.sum.add(line, results);
+    }
+
+    /// The commands of a name. Such that had no room are one.
+    fn statement(&mut self, kind: &str, name: &str, length: f64) -> &mut Statement {
+        let key = (kind, name, length.to_bits());
         let [first, second] = [0, 1].map(|it: usize| self.hashers[it].hash_one(key));
-        let is_full = self.statements.len() >= self.most_statements;
+        let is_full = self.statements.len() >= self.manner.most;
         if is_full && !self.statements.contains_key(&(first, second)) {
             return &mut self.others;
         }
         let statement = self.statements.entry((first, second));
-        statement.or_insert_with(|| {
-            let mut statement = Statement::new(&line.kind, &text);
-            let whole = (line.length as usize).max(text.len());
-            statement.more += whole - text.len();
-            statement
-        })
+        statement.or_insert_with(|| Statement::new(kind, Shown::of(name, length as usize)))
     }
 
     /// Makes the parts of the time twice as long.
@@ -442,7 +502,15 @@ impl Sum {
 
 #[cfg(test)]
 mod tests {
-    use super::{Line, Sums};
+    use super::{Line, Manner, Sums};
+
+    fn sums(most: usize, by_text: bool) -> Sums {
+        Sums::new(Manner {
+            most,
+            by_text,
+            examples: true,
+        })
+    }
 
     fn line(second: u32, rest: &str) -> String {
         format!(
@@ -468,7 +536,7 @@ mod tests {
 
     #[test]
     fn commands_sum_up() {
-        let mut sums = Sums::new(2);
+        let mut sums = sums(2, true);
         for (second, seconds) in [(1, "0.5"), (2, "0.25"), (3, "0.001")] {
             let rest = format!(
                 "\"kind\":\"query\",\"text\":\"SELECT 1\",\"results\":[{{\"rows\":3}}],\
@@ -508,14 +576,35 @@ mod tests {
         // The third text had no room.
         assert_eq!((1.0, 2), (sums.others.sum.count, sums.texts()));
         let top = sums.top(1);
-        assert_eq!(("SELECT x", 1.0), (&*top[0].text, top[0].sum.seconds));
+        assert_eq!(("SELECT x", 1.0), (&*top[0].shown.text, top[0].sum.seconds));
         assert_eq!(4.0, sums.others.sum.count);
         assert_eq!(5, sums.parts.len());
     }
 
     #[test]
+    fn statements_are_told_by_their_digest() {
+        let mut sums = sums(9, false);
+        for (text, seconds) in [
+            ("\"text\":\"SELECT 1\"", 1),
+            ("\"text\":\"SELECT 'two' -- why\"", 3),
+            ("\"digest\":\"select ?\",\"text\":\"anything\"", 2),
+            ("\"text\":{\"hex\":\"73ff2031\"}", 1),
+        ] {
+            let rest = format!("\"kind\":\"query\",{text},\"results\":[],\"seconds\":{seconds}");
+            sums.take(line(1, &rest).as_bytes());
+        }
+        let top = sums.top(9);
+        let found: Vec<_> = top
+            .iter()
+            .map(|it| (&*it.shown.text, it.sum.count))
+            .collect();
+        assert_eq!(vec![("select ?", 3.0), ("s\u{fffd} ?", 1.0)], found);
+        assert_eq!("SELECT 'two' -- why", top[0].example.text);
+    }
+
+    #[test]
     fn a_percentile_is_near() {
-        let mut sums = Sums::new(9);
+        let mut sums = sums(9, false);
         for number in 1..=100 {
             let seconds = f64::from(number) / 1000.0;
             let rest = format!("\"kind\":\"ping\",\"results\":[],\"seconds\":{seconds}");
@@ -528,7 +617,7 @@ mod tests {
 
     #[test]
     fn the_time_line_has_a_bound() {
-        let mut sums = Sums::new(9);
+        let mut sums = sums(9, false);
         let count = 10_000;
         for second in (0..count).map(|it| 50 * it) {
             let (day, rest) = (1 + second / 86400, second % 86400);

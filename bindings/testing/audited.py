@@ -1,0 +1,365 @@
+"""The audit before a MariaDB server: under load beside a dump, and beside what pt-query-digest says
+of the server's slow log.
+
+`bindings/test --server` calls `test_audited`; with `--load SECONDS` the load is longer.
+"""
+
+import contextlib
+import json
+import os
+import pathlib
+import random
+import re
+import resource
+import subprocess
+import threading
+import time
+
+from .support import Failure, has, run
+
+USER, DATABASE = "tester", "bindings"
+SLOW_LOG = ("--skip-ssl", "--slow-query-log", "--long-query-time=0", "--log-output=FILE",
+            "--log-slow-disabled-statements=")
+# What the two tools are compared by.
+STATEMENTS = 4000
+# How often audit-report reads as much as pt-query-digest does, in as much processor time.
+FASTER = 10
+
+
+def check(wanted, found, what):
+    """Fails where what was found differs."""
+    if wanted != found:
+        raise Failure(f"{what}: {found!r:.2000}\nin place of {wanted!r:.2000}")
+
+
+class Proxy:
+    """The program before a server, with its log; it ends with the `with`."""
+
+    def __init__(self, program, port, log, *options):
+        self.log = pathlib.Path(log)
+        self.process = subprocess.Popen(
+            [program, "127.0.0.1:0", f"127.0.0.1:{port}", "--json", "--log", log, "--metrics",
+             "127.0.0.1:0", "--grace", "60", *options], stderr=subprocess.PIPE, text=True)
+        said = ""
+        while "listening at" not in said:
+            line = self.process.stderr.readline()
+            if not line:
+                raise Failure(f"the audit doesn't begin: {said}")
+            said += line
+        self.port = int(said.rpartition(":")[2])
+
+    def __enter__(self):
+        return self
+
+    def __exit__(self, *_):
+        if self.process.poll() is None:
+            self.process.kill()
+        self.process.wait()
+        self.process.stderr.close()
+
+    def end(self):
+        """Ends it, and returns the objects of its lines."""
+        self.process.terminate()
+        check(0, self.process.wait(120), "the status of the audit")
+        return [json.loads(line) for line in self.log.read_text().splitlines()]
+
+    def memory(self):
+        """Returns how many KB of memory it has."""
+        status = pathlib.Path(f"/proc/{self.process.pid}/status").read_text()
+        return int(status.partition("VmRSS:")[2].split()[0])
+
+
+def client(port, *options):
+    """Returns the words of a client that reads statements from its input."""
+    return ["mariadb", "--no-defaults", "--host=127.0.0.1", f"--port={port}", f"--user={USER}",
+            "--skip-ssl", "--default-character-set=utf8mb4", "--batch", "--comments", "--force",
+            *options, DATABASE]
+
+
+def sql(port, text):
+    """Has statements run, and returns what is printed of them; errors are no failure."""
+    ran = subprocess.run(client(port), input=text.encode(), stdout=subprocess.PIPE,
+                         stderr=subprocess.DEVNULL, check=False)
+    return ran.stdout.decode(errors="replace")
+
+
+def dump(port, table):
+    """Returns what mariadb-dump says of a table."""
+    return run(["mariadb-dump", "--no-defaults", "--host=127.0.0.1", f"--port={port}",
+                f"--user={USER}", "--skip-ssl", "--skip-comments", "--hex-blob", DATABASE, table])
+
+
+# ---- Load ---------------------------------------------------------------------------------------
+
+
+class Worker(threading.Thread):
+    """Clients one behind the other, each with some statements, until it is told to stop."""
+
+    def __init__(self, port, number, stops):
+        super().__init__()
+        self.port, self.number, self.stops = port, number, stops
+        self.sent, self.runs, self.wrong = 0, 0, []
+
+    def statements(self):
+        """Returns statements on one table, of which one fails."""
+        table = f"load_{self.number}"
+        at = random.Random(self.number)
+        texts = [f"DROP TABLE IF EXISTS {table}",
+                 f"CREATE TABLE {table} (id INT PRIMARY KEY, name VARCHAR(99), note LONGTEXT)"]
+        for number in range(20):
+            note = "x" * at.choice((0, 10, 1000, 100000))
+            texts += ["BEGIN", f"INSERT INTO {table} VALUES ({number}, 'it\\'s', '{note}')",
+                      f"UPDATE {table} SET name = 'maté' WHERE id = {number}", "COMMIT",
+                      f"SELECT id, name FROM {table} WHERE id IN ({number}, 7, {number + 1})"]
+        return texts + [f"SELECT nothing FROM {table}", f"SELECT COUNT(*), SUM(id) FROM {table}"]
+
+    def run(self):
+        texts = self.statements()
+        said = ";\n".join(texts)
+        while not self.stops.is_set():
+            printed = sql(self.port, said)
+            self.sent += len(texts)
+            self.runs += 1
+            if not printed.endswith("\n20\t190\n"):
+                self.wrong.append(printed[-200:])
+
+
+class Dumper(threading.Thread):
+    """Dumps of a table, each of which has to be the same."""
+
+    def __init__(self, port, wanted, stops):
+        super().__init__()
+        self.port, self.wanted, self.stops = port, wanted, stops
+        self.runs, self.wrong = 0, 0
+
+    def run(self):
+        while not self.stops.is_set():
+            self.wrong += dump(self.port, "dumped") != self.wanted
+            self.runs += 1
+
+
+def fill(port):
+    """Makes the table that is dumped."""
+    rows = ", ".join(f"({it}, REPEAT('row {it} ', 30), x'00ff27')" for it in range(5000))
+    sql(port, "CREATE TABLE dumped (id INT PRIMARY KEY, name TEXT, bytes BLOB);\n"
+        f"INSERT INTO dumped VALUES {rows}")
+
+
+def check_load(program, room, port, seconds):
+    """Clients and dumps for so long: none is cut, each statement has its line, and memory is flat."""
+    fill(port)
+    wanted, stops = dump(port, "dumped"), threading.Event()
+    if wanted.count("INSERT") < 1:
+        raise Failure("the table isn't dumped")
+    with Proxy(program, port, os.path.join(room, "load.log"), "--digests") as proxy:
+        workers = [Worker(proxy.port, number, stops) for number in range(4)]
+        dumpers = [Dumper(proxy.port, wanted, stops)]
+        for it in workers + dumpers:
+            it.start()
+        ends, memory = time.monotonic() + seconds, []
+        while time.monotonic() < ends:
+            time.sleep(min(1.0, seconds / 10))
+            memory.append(proxy.memory())
+        stops.set()
+        for it in workers + dumpers:
+            it.join()
+        records = proxy.end()
+    check([[]] * 4, [it.wrong for it in workers], "what clients print")
+    check([0], [it.wrong for it in dumpers], "dumps that differ")
+    kinds = {it["kind"] for it in records} & {"cut", "unread", "skipped", "refused", "lost"}
+    check(set(), kinds, "what isn't audited")
+    check({"quit"}, {it["text"] for it in records if it["kind"] == "end"}, "how connections end")
+    told = [it for it in records if it["kind"] == "query" and " load_" in it["text"]]
+    begun = sum(it["kind"] == "query" and it["text"] in ("BEGIN", "COMMIT") for it in records)
+    check(sum(it.sent for it in workers), len(told) + begun, "lines of statements")
+    # What it holds at first is room for what comes.
+    early, late = max(memory[:len(memory) // 2]), max(memory[len(memory) // 2:])
+    if late > early + 4096:
+        raise Failure(f"it has {early} KB of memory in the first half, and {late} KB in the second")
+    runs, dumps = sum(it.runs for it in workers), sum(it.runs for it in dumpers)
+    print(f"  {seconds} s: {runs} clients with {len(told) + begun} statements, {dumps} dumps; "
+          f"{early} KB of memory, and {late} KB in the second half", flush=True)
+
+
+# ---- Beside pt-query-digest -----------------------------------------------------------------------
+
+
+def statement(at):
+    """Returns a random statement of one of some classes."""
+    number, word = at.randrange(1000), at.choice(("tea", "it\\'s", 'a "b"', "maté; x", ""))
+    return at.choice((
+        f"SELECT name FROM goods WHERE id = {number}",
+        f"select name  from goods\nwhere id = {number}",
+        f"SELECT * FROM goods WHERE name = '{word}' AND price < {number}.5",
+        f"SELECT * FROM goods WHERE name LIKE '{word}%' OR id > -{number} ORDER BY id DESC",
+        f"SELECT * FROM goods WHERE id IN ({number}, {number + 1}, {number + 2})",
+        f"SELECT kind, COUNT(*) FROM goods GROUP BY kind HAVING COUNT(*) > {number}",
+        f"SELECT g.name FROM goods g JOIN goods h ON g.id = h.id WHERE h.price >= {number}",
+        f"INSERT INTO sold (id, name) VALUES ({number}, '{word}')",
+        f"INSERT INTO sold (name, id) VALUES ('{word}', {number}), ('two', 2), (NULL, 3)",
+        f"UPDATE sold SET name = '{word}' WHERE id = {number}",
+        f"DELETE FROM sold WHERE id = {number} OR name = '{word}'",
+        f"SELECT nothing FROM goods WHERE id = {number}",
+        f"SELECT name FROM goods2 WHERE id = {number}",
+        f"SELECT `a b` FROM goods2 LIMIT {number}",
+        f"SELECT 0x{number:04x}, {number}, NULL",
+        "SELECT NOW()", "BEGIN", "COMMIT", "SHOW TABLES"))
+
+
+# Statements of which the two tools make different classes, and who is right.
+DIFFERENCES = (
+    ("lists of one value and of several are one class of pt-query-digest, and two of MySQL's digests",
+     ("SELECT name FROM goods WHERE id IN (1)", "SELECT name FROM goods WHERE id IN (1, 2)")),
+    ("a row and several rows are one class of pt-query-digest, and two of MySQL's digests",
+     ("INSERT INTO sold (id) VALUES (1)", "INSERT INTO sold (id) VALUES (1), (2)")),
+    ("a limit with an offset is of the class without one for pt-query-digest alone",
+     ("SELECT id FROM goods LIMIT 5", "SELECT id FROM goods LIMIT 5, 6")),
+    ("blanks around a sign make another class of pt-query-digest",
+     ("SELECT name FROM goods WHERE id = 1", "SELECT name FROM goods WHERE id=1")),
+    ("a comment leaves a blank to pt-query-digest, and makes another class",
+     ("SELECT name FROM goods WHERE id = 1", "SELECT name FROM goods WHERE id = 1 /* why */")),
+    ("a quote that is written twice ends no string, but for pt-query-digest",
+     ("SELECT id FROM goods WHERE name = 'it''s'", "SELECT id FROM goods WHERE name = 'its'")),
+)
+
+
+def fingerprints(room, texts):
+    """Returns what pt-fingerprint says of texts."""
+    file = os.path.join(room, "statements.sql")
+    pathlib.Path(file).write_text("".join(f"{it};\n" for it in texts), encoding="utf-8")
+    found = run(["pt-fingerprint", file]).splitlines()
+    check(len(texts), len(found), "fingerprints")
+    return found
+
+
+def measured(words):
+    """Runs a program, and returns what it prints and how much processor time it took."""
+    before = resource.getrusage(resource.RUSAGE_CHILDREN)
+    # (what it says of its progress is left out)
+    said = subprocess.run(words, stdin=subprocess.DEVNULL, stdout=subprocess.PIPE, text=True,
+                          stderr=subprocess.DEVNULL, check=True).stdout
+    after = resource.getrusage(resource.RUSAGE_CHILDREN)
+    return said, sum(getattr(after, it) - getattr(before, it) for it in ("ru_utime", "ru_stime"))
+
+
+def number(text):
+    """Returns a number as the page shows it."""
+    return int(re.sub(r"\D", "", text))
+
+
+def rows_of_page(page):
+    """Returns the statements of a page of audit-report: count, rows and rows affected by digest."""
+    table = page.partition('<table id="statements">')[2].partition("</table>")[0]
+    rows = {}
+    for row in table.split("<tr>")[2:]:
+        cells = [re.sub("<[^>]*>", "", it) for it in re.findall(r"<td.*?</td>", row, re.S)]
+        text = cells[1]
+        for name, character in (("lt", "<"), ("gt", ">"), ("quot", '"'), ("#39", "'"), ("amp", "&")):
+            text = text.replace(f"&{name};", character)
+        rows[cells[0], text] = [number(cells[it]) for it in (2, 9, 10)]
+    return rows
+
+
+def told_by_pt(said):
+    """Returns what pt-query-digest sums up: count, rows and rows affected by fingerprint."""
+    classes = {}
+    for it in json.loads(said)["classes"]:
+        sums = {name: float(of.get("sum", 0)) for name, of in it["metrics"].items()}
+        if not it["fingerprint"].startswith("administrator command"):
+            classes[it["fingerprint"]] = [it["query_count"], int(sums.get("Rows_sent", 0)),
+                                          int(sums.get("Rows_affected", 0))]
+    return classes
+
+
+def sums_by(key, records):
+    """Returns count, rows and rows affected of lines, by what each is told apart by."""
+    sums = {}
+    for it in records:
+        sum_of_it = sums.setdefault(key(it), [0, 0, 0])
+        sum_of_it[0] += 1
+        for result in it["results"]:
+            sum_of_it[1] += result.get("rows", 0)
+            sum_of_it[2] += result.get("affected", 0)
+    return sums
+
+
+def check_classes(records, known):
+    """Two statements are of one class for one of the two where they are for the other."""
+    pairs = {(it["digest"], known[it["text"]]) for it in records}
+    for at, name in ((0, "digest"), (1, "fingerprint")):
+        found = [it[at] for it in pairs]
+        more = sorted({it for it in found if found.count(it) > 1})
+        if more:
+            raise Failure(f"a {name} of several classes: "
+                          f"{[it for it in sorted(pairs) if it[at] in more]}")
+
+
+def check_pt(program, room, port, slow_log):
+    """The classes, their counts and their rows are those of pt-query-digest, which takes longer."""
+    sql(port, "CREATE TABLE goods (id INT PRIMARY KEY, name VARCHAR(99), price DOUBLE, kind INT);\n"
+        "CREATE TABLE goods2 (id INT, name TEXT, `a b` INT);\n"
+        "CREATE TABLE sold (id INT, name TEXT);\nINSERT INTO goods2 VALUES (1, 'one', 1);\n"
+        "INSERT INTO goods VALUES (1, 'tea', 2.5, 1), (2, 'salt', 1, 1), (900, 'it''s', 7, 2)")
+    at, log = random.Random(1), os.path.join(room, "digests.log")
+    texts = [statement(at) for _ in range(STATEMENTS)]
+    with Proxy(program, port, log, "--digests", "--kind", "query") as proxy:
+        began = os.path.getsize(slow_log)
+        sql(proxy.port, ";\n".join(texts))
+        records = proxy.end()
+    part = os.path.join(room, "part.log")
+    with open(slow_log, "rb") as whole, open(part, "wb") as it:
+        whole.seek(began)
+        it.write(whole.read())
+    check(STATEMENTS, len(records), "lines of statements")
+    every = sorted({it["text"] for it in records})
+    known = dict(zip(every, fingerprints(room, every)))
+    check_classes(records, known)
+    said, slowly = measured(["pt-query-digest", "--no-version-check", "--output", "json",
+                             "--limit", "100%", part])
+    check(sums_by(lambda it: known[it["text"]], records), told_by_pt(said), "its classes")
+    report = os.path.join(os.path.dirname(program), "audit-report")
+    page, fast = measured([report, log])
+    check(sums_by(lambda it: ("query", it["digest"]), records), rows_of_page(page), "the page")
+    classes = len({it["digest"] for it in records})
+    print(f"  {STATEMENTS} statements of {classes} classes: pt-query-digest {slowly:.2f} s of a "
+          f"processor, audit-report {fast:.2f} s", flush=True)
+    if slowly < FASTER * fast:
+        raise Failure("audit-report isn't ten times as fast")
+
+
+def check_known_differences(program, room, port):
+    """Where the classes differ a line says how, and who is right."""
+    log = os.path.join(room, "differences.log")
+    texts = [text for _, pair in DIFFERENCES for text in pair]
+    with Proxy(program, port, log, "--digests", "--kind", "query") as proxy:
+        sql(proxy.port, ";\n".join(texts))
+        digests = [it["digest"] for it in proxy.end()]
+    found = fingerprints(room, texts)
+    for place, (why, _) in enumerate(DIFFERENCES):
+        pair = slice(2 * place, 2 * place + 2)
+        ours, theirs = digests[pair], found[pair]
+        if (ours[0] == ours[1]) == (theirs[0] == theirs[1]):
+            raise Failure(f"no difference any more: {why}: {ours}, {theirs}")
+        print(f"  {why}:\n    {ours}\n    {theirs}", flush=True)
+
+
+def test_audited(report, room, mariadb, program, seconds):
+    """Runs both over a server that logs all as slow."""
+    folder = os.path.join(room, "audited")
+    os.makedirs(folder, exist_ok=True)
+    slow_log = os.path.join(folder, "slow.log")
+    with contextlib.ExitStack() as stack:
+        options = [*SLOW_LOG, f"--slow-query-log-file={slow_log}"]
+        port = report.run("a server that logs all as slow",
+                          lambda: stack.enter_context(mariadb(folder, *options)))
+        if not port:
+            return
+        report.run(f"the audit under load for {seconds} s", check_load, program, folder, port,
+                   seconds)
+        if has("pt-query-digest"):
+            report.run("the audit beside pt-query-digest", check_pt, program, folder, port, slow_log)
+            report.run("where digests differ from pt-query-digest's", check_known_differences,
+                       program, folder, port)
+        else:
+            print("left out: the audit beside pt-query-digest (apt-get install percona-toolkit)",
+                  flush=True)
