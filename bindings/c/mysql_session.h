@@ -1157,6 +1157,20 @@ typedef struct mysql_session_event {
 uint32_t mysql_session_connection_next(mysql_session_connection *connection,
                                        mysql_session_event *event);
 
+/* The same, but a row stays where it lies, and its cells are shown by this call. `cells` are `room`
+ * structs, and `columns` of the event tells how many cells the row has. The struct of each number
+ * below both has what _value shows of the cell of that number. The others stay as they were, and so
+ * do all where the event is no row. Cells for which there was no room are shown by _value. `cells`
+ * is never NULL, not even where `room` is 0.
+ *
+ * Nothing of the row is copied, and memory is asked for at the first row of a result alone. _value,
+ * _column and _line are about it as about any other row, but it is good until _feed and _close too.
+ * Behind these they answer OUT_OF_RANGE, as _unclear does of such a row at once. Only a row of more
+ * than one packet is copied. Answers what _next answers. */
+uint32_t mysql_session_connection_next_lent(mysql_session_connection *connection,
+                                            mysql_session_value *cells, size_t room,
+                                            mysql_session_event *event);
+
 /* Puts a payload of a side at its turn. It appends the packets to the bytes of `out`,
  * with the next numbers, and goes on as if they had come. The event that it says is shown
  * as _next shows events, and the calls below are about it. A server's last words, an error that

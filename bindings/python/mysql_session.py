@@ -2315,7 +2315,7 @@ class Connection(_Object):
 
         Raises ConnectionFault where that comes first. Raises RowError, with a row counted from those
         of this call, and what a converter raises. The rows before it come by the next call, and that
-        row behind them, or by `next_event`.
+        row behind them, or by `next_event`. Behind a further `feed` it comes by `next_event` alone.
         """
         native = None if values is None else values._native
         rows: List[Tuple[Any, ...]] = []

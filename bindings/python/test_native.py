@@ -16,7 +16,7 @@ from typing import Any, Dict, List, NamedTuple, Optional, Sequence, Tuple
 
 import mysql_session as ms
 from mysql_session import Column, ColumnType, DateFields, ReplyKind, Side, Values
-from test_mysql_session import Case, cut, written
+from test_mysql_session import RECORDINGS, Case, cut, written
 from test_rows import KINDS, TEXTS
 
 PROTOCOL_41 = int(ms.Capability.PROTOCOL_41)
@@ -414,6 +414,56 @@ class Tables(Case):
                     assert isinstance(event, ms.RowEvent)
                     found.append(event.cells)
         self.assertEqual(found, [(it,) if it % 3 < 2 else (b"%d" % it,) for it in range(9)])
+
+    def test_rows_of_recordings(self) -> None:
+        """Rows that are taken as rows have the cells of their events, in all recordings."""
+        def by_events(connection: ms.Connection) -> List[ms.Event]:
+            return list(iter(connection.next_event, None))
+
+        def by_rows(connection: ms.Connection) -> List[ms.Event]:
+            found: List[ms.Event] = []
+            while True:
+                found += [ms.RowEvent(it) for it in connection.take_rows()]
+                event = connection.next_event()
+                if event is None:
+                    return found
+                found.append(event)
+
+        rows = 0
+        for path in sorted(RECORDINGS.glob("*.client")):
+            with ms.Connection() as one, ms.Connection() as other:
+                for connection in (one, other):
+                    connection.feed(Side.CLIENT, path.read_bytes())
+                for piece in cut(path.with_suffix(".server").read_bytes(), 700):
+                    both: List[List[ms.Event]] = []
+                    for connection, take in ((one, by_events), (other, by_rows)):
+                        connection.feed(Side.SERVER, piece)
+                        both.append([])
+                        try:
+                            both[-1] += take(connection)
+                        except ms.ConnectionFault as fault:
+                            self.assertEqual(repr(fault), repr(connection.fault))
+                    self.assertEqual(*both)
+                    rows += sum(isinstance(it, ms.RowEvent) for it in both[0])
+                self.assertEqual(one.finish(), other.finish())
+        self.assertGreater(rows, 100)
+
+    def test_a_row_that_failed_before_more_came(self) -> None:
+        """A row that no call could give is an event once more bytes came."""
+        column = Column(b"a", ColumnType.LONG, 0, 63)
+        packets = cut_packets(cells(column, ["1", "x", "3"]))
+        for as_table in (False, True):
+            with at_rows(b"".join(packets[:5])) as connection:
+                with self.assertRaises(ms.RowError):
+                    if as_table:
+                        connection.take_table()
+                    else:
+                        connection.take_rows(Values())
+                connection.feed(Side.SERVER, packets[5])
+                self.assertEqual(connection.take_rows(Values()), [(1,)])
+                self.assertEqual(connection.take_rows(Values()), [])
+                self.assertEqual(connection.next_event(), ms.RowEvent((b"x",)))
+                self.assertEqual(connection.take_rows(Values()), [(3,)])
 
 
 def cut_packets(stream: bytes) -> List[bytes]:

@@ -18,9 +18,9 @@ VALGRIND = ["valgrind", "--quiet", "--error-exitcode=9", "--leak-check=full",
 TESTING = os.path.join(BINDINGS, "testing")
 RECORDINGS = os.path.join(ROOT, "crates", "connection_conformance", "data")
 CONVERSATIONS = sorted(glob.glob(os.path.join(RECORDINGS, "*.conversations")))
-# What a test in C is told: the recorded connections.
-WORDS = {"connections": sorted(it[:-len(".client")]
-                               for it in glob.glob(os.path.join(RECORDINGS, "*.client")))}
+# What tests in C are told: the recorded connections.
+RECORDED = sorted(it[:-len(".client")] for it in glob.glob(os.path.join(RECORDINGS, "*.client")))
+WORDS = {"connections": RECORDED, "lent": RECORDED}
 
 
 # ---- C ----------------------------------------------------------------------------------------

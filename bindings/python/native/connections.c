@@ -89,6 +89,11 @@ static PyObject *connection_feed(PyObject *it, PyObject *args)
         in_end(&piece);
         return NULL;
     }
+    if (connection_keep_lent(self)) {
+        self->busy = false;
+        in_end(&piece);
+        return NULL;
+    }
     uint32_t code;
     if (piece.len >= LET_GO) {
         Py_BEGIN_ALLOW_THREADS
@@ -168,6 +173,9 @@ static PyObject *put_packets(Connection *self, uint32_t side, const In *packets)
     uint32_t code = mysql_session_connection_put_packets(at(self), side, packets->at, packets->len,
                                                          out, &used);
     connection_note_packets(self, side, packets->at, used);
+    /* Of a row that was lent nothing is shown any more. */
+    if (self->is_lent)
+        self->shows_row = self->is_lent = self->has_cells = false;
     if (code && !used)
         return fail(self->state, code);
     PyObject *taken = out_take((Object *)self, (int)side, fresh_of(side));
@@ -321,6 +329,10 @@ static PyObject *connection_close_side(PyObject *it, PyObject *side)
     uint32_t of;
     if (!to_side(side, &of) || begin((Object *)self))
         return NULL;
+    if (connection_keep_lent(self)) {
+        self->busy = false;
+        return NULL;
+    }
     uint32_t code = mysql_session_connection_close(at(self), of);
     self->busy = false;
     if (code)
@@ -340,7 +352,7 @@ static PyObject *connection_finish(PyObject *it, PyObject *none)
     if (!connection_set_aside(self)) {
         uint32_t code = mysql_session_connection_finish(at(self), &end);
         self->is_planned = false;
-        self->shows_row = false;
+        self->shows_row = self->is_lent = self->has_cells = false;
         made = code ? fail(self->state, code)
                     : Py_BuildValue("(IIIIK)", (unsigned)end.kind, (unsigned)end.reason,
                                     (unsigned)end.side, (unsigned)end.fault,
@@ -357,7 +369,7 @@ static int connection_clear(PyObject *it)
     Connection *self = (Connection *)it;
     self->is_taken = false;
     self->is_planned = false;
-    self->shows_row = false;
+    self->shows_row = self->is_lent = self->has_cells = false;
     connection_drop_table(self);
     Py_CLEAR(self->scramble);
     Py_CLEAR(self->copied);
@@ -400,6 +412,7 @@ static void connection_dealloc(PyObject *it)
     Py_CLEAR(((Connection *)it)->texts);
     Py_CLEAR(((Connection *)it)->kept_columns);
     PyMem_Free(((Connection *)it)->plans);
+    PyMem_Free(((Connection *)it)->cells);
     object_dealloc(it);
 }
 

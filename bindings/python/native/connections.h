@@ -11,9 +11,12 @@ typedef struct {
     OBJECT_HEAD
     mysql_session_event event;
     bool is_taken, is_planned, has_table, is_greeted;
-    /* Whether the library shows a row, and of how many cells. */
-    bool shows_row;
+    /* Whether the library shows a row, and of how many cells; whether it lends that row, so that the
+     * next piece ends it; and whether `cells` are those of that row. */
+    bool shows_row, is_lent, has_cells;
     size_t row_width;
+    mysql_session_value *cells;
+    size_t cell_room;
     /* The number of the command that was told last. Of an execution or a fetch, up to the first
      * column that comes, its statement. The statement that was prepared last, where it is known, and
      * whether one is to be. */
@@ -73,8 +76,11 @@ PyObject *connection_event(Connection *self, const mysql_session_event *e);
 int connection_greet(Connection *self, const uint8_t *payload, size_t len);
 /* The cells of the row that is shown, as a tuple. */
 PyObject *connection_cells(Connection *self, size_t width);
-/* Has the next event shown: 1 where there is one, 0 where there is none, else an error. */
-int connection_show(Connection *self);
+/* Has the next event shown: 1 where there is one, 0 where there is none, else an error. A row may be
+ * lent. */
+int connection_show(Connection *self, bool lent);
+/* Before more bytes come, what a row that is lent is still asked for is copied. */
+int connection_keep_lent(Connection *self);
 /* Copies an event that wasn't given, before the library shows another. */
 int connection_set_aside(Connection *self);
 /* Has what a failed call read stand as rows, or as a table. */

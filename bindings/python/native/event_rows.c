@@ -59,6 +59,34 @@ static int know_plans(Connection *self, Values *values)
     return 0;
 }
 
+/* Has the cells of the row that is shown at hand. Where there was no room for them, they are shown one
+ * by one, and those of the next row by one call. */
+static int know_cells(Connection *self)
+{
+    size_t width = self->event.columns;
+    if (self->has_cells)
+        return 0;
+    if (width > self->cell_room) {
+        mysql_session_value *cells = PyMem_Realloc(self->cells, width * sizeof *cells);
+        if (!cells) {
+            PyErr_NoMemory();
+            return -1;
+        }
+        memset(cells, 0, width * sizeof *cells);
+        self->cells = cells;
+        self->cell_room = width;
+    }
+    for (size_t i = 0; i < width; i++) {
+        uint32_t code = mysql_session_connection_value(at(self), 0, i, &self->cells[i]);
+        if (code) {
+            fail(self->state, code);
+            return -1;
+        }
+    }
+    self->has_cells = true;
+    return 0;
+}
+
 /* Tells a cell of the row that is shown which is no value of its column's type. */
 static void tell_cell(Connection *self, size_t place, size_t number)
 {
@@ -78,19 +106,14 @@ static void tell_cell(Connection *self, size_t place, size_t number)
 
 static PyObject *value_row(Connection *self, size_t number)
 {
-    PyObject *row = PyTuple_New((Py_ssize_t)self->width);
-    mysql_session_value value;
-    memset(&value, 0, sizeof value);
+    PyObject *row = know_cells(self) ? NULL : PyTuple_New((Py_ssize_t)self->width);
     for (size_t i = 0; row && i < self->width; i++) {
-        uint32_t code = mysql_session_connection_value(at(self), 0, i, &value);
-        PyObject *made =
-            code ? fail(self->state, code) : value_of(self->state, &self->plans[i], &value);
+        PyObject *made = value_of(self->state, &self->plans[i], &self->cells[i]);
         if (made) {
             PyTuple_SetItem(row, (Py_ssize_t)i, made);
             continue;
         }
-        if (!code)
-            tell_cell(self, i, number);
+        tell_cell(self, i, number);
         Py_CLEAR(row);
     }
     return row;
@@ -99,7 +122,7 @@ static PyObject *value_row(Connection *self, size_t number)
 /* Whether the next event is a row: 1 or 0, else an error. */
 static int shows_row(Connection *self)
 {
-    int is = self->copied ? 0 : connection_show(self);
+    int is = self->copied ? 0 : connection_show(self, true);
     return is <= 0 ? is : self->event.kind == MYSQL_SESSION_EVENT_ROW;
 }
 
@@ -133,7 +156,9 @@ static int rows_into(Connection *self, PyObject *list, Values *values)
             return -1;
         if (values && know_plans(self, values))
             return -1;
-        PyObject *row = values ? value_row(self, number) : connection_cells(self, self->event.columns);
+        PyObject *row = values            ? value_row(self, number)
+                        : know_cells(self) ? NULL
+                                           : connection_cells(self, self->event.columns);
         int wrong = row ? PyList_Append(list, row) : -1;
         Py_XDECREF(row);
         if (wrong)
@@ -161,8 +186,6 @@ PyObject *connection_rows(PyObject *it, PyObject *args)
 /* Puts the rows that stand into a table, which goes on where it was. */
 static int grow_table(Connection *self, Values *values)
 {
-    mysql_session_value value;
-    memset(&value, 0, sizeof value);
     for (size_t number = 0;; number++) {
         int is = shows_row(self);
         if (is < 0 && number) {
@@ -181,15 +204,10 @@ static int grow_table(Connection *self, Values *values)
             self->table_columns = self->shown.columns;
             self->has_table = true;
         }
-        if (table_widen(&self->table, 0))
+        if (table_widen(&self->table, 0) || know_cells(self))
             return -1;
         for (size_t i = 0; i < self->width; i++) {
-            uint32_t code = mysql_session_connection_value(at(self), 0, i, &value);
-            if (code) {
-                fail(self->state, code);
-                return -1;
-            }
-            if (table_put(self->state, &self->table, self->plans, i, &value)) {
+            if (table_put(self->state, &self->table, self->plans, i, &self->cells[i])) {
                 tell_cell(self, i, number);
                 return -1;
             }

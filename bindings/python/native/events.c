@@ -151,7 +151,11 @@ PyObject *connection_cells(Connection *self, size_t width)
     mysql_session_value value;
     memset(&value, 0, sizeof value);
     for (size_t i = 0; cells && i < width; i++) {
-        uint32_t code = mysql_session_connection_value(at(self), 0, i, &value);
+        uint32_t code = 0;
+        if (self->has_cells)
+            value = self->cells[i];
+        else
+            code = mysql_session_connection_value(at(self), 0, i, &value);
         mysql_session_column column;
         column.type = 0;
         if (!code && value.kind == MYSQL_SESSION_DATE) {
@@ -430,15 +434,19 @@ static int look_at_greeting(Connection *self)
     return 0;
 }
 
-/* Has the next event shown: 1 where there is one, 0 where there is none, else an error. */
-int connection_show(Connection *self)
+int connection_show(Connection *self, bool lent)
 {
     if (self->is_taken)
         return 1;
     if (!self->is_greeted && look_at_greeting(self))
         return -1;
-    self->shows_row = false;
-    uint32_t code = mysql_session_connection_next(at(self), &self->event);
+    /* An array of no cells, which has an address. */
+    mysql_session_value none;
+    self->shows_row = self->is_lent = self->has_cells = false;
+    uint32_t code =
+        lent ? mysql_session_connection_next_lent(at(self), self->cells ? self->cells : &none,
+                                                  self->cell_room, &self->event)
+             : mysql_session_connection_next(at(self), &self->event);
     if (code) {
         connection_fail(self, code);
         return -1;
@@ -448,7 +456,19 @@ int connection_show(Connection *self)
     self->is_taken = true;
     self->is_greeted = true;
     connection_note(self, &self->event);
+    self->is_lent = lent && self->shows_row;
+    self->has_cells = self->is_lent && self->row_width <= self->cell_room;
     return 1;
+}
+
+int connection_keep_lent(Connection *self)
+{
+    if (!self->is_lent)
+        return 0;
+    if (connection_know_columns(self) || connection_set_aside(self))
+        return -1;
+    self->is_lent = self->has_cells = false;
+    return 0;
 }
 
 /* Copies an event that wasn't given, before the library shows another. */
@@ -514,7 +534,7 @@ static PyObject *next_event(Connection *self)
         self->fresh = FRESH_COPY;
         return made;
     }
-    int is = connection_show(self);
+    int is = connection_show(self, false);
     if (is <= 0) {
         if (is < 0)
             return NULL;

@@ -189,6 +189,7 @@ static void note_columns(Connection *self)
 void connection_note(Connection *self, const mysql_session_event *e)
 {
     self->shows_row = e->kind == MYSQL_SESSION_EVENT_ROW;
+    self->is_lent = self->has_cells = false;
     self->row_width = e->columns;
     if (self->shows_row || e->kind == MYSQL_SESSION_EVENT_PROGRESS)
         return;

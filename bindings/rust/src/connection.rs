@@ -204,6 +204,8 @@ pub struct Connection {
     handle: ConnectionHandle,
     /// The event that was told last, or one of kind 0.
     shown: Shown,
+    /// Where the cells of rows that are lent are shown.
+    cells: Cells,
     /// Both parts of the greeting's scramble, which the library's event doesn't show.
     scramble: Vec<u8>,
     /// Whether the first payload came.
@@ -216,6 +218,18 @@ struct Shown(raw::Event);
 
 // SAFETY: the pointers are to what the connection holds, with which they are kept.
 unsafe impl Send for Shown {}
+
+/// Structs for cells, and how many of them show those of the row that was told last.
+struct Cells {
+    structs: Vec<raw::Value>,
+    shown: usize,
+}
+
+// SAFETY: the pointers are to what the connection holds, with which they are kept.
+unsafe impl Send for Cells {}
+
+/// The kind of a row.
+const ROW: u32 = 27;
 
 /// Its phase, its turn, how much it holds, its fault, and the event that was told last.
 impl fmt::Debug for Connection {
@@ -288,6 +302,10 @@ impl Connection {
         Connection {
             handle,
             shown: Shown(raw::Event::default()),
+            cells: Cells {
+                structs: Vec::new(),
+                shown: 0,
+            },
             scramble: Vec::new(),
             is_greeted,
         }
@@ -321,13 +339,83 @@ impl Connection {
     /// The fault of the first packet; each further call answers it too. The events before it
     /// remain.
     pub fn next_event(&mut self) -> Result<Option<Event<'_>>, ConnectionFault> {
+        self.begin_next();
+        // SAFETY: "Handles": by `ConnectionHandle::get`; "Results go out": a field of this object.
+        let code =
+            unsafe { raw::mysql_session_connection_next(self.handle.get(), &mut self.shown.0) };
+        self.told(code)
+    }
+
+    /// The next event, as [`Connection::next_event`] tells it, but a row stays where it lies, and its
+    /// cells are shown by the same call.
+    ///
+    /// Nothing of it is copied, and memory is asked for at the first row of a result alone. A row of
+    /// more than one packet is copied. [`Connection::line`] tells of a row up to the next
+    /// [`Connection::feed`] or [`Connection::close`].
+    ///
+    /// ```
+    /// use mysql_session::{command, Bytes, Capabilities, Connection, Event, Limits, Side};
+    ///
+    /// # fn main() -> Result<(), Box<dyn std::error::Error>> {
+    /// let capabilities = Capabilities { protocol: 1 << 9 | 1 << 24, mariadb: 0 };
+    /// let mut connection = Connection::after_login(Limits::default(), capabilities)?;
+    /// connection.put(Side::Client, &command::query(b"SELECT 1"), &mut Bytes::new()?)?;
+    /// let column = b"\x17\0\0\x02\x03def\0\0\0\x011\0\x0c\x3f\0\x01\0\0\0\x08\x81\0\0\0\0";
+    /// connection.feed(Side::Server, b"\x01\0\0\x01\x01")?;
+    /// connection.feed(Side::Server, column)?;
+    /// connection.feed(Side::Server, b"\x02\0\0\x03\x011\x07\0\0\x04\xfe\0\0\x02\0\0\0")?;
+    /// let mut sum = 0;
+    /// while let Some(event) = connection.next_event_lent()? {
+    ///     if let Event::Row(row) = event {
+    ///         sum += row.get::<i64>(0)?;
+    ///     }
+    /// }
+    /// assert_eq!(sum, 1);
+    /// # Ok(())
+    /// # }
+    /// ```
+    ///
+    /// # Errors
+    /// Those of [`Connection::next_event`].
+    pub fn next_event_lent(&mut self) -> Result<Option<Event<'_>>, ConnectionFault> {
+        self.begin_next();
+        let room = self.cells.structs.len();
+        // SAFETY: "Handles": by `ConnectionHandle::get`; "Results go out": two fields of this object,
+        // of which the first has so many structs.
+        let code = unsafe {
+            raw::mysql_session_connection_next_lent(
+                self.handle.get(),
+                self.cells.structs.as_mut_ptr(),
+                room,
+                &mut self.shown.0,
+            )
+        };
+        if code == 0 && self.shown.0.kind == ROW {
+            self.cells.shown = room.min(self.shown.0.columns);
+            self.make_room(self.shown.0.columns);
+        }
+        self.told(code)
+    }
+
+    /// The event that was told is forgotten, and a greeting that comes next is looked at.
+    fn begin_next(&mut self) {
         self.forget();
         if !self.is_greeted {
             self.look_at_greeting();
         }
-        // SAFETY: "Handles": by `ConnectionHandle::get`; "Results go out": a field of this object.
-        let code =
-            unsafe { raw::mysql_session_connection_next(self.handle.get(), &mut self.shown.0) };
+    }
+
+    /// The next rows have room for so many cells. Where memory is refused they are shown one by one.
+    fn make_room(&mut self, width: usize) {
+        let cells = &mut self.cells.structs;
+        let more = width.saturating_sub(cells.len());
+        if more > 0 && cells.try_reserve(more).is_ok() {
+            cells.resize(width, raw::Value::default());
+        }
+    }
+
+    /// The event that a call told, or its fault.
+    fn told(&mut self, code: u32) -> Result<Option<Event<'_>>, ConnectionFault> {
         if let Err(code) = answer(code) {
             self.forget();
             return Err(self.fault_of(code));
@@ -472,10 +560,11 @@ impl Connection {
 
     /// The event that was told or put last, again, until the connection changes.
     pub fn event(&self) -> Option<Event<'_>> {
+        let cells = &self.cells.structs[..self.cells.shown];
         // SAFETY: the library wrote the fields; the texts are "good until the next call on it" that
-        // takes its `&mut self`, which forgets the event.
+        // takes its `&mut self`, which forgets the event. So are those of the cells.
         (self.shown.0.kind != 0)
-            .then(|| unsafe { Event::of(&self.handle, &self.shown.0, &self.scramble) })
+            .then(|| unsafe { Event::of(&self.handle, &self.shown.0, cells, &self.scramble) })
     }
 
     /// The changes of the session's state of the event that was told or put last, as its OK packet
@@ -699,6 +788,7 @@ impl Connection {
     /// The event that was told last is shown no more.
     fn forget(&mut self) {
         self.shown.0 = raw::Event::default();
+        self.cells.shown = 0;
     }
 
     /// The state of the connection.

@@ -107,6 +107,8 @@ impl fmt::Debug for Values<'_> {
 pub struct EventRow<'a> {
     pub(crate) handle: &'a ConnectionHandle,
     pub(crate) len: usize,
+    /// The first cells, where they were shown with the row.
+    pub(crate) cells: &'a [raw::Value],
 }
 
 impl<'a> EventRow<'a> {
@@ -122,8 +124,12 @@ impl<'a> EventRow<'a> {
 
     /// What the cell of a number holds, from 0: bytes by text, values in binary.
     pub fn cell(&self, number: usize) -> Option<Value<'a>> {
+        let shown = match self.cells.get(number) {
+            Some(cell) => *cell,
+            None => value_of(self.handle, 0, number)?,
+        };
         // SAFETY: the bytes are "good until the next call on it" that takes its `&mut`.
-        value_of(self.handle, 0, number).map(|shown| unsafe { Value::of(shown) })
+        Some(unsafe { Value::of(shown) })
     }
 
     /// The value in the cell of a number, from 0, as a type of Rust.

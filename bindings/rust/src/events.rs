@@ -300,15 +300,17 @@ impl<'a> Event<'a> {
     /// What the library showed.
     ///
     /// # Safety
-    /// The library wrote the fields, and the texts stay as they are for `'a`.
+    /// The library wrote the fields and the cells, and the texts stay as they are for `'a`.
     pub(crate) unsafe fn of(
         handle: &'a ConnectionHandle,
         shown: &raw::Event,
+        cells: &'a [raw::Value],
         scramble: &'a [u8],
     ) -> Event<'a> {
         let part = Part {
             handle,
             shown,
+            cells,
             scramble,
         };
         // SAFETY: by this call's condition.
@@ -547,6 +549,8 @@ impl Event<'_> {
 struct Part<'a, 'b> {
     handle: &'a ConnectionHandle,
     shown: &'b raw::Event,
+    /// Those of a row that were shown with it.
+    cells: &'a [raw::Value],
     /// That of the greeting.
     scramble: &'a [u8],
 }
@@ -607,6 +611,7 @@ impl<'a> Part<'a, '_> {
             27 => Event::Row(EventRow {
                 handle: self.handle,
                 len: shown.columns,
+                cells: self.cells,
             }),
             28 => Event::RawRow(data),
             29 => Event::RowsEnd(self.packet(text)),

@@ -620,6 +620,12 @@ extern "C" {
     ) -> u32;
     pub fn mysql_session_connection_close(connection: *mut Connection, side: u32) -> u32;
     pub fn mysql_session_connection_next(connection: *mut Connection, event: *mut Event) -> u32;
+    pub fn mysql_session_connection_next_lent(
+        connection: *mut Connection,
+        cells: *mut Value,
+        room: usize,
+        event: *mut Event,
+    ) -> u32;
     pub fn mysql_session_connection_put(
         connection: *mut Connection,
         side: u32,

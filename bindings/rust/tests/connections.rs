@@ -225,6 +225,38 @@ fn changed_bytes_are_read_or_refused() {
     }
 }
 
+/// What is printed of the answer to a call for the next event.
+fn told(answer: Result<Option<Event<'_>>, ConnectionFault>) -> Result<Option<String>, ConnectionFault> {
+    Ok(answer?.map(|event| format!("{event:?}")))
+}
+
+#[test]
+fn rows_that_are_lent_are_those_that_are_copied() {
+    for it in recordings() {
+        let new = || Connection::new(LIMITS).expect("memory isn't short");
+        let (mut copying, mut lending) = (new(), new());
+        for connection in [&mut copying, &mut lending] {
+            let room = connection.feed(Side::Client, &it.client);
+            room.expect("there is room");
+        }
+        for piece in it.server.chunks(1000) {
+            for connection in [&mut copying, &mut lending] {
+                let room = connection.feed(Side::Server, piece);
+                room.expect("there is room");
+            }
+            loop {
+                let wanted = told(copying.next_event());
+                assert_eq!(told(lending.next_event_lent()), wanted, "{}", it.name);
+                assert_eq!(told(Ok(lending.event())), told(Ok(copying.event())));
+                assert_eq!(lending.line_with_secrets(), copying.line_with_secrets());
+                if !matches!(wanted, Ok(Some(_))) {
+                    break;
+                }
+            }
+        }
+    }
+}
+
 #[test]
 fn an_execution_has_the_text_and_the_values() {
     let it = recording("php-execute");

@@ -26,9 +26,9 @@ use mysql_c_commands::{
     Parameter, ShownContent, ShownPlace, ShownStop, bind_text, digest_put, execution_put,
     is_safe_to_quote, mode_of_sql_mode, mode_of_status, receiver_clear, receiver_content,
     receiver_end, receiver_feed, receiver_new, receiver_sets, receiver_width, recoder_end,
-    recoder_feed, recoder_new, send, sets_add, sets_clear, sets_count, sets_end_set, sets_new, sets_push_bytes,
-    sets_push_date, sets_push_double, sets_push_float, sets_push_int, sets_push_null,
-    sets_push_time, sets_push_uint, value_text,
+    recoder_feed, recoder_new, send, sets_add, sets_clear, sets_count, sets_end_set, sets_new,
+    sets_push_bytes, sets_push_date, sets_push_double, sets_push_float, sets_push_int,
+    sets_push_null, sets_push_time, sets_push_uint, value_text,
 };
 use mysql_c_handles::{Handle, ShownEnd, bytes_clear, bytes_data, bytes_new};
 use std::alloc::Global;

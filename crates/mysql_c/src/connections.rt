@@ -5,6 +5,7 @@ ghost use Rattle.std.specs.Option.{option_map};
 ghost use Rattle.mysql_c_commands.specs.Modes.{flagged, unknown_mode};
 ghost use Rattle.mysql_c_connection.specs.Codes.{code_number, side_numbered};
 ghost use Rattle.mysql_c_connection.specs.Columns.{column_held};
+ghost use Rattle.mysql_c_connection.specs.Lent.{TellsLent};
 ghost use Rattle.mysql_connection_rules.specs.Streams.{from_login};
 ghost use Rattle.mysql_c_connection.specs.Opened.{Closes, Finishes, IsFed, IsNew, IsNewFrom, IsOpen, Lines};
 ghost use Rattle.mysql_c_connection.specs.Opened.{OfOpen, OfSide};
@@ -113,6 +114,23 @@ pub extern "C" fn mysql_session_connection_next(
         (λ old. IsOpen handle.new.object (λ new. Tells result old new shown.new)) }
 {
     mysql_c_connection::connection_next(alloc, handle, shown)
+}
+
+/// Takes the next event, and shows it, as `mysql_session_connection_next` does.
+///
+/// A row stays where it lies, and its first cells are shown, each by its number.
+#[unsafe(no_mangle)]
+pub extern "C" fn mysql_session_connection_next_lent(
+    alloc: Global,
+    handle: &mut Handle,
+    cells: &mut [ShownValue],
+    shown: &mut ShownEvent,
+) -> u32
+    ensures { OfOpen handle.old.object result handle.new.object
+        (λ old. IsOpen handle.new.object
+        (λ new. TellsLent result old new cells.old cells.new shown.new)) }
+{
+    mysql_c_connection::connection_next_lent(alloc, handle, cells, shown)
 }
 
 /// Puts a payload of a side at its turn.

@@ -1,6 +1,7 @@
 pub mod Codes
 pub mod Columns
 pub mod Events
+pub mod Lent
 pub mod Opened
 pub mod Putting
 pub mod Owned

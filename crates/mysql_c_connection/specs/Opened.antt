@@ -83,7 +83,7 @@ event_in (Ok event) = event
 event_in (Err fault) = None
 
 -- the number of an answer
-abbrev pub next_number : Result (Option Event) ConnectionFault → ℕ
+abbrev pub next_number : {X : Type 0} → Result (Option X) ConnectionFault → ℕ
 next_number (Ok event) = 0
 next_number (Err fault) = fault_number fault.fault
 

@@ -11,7 +11,6 @@ use Rattle.mysql_commands.specs.Commands.{Command}
 use Rattle.mysql_handshake_response.specs.Attributes.{Attribute as Pair}
 use Rattle.mysql_connection_rules.specs.Events as said
 use Rattle.mysql_connection_rules.specs.Events.{Event}
-use Rattle.mysql_connection_state.specs.Views.{event_view}
 use Rattle.mysql_executions.specs.declared.bulk.BulkValue.{BulkValue}
 use Rattle.mysql_executions.specs.declared.bulk.BulkValue.TheVariants as bulk
 use Rattle.mysql_executions.specs.declared.types.Attribute.{Attribute}
@@ -21,6 +20,7 @@ use Rattle.mysql_reply_events.specs.Events.{Event as ReplySaid}
 use Rattle.mysql_rows.specs.Rows.{cell_at}
 use Rattle.mysql_c_replies.specs.Shown.{ShowsValue}
 use Rattle.mysql_c_replies.specs.declared.shown.ShownValue.{ShownValue}
+use Rattle.mysql_c_connection.specs.Lent.{event_told}
 use Rattle.mysql_c_connection.specs.declared.code.ConnectionCode.{ConnectionCode}
 use Rattle.mysql_c_connection.specs.declared.code.ConnectionCode.TheVariants as code
 use Rattle.mysql_c_connection.specs.declared.object.Object.{Object}
@@ -28,10 +28,10 @@ use Rattle.mysql_c_connection.specs.declared.object.Object.TheVariants as object
 use Rattle.mysql_c_connection.specs.declared.values.NamedValue.{NamedValue}
 use Rattle.mysql_c_connection.specs.declared.values.NamedValue.TheVariants as named
 
--- the event that an object holds
+-- the event that was told last of an object: one that it holds, or a row that it lends
 abbrev pub event_held : Object → Option Event
 event_held object.Empty = None
-event_held (object.Open c) = option_map event_view c.event
+event_held (object.Open c) = event_told c.event c.connection.row
 
 -- why an object has nothing of this number
 abbrev pub unheld_code : Object → ConnectionCode

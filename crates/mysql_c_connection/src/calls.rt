@@ -11,12 +11,12 @@ use crate::events::telling_event;
 use crate::handle::Handle;
 use crate::object::{Object, OpenConnection};
 use crate::shown::ShownConnectionEnd;
+use crate::values::{Told, told_of};
 use mysql_c_connection_events::{ShownEvent, blank};
 use mysql_c_handles::start_of;
-use mysql_connection_lines::{Secrets, write_end, write_event};
+use mysql_connection_lines::{Secrets, write_end, write_event, write_lent_row};
 use mysql_connection_machine::{Connection, End, FeedRefusal};
 use mysql_connection_rules::{Limits, Side};
-use mysql_connection_state::Event;
 use std::alloc::Global;
 use std::io;
 
@@ -101,14 +101,12 @@ impl OpenConnection {
     fn write_line(&mut self, secrets: Secrets) -> ConnectionCode
         ensures { Lines self.old self.new }
     {
+        let told = told_of(&self.event, &self.connection);
         match secrets {
-            Secrets::Hidden => write_unless_written(&mut self.line, &self.event, self.end, secrets),
-            Secrets::Shown => write_unless_written(
-                &mut self.line_with_secrets,
-                &self.event,
-                self.end,
-                secrets,
-            ),
+            Secrets::Hidden => write_unless_written(&mut self.line, told, self.end, secrets),
+            Secrets::Shown => {
+                write_unless_written(&mut self.line_with_secrets, told, self.end, secrets)
+            }
         }
     }
 
@@ -121,17 +119,21 @@ impl OpenConnection {
     }
 }
 
-/// Writes the line of an event, or of an end, unless it is there.
+/// Writes the line of an event, or of an end, unless it is there. Of a row that is lent no more there
+/// is none.
 fn write_unless_written(
     line: &mut Vec<u8>,
-    event: &Option<Event>,
+    told: Option<Told<'_>>,
     end: Option<End>,
     secrets: Secrets,
 ) -> ConnectionCode {
+    if told.is_none() && end.is_none() {
+        return ConnectionCode::OutOfRange;
+    }
     if !line.is_empty() {
         return ConnectionCode::Done;
     }
-    match line_of(line, event, end, secrets) {
+    match line_of(line, told, end, secrets) {
         Ok(true) => ConnectionCode::Done,
         Ok(false) => ConnectionCode::OutOfRange,
         Err(_) => {
@@ -144,12 +146,13 @@ fn write_unless_written(
 /// Writes the line of an event, or of an end, where there is one.
 fn line_of(
     line: &mut Vec<u8>,
-    event: &Option<Event>,
+    told: Option<Told<'_>>,
     end: Option<End>,
     secrets: Secrets,
 ) -> io::Result<bool> {
-    match event {
-        Some(event) => write_event(line, event, secrets)?,
+    match told {
+        Some(Told::Event(event)) => write_event(line, event, secrets)?,
+        Some(Told::Row(row)) => write_lent_row(line, &row)?,
         None => match end {
             Some(end) => write_end(line, end)?,
             None => return Ok(false),

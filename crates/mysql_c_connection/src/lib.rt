@@ -18,6 +18,7 @@ mod code;
 mod columns;
 mod events;
 mod handle;
+mod lent;
 mod object;
 mod putting;
 mod shown;
@@ -33,6 +34,7 @@ pub use calls::{
 pub use code::ConnectionCode;
 pub use columns::connection_column;
 pub use handle::Handle;
+pub use lent::connection_next_lent;
 pub use mysql_connection_lines::Secrets;
 pub use object::{Object, OpenConnection};
 pub use putting::{connection_after_login, connection_put, connection_put_packets};

@@ -6,8 +6,11 @@ ghost use Rattle.mysql_commands.specs.Views.{command_view};
 ghost use Rattle.mysql_handshake_response.specs.AttributeViews.{attributes_view};
 ghost use Rattle.mysql_connection_state.specs.Views.{event_view};
 ghost use Rattle.mysql_executions.specs.Views.{bulk_of};
+ghost use Rattle.mysql_reply_events.specs.Events.Event.{RowEvent};
 ghost use Rattle.mysql_reply_events.specs.Views.{event_view as reply_view};
+ghost use Rattle.mysql_row_refs.specs.RowRefs.{row_ref_view};
 ghost use Rattle.mysql_c_connection.specs.Codes.{code_number};
+ghost use Rattle.mysql_c_connection.specs.Lent.{event_told, told_view};
 ghost use Rattle.mysql_c_connection.specs.Values.{ShowsBulk, ShowsNamed, attribute_held, attribute_in};
 ghost use Rattle.mysql_c_connection.specs.Values.{attribute_named, cell_in, command_attribute, event_held};
 ghost use Rattle.mysql_c_connection.specs.Values.{named_view, pair_at, parameter_in, unheld_code, value_held};
@@ -16,25 +19,48 @@ ghost use Rattle.mysql_c_replies.specs.Shown.{ShowsValue};
 
 use crate::code::ConnectionCode;
 use crate::handle::Handle;
+use crate::lent::show_one_ref;
 use crate::object::Object;
 use mysql_authentication::{LoginResponse, ResponseEvent};
 use mysql_c_handles::start_of;
 use mysql_c_replies::{ShownValue, show_value};
 use mysql_cells::Value;
 use mysql_commands::{Attribute, BulkExecution, BulkValue, Command};
+use mysql_connection_machine::Connection;
 use mysql_connection_state::Event;
 use mysql_handshake_response::ConnectAttributes;
 use mysql_reply_events::ReplyEvent;
+use mysql_row_refs::RowRef;
 use std::alloc::Global;
 
-/// The event that an object holds.
-pub(crate) fn event_of(object: &Object) -> Result<&Event, ConnectionCode>
+/// The event that was told last, where it lies: it is held, or a row that the connection lends.
+#[derive(Clone, Copy)]
+pub enum Told<'a> {
+    Event(&'a Event),
+    Row(RowRef<'a, 'a>),
+}
+
+/// The event that was told last of a connection: the one that is held, else a row that is lent.
+pub(crate) fn told_of<'a>(event: &'a Option<Event>, connection: &'a Connection) -> Option<Told<'a>>
+    ensures { option_map told_view result ≡ event_told event.now connection.now.row }
+{
+    match event {
+        Some(event) => Some(Told::Event(event)),
+        None => match connection.row() {
+            Some(row) => Some(Told::Row(row)),
+            None => None,
+        },
+    }
+}
+
+/// The event that was told last of an object.
+pub(crate) fn event_of(object: &Object) -> Result<Told<'_>, ConnectionCode>
     ensures { MatchResult result
-        (λ event. (event_held object.now ≡ Some (event_view event.now)) × (unheld_code object.now ≡ code.OutOfRange))
+        (λ event. (event_held object.now ≡ Some (told_view event)) × (unheld_code object.now ≡ code.OutOfRange))
         (λ e. (event_held object.now ≡ None) × (e ≡ unheld_code object.now)) }
 {
     match object {
-        Object::Open(open) => match &open.event {
+        Object::Open(open) => match told_of(&open.event, &open.connection) {
             Some(event) => Ok(event),
             None => Err(ConnectionCode::OutOfRange),
         },
@@ -111,14 +137,32 @@ fn show_cell(said: &ReplyEvent, row: usize, place: usize, shown: &mut ShownValue
     }
 }
 
-/// Shows a value of the event that an object holds.
+/// Shows a cell of a row that is lent.
+fn show_lent_cell(
+    cells: RowRef<'_, '_>,
+    row: usize,
+    place: usize,
+    shown: &mut ShownValue,
+) -> ConnectionCode
+    ensures { MatchOption (cell_in (RowEvent (row_ref_view cells.entry)) row place) (result ≡ code.OutOfRange)
+        (λ found. (result ≡ code.Done) × ShowsBulk found shown.new) }
+{
+    if row == 0 {
+        show_one_ref(cells.as_ref(place), shown)
+    } else {
+        ConnectionCode::OutOfRange
+    }
+}
+
+/// Shows a value of the event that was told last of an object.
 fn value_of(object: &Object, row: usize, place: usize, shown: &mut ShownValue) -> ConnectionCode
     ensures { MatchOption (value_held object.now row place) (result ≡ unheld_code object.now)
         (λ found. (result ≡ code.Done) × ShowsBulk found shown.new) }
 {
     match event_of(object) {
-        Ok(Event::Command(command)) => show_parameter(command, row, place, shown),
-        Ok(Event::Reply(said)) => show_cell(said, row, place, shown),
+        Ok(Told::Event(Event::Command(command))) => show_parameter(command, row, place, shown),
+        Ok(Told::Event(Event::Reply(said))) => show_cell(said, row, place, shown),
+        Ok(Told::Row(cells)) => show_lent_cell(cells, row, place, shown),
         Ok(_) => ConnectionCode::OutOfRange,
         Err(code) => code,
     }
@@ -245,7 +289,7 @@ fn show_named(
     ConnectionCode::Done
 }
 
-/// Shows an attribute of the event that an object holds.
+/// Shows an attribute of the event that was told last of an object.
 fn attribute_of(
     object: &Object,
     number: usize,
@@ -257,7 +301,8 @@ fn attribute_of(
         (λ named. (result ≡ code.Done) × ShowsNamed named len.new shown.new) }
 {
     match event_of(object) {
-        Ok(event) => show_named(of_event(event, number), name, len, shown),
+        Ok(Told::Event(event)) => show_named(of_event(event, number), name, len, shown),
+        Ok(Told::Row(_)) => ConnectionCode::OutOfRange,
         Err(code) => code,
     }
 }

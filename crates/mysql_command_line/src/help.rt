@@ -1,5 +1,8 @@
 //! What the program prints of itself.
 
+/// The program's name and its version, in a line.
+pub(crate) const VERSION: &str = "mysql_session_program 0.1.0\n";
+
 /// The words that the program knows, in fourteen lines.
 pub(crate) const HELP: &str =
     "Parameter sets of one query as a stream of MySQL's commands, and back.

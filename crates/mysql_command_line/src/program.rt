@@ -3,7 +3,7 @@
 use crate::commands::{answer_audit, audit, audit_of, encode, recode};
 use crate::connection::connection;
 use crate::following::follow;
-use crate::help::HELP;
+use crate::help::{HELP, VERSION};
 use crate::lines::{print_digits, print_line, print_stream};
 use crate::stop::{Answer, Stop};
 use crate::words::{Task, task_of};
@@ -78,6 +78,12 @@ fn help<W: Write>(output: &mut W) -> Result<Status, Stop> {
     Ok(Status::Done)
 }
 
+/// Prints the version.
+fn version<W: Write>(output: &mut W) -> Result<Status, Stop> {
+    print_stream(output, VERSION.as_bytes())?;
+    Ok(Status::Done)
+}
+
 /// Does what the words ask for.
 fn run_words<R: Read, W: Write>(
     alloc: Global,
@@ -93,6 +99,7 @@ fn run_words<R: Read, W: Write>(
         Task::Recode(statement) => recode(alloc, statement, input, output),
         Task::Connection(limit, secrets) => connection(alloc, limit, secrets, input, output),
         Task::Help => help(output),
+        Task::Version => version(output),
     }
 }
 
@@ -124,7 +131,8 @@ fn answer_stop<W: Write>(output: &mut W, stop: &Stop) -> Status {
 /// - `connection LIMIT` reads a transcript of a connection and prints a line for each payload, as
 ///   soon as it can be said. It reads no further than to a fault or an end. Of an authentication's
 ///   data it prints the length, but behind `--secrets`, which is before the limit.
-/// - `help` prints these words in fourteen lines, and reads nothing.
+/// - `help`, `--help` and `-h` print these words in fourteen lines, and read nothing. `--version`
+///   prints the version.
 ///
 /// Behind a command `--mode NAMES` may follow, with `no-backslash-escapes` and `ansi-quotes`
 /// between commas: the modes of the server that reads the commands. `--hex` may follow: texts have

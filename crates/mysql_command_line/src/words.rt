@@ -38,6 +38,8 @@ pub(crate) enum Task<'a> {
     Connection(usize, Secrets),
     /// What the program knows.
     Help,
+    /// The program's version.
+    Version,
 }
 
 /// The number that these digits write. None where there is no digit or anything else, and where a
@@ -181,6 +183,11 @@ fn connection_of(words: &[String]) -> Result<Task<'_>, Stop> {
     }
 }
 
+/// Whether a word asks for what the program knows.
+fn is_help(word: &str) -> bool {
+    word == "help" || word == "--help" || word == "-h"
+}
+
 /// What the words ask for; `Usage` where they are none that the program knows, then `BadLimit`.
 pub(crate) fn task_of(words: &[String]) -> Result<Task<'_>, Stop> {
     match words {
@@ -196,7 +203,8 @@ pub(crate) fn task_of(words: &[String]) -> Result<Task<'_>, Stop> {
             Ok(Task::Recode(statement_in(words)?))
         }
         [command, words @ ..] if command.as_str() == "connection" => connection_of(words),
-        [command] if command.as_str() == "help" => Ok(Task::Help),
+        [command] if is_help(command.as_str()) => Ok(Task::Help),
+        [command] if command.as_str() == "--version" => Ok(Task::Version),
         _ => Err(Stop::Usage),
     }
 }
