@@ -42,6 +42,7 @@ mod laws {
         use mysql_connection::laws::deliveries::{
             delivered_sets_are_said, events_are_spoken, further_sets_join, machines_hear,
             machines_hear_what_they_put, put_payloads_are_read, put_sets_are_read,
+            put_values_are_executed,
         };
     }
 

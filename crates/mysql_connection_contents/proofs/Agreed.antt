@@ -6,6 +6,7 @@ use Rattle.mysql_connection_contents.proofs.Faults.{FailsSo, calls_fail}
 use Rattle.mysql_connection_contents.proofs.Fronts.{heard_all, is_front}
 use Rattle.mysql_connection_contents.proofs.Histories.{history}
 use Rattle.mysql_connection_contents.proofs.Parties.{IsOf, any_keeps, anybody_may, other_kept, side_keeps, side_may}
+use Rattle.mysql_connection_contents.proofs.PutValues.{values_shown}
 use Rattle.mysql_connection_contents.proofs.Putting.{speaks}
 use Rattle.mysql_connection_contents.proofs.Texts.{texts_are_shown}
 use Rattle.mysql_connection_contents.specs.Calls.{Party, events_in, feeds_other, put_in, streams_in}
@@ -192,6 +193,7 @@ all_see_the_same laws begun client server auditor connected =
       executions = executions_are_shown begun sent all.events all.last connected.begins heard;
       sets = said.0;
       further = said.1;
+      values = values_shown (new_machine begun) client.machine client.calls all.events client.did all.client_agrees.front;
       queries = queries_are_shown begun sent all.events all.last heard;
       asked = all.asked_all;
       answered = all.answered_all;

@@ -29,3 +29,6 @@ mod Knowing
 mod Telling
 mod Texts
 mod Executing
+mod PutValues
+pub mod Example
+mod ExampleCalls

@@ -4,4 +4,7 @@ pub mod Deliveries
 pub mod PacketLaws
 pub mod Calls
 pub mod Shown
+pub mod PutValues
 pub mod Promise
+pub mod Example
+pub mod ExampleLaws

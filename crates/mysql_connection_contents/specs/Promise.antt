@@ -6,6 +6,7 @@ use Rattle.std.specs.List.{filter, list_all}
 use Rattle.mysql_connection_contents.specs.Calls.{Party, all_have_memory, events_in, is_by, put_in, streams_in}
 use Rattle.mysql_connection_contents.specs.Deliveries.{FurtherSetsAreSaid, SetsAreSaid}
 use Rattle.mysql_connection_contents.specs.Contents.{Spoken, events_of}
+use Rattle.mysql_connection_contents.specs.PutValues.{ShowsValues}
 use Rattle.mysql_connection_contents.specs.Records.{HasHeard, HasSpoken}
 use Rattle.mysql_connection_contents.specs.Shown.{IsBeginning, ShowsExecutions, ShowsQueries, ShowsTexts}
 use Rattle.mysql_connection_rules.specs.Events.{Event}
@@ -72,6 +73,8 @@ pub record SeeTheSame {begun : Beginning} (client server auditor : Party begun) 
   pub executions : ShowsExecutions heard.payloads
   pub sets : SetsAreSaid heard.payloads
   pub further : FurtherSetsAreSaid heard.payloads
+  -- Where the client executes a statement by values that it puts, its executions say those values.
+  pub values : ShowsValues client.calls events
   -- What is asked by text are queries of those texts.
   pub queries : ShowsQueries heard.payloads
   -- Its client's events are those that the client put, by whichever calls; its server's likewise.

@@ -3,6 +3,7 @@
 
 ghost use Rattle.mysql_connection_contents.specs.Deliveries.{DeliveredSetsAreSaid, FurtherSetsJoin};
 ghost use Rattle.mysql_connection_contents.specs.Deliveries.{PutPayloadsAreRead, PutSetsAreRead};
+ghost use Rattle.mysql_connection_contents.specs.PutValues.{PutValuesAreExecuted};
 ghost use Rattle.mysql_connection_contents.specs.Records.{MachinesHear, MachinesHearWhatTheyPut};
 ghost use Rattle.mysql_connection_contents.specs.Records.{PutEventsAreSpoken, TakenEventsAreSpoken};
 
@@ -124,3 +125,14 @@ pub fn put_payloads_are_read()
     numbers_are_bytes();
     delivered_sets_are_said();
 }
+
+/// What is put of a statement by `Connection::put_execution` is executed with the contents of its values.
+///
+/// That is said of calls by which nothing else executes the statement. Its executions in their events are
+/// then those of the values: all of them, in order, and nothing between. The statement's id isn't
+/// 0xffffffff, which names the one that was prepared last.
+///
+/// MySQL: Client/Server Protocol, "COM_STMT_EXECUTE"; MariaDB: "COM_STMT_EXECUTE" ('Statement id').
+pub fn put_values_are_executed()
+    ensures { PutValuesAreExecuted }
+{}

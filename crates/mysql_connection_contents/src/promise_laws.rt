@@ -25,7 +25,7 @@ use mysql_wire::first_packet_laws::{
 ///
 /// Each prepared statement has the text that was asked for, at each moment and in each of the three. Its
 /// executions in the list say the sets that were sent of it, as `Query::send` and `Query::send_more` send
-/// them. What was asked by text are queries of those texts.
+/// them, and the values of `Connection::put_execution`. What was asked by text are queries of those texts.
 ///
 /// MySQL: Client/Server Protocol, "Connection Lifecycle" and "MySQL Packets".
 pub fn all_see_the_same()

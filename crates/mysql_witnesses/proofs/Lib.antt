@@ -18,3 +18,4 @@ pub mod AboutCommands
 pub mod AboutConnections
 pub mod AboutShown
 pub mod AboutCReplies
+pub mod AboutWrongBodies

@@ -18,3 +18,4 @@ pub mod Commands
 pub mod Connections
 pub mod Shown
 pub mod CReplies
+pub mod WrongBodies

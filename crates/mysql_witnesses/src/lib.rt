@@ -27,3 +27,4 @@ pub mod steps;
 pub mod streams;
 pub mod values;
 pub mod wire;
+pub mod wrong_bodies;
