@@ -15,7 +15,7 @@ NAMES = ('chromium-headless-shell', 'chromium', 'chromium-browser', 'google-chro
 WORDS = ('--headless', '--remote-debugging-pipe', '--no-sandbox', '--disable-gpu', '--disable-dev-shm-usage',
          '--no-first-run', '--disable-extensions', '--disable-background-networking', '--disable-sync', '--mute-audio')
 # A busy machine may take this many seconds for one answer.
-PATIENCE = float(os.environ.get('SITE_PATIENCE', '120'))
+PATIENCE = float(os.environ.get('SITE_PATIENCE', '600'))
 
 
 def program():

@@ -1,4 +1,4 @@
-"""Looks at the site in a browser without a screen: what the console says, a phone's width, pictures, links, the search."""
+"""Looks at the site in a browser without a screen: its console, a phone's width, pictures, links and the search."""
 import json
 import pathlib
 import urllib.parse
@@ -7,12 +7,18 @@ from browser import Browser, program
 
 PHONE = (390, 844)
 # What a page is asked: its width and the window's, pictures that aren't shown, its links, and its anchors.
-LOOK = '''(() => {
-  const wide = [...document.querySelectorAll("body *")].filter((it) => it.getBoundingClientRect().right > innerWidth + 1);
-  return {width: document.scrollingElement.scrollWidth, window: innerWidth,
-          wide: wide.slice(-1).map((it) => it.tagName + "." + it.className + " " + it.textContent.trim().slice(0, 40))[0],
+LOOK = '''(async () => {
+  await Promise.all([...document.images].map((it) => it.decode().catch(() => null)));
+  const width = document.documentElement.clientWidth;
+  const scrolls = (it) => it && it !== document.body
+    && (getComputedStyle(it).overflowX !== "visible" || scrolls(it.parentElement));
+  const wide = [...document.querySelectorAll("body *")].filter(
+    (it) => it.getBoundingClientRect().left + it.scrollWidth > width + 1 && !scrolls(it));
+  return {width: document.scrollingElement.scrollWidth, window: width,
+          wide: wide.slice(-1).map((it) => `${it.tagName}.${it.className} ${it.textContent.trim().slice(0, 40)}`)[0],
           pictures: [...document.images].filter((it) => !it.complete || !it.naturalWidth).map((it) => it.src),
-          links: [...document.links].map((it) => it.href), anchors: [...document.querySelectorAll("[id]")].map((it) => it.id)};
+          links: [...document.links].map((it) => it.href),
+          anchors: [...document.querySelectorAll("[id]")].map((it) => it.id)};
 })()'''
 # Types a question into the search, and clicks the answer that leads to a page; answers whether there was one.
 SEARCH = '''(async () => {
@@ -56,7 +62,7 @@ def look_at_page(browser, file):
     found = [f'the console says: {it}' for it in browser.said]
     found += [f'the picture {it} is not shown' for it in seen['pictures']]
     if seen['width'] > seen['window'] + 1:
-        found.append(f"it is {seen['width']} wide on a phone of {seen['window']}: {seen['wide']}")
+        found.append(f"it is {seen['width']} wide on a phone of {seen['window']}: {seen.get('wide', '')}")
     return found, seen['links'], set(seen['anchors'])
 
 

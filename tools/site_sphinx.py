@@ -68,8 +68,8 @@ STYLE = '''#search { width: 100%; padding: 0.4rem; font: inherit; box-sizing: bo
 .found mark { background: #fff3bf; }
 div.body table { display: block; max-width: 100%; overflow-x: auto; }
 div.body img { max-width: 100%; }
-div.body code, div.body dt, div.body h1, div.body h2, div.body h3, .found { overflow-wrap: anywhere; }
-div.body pre code { overflow-wrap: normal; }
+div.body { overflow-wrap: break-word; }
+div.body span.pre { white-space: normal; }
 div.body pre { overflow-x: auto; }
 @media (min-width: 876px) {
   div.sphinxsidebar { max-height: 100vh; overflow-y: auto; position: fixed; }
@@ -79,6 +79,12 @@ div.body pre { overflow-x: auto; }
   div.documentwrapper { width: 100%; }
   div.bodywrapper { margin: 0; }
   div.sphinxsidebar { order: -1; position: static; max-height: 40vh; overflow-y: auto; width: auto; margin: 0; }
+}
+'''
+# A phone's width is enough for the pages of the header: what is wider scrolls by itself.
+C_STYLE = '''@media (max-width: 875px) {
+  div.header, div.contents, div.headertitle, #top, #titlearea { max-width: 100%; overflow-x: auto; }
+  div.contents { margin: 0 4px; }
 }
 '''
 PYTHON = '''Python's calls
@@ -190,14 +196,20 @@ def make_rust(folder, room, root):
     subprocess.run(words, cwd=root / 'bindings' / 'rust', check=True, stdin=subprocess.DEVNULL,
                    env={**os.environ, 'MYSQL_SESSION_LIBRARY': str(room / 'library')})
     shutil.copytree(room / 'rust' / 'doc', folder / 'rust', dirs_exist_ok=True)
+    # Two of its pages link a first page of all crates, which it doesn't make of one.
+    (folder / 'rust' / 'index.html').write_text(
+        '<!DOCTYPE html>\n<html lang="en"><head><meta charset="utf-8"><title>mysql_session</title>\n'
+        '<meta http-equiv="refresh" content="0; url=mysql_session/index.html"></head>\n'
+        '<body><a href="mysql_session/index.html">mysql_session</a></body></html>\n', encoding='utf-8')
 
 
-def make_c(folder, _room, root):
+def make_c(folder, room, root):
     """Makes the pages of the header. Its comments become those that doxygen looks for."""
+    (room / 'phone.css').write_text(C_STYLE, encoding='utf-8')
     comments = r"sed -E 's#@#\\@#g; s#^( *)/\* #\1/** #; s#^( *[^ /].*)/\* #\1/**< #; 1s#^/\*$#/** @file#'"
     lines = {'PROJECT_NAME': 'mysql_session.h', 'EXTRACT_ALL': 'YES', 'INPUT': root / 'bindings' / 'c' / 'mysql_session.h',
-             'OUTPUT_DIRECTORY': folder, 'HTML_OUTPUT': 'c', 'GENERATE_LATEX': 'NO', 'QUIET': 'YES',
-             'WARNINGS': 'NO', 'OPTIMIZE_OUTPUT_FOR_C': 'YES', 'FULL_PATH_NAMES': 'NO', 'JAVADOC_AUTOBRIEF': 'YES',
+             'OUTPUT_DIRECTORY': folder, 'HTML_OUTPUT': 'c', 'HTML_EXTRA_STYLESHEET': room / 'phone.css',
+             'GENERATE_LATEX': 'NO', 'QUIET': 'YES', 'WARNINGS': 'NO', 'OPTIMIZE_OUTPUT_FOR_C': 'YES', 'FULL_PATH_NAMES': 'NO', 'JAVADOC_AUTOBRIEF': 'YES',
              'SORT_MEMBER_DOCS': 'NO', 'HAVE_DOT': 'NO', 'INPUT_FILTER': f'"{comments}"'}
     text = '\n'.join(f'{name} = {value}' for name, value in lines.items())
     subprocess.run(['doxygen', '-'], input=text, text=True, check=True, stdout=subprocess.DEVNULL)

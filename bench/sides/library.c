@@ -131,16 +131,16 @@ static void run(const char *what, int rounds) {
     size_t copies = bytewise ? BYTEWISE_COPIES : COPIES, piece = bytewise ? 1 : PIECE;
     if (IS("frame-16M")) {
         Bytes one = payload(16000000);
-        MEASURE("library", 1024e6, frame(one, 64, 1))
+        MEASURE("library", 16e6 * SCALED(64), frame(one, SCALED(64), 1))
     } else if (IS("frame-100")) {
         Bytes one = payload(100);
-        MEASURE("library", 1e9, frame(one, 10000000, 65536))
+        MEASURE("library", 1e2 * SCALED(10000000), frame(one, SCALED(10000000), 65536))
     } else if (BEGINS("split")) {
-        Bytes stream = IS("split-16M") ? framed(16000000, 64) : framed(100, 2560000);
+        Bytes stream = IS("split-16M") ? framed(16000000, SCALED(64)) : framed(100, SCALED(2560000));
         MEASURE("library", (double)stream.len, split(stream))
     } else if (IS("places")) {
         Bytes query = load("query");
-        MEASURE("library", 1e6, mysql_bench_places(query.at, query.len, 1000000))
+        MEASURE("library", 1.0 * SCALED(1000000), mysql_bench_places(query.at, query.len, SCALED(1000000)))
     } else if (BEGINS("receive")) {
         Bytes query = load("query"), stream = commands(what, copies);
         // Beside a reader from which sets are taken, the one that keeps them all.

@@ -6,7 +6,17 @@
 #include <string.h>
 #include <time.h>
 
-enum { WIDTH = 4, PIECE = 65536, COPIES = 100, BYTEWISE_COPIES = 10, ROWS = 1000000, CELL_ROWS = 1000, CELL_TIMES = 1000, CONNECTION_COMMANDS = 10000, PUT_TIMES = 20, LONG_DATA_SETS = 2, CONVERTED = 10000, CONVERT_TIMES = 1000 };
+// Where instructions are counted, in place of time, there are fewer of all.
+#ifdef COUNTED
+#include <valgrind/callgrind.h>
+enum { SCALE = 50 };
+#else
+enum { SCALE = 1 };
+#endif
+
+#define SCALED(count) (((count) + SCALE - 1) / SCALE)
+
+enum { WIDTH = 4, PIECE = 65536, COPIES = SCALED(100), BYTEWISE_COPIES = SCALED(10), ROWS = SCALED(1000000), CELL_ROWS = 1000, CELL_TIMES = SCALED(1000), CONNECTION_COMMANDS = 10000, PUT_TIMES = SCALED(20), LONG_DATA_SETS = 2, CONVERTED = 10000, CONVERT_TIMES = SCALED(1000) };
 
 __attribute__((unused)) static double now(clockid_t clock) {
     struct timespec time;
@@ -41,7 +51,7 @@ __attribute__((unused)) static int find_work(const char *what, Work *work) {
     snprintf(path, sizeof path, "%s/works", INPUTS);
     FILE *file = fopen(path, "r");
     while (file && fscanf(file, "%31s %31s %31s %31s %zu %zu", work->name, work->road, work->query, work->sets, &work->count, &work->times) == 6)
-        if (strcmp(work->name, what) == 0) return fclose(file), 1;
+        if (strcmp(work->name, what) == 0) return work->times = SCALED(work->times), fclose(file), 1;
     if (file) fclose(file);
     return 0;
 }
@@ -81,7 +91,20 @@ __attribute__((unused)) static Bytes framed(size_t payload, size_t count) {
     return all;
 }
 
-// Times an expression that answers a count, and prints wall and processor nanoseconds a unit.
+// Times an expression that answers a count, and prints wall and processor nanoseconds a unit; or has callgrind count it and dump the instructions.
+#ifdef COUNTED
+#define MEASURE(who, units, expression)                                                              \
+    for (int round_ = 0; round_ < rounds; round_++) {                                                \
+        char name_[128];                                                                             \
+        CALLGRIND_START_INSTRUMENTATION;                                                             \
+        CALLGRIND_ZERO_STATS;                                                                        \
+        size_t check_ = (expression);                                                                \
+        CALLGRIND_STOP_INSTRUMENTATION;                                                              \
+        if (!check_) fprintf(stderr, "%s %s wasn't done\n", what, who), exit(2);                     \
+        snprintf(name_, sizeof name_, "%s %s %.0f", what, who, (double)(units));                     \
+        CALLGRIND_DUMP_STATS_AT(name_);                                                              \
+    }
+#else
 #define MEASURE(who, units, expression)                                                              \
     for (int round_ = 0; round_ < rounds; round_++) {                                                \
         double wall_ = now(CLOCK_MONOTONIC), processor_ = now(CLOCK_PROCESS_CPUTIME_ID);             \
@@ -90,6 +113,7 @@ __attribute__((unused)) static Bytes framed(size_t payload, size_t count) {
         printf("%s %s %.4f %.4f %zu\n", what, who, wall_ / (units), processor_ / (units), check_);   \
         fflush(stdout);                                                                              \
     }
+#endif
 
 #define IS(name) (strcmp(what, name) == 0)
 #define BEGINS(name) (strncmp(what, name, strlen(name)) == 0)

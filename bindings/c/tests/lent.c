@@ -30,7 +30,7 @@ static uint8_t *read_file(const char *name, const char *end, size_t *len)
     fseek(file, 0, SEEK_END);
     size = ftell(file);
     rewind(file);
-    bytes = malloc((size_t)size + 1);
+    bytes = (uint8_t *)malloc((size_t)size + 1);
     if (!CHECK(bytes != NULL)) exit(1);
     *len = fread(bytes, 1, (size_t)size, file);
     fclose(file);

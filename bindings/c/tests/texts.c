@@ -133,16 +133,16 @@ static void dates(void)
     end();
 }
 
-static uint32_t digest(const char *text, uint32_t flags)
+static uint32_t digest(const char *said, uint32_t flags)
 {
-    return mysql_session_digest(bytes_of(text), strlen(text), flags, &out);
+    return mysql_session_digest(bytes_of(said), strlen(said), flags, &out);
 }
 
 /* The digest of a text alone; the bytes of `out` are emptied behind it. */
-static void digest_row(const char *text, uint32_t flags, const char *wanted)
+static void digest_row(const char *said, uint32_t flags, const char *wanted)
 {
-    check_note(text, flags);
-    CHECK_DONE(digest(text, flags));
+    check_note(said, flags);
+    CHECK_DONE(digest(said, flags));
     check_out(wanted);
     CHECK_DONE(mysql_session_bytes_clear(&out));
     check_note("", 0);
