@@ -16,12 +16,12 @@ use mysql_packets::{
     NetworkStreamTerminator, NullBitmap, NullBits, OkPacket, OkPacketBody, OkPacketDeserializer,
     OkPacketKind, OldEofPacket, ProgressReport, ResultSetTerminator, Row, RowConversionError,
     RowDeserializer, RowExt, RowRefExt, RowRefusal, Schema, ServerError, SessionStateChange,
-    SessionStateInfo, SingleValue, SingleValueRef, SqlState, SqlStateMarker, StatementAlone,
-    StmtBulkExecuteParamType, StmtBulkExecuteParamValue, StmtBulkExecuteParamValues, StmtPacket,
-    StmtPacketStatus, SystemVariable, TransactionCharacteristics, TransactionState, Unsupported,
-    from_cell, from_cell_ref, from_row, from_row_opt, from_row_ref, has_mysql_status,
-    has_named_status, new_row, new_row_raw, put_states, read_bulk_row, write_binary_row,
-    write_text_row,
+    SessionStateInfo, SingleValue, SingleValueRef, SqlState, SqlStateMarker, StateText,
+    StatementAlone, StmtBulkExecuteParamType, StmtBulkExecuteParamValue,
+    StmtBulkExecuteParamValues, StmtPacket, StmtPacketStatus, SystemVariable,
+    TransactionCharacteristics, TransactionState, Unsupported, from_cell, from_cell_ref, from_row,
+    from_row_opt, from_row_ref, has_mysql_status, has_named_status, new_row, new_row_raw,
+    put_states, read_bulk_row, write_binary_row, write_text_row,
 };
 
 mod err_packet {

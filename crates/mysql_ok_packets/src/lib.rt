@@ -28,6 +28,8 @@ pub mod variable;
 
 pub use change::SessionStateChange;
 pub use info::{SessionStateInfo, put_states, states_of};
-pub use members::{Gtids, Schema, TransactionCharacteristics, TransactionState, Unsupported};
+pub use members::{
+    Gtids, Schema, StateText, TransactionCharacteristics, TransactionState, Unsupported,
+};
 pub use mysql_const::{SessionStateType, UnknownSessionStateType};
 pub use variable::SystemVariable;

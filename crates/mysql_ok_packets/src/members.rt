@@ -9,9 +9,7 @@ ghost use Rattle.mysql_fields.specs.declared.error.WireError.TheVariants as wire
 ghost use Rattle.mysql_fields.specs.TextLaws.{all-back, lenenc_text_at-back};
 ghost use Rattle.mysql_fields.specs.Texts.{lenenc_text_at};
 ghost use Rattle.mysql_ok_packets.specs.SessionStates.{rest_at};
-ghost use Rattle.mysql_ok_packets.specs.SessionStateViews.{characteristics_view, gtids_view, schema_view};
-ghost use Rattle.mysql_ok_packets.specs.SessionStateViews.{transaction_view};
-ghost use Rattle.mysql_ok_packets.specs.SessionStateViews.{unsupported_view};
+ghost use Rattle.mysql_ok_packets.specs.SessionStateViews.{gtids_view, text_view};
 
 use mysql_buf::{BufMutExt, ParseBuf};
 use mysql_fields::{
@@ -123,108 +121,19 @@ impl<'de> MyDeserialize<'de> for Gtids<'de> {
     }
 }
 
+/// The text of a change of a session's state. `TYPE` is the number of the change's type.
+///
+/// Its names are [`Schema`], [`TransactionCharacteristics`], [`TransactionState`] and
+/// [`Unsupported`].
+///
+/// MySQL: Client/Server Protocol, "OK_Packet", 'Session State Information'.
+#[derive(Debug, PartialEq, Eq, Hash, Drop)]
+pub struct StateText<'a, const TYPE: u8>(CowSlice<'a, u8>);
+
 /// The schema that became the default, by its name.
 ///
 /// MySQL: Client/Server Protocol, "OK_Packet", 'Session State Information' (`SESSION_TRACK_SCHEMA`).
-#[derive(Debug, PartialEq, Eq, Hash, Drop)]
-pub struct Schema<'a>(CowSlice<'a, u8>);
-
-impl<'a> Schema<'a> {
-    /// The schema of this name.
-    pub fn new(text: CowSlice<'a, u8>) -> Schema<'a>
-        ensures { schema_view result ≡ cow_slice_items text.entry }
-    {
-        Schema(text)
-    }
-
-    /// The name, as bytes.
-    pub fn as_bytes(&self) -> &[u8]
-        ensures { result.now ≡ schema_view self.now }
-    {
-        self.0.as_slice()
-    }
-
-    /// The name as text, where bytes that aren't UTF-8 are replaced.
-    ///
-    /// # Errors
-    /// - `Memory`.
-    pub fn as_str(&self, alloc: Global) -> Result<CowStr<'_>, WireError>
-        ensures memory { IsOkUnless result wire.Memory }
-        ensures value { IfOk result (λ text. cow_str_bytes text ≡
-            lossy_text (schema_view self.now)) }
-    {
-        lossy_text(alloc, self.0.as_slice())
-    }
-
-    /// The value in bytes of its own: it borrows nothing.
-    ///
-    /// # Errors
-    /// - `AllocError` for want of memory.
-    pub fn into_owned(self, alloc: Global) -> Result<Schema<'static>, AllocError>
-        ensures { IfOk result (λ same. schema_view same ≡ schema_view self.entry) }
-    {
-        Ok(Schema(own_bytes(alloc, self.0)?))
-    }
-
-    /// A copy, which borrows nothing.
-    ///
-    /// # Errors
-    /// - `AllocError` for want of memory.
-    pub fn clone(&self, alloc: Global) -> Result<Schema<'static>, AllocError>
-        ensures { IfOk result (λ copy. schema_view copy ≡ schema_view self.now) }
-    {
-        Ok(Schema(copy_bytes(alloc, self.0.as_slice())?))
-    }
-}
-
-impl<'a> MySerialize for Schema<'a> {
-    ghost written = { λ text. lenenc_str (schema_view text) };
-
-    fn serialize(&self, buf: &mut Vec<u8>) -> Result<(), AllocError> {
-        buf.put_lenenc_str(self.0.as_slice())
-    }
-}
-
-impl<'a> Readable for Schema<'a> {
-    type Ctx = ();
-
-    ghost SIZE = { None };
-
-    ghost AsksForMemory = { false };
-
-    ghost Shown = { List ℕ };
-
-    ghost shown = { schema_view };
-
-    ghost kept = { schema_view };
-
-    ghost read_at = { λ _ bytes. lenenc_text_at bytes };
-
-    ghost IsReadBack = { λ _ text _. length (schema_view text) < 2 ^ 64 };
-
-    ghost sized = { λ _. unsized lenenc_text_at };
-
-    fn size() -> Option<usize>
-        ensures { result ≡ None }
-    {
-        None
-    }
-}
-
-impl<'a> ReadsBack for Schema<'a> {
-    ghost reads_back = { λ _ text rest. lenenc_text_at-back (schema_view text) rest };
-}
-
-/// A text after its length. Refused by `UnexpectedEof` where it is cut off.
-impl<'de> MyDeserialize<'de> for Schema<'de> {
-    fn deserialize(
-        _alloc: Global,
-        _ctx: (),
-        buf: &mut ParseBuf<'de>,
-    ) -> Result<Schema<'de>, WireError> {
-        Ok(Schema(CowSlice::Borrowed(read_lenenc_text(buf)?)))
-    }
-}
+pub type Schema<'a> = StateText<'a, 1>;
 
 /// The statements that would begin a transaction as the session's next one.
 ///
@@ -232,241 +141,41 @@ impl<'de> MyDeserialize<'de> for Schema<'de> {
 ///
 /// MySQL: Client/Server Protocol, "OK_Packet", 'Session State Information'
 /// (`SESSION_TRACK_TRANSACTION_CHARACTERISTICS`).
-#[derive(Debug, PartialEq, Eq, Hash, Drop)]
-pub struct TransactionCharacteristics<'a>(CowSlice<'a, u8>);
-
-impl<'a> TransactionCharacteristics<'a> {
-    /// These statements.
-    pub fn new(text: CowSlice<'a, u8>) -> TransactionCharacteristics<'a>
-        ensures { characteristics_view result ≡ cow_slice_items text.entry }
-    {
-        TransactionCharacteristics(text)
-    }
-
-    /// The statements, as bytes.
-    pub fn as_bytes(&self) -> &[u8]
-        ensures { result.now ≡ characteristics_view self.now }
-    {
-        self.0.as_slice()
-    }
-
-    /// The statements as text, where bytes that aren't UTF-8 are replaced.
-    ///
-    /// # Errors
-    /// - `Memory`.
-    pub fn as_str(&self, alloc: Global) -> Result<CowStr<'_>, WireError>
-        ensures memory { IsOkUnless result wire.Memory }
-        ensures value { IfOk result (λ text. cow_str_bytes text ≡
-            lossy_text (characteristics_view self.now)) }
-    {
-        lossy_text(alloc, self.0.as_slice())
-    }
-
-    /// The value in bytes of its own: it borrows nothing.
-    ///
-    /// # Errors
-    /// - `AllocError` for want of memory.
-    pub fn into_owned(
-        self,
-        alloc: Global,
-    ) -> Result<TransactionCharacteristics<'static>, AllocError>
-        ensures { IfOk result (λ same. characteristics_view same ≡ characteristics_view self.entry) }
-    {
-        Ok(TransactionCharacteristics(own_bytes(alloc, self.0)?))
-    }
-
-    /// A copy, which borrows nothing.
-    ///
-    /// # Errors
-    /// - `AllocError` for want of memory.
-    pub fn clone(&self, alloc: Global) -> Result<TransactionCharacteristics<'static>, AllocError>
-        ensures { IfOk result (λ copy. characteristics_view copy ≡ characteristics_view self.now) }
-    {
-        Ok(TransactionCharacteristics(copy_bytes(alloc, self.0.as_slice())?))
-    }
-}
-
-impl<'a> MySerialize for TransactionCharacteristics<'a> {
-    ghost written = { λ text. lenenc_str (characteristics_view text) };
-
-    fn serialize(&self, buf: &mut Vec<u8>) -> Result<(), AllocError> {
-        buf.put_lenenc_str(self.0.as_slice())
-    }
-}
-
-impl<'a> Readable for TransactionCharacteristics<'a> {
-    type Ctx = ();
-
-    ghost SIZE = { None };
-
-    ghost AsksForMemory = { false };
-
-    ghost Shown = { List ℕ };
-
-    ghost shown = { characteristics_view };
-
-    ghost kept = { characteristics_view };
-
-    ghost read_at = { λ _ bytes. lenenc_text_at bytes };
-
-    ghost IsReadBack = { λ _ text _. length (characteristics_view text) < 2 ^ 64 };
-
-    ghost sized = { λ _. unsized lenenc_text_at };
-
-    fn size() -> Option<usize>
-        ensures { result ≡ None }
-    {
-        None
-    }
-}
-
-impl<'a> ReadsBack for TransactionCharacteristics<'a> {
-    ghost reads_back = { λ _ text rest. lenenc_text_at-back (characteristics_view text) rest };
-}
-
-/// A text after its length. Refused by `UnexpectedEof` where it is cut off.
-impl<'de> MyDeserialize<'de> for TransactionCharacteristics<'de> {
-    fn deserialize(
-        _alloc: Global,
-        _ctx: (),
-        buf: &mut ParseBuf<'de>,
-    ) -> Result<TransactionCharacteristics<'de>, WireError> {
-        Ok(TransactionCharacteristics(CowSlice::Borrowed(read_lenenc_text(buf)?)))
-    }
-}
+pub type TransactionCharacteristics<'a> = StateText<'a, 4>;
 
 /// The state of the session's transaction, a letter for each of its properties.
 ///
 /// MySQL: Client/Server Protocol, "OK_Packet", 'Session State Information' (`SESSION_TRACK_TRANSACTION_STATE`).
-#[derive(Debug, PartialEq, Eq, Hash, Drop)]
-pub struct TransactionState<'a>(CowSlice<'a, u8>);
+pub type TransactionState<'a> = StateText<'a, 5>;
 
-impl<'a> TransactionState<'a> {
-    /// The state of these letters.
-    pub fn new(text: CowSlice<'a, u8>) -> TransactionState<'a>
-        ensures { transaction_view result ≡ cow_slice_items text.entry }
-    {
-        TransactionState(text)
-    }
-
-    /// The letters, as bytes.
-    pub fn as_bytes(&self) -> &[u8]
-        ensures { result.now ≡ transaction_view self.now }
-    {
-        self.0.as_slice()
-    }
-
-    /// The letters as text, where bytes that aren't UTF-8 are replaced.
-    ///
-    /// # Errors
-    /// - `Memory`.
-    pub fn as_str(&self, alloc: Global) -> Result<CowStr<'_>, WireError>
-        ensures memory { IsOkUnless result wire.Memory }
-        ensures value { IfOk result (λ text. cow_str_bytes text ≡
-            lossy_text (transaction_view self.now)) }
-    {
-        lossy_text(alloc, self.0.as_slice())
-    }
-
-    /// The value in bytes of its own: it borrows nothing.
-    ///
-    /// # Errors
-    /// - `AllocError` for want of memory.
-    pub fn into_owned(self, alloc: Global) -> Result<TransactionState<'static>, AllocError>
-        ensures { IfOk result (λ same. transaction_view same ≡ transaction_view self.entry) }
-    {
-        Ok(TransactionState(own_bytes(alloc, self.0)?))
-    }
-
-    /// A copy, which borrows nothing.
-    ///
-    /// # Errors
-    /// - `AllocError` for want of memory.
-    pub fn clone(&self, alloc: Global) -> Result<TransactionState<'static>, AllocError>
-        ensures { IfOk result (λ copy. transaction_view copy ≡ transaction_view self.now) }
-    {
-        Ok(TransactionState(copy_bytes(alloc, self.0.as_slice())?))
-    }
-}
-
-impl<'a> MySerialize for TransactionState<'a> {
-    ghost written = { λ text. lenenc_str (transaction_view text) };
-
-    fn serialize(&self, buf: &mut Vec<u8>) -> Result<(), AllocError> {
-        buf.put_lenenc_str(self.0.as_slice())
-    }
-}
-
-impl<'a> Readable for TransactionState<'a> {
-    type Ctx = ();
-
-    ghost SIZE = { None };
-
-    ghost AsksForMemory = { false };
-
-    ghost Shown = { List ℕ };
-
-    ghost shown = { transaction_view };
-
-    ghost kept = { transaction_view };
-
-    ghost read_at = { λ _ bytes. lenenc_text_at bytes };
-
-    ghost IsReadBack = { λ _ text _. length (transaction_view text) < 2 ^ 64 };
-
-    ghost sized = { λ _. unsized lenenc_text_at };
-
-    fn size() -> Option<usize>
-        ensures { result ≡ None }
-    {
-        None
-    }
-}
-
-impl<'a> ReadsBack for TransactionState<'a> {
-    ghost reads_back = { λ _ text rest. lenenc_text_at-back (transaction_view text) rest };
-}
-
-/// A text after its length. Refused by `UnexpectedEof` where it is cut off.
-impl<'de> MyDeserialize<'de> for TransactionState<'de> {
-    fn deserialize(
-        _alloc: Global,
-        _ctx: (),
-        buf: &mut ParseBuf<'de>,
-    ) -> Result<TransactionState<'de>, WireError> {
-        Ok(TransactionState(CowSlice::Borrowed(read_lenenc_text(buf)?)))
-    }
-}
-
-/// The data of a change whose type has no name.
+/// The data of a change whose type has no name. No type has the number 255.
 ///
 /// MySQL: Client/Server Protocol, "OK_Packet", 'Session State Information'.
-#[derive(Debug, PartialEq, Eq, Hash, Drop)]
-pub struct Unsupported<'a>(CowSlice<'a, u8>);
+pub type Unsupported<'a> = StateText<'a, 255>;
 
-impl<'a> Unsupported<'a> {
-    /// A change of this data.
-    pub fn new(text: CowSlice<'a, u8>) -> Unsupported<'a>
-        ensures { unsupported_view result ≡ cow_slice_items text.entry }
+impl<'a, const TYPE: u8> StateText<'a, TYPE> {
+    /// A change to this text.
+    pub fn new(text: CowSlice<'a, u8>) -> StateText<'a, TYPE>
+        ensures { text_view result ≡ cow_slice_items text.entry }
     {
-        Unsupported(text)
+        StateText(text)
     }
 
-    /// The data, as bytes.
+    /// The text, as bytes.
     pub fn as_bytes(&self) -> &[u8]
-        ensures { result.now ≡ unsupported_view self.now }
+        ensures { result.now ≡ text_view self.now }
     {
         self.0.as_slice()
     }
 
-    /// The data as text, where bytes that aren't UTF-8 are replaced.
+    /// The text as text, where bytes that aren't UTF-8 are replaced.
     ///
     /// # Errors
     /// - `Memory`.
     pub fn as_str(&self, alloc: Global) -> Result<CowStr<'_>, WireError>
         ensures memory { IsOkUnless result wire.Memory }
         ensures value { IfOk result (λ text. cow_str_bytes text ≡
-            lossy_text (unsupported_view self.now)) }
+            lossy_text (text_view self.now)) }
     {
         lossy_text(alloc, self.0.as_slice())
     }
@@ -475,32 +184,32 @@ impl<'a> Unsupported<'a> {
     ///
     /// # Errors
     /// - `AllocError` for want of memory.
-    pub fn into_owned(self, alloc: Global) -> Result<Unsupported<'static>, AllocError>
-        ensures { IfOk result (λ same. unsupported_view same ≡ unsupported_view self.entry) }
+    pub fn into_owned(self, alloc: Global) -> Result<StateText<'static, TYPE>, AllocError>
+        ensures { IfOk result (λ same. text_view same ≡ text_view self.entry) }
     {
-        Ok(Unsupported(own_bytes(alloc, self.0)?))
+        Ok(StateText(own_bytes(alloc, self.0)?))
     }
 
     /// A copy, which borrows nothing.
     ///
     /// # Errors
     /// - `AllocError` for want of memory.
-    pub fn clone(&self, alloc: Global) -> Result<Unsupported<'static>, AllocError>
-        ensures { IfOk result (λ copy. unsupported_view copy ≡ unsupported_view self.now) }
+    pub fn clone(&self, alloc: Global) -> Result<StateText<'static, TYPE>, AllocError>
+        ensures { IfOk result (λ copy. text_view copy ≡ text_view self.now) }
     {
-        Ok(Unsupported(copy_bytes(alloc, self.0.as_slice())?))
+        Ok(StateText(copy_bytes(alloc, self.0.as_slice())?))
     }
 }
 
-impl<'a> MySerialize for Unsupported<'a> {
-    ghost written = { λ text. lenenc_str (unsupported_view text) };
+impl<'a, const TYPE: u8> MySerialize for StateText<'a, TYPE> {
+    ghost written = { λ text. lenenc_str (text_view text) };
 
     fn serialize(&self, buf: &mut Vec<u8>) -> Result<(), AllocError> {
         buf.put_lenenc_str(self.0.as_slice())
     }
 }
 
-impl<'a> Readable for Unsupported<'a> {
+impl<'a, const TYPE: u8> Readable for StateText<'a, TYPE> {
     type Ctx = ();
 
     ghost SIZE = { None };
@@ -509,13 +218,13 @@ impl<'a> Readable for Unsupported<'a> {
 
     ghost Shown = { List ℕ };
 
-    ghost shown = { unsupported_view };
+    ghost shown = { text_view };
 
-    ghost kept = { unsupported_view };
+    ghost kept = { text_view };
 
     ghost read_at = { λ _ bytes. lenenc_text_at bytes };
 
-    ghost IsReadBack = { λ _ text _. length (unsupported_view text) < 2 ^ 64 };
+    ghost IsReadBack = { λ _ text _. length (text_view text) < 2 ^ 64 };
 
     ghost sized = { λ _. unsized lenenc_text_at };
 
@@ -526,17 +235,17 @@ impl<'a> Readable for Unsupported<'a> {
     }
 }
 
-impl<'a> ReadsBack for Unsupported<'a> {
-    ghost reads_back = { λ _ text rest. lenenc_text_at-back (unsupported_view text) rest };
+impl<'a, const TYPE: u8> ReadsBack for StateText<'a, TYPE> {
+    ghost reads_back = { λ _ text rest. lenenc_text_at-back (text_view text) rest };
 }
 
 /// A text after its length. Refused by `UnexpectedEof` where it is cut off.
-impl<'de> MyDeserialize<'de> for Unsupported<'de> {
+impl<'de, const TYPE: u8> MyDeserialize<'de> for StateText<'de, TYPE> {
     fn deserialize(
         _alloc: Global,
         _ctx: (),
         buf: &mut ParseBuf<'de>,
-    ) -> Result<Unsupported<'de>, WireError> {
-        Ok(Unsupported(CowSlice::Borrowed(read_lenenc_text(buf)?)))
+    ) -> Result<StateText<'de, TYPE>, WireError> {
+        Ok(StateText(CowSlice::Borrowed(read_lenenc_text(buf)?)))
     }
 }

@@ -63,6 +63,7 @@ pub use mysql_ok_packets::ResultSetTerminator;
 pub use mysql_ok_packets::Schema;
 pub use mysql_ok_packets::SessionStateChange;
 pub use mysql_ok_packets::SessionStateInfo;
+pub use mysql_ok_packets::StateText;
 pub use mysql_ok_packets::SystemVariable;
 pub use mysql_ok_packets::TransactionCharacteristics;
 pub use mysql_ok_packets::TransactionState;
