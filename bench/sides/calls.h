@@ -205,12 +205,26 @@ LENT size_t read_reply(Bytes stream, size_t piece, _Bool binary, _Bool taken) {
 
 // Whole connections read.
 
-// Takes the events that stand. Answers how many they are.
+// Takes the events that are there. Answers how many they are, or what they come to.
+typedef size_t Taking(mysql_session_connection *connection);
+
 LENT size_t take_events(mysql_session_connection *connection) {
     size_t count = 0;
     for (mysql_session_event event;; count++) {
         done(mysql_session_connection_next(connection, &event));
         if (event.kind == MYSQL_SESSION_EVENT_NONE) return count;
+    }
+}
+
+// The same, but each row is lent, and its cells are looked at.
+LENT size_t lend_events(mysql_session_connection *connection) {
+    mysql_session_value cells[WIDTH];
+    size_t sum = 0;
+    for (mysql_session_event event;; sum++) {
+        done(mysql_session_connection_next_lent(connection, cells, WIDTH, &event));
+        if (event.kind == MYSQL_SESSION_EVENT_NONE) return sum;
+        if (event.kind == MYSQL_SESSION_EVENT_ROW)
+            for (size_t i = 0; i < WIDTH; i++) sum += cells[i].len;
     }
 }
 
@@ -221,31 +235,35 @@ LENT Bytes front_of_piece(Bytes *left, size_t size) {
 }
 
 // Reads both streams on, each in pieces, until the side whose payload is due has no more. Answers how many events there are.
-LENT size_t read_on(mysql_session_connection *connection, Bytes client, Bytes server, size_t size) {
-    size_t count = take_events(connection);
+LENT size_t read_on(mysql_session_connection *connection, Bytes client, Bytes server, size_t size, Taking *take) {
+    size_t count = take(connection);
     for (mysql_session_standing standing;;) {
         done(mysql_session_connection_standing(connection, &standing));
         Bytes *left = standing.turn == MYSQL_SESSION_CLIENT ? &client : &server;
         if (standing.turn == MYSQL_SESSION_NOBODY || left->len == 0) return count;
         Bytes piece = front_of_piece(left, size);
         done(mysql_session_connection_feed(connection, standing.turn, piece.at, piece.len));
-        count += take_events(connection);
+        count += take(connection);
     }
 }
 
 // Reads a connection whose server's stream is a front and then a block so many times.
-LENT size_t read_long_connection(Bytes client, Bytes front, Bytes block, size_t times, size_t size) {
+LENT size_t read_long_connection(Bytes client, Bytes front, Bytes block, size_t times, size_t size, Taking *take) {
     mysql_session_connection connection = MYSQL_SESSION_NOTHING;
     Bytes none = {client.at, 0};
     done(mysql_session_connection_new(&connection, LIMIT, LIMIT, HELD));
-    size_t count = read_on(&connection, client, front, size);
-    for (size_t i = 0; i < times; i++) count += read_on(&connection, none, block, size);
+    size_t count = read_on(&connection, client, front, size, take);
+    for (size_t i = 0; i < times; i++) count += read_on(&connection, none, block, size, take);
     mysql_session_connection_free(&connection);
     return count;
 }
 
 LENT size_t read_whole_connection(Bytes client, Bytes server, size_t size) {
-    return read_long_connection(client, server, (Bytes){server.at, 0}, 0, size);
+    return read_long_connection(client, server, (Bytes){server.at, 0}, 0, size, take_events);
+}
+
+LENT size_t lend_whole_connection(Bytes client, Bytes server, size_t size) {
+    return read_long_connection(client, server, (Bytes){server.at, 0}, 0, size, lend_events);
 }
 
 // The same bytes apart: the commands by a receiver, and each reply, of so many bytes, by a reader of its own.

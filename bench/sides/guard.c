@@ -113,6 +113,9 @@ int main(int argc, char **argv) {
     Bytes asking = repeated(client, load("texts"), 1), answering = repeated(server, load("replies-text"), 1);
     Bytes executing = repeated(client, executions, 1), executed = repeated(repeated(server, prepared, 1), load("replies-binary"), 1);
     Bytes text_rows = load("reply-text"), binary_rows = load("reply-binary");
+    Bytes asking_rows = repeated(client, first_packet(load("texts")), 1), answering_rows = repeated(server, text_rows, 1);
+    Bytes executing_rows = repeated(repeated(client, load("prepare"), 1), first_packet(load("executes")), 1);
+    Bytes executed_rows = repeated(repeated(server, prepared, 1), binary_rows, 1);
     mysql_session_handle *given = sets_of(load_values("sets", sets * WIDTH), sets, WIDTH, sets);
     COUNT("frame", FRAMES, frame(hundred, FRAMES, PIECE));
     COUNT("split", FRAMES, split(packets));
@@ -124,6 +127,8 @@ int main(int argc, char **argv) {
     COUNT("reply-binary", rows, read_reply(binary_rows, PIECE, 1, 0));
     COUNT("connection-queries", sets, read_whole_connection(asking, answering, PIECE));
     COUNT("connection-executions", sets, read_whole_connection(executing, executed, PIECE));
+    COUNT("rows-lent-text", rows, lend_whole_connection(asking_rows, answering_rows, PIECE));
+    COUNT("rows-lent-binary", rows, lend_whole_connection(executing_rows, executed_rows, PIECE));
     COUNT("put-executions", sets, put_commands_of(executions, prepared, ok, 1));
     COUNT("login", LOGINS, log_in_often(client, server, LOGINS));
     return 0;

@@ -44,10 +44,6 @@ static void send_sets(const char *what, Work work, int rounds) {
 // Both streams of a connection, and their commands and replies alone; a reply has so many bytes.
 typedef struct { Bytes client, server, commands, replies; size_t reply; } Streams;
 
-static Bytes first_packet(Bytes stream) {
-    return (Bytes){stream.at, 4 + (stream.at[0] | stream.at[1] << 8)};
-}
-
 static Streams streams_of(const char *what) {
     _Bool rows = BEGINS("connection-rows"), executions = ENDS("-executions");
     Bytes none = {0}, commands = executions ? repeated(load("prepare"), load("executes"), 1) : load("texts");

@@ -64,6 +64,10 @@ __attribute__((unused)) static Bytes repeated(Bytes front, Bytes block, size_t c
     return all;
 }
 
+__attribute__((unused)) static Bytes first_packet(Bytes stream) {
+    return (Bytes){stream.at, 4 + (stream.at[0] | stream.at[1] << 8)};
+}
+
 // The commands of a workload whose name has one of `texts`, `executes` and `bulks`, 10,000 sets a copy.
 __attribute__((unused)) static Bytes commands(const char *what, size_t copies) {
     Bytes none = {0};

@@ -172,7 +172,7 @@ static void connection_taken(const char *what, Endless rows, size_t most_len) {
     Bytes client = repeated(load("login-client"), command, 1), front = repeated(load("login-server"), rows.front, 1);
     for (size_t len = SHORTEST; len <= most_len; len *= 10) {
         size_t times = len / rows.block.len + 1;
-        PEAK(what, front.len + times * rows.block.len, read_long_connection(client, front, rows.block, times, PIECE));
+        PEAK(what, front.len + times * rows.block.len, read_long_connection(client, front, rows.block, times, PIECE, take_events));
     }
 }
 

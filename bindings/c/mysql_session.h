@@ -51,7 +51,7 @@ extern "C" {
 /* The number of this interface. mysql_session_abi() answers the library's: compare them before
  * any other call. It changes with each change of what the library exports and of a struct, and the
  * shared object's name has it: libmysql_session.so.9. */
-#define MYSQL_SESSION_ABI 9
+#define MYSQL_SESSION_ABI 10
 
 uint32_t mysql_session_abi(void);
 
@@ -1258,6 +1258,15 @@ uint32_t mysql_session_connection_line(mysql_session_connection *connection,
  * answers. */
 uint32_t mysql_session_connection_line_with_secrets(mysql_session_connection *connection,
                                                     const uint8_t **text, size_t *len);
+
+/* The same line for people, with all bytes where `secrets` is true. Bytes that are UTF-8 are in
+ * double quotes, with the escapes \" \\ \n \r \t and \x with two digits, for other control characters
+ * of ASCII. Other bytes are in hexadecimal, and so are texts with a character from U+0080 to U+009F.
+ * The line is UTF-8, and has no control character. NULL is `NULL`, and dates and times are as the
+ * server's own client shows them. Answers what _line answers. */
+uint32_t mysql_session_connection_line_with_texts(mysql_session_connection *connection,
+                                                  bool secrets, const uint8_t **text,
+                                                  size_t *len);
 
 /* What comes next on a connection. */
 enum mysql_session_phase {

@@ -118,7 +118,7 @@ __all__ = [
 __version__ = "0.1.0"
 
 # The number of the interface that this module calls.
-ABI = 9
+ABI = 10
 
 # The max_allowed_packet that most servers have.
 DEFAULT_LIMIT = 1 << 24
@@ -2406,15 +2406,20 @@ class Connection(_Object):
             raise
         return written
 
-    def line(self, *, secrets: bool = False) -> str:
+    def line(self, *, secrets: bool = False, texts: bool = False) -> str:
         """The event that was told or put last as a line of text; behind `finish` how the connection
         ended, as `end Whole`.
 
         Of data of an authentication, but for a greeting's scramble, it has the length, as
         `(20 bytes)`. So it has of a replica's password. With `secrets` all bytes are there. The
         texts of statements are as they were sent, with passwords in them.
+
+        With `texts` the line is for people. Bytes that are UTF-8 are in double quotes, with the
+        escapes of `"`, backslash and control characters of ASCII. Other bytes are in hexadecimal,
+        and so are texts with a character from U+0080 to U+009F: the line has no control character.
+        NULL is `NULL`, and dates and times are as the server's own client shows them.
         """
-        return str(self._native.line(secrets))
+        return str(self._native.line(secrets, texts))
 
     def columns(self) -> Tuple[Column, ...]:
         """The columns of the event that was told last: of a row all, of a column itself; of any

@@ -1266,6 +1266,36 @@ class Connections(Case):
                              ms.ConnectionEnd(ms.ConnectionEndKind.OVER, ms.Reason.QUIT))
             self.assertEqual(connection.line(), "end Over Quit")
 
+    def line_for_people(self, client: bytes, server: bytes = b"") -> str:
+        """The last line with texts of what comes of these sides behind a login."""
+        with ms.Connection.after_login(PROTOCOL_41) as connection:
+            lines = [""]
+            for side, piece in (ms.Side.CLIENT, client), (ms.Side.SERVER, server):
+                for _ in connection.feed(side, piece):
+                    lines.append(connection.line(texts=True))
+                    self.assertEqual(connection.line(texts=True, secrets=True), lines[-1])
+            return lines[-1]
+
+    def test_lines_with_texts(self) -> None:
+        """Lines for people, by the escapes of the header."""
+        self.assertEqual(self.line_for_people(b"\x0a\0\0\0\x03DO '\"\n\x1b\xc3\xa9"),
+                         'client Query attributes=() text="DO \'\\"\\n\\x1b\u00e9"')
+        self.assertEqual(self.line_for_people(b"\x04\0\0\0\x03DO\xff"),
+                         "client Query attributes=() text=x444fff")
+        # U+009B begins a sequence for a terminal.
+        self.assertEqual(self.line_for_people(b"\x05\0\0\0\x03DO\xc2\x9b"),
+                         "client Query attributes=() text=x444fc29b")
+        # MySQL: "Column Definition", "Binary Protocol Value": VARCHAR, TIME, DATETIME and DATE.
+        columns = b"".join(bytes([0x17, 0, 0, number]) + b"\3def\0\0\0\1a\0\x0c\x3f\0\0\0\0\0"
+                           + bytes([kind, 0, 0, 0, 0, 0])
+                           for number, kind in ((2, 0xFD), (3, 0x0B), (4, 0x0C), (5, 0x0A)))
+        self.assertEqual(
+            self.line_for_people(
+                b"\x09\0\0\0\x16SELECT 1\x0a\0\0\0\x17\1\0\0\0\0\1\0\0\0",
+                b"\x0c\0\0\1\0\1\0\0\0\0\0\0\0\0\0\0\1\0\0\1\4" + columns
+                + b"\5\0\0\6\xfe\0\0\2\0\x0d\0\0\7\0\4\x08\1\0\0\0\0\1\2\3\0\0"),
+            'server Row cells=(NULL "-01:02:03" "0000-00-00 00:00:00" "0000-00-00")')
+
     def test_refusals(self) -> None:
         with ms.Connection(client=10, server=10, held=100) as connection:
             self.refuses(Code.OUT_OF_RANGE, connection.line)

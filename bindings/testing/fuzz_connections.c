@@ -125,6 +125,14 @@ static void ask(mysql_session_connection *connection, uint64_t *sum,
     add(sum, text, len);
     must(mysql_session_connection_line_with_secrets(connection, &text, &len), "line");
     add(sum, text, len);
+    for (int secrets = 0; secrets < 2; secrets++) {
+        must(mysql_session_connection_line_with_texts(connection, secrets != 0, &text, &len),
+             "line");
+        for (size_t at = 0; at < len; at++)
+            if (text[at] < 0x20 || text[at] == 0x7f)
+                found("a line has a control character", "%u", text[at]);
+        add(sum, text, len);
+    }
     add_number(sum, event->kind << 2 | event->side);
     add(sum, event->text, event->len);
     add(sum, event->user, event->user_len);

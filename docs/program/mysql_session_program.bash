@@ -20,7 +20,9 @@ _mysql_session_program() {
     elif [[ $command =~ ^(audit|follow|recode)$ ]] && ((COMP_CWORD == 2)); then
         offered="--mode"
     elif [[ $command == connection ]] && ((COMP_CWORD == 2)); then
-        offered="--secrets"
+        offered="--secrets --text --hex"
+    elif [[ $command == connection && $before == --secrets ]]; then
+        offered="--text --hex"
     fi
     COMPREPLY=($(compgen -W "$offered" -- "$word"))
 }

@@ -153,6 +153,95 @@ static void check_both_lines(void)
     CHECK_TEXT(shown, shown_len, LOGIN_FRONT "x" LOGIN_REST);
 }
 
+/* ---- Lines for people ------------------------------------------------------------------------ */
+
+/* A password of three bytes, a query of a text with a quote, an end of a line and ESC, and one that
+ * is no UTF-8. */
+static const char people_say[] =
+    "26 00 00 01 00 82 00 00 00 00 00 01 21 "
+    "00 00 00 00 00 00 00 00 00 00 00 00 00 00 00 00 00 00 00 00 00 00 00 |u| 00 03 |pw| ff "
+    "0a 00 00 00 03 |DO '| 22 0a 1b c3 a9 "
+    "04 00 00 00 03 |DO| ff "
+    "09 00 00 00 16 |SELECT 1| "
+    "0a 00 00 00 17 01 00 00 00 00 01 00 00 00";
+
+/* A greeting, three OK packets, a prepared statement, and a row: NULL, a number, a time, a zero
+ * date with a time of day, a float. MySQL: "Binary Protocol Value". */
+static const char people_hear[] =
+    "33 00 00 00 0a |5.5.5| 00 01 00 00 00 |12345678| 00 00 82 21 02 00 00 00 15 "
+    "00 00 00 00 00 00 00 00 00 00 |123456789012| 00 "
+    "07 00 00 02 00 00 00 02 00 00 00 "
+    "07 00 00 01 00 00 00 02 00 00 00 07 00 00 01 00 00 00 02 00 00 00 "
+    "0c 00 00 01 00 01 00 00 00 00 00 00 00 00 00 00 "
+    "01 00 00 01 05 "
+    "17 00 00 02 03 |def| 00 00 00 01 |a| 00 0c 3f 00 00 00 00 00 fd 80 00 00 00 00 "
+    "17 00 00 03 03 |def| 00 00 00 01 |b| 00 0c 3f 00 00 00 00 00 03 80 00 00 00 00 "
+    "17 00 00 04 03 |def| 00 00 00 01 |c| 00 0c 3f 00 00 00 00 00 0b 80 00 00 00 00 "
+    "17 00 00 05 03 |def| 00 00 00 01 |d| 00 0c 3f 00 00 00 00 00 0c 80 00 00 00 00 "
+    "17 00 00 06 03 |def| 00 00 00 01 |e| 00 0c 3f 00 00 00 00 00 04 80 00 1f 00 00 "
+    "05 00 00 07 fe 00 00 02 00 "
+    "14 00 00 08 00 04 ff ff ff ff 08 01 00 00 00 00 01 02 03 00 00 00 c0 3f "
+    "05 00 00 09 fe 00 00 02 00";
+
+/* Reads on to the next event of this kind. */
+static void read_to(uint32_t kind)
+{
+    do {
+        if (!CHECK_DONE(mysql_session_connection_next(&made, &event)))
+            return;
+    } while (event.kind != kind && event.kind != MYSQL_SESSION_EVENT_NONE);
+    CHECK_NUMBER(event.kind, kind);
+}
+
+#define PEOPLE_FRONT \
+    "client Login capabilities=33280 max_packet=16777216 collation=33 extended=0 user=\"u\" answer="
+
+/* The line with texts, without data of an authentication and with it. */
+static void check_texts(const char *hidden, const char *shown)
+{
+    const uint8_t *first = NULL, *second = NULL;
+    size_t first_len = 0, second_len = 0;
+    CHECK_DONE(mysql_session_connection_line_with_texts(&made, false, &first, &first_len));
+    CHECK_DONE(mysql_session_connection_line_with_texts(&made, true, &second, &second_len));
+    CHECK_TEXT(first, first_len, hidden);
+    CHECK_TEXT(second, second_len, shown);
+}
+
+static void lines_with_texts(void)
+{
+    stream client = stream_of(people_say), server = stream_of(people_hear);
+    const uint8_t *plain = NULL;
+    size_t len = 0;
+    mysql_session_connection_end end = { 0, 0, 0, 0, 0 };
+    CHECK_DONE(mysql_session_connection_new(&made, 1000, 1000, 4000));
+    CHECK_DONE(
+        mysql_session_connection_feed(&made, MYSQL_SESSION_CLIENT, client.bytes, client.len));
+    CHECK_DONE(
+        mysql_session_connection_feed(&made, MYSQL_SESSION_SERVER, server.bytes, server.len));
+    CHECK_CODE(mysql_session_connection_line_with_texts(&made, false, &plain, &len),
+               MYSQL_SESSION_OUT_OF_RANGE);
+    read_to(MYSQL_SESSION_EVENT_LOGIN);
+    check_texts(PEOPLE_FRONT "(3 bytes)" LOGIN_REST, PEOPLE_FRONT "x7077ff" LOGIN_REST);
+    read_to(MYSQL_SESSION_EVENT_QUERY);
+    check_texts("client Query attributes=() text=\"DO '\\\"\\n\\x1b\xc3\xa9\"",
+                "client Query attributes=() text=\"DO '\\\"\\n\\x1b\xc3\xa9\"");
+    read_to(MYSQL_SESSION_EVENT_QUERY);
+    check_texts("client Query attributes=() text=x444fff",
+                "client Query attributes=() text=x444fff");
+    read_to(MYSQL_SESSION_EVENT_ROW);
+    check_texts(
+        "server Row cells=(NULL -1 \"-01:02:03\" \"0000-00-00 00:00:00\" f3fc00000)",
+        "server Row cells=(NULL -1 \"-01:02:03\" \"0000-00-00 00:00:00\" f3fc00000)");
+    CHECK_DONE(mysql_session_connection_line(&made, &plain, &len));
+    CHECK_TEXT(plain, len,
+               "server Row cells=(- (i -1) (t (1 0 1 2 3 0)) (d (0 0 0 0 0 0 0)) "
+               "(f32 3fc00000))");
+    /* The end of the rows came and isn't read. */
+    CHECK_DONE(mysql_session_connection_finish(&made, &end));
+    check_texts("end Unread", "end Unread");
+    mysql_session_connection_free(&made);
+}
+
 static void check_event(size_t number)
 {
     mysql_session_value value;
@@ -325,6 +414,7 @@ static void nothing(void)
         CHECK_CODE(mysql_session_connection_column(&none, 0, &column), wanted);
         CHECK_CODE(mysql_session_connection_line(&none, &said, &len), wanted);
         CHECK_CODE(mysql_session_connection_line_with_secrets(&none, &said, &len), wanted);
+        CHECK_CODE(mysql_session_connection_line_with_texts(&none, false, &said, &len), wanted);
         CHECK_CODE(mysql_session_connection_standing(&none, &standing), wanted);
         CHECK_CODE(mysql_session_connection_statement(&none, 1, &said, &len, &params), wanted);
         CHECK_CODE(mysql_session_connection_rest(&none, 0, &said, &len), wanted);
@@ -368,6 +458,11 @@ static size_t read_refused(void)
         code = mysql_session_connection_line_with_secrets(&made, &said, &len);
         if (code == MYSQL_SESSION_MEMORY && was_refused())
             code = mysql_session_connection_line_with_secrets(&made, &said, &len);
+        CHECK_CODE(code, MYSQL_SESSION_OK);
+        look_at(said, len);
+        code = mysql_session_connection_line_with_texts(&made, true, &said, &len);
+        if (code == MYSQL_SESSION_MEMORY && was_refused())
+            code = mysql_session_connection_line_with_texts(&made, true, &said, &len);
         CHECK_CODE(code, MYSQL_SESSION_OK);
         look_at(said, len);
     }
@@ -538,6 +633,7 @@ int main(int count, char **words)
     a_connection();
     refusals();
     a_fault();
+    lines_with_texts();
     nothing();
     memory();
     for (word = 1; word < count; word++)

@@ -213,19 +213,19 @@ static PyObject *connection_unsent(PyObject *it, PyObject *side)
 
 /* ---- How a connection stands ------------------------------------------------------------------- */
 
-static PyObject *connection_line(PyObject *it, PyObject *secrets)
+static PyObject *connection_line(PyObject *it, PyObject *given)
 {
     Connection *self = (Connection *)it;
     const uint8_t *text = NULL;
     size_t len = 0;
-    int with_secrets = PyObject_IsTrue(secrets);
-    if (with_secrets < 0 || begin((Object *)self))
+    int secrets = 0, texts = 0;
+    if (!PyArg_ParseTuple(given, "pp", &secrets, &texts) || begin((Object *)self))
         return NULL;
-    uint32_t code = with_secrets
-                        ? mysql_session_connection_line_with_secrets(at(self), &text, &len)
-                        : mysql_session_connection_line(at(self), &text, &len);
+    uint32_t code = texts ? mysql_session_connection_line_with_texts(at(self), secrets, &text, &len)
+                    : secrets ? mysql_session_connection_line_with_secrets(at(self), &text, &len)
+                              : mysql_session_connection_line(at(self), &text, &len);
     PyObject *made = code ? fail(self->state, code)
-                          : PyUnicode_DecodeASCII(len ? (const char *)text : "", (Py_ssize_t)len, NULL);
+                          : PyUnicode_DecodeUTF8(len ? (const char *)text : "", (Py_ssize_t)len, NULL);
     self->busy = false;
     return made;
 }
@@ -502,7 +502,7 @@ static PyMethodDef connection_methods[] = {
     {"put", connection_put, METH_VARARGS, NULL},
     {"put_packets", connection_put_packets, METH_VARARGS, NULL},
     {"unsent", connection_unsent, METH_O, NULL},
-    {"line", connection_line, METH_O, NULL},
+    {"line", connection_line, METH_VARARGS, NULL},
     {"columns", connection_columns, METH_NOARGS, NULL},
     {"statement", connection_statement, METH_O, NULL},
     {"rest", connection_rest, METH_O, NULL},

@@ -25,9 +25,6 @@ fn scramble_of(payload: &[u8]) -> Vec<u8> {
     }
 }
 
-/// One of the calls that show an event as a line.
-type LineCall = unsafe extern "C" fn(*mut raw::Connection, *mut *const u8, *mut usize) -> u32;
-
 /// A side of a connection.
 #[derive(Clone, Copy, Debug, PartialEq, Eq, Hash)]
 pub enum Side {
@@ -607,7 +604,11 @@ impl Connection {
     /// # Errors
     /// [`Code::OUT_OF_RANGE`] where no event was told; [`Code::MEMORY`].
     pub fn line(&self) -> Result<&str, Error> {
-        self.line_by(raw::mysql_session_connection_line)
+        self.line_by(|it, text| {
+            let (at, len) = (&mut text.at, &mut text.len);
+            // SAFETY: as `line_by` says of its call.
+            unsafe { raw::mysql_session_connection_line(it, at, len) }
+        })
     }
 
     /// The line that [`Connection::line`] gives, with all bytes: those of passwords and their
@@ -616,17 +617,42 @@ impl Connection {
     /// # Errors
     /// [`Code::OUT_OF_RANGE`] where no event was told; [`Code::MEMORY`].
     pub fn line_with_secrets(&self) -> Result<&str, Error> {
-        self.line_by(raw::mysql_session_connection_line_with_secrets)
+        self.line_by(|it, text| {
+            let (at, len) = (&mut text.at, &mut text.len);
+            // SAFETY: as `line_by` says of its call.
+            unsafe { raw::mysql_session_connection_line_with_secrets(it, at, len) }
+        })
     }
 
-    /// The line that one of the two calls shows.
-    fn line_by(&self, call: LineCall) -> Result<&str, Error> {
+    /// The line that [`Connection::line`] gives, for people; with `secrets` all bytes are there.
+    ///
+    /// Bytes that are UTF-8 are in double quotes. The escapes are `\"`, `\\`, `\n`, `\r` and `\t`,
+    /// and `\x` with two digits for other control characters of ASCII. Other bytes are in
+    /// hexadecimal, and so are texts with a character from U+0080 to U+009F. So the line has no
+    /// control character. NULL is `NULL`, and dates and times are as the server's own client shows
+    /// them.
+    ///
+    /// # Errors
+    /// [`Code::OUT_OF_RANGE`] where no event was told; [`Code::MEMORY`].
+    pub fn line_with_texts(&self, secrets: bool) -> Result<&str, Error> {
+        self.line_by(|it, text| {
+            let (at, len) = (&mut text.at, &mut text.len);
+            // SAFETY: as `line_by` says of its call.
+            unsafe { raw::mysql_session_connection_line_with_texts(it, secrets, at, len) }
+        })
+    }
+
+    /// The line that one of the three calls shows of this connection.
+    fn line_by(
+        &self,
+        call: impl FnOnce(*mut raw::Connection, &mut raw::Text) -> u32,
+    ) -> Result<&str, Error> {
         let mut text = raw::Text::default();
-        // SAFETY: "Handles": by `ConnectionHandle::get`; "Results go out": fields of one local.
-        answer(unsafe { call(self.handle.get(), &mut text.at, &mut text.len) })?;
+        // "Handles": by `ConnectionHandle::get`; "Results go out": fields of one local.
+        answer(call(self.handle.get(), &mut text))?;
         // SAFETY: the bytes are "good until the next call on it" that takes its `&mut self`.
         let bytes = unsafe { text.bytes() };
-        Ok(std::str::from_utf8(bytes).expect("a line is in ASCII"))
+        Ok(std::str::from_utf8(bytes).expect("a line is UTF-8"))
     }
 
     /// How many bytes of a side [`Connection::feed`] takes now. If it is 0, take events, or feed

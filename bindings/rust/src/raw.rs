@@ -9,7 +9,7 @@ use std::ptr::null;
 use std::slice;
 
 /// `MYSQL_SESSION_ABI`: the interface that is declared here.
-pub const ABI: u32 = 9;
+pub const ABI: u32 = 10;
 
 // `enum mysql_session_flag`.
 pub const NO_BACKSLASH_ESCAPES: u32 = 1;
@@ -675,6 +675,12 @@ extern "C" {
     ) -> u32;
     pub fn mysql_session_connection_line_with_secrets(
         connection: *mut Connection,
+        text: *mut *const u8,
+        len: *mut usize,
+    ) -> u32;
+    pub fn mysql_session_connection_line_with_texts(
+        connection: *mut Connection,
+        secrets: bool,
         text: *mut *const u8,
         len: *mut usize,
     ) -> u32;

@@ -226,7 +226,9 @@ fn changed_bytes_are_read_or_refused() {
 }
 
 /// What is printed of the answer to a call for the next event.
-fn told(answer: Result<Option<Event<'_>>, ConnectionFault>) -> Result<Option<String>, ConnectionFault> {
+fn told(
+    answer: Result<Option<Event<'_>>, ConnectionFault>,
+) -> Result<Option<String>, ConnectionFault> {
     Ok(answer?.map(|event| format!("{event:?}")))
 }
 
@@ -255,6 +257,67 @@ fn rows_that_are_lent_are_those_that_are_copied() {
             }
         }
     }
+}
+
+/// The line with texts, without secrets and with them, of what comes of these sides behind a login.
+fn line_for_people(client: &[u8], server: &[u8]) -> String {
+    let capabilities = Capabilities {
+        protocol: 0x200,
+        ..Capabilities::default()
+    };
+    let mut connection = Connection::after_login(LIMITS, capabilities).expect("memory isn't short");
+    connection
+        .feed(Side::Client, client)
+        .expect("there is room");
+    connection
+        .feed(Side::Server, server)
+        .expect("there is room");
+    let mut last = String::new();
+    while let Ok(Some(_)) = connection.next_event() {
+        let line = connection.line_with_texts(false);
+        assert_eq!(line, connection.line_with_texts(true));
+        last = line.expect("memory isn't short").to_string();
+    }
+    last
+}
+
+#[test]
+fn lines_with_texts_are_for_people() {
+    let query = b"\x0a\0\0\0\x03DO '\"\n\x1b\xc3\xa9";
+    assert_eq!(
+        line_for_people(query, b""),
+        r#"client Query attributes=() text="DO '\"\n\x1bé""#
+    );
+    let no_text = b"\x04\0\0\0\x03DO\xff";
+    assert_eq!(
+        line_for_people(no_text, b""),
+        "client Query attributes=() text=x444fff"
+    );
+    // U+009B begins a sequence for a terminal.
+    let wide = b"\x05\0\0\0\x03DO\xc2\x9b";
+    assert_eq!(
+        line_for_people(wide, b""),
+        "client Query attributes=() text=x444fc29b"
+    );
+}
+
+#[test]
+fn values_with_texts_are_as_the_servers_own_client_shows_them() {
+    let client = b"\x09\0\0\0\x16SELECT 1\x0a\0\0\0\x17\x01\0\0\0\0\x01\0\0\0";
+    let mut server = b"\x0c\0\0\x01\0\x01\0\0\0\0\0\0\0\0\0\0".to_vec();
+    // VARCHAR, TIME, DATETIME and DATE. MySQL: "Column Definition", "Binary Protocol Value".
+    server.extend(b"\x01\0\0\x01\x04");
+    for (number, kind) in [(2, 0xfd), (3, 0x0b), (4, 0x0c), (5, 0x0a)] {
+        server.extend([0x17, 0, 0, number]);
+        server.extend(b"\x03def\0\0\0\x01a\0\x0c\x3f\0\0\0\0\0");
+        server.extend([kind, 0, 0, 0, 0, 0]);
+    }
+    server.extend(b"\x05\0\0\x06\xfe\0\0\x02\0");
+    server.extend(b"\x0d\0\0\x07\0\x04\x08\x01\0\0\0\0\x01\x02\x03\0\0");
+    assert_eq!(
+        line_for_people(client, &server),
+        r#"server Row cells=(NULL "-01:02:03" "0000-00-00 00:00:00" "0000-00-00")"#
+    );
 }
 
 #[test]

@@ -19,7 +19,7 @@ ghost use Rattle.mysql_c_replies.specs.Shown.{ShowsColumn};
 ghost use Rattle.mysql_values.specs.Spelling.TheVariants.{Quoted};
 
 use mysql_c_commands::mode_flags;
-use mysql_c_connection::{Handle, Secrets, ShownConnectionEnd, ShownStanding};
+use mysql_c_connection::{Form, Handle, Secrets, ShownConnectionEnd, ShownStanding};
 use mysql_c_connection_events::ShownEvent;
 use mysql_c_handles::Handle as BytesHandle;
 use mysql_c_replies::{ShownColumn, ShownValue};
@@ -261,7 +261,7 @@ pub extern "C" fn mysql_session_connection_line(
     ensures { OfOpen handle.old.object result handle.new.object
         (λ old. IsOpen handle.new.object (Lines old)) }
 {
-    mysql_c_connection::connection_line(alloc, handle, Secrets::Hidden, text, len)
+    mysql_c_connection::connection_line(alloc, handle, Form::Long(Secrets::Hidden), text, len)
 }
 
 /// Shows the same line with the bytes of an authentication, as passwords and their scrambles.
@@ -275,7 +275,30 @@ pub extern "C" fn mysql_session_connection_line_with_secrets(
     ensures { OfOpen handle.old.object result handle.new.object
         (λ old. IsOpen handle.new.object (Lines old)) }
 {
-    mysql_c_connection::connection_line(alloc, handle, Secrets::Shown, text, len)
+    mysql_c_connection::connection_line(alloc, handle, Form::Long(Secrets::Shown), text, len)
+}
+
+/// Shows the line with texts in quotes, and with values as the server's own client shows them.
+///
+/// It has the bytes of an authentication where `secrets` is true.
+#[unsafe(no_mangle)]
+pub extern "C" fn mysql_session_connection_line_with_texts(
+    alloc: Global,
+    handle: &mut Handle,
+    secrets: bool,
+    text: &mut *const u8,
+    len: &mut usize,
+) -> u32
+    ensures { OfOpen handle.old.object result handle.new.object
+        (λ old. IsOpen handle.new.object (Lines old)) }
+{
+    let secrets = if secrets {
+        Secrets::Shown
+    } else {
+        Secrets::Hidden
+    };
+    let form = Form::LongWithTexts(secrets, alloc);
+    mysql_c_connection::connection_line(alloc, handle, form, text, len)
 }
 
 /// Shows the state of a connection.

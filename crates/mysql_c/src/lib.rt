@@ -35,9 +35,9 @@ use std::mem::replace;
 /// The number of the interface, which changes with each of its declarations.
 #[unsafe(no_mangle)]
 pub extern "C" fn mysql_session_abi() -> u32
-    ensures { result ≡ 9 }
+    ensures { result ≡ 10 }
 {
-    9
+    10
 }
 
 /// 1 where the library was proved before it was compiled.

@@ -9,12 +9,12 @@ ghost use Rattle.mysql_c_connection.specs.Opened.{Tells, end_shown};
 use crate::code::{ConnectionCode, number_of_fault, number_of_reason, number_of_side, side_of};
 use crate::events::telling_event;
 use crate::handle::Handle;
-use crate::object::{Object, OpenConnection};
+use crate::object::{Object, OpenConnection, WrittenLines};
 use crate::shown::ShownConnectionEnd;
 use crate::values::{Told, told_of};
 use mysql_c_connection_events::{ShownEvent, blank};
 use mysql_c_handles::start_of;
-use mysql_connection_lines::{Secrets, write_end, write_event, write_lent_row};
+use mysql_connection_lines::{Form, Secrets, write_end, write_event_as, write_lent_row_as};
 use mysql_connection_machine::{Connection, End, FeedRefusal};
 use mysql_connection_rules::{Limits, Side};
 use std::alloc::Global;
@@ -41,8 +41,7 @@ pub fn connection_new(
         connection: Connection::new(alloc, limits),
         event: None,
         end: None,
-        line: Vec::new(alloc),
-        line_with_secrets: Vec::new(alloc),
+        lines: WrittenLines::new(alloc),
     };
     match handle.set(alloc, Object::Open(open)) {
         Ok(()) => ConnectionCode::Done.number(),
@@ -67,8 +66,7 @@ impl OpenConnection {
     fn next(&mut self, shown: &mut ShownEvent) -> ConnectionCode
         ensures { Tells (code_number result) self.old self.new shown.new }
     {
-        self.line.clear();
-        self.line_with_secrets.clear();
+        self.lines.clear();
         self.end = None;
         self.event = None;
         match self.connection.next_event() {
@@ -90,42 +88,49 @@ impl OpenConnection {
         ensures { Finishes self.old self.new shown.new }
     {
         let end = self.connection.finish();
-        self.line.clear();
-        self.line_with_secrets.clear();
+        self.lines.clear();
         self.event = None;
         self.end = Some(end);
         *shown = telling_end(end);
     }
 
     /// Writes the line of the event, or of the end, unless it is written.
-    fn write_line(&mut self, secrets: Secrets) -> ConnectionCode
+    fn write_line(&mut self, form: Form) -> ConnectionCode
         ensures { Lines self.old self.new }
     {
         let told = told_of(&self.event, &self.connection);
-        match secrets {
-            Secrets::Hidden => write_unless_written(&mut self.line, told, self.end, secrets),
-            Secrets::Shown => {
-                write_unless_written(&mut self.line_with_secrets, told, self.end, secrets)
+        match form {
+            Form::Long(Secrets::Hidden) => {
+                write_once(&mut self.lines.plain, told, self.end, form)
             }
+            Form::Long(Secrets::Shown) => {
+                write_once(&mut self.lines.with_secrets, told, self.end, form)
+            }
+            Form::LongWithTexts(Secrets::Hidden, _) => {
+                write_once(&mut self.lines.with_texts, told, self.end, form)
+            }
+            _ => write_once(&mut self.lines.with_both, told, self.end, form),
         }
     }
 
     /// The line that was written.
-    fn written_line(&self, secrets: Secrets) -> &[u8] {
-        match secrets {
-            Secrets::Hidden => &self.line,
-            Secrets::Shown => &self.line_with_secrets,
+    fn written_line(&self, form: Form) -> &[u8] {
+        match form {
+            Form::Long(Secrets::Hidden) => &self.lines.plain,
+            Form::Long(Secrets::Shown) => &self.lines.with_secrets,
+            Form::LongWithTexts(Secrets::Hidden, _) => &self.lines.with_texts,
+            _ => &self.lines.with_both,
         }
     }
 }
 
 /// Writes the line of an event, or of an end, unless it is there. Of a row that is lent no more there
 /// is none.
-fn write_unless_written(
+fn write_once(
     line: &mut Vec<u8>,
     told: Option<Told<'_>>,
     end: Option<End>,
-    secrets: Secrets,
+    form: Form,
 ) -> ConnectionCode {
     if told.is_none() && end.is_none() {
         return ConnectionCode::OutOfRange;
@@ -133,7 +138,7 @@ fn write_unless_written(
     if !line.is_empty() {
         return ConnectionCode::Done;
     }
-    match line_of(line, told, end, secrets) {
+    match line_of(line, told, end, form) {
         Ok(true) => ConnectionCode::Done,
         Ok(false) => ConnectionCode::OutOfRange,
         Err(_) => {
@@ -148,11 +153,11 @@ fn line_of(
     line: &mut Vec<u8>,
     told: Option<Told<'_>>,
     end: Option<End>,
-    secrets: Secrets,
+    form: Form,
 ) -> io::Result<bool> {
     match told {
-        Some(Told::Event(event)) => write_event(line, event, secrets)?,
-        Some(Told::Row(row)) => write_lent_row(line, &row)?,
+        Some(Told::Event(event)) => write_event_as(line, form, event)?,
+        Some(Told::Row(row)) => write_lent_row_as(line, form, &row)?,
         None => match end {
             Some(end) => write_end(line, end)?,
             None => return Ok(false),
@@ -306,18 +311,13 @@ pub fn connection_finish(alloc: Global, handle: &mut Handle, shown: &mut ShownCo
 }
 
 /// Shows the line of the event, or of the end, of the connection that an object is.
-fn line_in(
-    object: &mut Object,
-    secrets: Secrets,
-    text: &mut *const u8,
-    len: &mut usize,
-) -> ConnectionCode
+fn line_in(object: &mut Object, form: Form, text: &mut *const u8, len: &mut usize) -> ConnectionCode
     ensures { OfOpen object.old (code_number result) object.new (λ old. IsOpen object.new (Lines old)) }
 {
     match object {
         Object::Open(open) => {
-            let code = open.write_line(secrets);
-            let line = open.written_line(secrets);
+            let code = open.write_line(form);
+            let line = open.written_line(form);
             *text = start_of(line);
             *len = line.len();
             code
@@ -327,10 +327,12 @@ fn line_in(
 }
 
 /// Shows the event that was told last as a line, or how the connection ended.
+///
+/// The line is of this form, which isn't short.
 pub fn connection_line(
     alloc: Global,
     handle: &mut Handle,
-    secrets: Secrets,
+    form: Form,
     text: &mut *const u8,
     len: &mut usize,
 ) -> u32
@@ -340,7 +342,7 @@ pub fn connection_line(
     let Some(mut object) = handle.take(alloc) else {
         return ConnectionCode::EmptyHandle.number();
     };
-    let code = line_in(&mut object, secrets, text, len);
+    let code = line_in(&mut object, form, text, len);
     handle.put(object);
     code.number()
 }

@@ -201,8 +201,7 @@ impl OpenConnection {
     fn next_lent(&mut self, cells: &mut [ShownValue], shown: &mut ShownEvent) -> ConnectionCode
         ensures { TellsLent (code_number result) self.old self.new cells.old cells.new shown.new }
     {
-        self.line.clear();
-        self.line_with_secrets.clear();
+        self.lines.clear();
         self.end = None;
         self.event = None;
         match self.connection.next_event_lent() {

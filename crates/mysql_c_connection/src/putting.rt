@@ -10,7 +10,7 @@ ghost use Rattle.mysql_c_connection.specs.Putting.{ArePut, ArePutIn, IsPut, IsPu
 use crate::code::{ConnectionCode, side_of};
 use crate::events::telling_event;
 use crate::handle::Handle;
-use crate::object::{Object, OpenConnection};
+use crate::object::{Object, OpenConnection, WrittenLines};
 use mysql_c_connection_events::ShownEvent;
 use mysql_c_handles::{Handle as BytesHandle, Object as BytesObject};
 use mysql_connection_machine::{Connection, PayloadRefusal};
@@ -40,8 +40,7 @@ pub fn connection_after_login(
         connection: Connection::after_login(alloc, limits, capabilities),
         event: None,
         end: None,
-        line: Vec::new(alloc),
-        line_with_secrets: Vec::new(alloc),
+        lines: WrittenLines::new(alloc),
     };
     match handle.set(alloc, Object::Open(open)) {
         Ok(()) => ConnectionCode::Done.number(),
@@ -77,8 +76,7 @@ impl OpenConnection {
         match self.connection.put_payload(side, payload, out) {
             Ok(event) => {
                 *shown = telling_event(&self.connection, &event);
-                self.line.clear();
-                self.line_with_secrets.clear();
+                self.lines.clear();
                 self.end = None;
                 self.event = Some(event);
                 ConnectionCode::Done

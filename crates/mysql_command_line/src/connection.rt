@@ -4,7 +4,7 @@ use crate::program::Status;
 use crate::reading::{TakesPieces, follow_input};
 use crate::stop::Stop;
 use crate::transcript::Transcript;
-use mysql_connection_lines::{Secrets, print_end};
+use mysql_connection_lines::{Form, print_end};
 use mysql_connection_machine::End;
 use mysql_connection_rules::Limits;
 use std::alloc::Global;
@@ -79,17 +79,17 @@ fn answer_end<W: Write>(output: &mut W, transcript: &mut Transcript) -> Result<S
     }
 }
 
-/// Prints what the transcript on the input says, each event as soon as it can be said.
+/// Prints what the transcript on the input says, each event in this form as soon as it can be said.
 pub(crate) fn connection<R: Read, W: Write>(
     alloc: Global,
     limit: usize,
-    secrets: Secrets,
+    form: Form,
     input: &mut R,
     output: &mut W,
 ) -> Result<Status, Stop> {
     let mut printing = Printing {
         alloc,
-        transcript: Transcript::new(alloc, limits_of(limit), secrets),
+        transcript: Transcript::new(alloc, limits_of(limit), form),
         output,
     };
     follow_input(alloc, input, &mut printing)?;

@@ -17,6 +17,6 @@ ROAD is text, execute or bulk, ID the statement's id, LIMIT the most bytes of a 
 QUERY has question marks, or names as :a; sets are [[1, \"x\"], ..], or [{\"a\": 1}, ..] for :a.
 Before ROAD or ID: --mode no-backslash-escapes,ansi-quotes (the server's, one or both), and
 --hex (byte strings of texts in hexadecimal, the same in each mode).
-Before LIMIT of connection: --secrets (data of logins in full; without it the length alone).
+Before LIMIT of connection: --secrets (data of logins in full), --text or --hex (for texts).
 Status: 0 done, 1 refused or a stream that isn't whole, 2 unknown words or input.
 ";

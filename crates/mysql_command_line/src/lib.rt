@@ -5,7 +5,7 @@
 //! the words and what is printed. [`run`] is all of the program but the process: words and input
 //! in, output and a [`Status`] out.
 //!
-//!     let status = run(alloc, &words, &mut input, &mut output);
+//!     let status = run(alloc, &words, Texts::Hexadecimal, &mut input, &mut output);
 #![tactic(auto)]
 
 mod commands;
@@ -22,5 +22,6 @@ mod stop;
 mod transcript;
 mod words;
 
+pub use mysql_connection_lines::Texts;
 pub use process::run_process;
 pub use program::{Status, refuse_words, run};

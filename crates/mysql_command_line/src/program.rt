@@ -7,6 +7,7 @@ use crate::help::{HELP, VERSION};
 use crate::lines::{print_digits, print_line, print_stream};
 use crate::stop::{Answer, Stop};
 use crate::words::{Task, task_of};
+use mysql_connection_lines::{Form, Texts};
 use mysql_session::{Audit, Params, Receiver, Road, Value, send};
 use std::alloc::Global;
 use std::collections::HashMap;
@@ -84,10 +85,11 @@ fn version<W: Write>(output: &mut W) -> Result<Status, Stop> {
     Ok(Status::Done)
 }
 
-/// Does what the words ask for.
+/// Does what the words ask for; texts are printed so where they don't say how.
 fn run_words<R: Read, W: Write>(
     alloc: Global,
     words: &[String],
+    usual: Texts,
     input: &mut R,
     output: &mut W,
 ) -> Result<Status, Stop> {
@@ -97,7 +99,10 @@ fn run_words<R: Read, W: Write>(
         Task::Audit(statement) => audit(alloc, statement, input, output),
         Task::Follow(statement) => follow(alloc, statement, input, output),
         Task::Recode(statement) => recode(alloc, statement, input, output),
-        Task::Connection(limit, secrets) => connection(alloc, limit, secrets, input, output),
+        Task::Connection(limit, secrets, texts) => {
+            let form = Form::Short(secrets, texts.unwrap_or(usual), alloc);
+            connection(alloc, limit, form, input, output)
+        }
         Task::Help => help(output),
         Task::Version => version(output),
     }
@@ -130,7 +135,9 @@ fn answer_stop<W: Write>(output: &mut W, stop: &Stop) -> Status {
 /// - `recode ID LIMIT QUERY` reads a stream of commands and prints the executions that carry the same sets.
 /// - `connection LIMIT` reads a transcript of a connection and prints a line for each payload, as
 ///   soon as it can be said. It reads no further than to a fault or an end. Of an authentication's
-///   data it prints the length, but behind `--secrets`, which is before the limit.
+///   data it prints the length, but behind `--secrets`, which is before the limit. Behind it may be
+///   `--text` or `--hex`: bytes that are a text are printed in quotes, or all in hexadecimal. Without
+///   them it is as `usual` says, which is what suits the output.
 /// - `help`, `--help` and `-h` print these words in fourteen lines, and read nothing. `--version`
 ///   prints the version.
 ///
@@ -148,10 +155,11 @@ fn answer_stop<W: Write>(output: &mut W, stop: &Stop) -> Status {
 pub fn run<R: Read, W: Write>(
     alloc: Global,
     words: &[String],
+    usual: Texts,
     input: &mut R,
     output: &mut W,
 ) -> Status {
-    match run_words(alloc, words, input, output) {
+    match run_words(alloc, words, usual, input, output) {
         Ok(status) => status,
         Err(stop) => answer_stop(output, &stop),
     }

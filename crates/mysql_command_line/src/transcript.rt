@@ -4,30 +4,44 @@ ghost use Rattle.std.specs.Prelude.{◌<◌, ◌≤◌, IfOk, length};
 
 use crate::position::{Position, Record};
 use crate::stop::Stop;
-use mysql_connection_lines::{Secrets, print_event};
+use mysql_connection_lines::{Form, Texts, print_event};
 use mysql_connection_machine::{Connection, End, FeedRefusal};
 use mysql_connection_rules::{Fault, Limits, Reason, Side};
-use mysql_connection_state::Phase;
+use mysql_connection_state::{Event, Phase};
 use std::alloc::Global;
 use std::io::Write;
+
+/// Prints an event's line. One with texts is printed whole, or not at all where memory is refused.
+fn print_line<W: Write>(output: &mut W, event: &Event, form: Form) -> Result<(), Stop> {
+    match form {
+        Form::Short(_, Texts::Quoted, alloc) => {
+            let mut line = Vec::new(alloc);
+            print_event(&mut line, event, form)?;
+            output.write_all(line.as_slice())?;
+            Ok(())
+        },
+        _ => {
+            print_event(output, event, form)?;
+            Ok(())
+        },
+    }
+}
 
 /// A transcript as far as it came, and the connection that it is of.
 #[derive(Drop)]
 pub(crate) struct Transcript {
-    alloc: Global,
     connection: Connection,
     position: Position,
-    secrets: Secrets,
+    form: Form,
 }
 
 impl Transcript {
     /// One of which no byte came.
-    pub(crate) fn new(alloc: Global, limits: Limits, secrets: Secrets) -> Transcript {
+    pub(crate) fn new(alloc: Global, limits: Limits, form: Form) -> Transcript {
         Transcript {
-            alloc,
             connection: Connection::new(alloc, limits),
             position: Position::before_record(),
-            secrets,
+            form,
         }
     }
 
@@ -48,7 +62,7 @@ impl Transcript {
     fn print_events<W: Write>(&mut self, output: &mut W) -> Result<(), Stop> {
         for _ in 0..u64::MAX {
             match self.connection.next_event() {
-                Ok(Some(event)) => { print_event(self.alloc, output, &event, self.secrets)? },
+                Ok(Some(event)) => { print_line(output, &event, self.form)? },
                 _ => return Ok(()),
             }
         }

@@ -6,7 +6,7 @@ ghost use Rattle.mysql_command_line.specs.Words.{IsId, IsLimit};
 ghost use Rattle.mysql_command_line.specs.declared.stop.Stop.TheVariants as stop;
 
 use crate::stop::Stop;
-use mysql_connection_lines::Secrets;
+use mysql_connection_lines::{Secrets, Texts};
 use mysql_session::{Mode, Road, Spelling};
 
 /// A query for a server in a mode, and how byte strings are spelled in its texts. With it go its
@@ -34,8 +34,9 @@ pub(crate) enum Task<'a> {
     Follow(Statement<'a>),
     /// A stream of commands as executions.
     Recode(Statement<'a>),
-    /// What the payloads of a connection say, of payloads no longer than this.
-    Connection(usize, Secrets),
+    /// What the payloads of a connection say, of payloads no longer than this. Where nothing is said of
+    /// texts, it is the output's.
+    Connection(usize, Secrets, Option<Texts>),
     /// What the program knows.
     Help,
     /// The program's version.
@@ -171,14 +172,24 @@ fn secrets_first(words: &[String]) -> (Secrets, &[String]) {
     }
 }
 
+/// How texts are printed by the words' beginning, and the words behind it.
+fn texts_first(words: &[String]) -> (Option<Texts>, &[String]) {
+    match words {
+        [word, rest @ ..] if word.as_str() == "--text" => (Some(Texts::Quoted), rest),
+        [word, rest @ ..] if word.as_str() == "--hex" => (Some(Texts::Hexadecimal), rest),
+        _ => (None, words),
+    }
+}
+
 /// What the words behind `connection` ask for.
 fn connection_of(words: &[String]) -> Result<Task<'_>, Stop> {
     let (secrets, words) = secrets_first(words);
+    let (texts, words) = texts_first(words);
     let [limit] = words else {
         return Err(Stop::Usage);
     };
     match whole_number(limit) {
-        Some(limit) if limit >= 4 => Ok(Task::Connection(limit, secrets)),
+        Some(limit) if limit >= 4 => Ok(Task::Connection(limit, secrets, texts)),
         _ => Err(Stop::BadLimit),
     }
 }

@@ -33,7 +33,9 @@ pub use mysql_commands::{
     Execution, MariadbCapabilities, ParameterType, Reply, StatementParameters, UnclearCells,
     UnclearValues,
 };
-pub use mysql_connection_lines::{write_end, write_event, write_lent_row};
+pub use mysql_connection_lines::{
+    write_end, write_event, write_event_as, write_lent_row, write_lent_row_as,
+};
 pub use mysql_connection_machine::{
     Connection, ConnectionFault, End, FeedRefusal, LentEvent, PacketsRefusal, PayloadRefusal,
     PutRefusal,
@@ -44,8 +46,8 @@ pub use mysql_connection_state::{Event, Phase};
 pub use mysql_connection_statements::{Statement, Statements};
 pub use mysql_connection_writer::BadEvent;
 pub use mysql_event_lines::{
-    Secrets, write_authentication_event, write_command, write_greeting_event, write_reply_event,
-    write_response_event, write_row_ref,
+    Form, Secrets, Texts, write_authentication_event, write_command, write_greeting_event,
+    write_reply_event, write_response_event, write_row_ref,
 };
 pub use mysql_executions::{Refused, read_bulk_types, read_execution_types};
 pub use mysql_login;

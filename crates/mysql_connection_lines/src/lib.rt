@@ -9,13 +9,12 @@ mod ends;
 pub use crate::ends::{print_end, write_end};
 use mysql_connection_rules::Side;
 use mysql_connection_state::Event;
-pub use mysql_event_lines::Secrets;
+pub use mysql_event_lines::{Form, Secrets, Texts};
 use mysql_event_lines::{
-    Form, Said, answer_said, authentication_said, command_said, farewell_said, file_data_said,
-    greeting_said, reply_said, response_said, write_row_ref, write_said,
+    Said, answer_said, authentication_said, command_said, farewell_said, file_data_said,
+    greeting_said, lent_row_said, reply_said, response_said, write_said,
 };
 use mysql_row_refs::RowRef;
-use std::alloc::Global;
 use std::io;
 use std::io::Write;
 
@@ -53,15 +52,40 @@ fn event_said(event: &Event) -> Said<'_> {
     }
 }
 
-/// Writes what a payload of a connection says, as a line without its end.
+/// Writes what a payload of a connection says, as a line of this form without its end.
 ///
 /// The line has whose payload it is, the event's name, and its fields. Statements are as they came.
 ///
 /// # Errors
 /// - Those of the output.
-pub fn write_event<W: Write>(output: &mut W, event: &Event, secrets: Secrets) -> io::Result<()> {
+/// - `OutOfMemory`: a growth of memory was refused, in a line that is short or has texts.
+pub fn write_event_as<W: Write>(output: &mut W, form: Form, event: &Event) -> io::Result<()> {
     write!(output, "{} ", name_of(side_of(event)))?;
-    write_said(output, Form::Long(secrets), &event_said(event))
+    write_said(output, form, &event_said(event))
+}
+
+/// Writes a row that a connection lends, as [`write_event_as`] writes it where it is kept.
+///
+/// # Errors
+/// - Those of the output.
+/// - `OutOfMemory`: a growth of memory was refused, in a line that is short or has texts.
+pub fn write_lent_row_as<W: Write>(
+    output: &mut W,
+    form: Form,
+    row: &RowRef<'_, '_>,
+) -> io::Result<()> {
+    output.write_all(b"server ")?;
+    write_said(output, form, &lent_row_said(row))
+}
+
+/// Writes what a payload of a connection says, as a line without its end.
+///
+/// The line has the names of fields, and all bytes in hexadecimal. Statements are as they came.
+///
+/// # Errors
+/// - Those of the output.
+pub fn write_event<W: Write>(output: &mut W, event: &Event, secrets: Secrets) -> io::Result<()> {
+    write_event_as(output, Form::Long(secrets), event)
 }
 
 /// Writes a row that a connection lends, as [`write_event`] writes it where it is kept.
@@ -69,24 +93,17 @@ pub fn write_event<W: Write>(output: &mut W, event: &Event, secrets: Secrets) ->
 /// # Errors
 /// - Those of the output.
 pub fn write_lent_row<W: Write>(output: &mut W, row: &RowRef<'_, '_>) -> io::Result<()> {
-    output.write_all(b"server ")?;
-    write_row_ref(output, row)
+    write_lent_row_as(output, Form::Long(Secrets::Hidden), row)
 }
 
-/// Prints what a payload of a connection says, as a line for people.
+/// Prints what a payload of a connection says, as a line of this form.
 ///
-/// The line has a word for what the payload is, and what people look for. Of an authentication's
-/// data [`Secrets::Hidden`] has the length alone.
+/// Of an authentication's data [`Secrets::Hidden`] has the length alone.
 ///
 /// # Errors
 /// - Those of the output.
-/// - `OutOfMemory`: a growth of memory was refused.
-pub fn print_event<W: Write>(
-    alloc: Global,
-    output: &mut W,
-    event: &Event,
-    secrets: Secrets,
-) -> io::Result<()> {
-    write_said(output, Form::Short(secrets, alloc), &event_said(event))?;
+/// - `OutOfMemory`: a growth of memory was refused, in a short line.
+pub fn print_event<W: Write>(output: &mut W, event: &Event, form: Form) -> io::Result<()> {
+    write_said(output, form, &event_said(event))?;
     output.write_all(b"\n")
 }

@@ -3,35 +3,45 @@
 use crate::fields::{Brief, Field, Held, Said};
 use crate::lists::{List, write_elements};
 use crate::secrets::Secrets;
-use crate::values::write_hexadecimal;
+use crate::texts::Texts;
+use crate::values::{write_bytes, write_hexadecimal};
 use std::alloc::Global;
 use std::io;
 use std::io::Write;
 
 /// How a line has what an event says.
 ///
-/// A number is written in decimals, bytes as `x` and hexadecimal, and what isn't there as `-`.
+/// A number is written in decimals, and what isn't there as `-`. Bytes are `x` and hexadecimal, but
+/// where a form has texts.
 #[derive(Clone, Copy)]
 pub enum Form {
     /// The name, and each field as ` name=` and what it holds. A list stands in parentheses.
     Long(Secrets),
+    /// The same with texts in quotes, and with values as people read them.
+    LongWithTexts(Secrets, Global),
     /// For people: the name as `reset-statement`, and what they look for, mostly without its name.
-    Short(Secrets, Global),
+    Short(Secrets, Texts, Global),
 }
 
 impl Form {
     fn secrets(self) -> Secrets {
         match self {
             Form::Long(secrets) => secrets,
-            Form::Short(secrets, _) => secrets,
+            Form::LongWithTexts(secrets, _) => secrets,
+            Form::Short(secrets, ..) => secrets,
         }
+    }
+
+    /// Whether it is for people.
+    pub(crate) fn is_short(self) -> bool {
+        matches!(self, Form::Short(..))
     }
 
     /// Whether a line of this form has no such field.
     fn is_without(self, field: &Field<'_>) -> bool {
-        match (self, field.brief, field.held) {
+        match (self.is_short(), field.brief, field.held) {
             (_, _, Held::Usual) => true,
-            (Form::Long(_), _, _) => false,
+            (false, _, _) => false,
             (_, Brief::Without, _) | (_, Brief::Bare, Held::Absent) => true,
             (_, _, Held::List(list)) => list.is_empty(),
             _ => false,
@@ -51,14 +61,12 @@ fn write_small_name<W: Write>(output: &mut W, name: &str) -> io::Result<()> {
 }
 
 fn write_list<W: Write>(output: &mut W, form: Form, list: List<'_>) -> io::Result<()> {
-    match form {
-        Form::Long(_) => {
-            output.write_all(b"(")?;
-            write_elements(output, form, list)?;
-            output.write_all(b")")
-        }
-        Form::Short(..) => write_elements(output, form, list),
+    if form.is_short() {
+        return write_elements(output, form, list);
     }
+    output.write_all(b"(")?;
+    write_elements(output, form, list)?;
+    output.write_all(b")")
 }
 
 /// Writes what a field holds; of a secret that is hidden how many bytes it has, as `(20 bytes)`.
@@ -67,8 +75,8 @@ fn write_held<W: Write>(output: &mut W, form: Form, held: Held<'_>) -> io::Resul
         Held::Usual => Ok(()),
         Held::Absent => output.write_all(b"-"),
         Held::Number(number) => write!(output, "{number}"),
-        Held::Bytes(bytes) => write_hexadecimal(output, bytes),
-        Held::State(state) => write_hexadecimal(output, &state),
+        Held::Bytes(bytes) => write_bytes(output, form, bytes),
+        Held::State(state) => write_bytes(output, form, &state),
         Held::Secret(bytes) => match form.secrets() {
             Secrets::Shown => write_hexadecimal(output, bytes),
             Secrets::Hidden => write!(output, "({} bytes)", bytes.len()),
@@ -82,8 +90,8 @@ fn write_field<W: Write>(output: &mut W, form: Form, field: &Field<'_>) -> io::R
         return Ok(());
     }
     let name = field.name;
-    match (form, field.brief) {
-        (Form::Long(_), _) => write!(output, " {name}=")?,
+    match (form.is_short(), field.brief) {
+        (false, _) => write!(output, " {name}=")?,
         (_, Brief::Named) => write!(output, " {name} ")?,
         _ => output.write_all(b" ")?,
     }
@@ -94,11 +102,12 @@ fn write_field<W: Write>(output: &mut W, form: Form, field: &Field<'_>) -> io::R
 ///
 /// # Errors
 /// - Those of the output.
-/// - `OutOfMemory`: a growth of memory was refused, in a short line.
+/// - `OutOfMemory`: a growth of memory was refused, in a line that is short or has texts.
 pub fn write_said<W: Write>(output: &mut W, form: Form, said: &Said<'_>) -> io::Result<()> {
-    match form {
-        Form::Long(_) => output.write_all(said.name.as_bytes())?,
-        Form::Short(..) => write_small_name(output, said.name)?,
+    if form.is_short() {
+        write_small_name(output, said.name)?;
+    } else {
+        output.write_all(said.name.as_bytes())?;
     }
     for field in said.fields.list.iter() {
         write_field(output, form, field)?;

@@ -11,8 +11,11 @@ mod fields;
 mod form;
 mod lists;
 mod logins;
+mod moments;
+pub mod quoted;
 mod replies;
 mod secrets;
+mod texts;
 mod values;
 
 pub use crate::commands::{command_said, write_command};
@@ -23,6 +26,7 @@ pub use crate::logins::{
     write_greeting_event, write_response_event,
 };
 pub use crate::replies::{
-    farewell_said, file_data_said, reply_said, write_reply_event, write_row_ref,
+    farewell_said, file_data_said, lent_row_said, reply_said, write_reply_event, write_row_ref,
 };
 pub use crate::secrets::Secrets;
+pub use crate::texts::Texts;

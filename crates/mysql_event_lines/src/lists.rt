@@ -1,7 +1,7 @@
 //! Lists that are fields.
 
 use crate::form::Form;
-use crate::values::{borrowed, write_hexadecimal, write_value};
+use crate::values::{borrowed, write_bytes, write_cell, write_value};
 use mysql_cells::Value;
 use mysql_executions::{Attribute, BulkExecution, BulkValue, Execution};
 use mysql_handshake_response::ConnectAttributes;
@@ -89,12 +89,13 @@ fn write_attribute<W: Write>(
     is_unclear: bool,
     attribute: &Attribute,
 ) -> io::Result<()> {
-    let (open, between, close) = match form {
-        Form::Long(_) => ("(", " ", ")"),
-        Form::Short(..) => ("", " = ", ""),
+    let (open, between, close) = if form.is_short() {
+        ("", " = ", "")
+    } else {
+        ("(", " ", ")")
     };
     output.write_all(open.as_bytes())?;
-    write_hexadecimal(output, attribute.bound_type.name.as_slice())?;
+    write_bytes(output, form, attribute.bound_type.name.as_slice())?;
     output.write_all(between.as_bytes())?;
     write_unless(output, form, is_unclear, &attribute.value)?;
     output.write_all(close.as_bytes())
@@ -146,14 +147,18 @@ fn write_sets<W: Write>(output: &mut W, form: Form, bulk: &BulkExecution) -> io:
     Ok(())
 }
 
-fn write_pairs<W: Write>(output: &mut W, attributes: &ConnectAttributes) -> io::Result<()> {
+fn write_pairs<W: Write>(
+    output: &mut W,
+    form: Form,
+    attributes: &ConnectAttributes,
+) -> io::Result<()> {
     for place in 0..attributes.len() {
         write_space(output, place)?;
         if let Some((key, value)) = attributes.pair(place) {
             output.write_all(b"(")?;
-            write_hexadecimal(output, key)?;
+            write_bytes(output, form, key)?;
             output.write_all(b" ")?;
-            write_hexadecimal(output, value)?;
+            write_bytes(output, form, value)?;
             output.write_all(b")")?;
         }
     }
@@ -168,7 +173,7 @@ fn write_cells<W: Write>(output: &mut W, form: Form, row: &Row) -> io::Result<()
             Some(value) => borrowed(value),
             None => ValueRef::NULL,
         };
-        write_value(output, form, cell)?;
+        write_cell(output, form, row.columns_ref().get(place), cell)?;
     }
     Ok(())
 }
@@ -177,7 +182,7 @@ fn write_lent_cells<W: Write>(output: &mut W, form: Form, row: &RowRef<'_, '_>) 
     for place in 0..row.len() {
         write_space(output, place)?;
         let cell = row.as_ref(place).unwrap_or(ValueRef::NULL);
-        write_value(output, form, cell)?;
+        write_cell(output, form, row.columns_ref().get(place), cell)?;
     }
     Ok(())
 }
@@ -194,7 +199,7 @@ pub(crate) fn write_elements<W: Write>(
             write_attributes(output, form, attributes, execution)
         }
         List::Sets(bulk) => write_sets(output, form, bulk),
-        List::Pairs(attributes) => write_pairs(output, attributes),
+        List::Pairs(attributes) => write_pairs(output, form, attributes),
         List::Cells(row) => write_cells(output, form, row),
         List::LentCells(row) => write_lent_cells(output, form, row),
     }

@@ -154,15 +154,15 @@ pub fn write_reply_event<W: Write>(output: &mut W, event: &ReplyEvent) -> io::Re
     write_said(output, Form::Long(Secrets::Hidden), &reply_said(event))
 }
 
+/// What a row says that is lent.
+pub fn lent_row_said<'e>(row: &'e RowRef<'e, 'e>) -> Said<'e> {
+    entry("Row").with(&[field_of("cells", Held::List(List::LentCells(row)))])
+}
+
 /// Writes a row that is lent, as [`write_reply_event`] writes it where it is kept.
 ///
 /// # Errors
 /// - Those of the output.
 pub fn write_row_ref<W: Write>(output: &mut W, row: &RowRef<'_, '_>) -> io::Result<()> {
-    let cells = field_of("cells", Held::List(List::LentCells(row)));
-    write_said(
-        output,
-        Form::Long(Secrets::Hidden),
-        &entry("Row").with(&[cells]),
-    )
+    write_said(output, Form::Long(Secrets::Hidden), &lent_row_said(row))
 }

@@ -3,7 +3,11 @@
 ghost use Rattle.std.specs.Prelude.{◌≤◌, length};
 
 use crate::form::Form;
+use crate::moments::write_moment;
+use crate::quoted::push_readable;
+use crate::texts::Texts;
 use mysql_cells::Value;
+use mysql_columns::Column;
 use mysql_queries::Content;
 use mysql_row_refs::ValueRef;
 use std::alloc::Global;
@@ -35,6 +39,23 @@ pub(crate) fn write_hexadecimal<W: Write>(output: &mut W, bytes: &[u8]) -> io::R
         rest = behind;
     }
     Ok(())
+}
+
+/// Writes bytes as people read them.
+fn write_readable<W: Write>(alloc: Global, output: &mut W, bytes: &[u8]) -> io::Result<()> {
+    let mut text = Vec::new(alloc);
+    push_readable(&mut text, bytes)?;
+    output.write_all(text.as_slice())
+}
+
+/// Writes bytes as a line of this form has them.
+pub(crate) fn write_bytes<W: Write>(output: &mut W, form: Form, bytes: &[u8]) -> io::Result<()> {
+    match form {
+        Form::Long(_) | Form::Short(_, Texts::Hexadecimal, _) => write_hexadecimal(output, bytes),
+        Form::LongWithTexts(_, alloc) | Form::Short(_, Texts::Quoted, alloc) => {
+            write_readable(alloc, output, bytes)
+        }
+    }
 }
 
 /// A value that borrows its bytes.
@@ -101,14 +122,47 @@ fn write_content<W: Write>(alloc: Global, output: &mut W, value: ValueRef<'_>) -
     }
 }
 
-/// Writes a value.
+/// Writes a value as people read it: `NULL`, a number, a text in quotes, or a date or a time in
+/// quotes. A float is `f` and its bits.
+fn write_known<W: Write>(
+    alloc: Global,
+    output: &mut W,
+    column: Option<&Column>,
+    value: ValueRef<'_>,
+) -> io::Result<()> {
+    match value {
+        ValueRef::NULL => output.write_all(b"NULL"),
+        ValueRef::Bytes(bytes) => write_readable(alloc, output, bytes),
+        ValueRef::Date(..) | ValueRef::Time(..) => {
+            output.write_all(b"\"")?;
+            write_moment(alloc, output, column, value)?;
+            output.write_all(b"\"")
+        }
+        number => write_content(alloc, output, number),
+    }
+}
+
+/// Writes a value of a cell of this column, if it is one.
+pub(crate) fn write_cell<W: Write>(
+    output: &mut W,
+    form: Form,
+    column: Option<&Column>,
+    value: ValueRef<'_>,
+) -> io::Result<()> {
+    match form {
+        Form::Long(_) => write_kind(output, value),
+        Form::Short(_, Texts::Hexadecimal, alloc) => write_content(alloc, output, value),
+        Form::LongWithTexts(_, alloc) | Form::Short(_, Texts::Quoted, alloc) => {
+            write_known(alloc, output, column, value)
+        }
+    }
+}
+
+/// Writes a value that no column is known of.
 pub(crate) fn write_value<W: Write>(
     output: &mut W,
     form: Form,
     value: ValueRef<'_>,
 ) -> io::Result<()> {
-    match form {
-        Form::Long(_) => write_kind(output, value),
-        Form::Short(_, alloc) => write_content(alloc, output, value),
-    }
+    write_cell(output, form, None, value)
 }

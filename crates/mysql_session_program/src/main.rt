@@ -3,8 +3,10 @@
 #![tactic(auto)]
 
 use mysql_command_line::run_process;
+use std::io::IsTerminal;
 use std::process::ExitCode;
 
 fn main(rt: HostRuntime) -> ExitCode {
-    run_process(&rt)
+    let is_terminal = rt.stdout().is_terminal();
+    run_process(&rt, is_terminal)
 }

@@ -3,7 +3,7 @@
 
 use crate::output::{Asserting, Limits, Output};
 use mysql_command_line::Status::{Done, Failed, Refused};
-use mysql_command_line::{Status, run};
+use mysql_command_line::{Status, Texts, run};
 use std::alloc::{AllocError, Global};
 use std::io::ErrorKind;
 use tests_support::{Assert, once_more};
@@ -94,7 +94,7 @@ fn ends_so(alloc: Global, words: &[String], row: Row, way: Way) -> bool {
     let (_, mut input, wanted, status) = row;
     let (limits, flushes, is_whole) = way;
     let mut output = Output::new(wanted, limits, ErrorKind::WriteZero, flushes);
-    let found = run(alloc, words, &mut input, &mut output);
+    let found = run(alloc, words, Texts::Hexadecimal, &mut input, &mut output);
     if is_whole {
         found == status && output.is_wanted && output.wanted.is_empty()
     } else {
