@@ -217,6 +217,25 @@ def check_manual(executable):
     check(words - {"config"}, code - {"pass", "cut", "wait", "stop", "yes", "no"}, "the words")
 
 
+def last_cells(document, heading):
+    """Returns what the last column of a section's table has."""
+    section = document.partition(f"\n## {heading}\n")[2].partition("\n## ")[0]
+    rows = [line.split("|")[-2] for line in section.splitlines() if line.startswith("| ")]
+    return {it.strip(" `") for row in rows[1:] for it in row.split(",")}
+
+
+def check_document(names):
+    """The checks that docs/AUDITING.md names are these, those of audited.py and of test_captures.py."""
+    document = (ROOT / "docs" / "AUDITING.md").read_text()
+    audited = (ROOT / "bindings" / "testing" / "audited.py").read_text()
+    names = names | set(re.findall(r'report\.run\("([^"]+)"', audited))
+    named = last_cells(document, "What its checks hold")
+    check((True, set()), (len(named) > 30, named - names), "checks that there aren't")
+    tests = (ROOT / "bindings" / "python" / "test_captures.py").read_text()
+    named = last_cells(document, "The capture reader")
+    check((True, set()), (len(named) > 4, named - set(re.findall(r"def (\w+)", tests))), "tests")
+
+
 # ---- What it takes ------------------------------------------------------------------------------
 
 
@@ -291,6 +310,7 @@ def main():
         for name in ("mysqldb-text", "perl-execute"):
             checks.append((f"load of {name}", lambda it, name=name: measure_load(
                 it, words.load, words.recordings / name)))
+    checks.append(("the document", lambda _: check_document({it for it, _ in checks})))
     failed = 0
     for name, test in checks:
         began = time.monotonic()

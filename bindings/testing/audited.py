@@ -1,9 +1,11 @@
 """The audit before a MariaDB server: under load beside a dump, and beside what pt-query-digest says
 of the server's slow log.
 
-`bindings/test --server` calls `test_audited`; with `--load SECONDS` the load is longer.
+`bindings/test --server` calls `test_audited`; with `--load SECONDS` the load is longer, and with
+`--rate N` at most N statements a second are sent.
 """
 
+import collections
 import contextlib
 import json
 import os
@@ -20,6 +22,8 @@ from .support import Failure, has, run
 USER, DATABASE = "tester", "bindings"
 SLOW_LOG = ("--skip-ssl", "--slow-query-log", "--long-query-time=0", "--log-output=FILE",
             "--log-slow-disabled-statements=")
+# Who sends under load: clients at once, threads of sysbench, and statements of its transaction.
+WORKERS, SYSBENCH_THREADS, TRANSACTION = 4, 2, 20
 # What the two tools are compared by.
 STATEMENTS = 4000
 # How often audit-report reads as much as pt-query-digest does, in as much processor time.
@@ -57,11 +61,16 @@ class Proxy:
         self.process.wait()
         self.process.stderr.close()
 
-    def end(self):
-        """Ends it, and returns the objects of its lines."""
+    def lines(self):
+        """Ends it, and gives the object of each of its lines."""
         self.process.terminate()
         check(0, self.process.wait(120), "the status of the audit")
-        return [json.loads(line) for line in self.log.read_text().splitlines()]
+        with open(self.log, encoding="utf-8") as log:
+            yield from map(json.loads, log)
+
+    def end(self):
+        """Ends it, and returns the objects of its lines."""
+        return list(self.lines())
 
     def memory(self):
         """Returns how many KB of memory it has."""
@@ -92,13 +101,32 @@ def dump(port, table):
 # ---- Load ---------------------------------------------------------------------------------------
 
 
-class Worker(threading.Thread):
-    """Clients one behind the other, each with some statements, until it is told to stop."""
+class Sender(threading.Thread):
+    """Sends the same again and again until it is told to stop, at most once in so many seconds."""
 
-    def __init__(self, port, number, stops):
+    def __init__(self, stops, seconds):
         super().__init__()
-        self.port, self.number, self.stops = port, number, stops
-        self.sent, self.runs, self.wrong = 0, 0, []
+        self.stops, self.seconds, self.runs = stops, seconds, 0
+
+    def send(self):
+        """Sends it once."""
+        raise NotImplementedError
+
+    def run(self):
+        began = time.monotonic()
+        while not self.stops.is_set():
+            self.send()
+            self.runs += 1
+            self.stops.wait(max(0.0, began + self.runs * self.seconds - time.monotonic()))
+
+
+class Worker(Sender):
+    """Clients one behind the other, each with some statements."""
+
+    def __init__(self, port, number, stops, seconds):
+        super().__init__(stops, seconds)
+        self.port, self.number, self.sent, self.wrong = port, number, 0, []
+        self.texts = self.statements()
 
     def statements(self):
         """Returns statements on one table, of which one fails."""
@@ -113,72 +141,150 @@ class Worker(threading.Thread):
                       f"SELECT id, name FROM {table} WHERE id IN ({number}, 7, {number + 1})"]
         return texts + [f"SELECT nothing FROM {table}", f"SELECT COUNT(*), SUM(id) FROM {table}"]
 
-    def run(self):
-        texts = self.statements()
-        said = ";\n".join(texts)
-        while not self.stops.is_set():
-            printed = sql(self.port, said)
-            self.sent += len(texts)
-            self.runs += 1
-            if not printed.endswith("\n20\t190\n"):
-                self.wrong.append(printed[-200:])
+    def send(self):
+        printed = sql(self.port, ";\n".join(self.texts))
+        self.sent += len(self.texts)
+        if not printed.endswith("\n20\t190\n"):
+            self.wrong.append(printed[-200:])
 
 
-class Dumper(threading.Thread):
+class Dumper(Sender):
     """Dumps of a table, each of which has to be the same."""
 
-    def __init__(self, port, wanted, stops):
+    def __init__(self, port, wanted, stops, seconds):
+        super().__init__(stops, seconds)
+        self.port, self.wanted, self.wrong = port, wanted, 0
+
+    def send(self):
+        self.wrong += dump(self.port, "dumped") != self.wanted
+
+
+class Sysbench(threading.Thread):
+    """Transactions of sysbench by prepared statements, for so many seconds."""
+
+    def __init__(self, port, seconds, rate):
         super().__init__()
-        self.port, self.wanted, self.stops = port, wanted, stops
-        self.runs, self.wrong = 0, 0
+        self.words = [*sysbench(port), f"--time={seconds}", "--events=0", f"--rate={rate}", "run"]
+        self.said = ""
 
     def run(self):
-        while not self.stops.is_set():
-            self.wrong += dump(self.port, "dumped") != self.wanted
-            self.runs += 1
+        ran = subprocess.run(self.words, stdin=subprocess.DEVNULL, stdout=subprocess.PIPE,
+                             stderr=subprocess.STDOUT, text=True, check=False)
+        self.said = ran.stdout
+
+    def counted(self, name):
+        """Returns one of the numbers that it prints at its end."""
+        found = re.search(rf"^ *{name}: +([0-9]+)", self.said, re.M)
+        if not found:
+            raise Failure(f"sysbench prints no {name}: {self.said:.2000}")
+        return int(found[1])
+
+
+def sysbench(port):
+    """Returns the words of a sysbench of two threads and two tables."""
+    return ["sysbench", "oltp_read_write", "--db-driver=mysql", "--mysql-host=127.0.0.1",
+            f"--mysql-port={port}", f"--mysql-user={USER}", f"--mysql-db={DATABASE}", "--tables=2",
+            "--table-size=1000", f"--threads={SYSBENCH_THREADS}"]
 
 
 def fill(port):
-    """Makes the table that is dumped."""
+    """Makes the table that is dumped, and those of sysbench."""
     rows = ", ".join(f"({it}, REPEAT('row {it} ', 30), x'00ff27')" for it in range(5000))
     sql(port, "CREATE TABLE dumped (id INT PRIMARY KEY, name TEXT, bytes BLOB);\n"
         f"INSERT INTO dumped VALUES {rows}")
+    if has("sysbench"):
+        run([*sysbench(port), "prepare"])
 
 
-def check_load(program, room, port, seconds):
+def counted(records):
+    """Returns how many lines there are of each kind, of each way to end, and of the workers'
+    statements."""
+    counts = collections.Counter()
+    for it in records:
+        counts[it["kind"]] += 1
+        if it["kind"] == "end":
+            counts["end", it["text"]] += 1
+        elif it["kind"] == "query":
+            text = it["text"]
+            counts["of workers"] += " load_" in text or text in ("BEGIN", "COMMIT")
+    return counts
+
+
+class Load:
+    """Four workers, a dumper and sysbench, which send through the proxy for so many seconds. Of a
+    rate the workers send half, and sysbench the other."""
+
+    def __init__(self, port, wanted, seconds, rate):
+        self.seconds, self.memory, self.stops = seconds, [], threading.Event()
+        each = len(Worker(port, 0, self.stops, 0).texts)
+        period = 2 * WORKERS * each / rate if rate else 0
+        self.workers = [Worker(port, it, self.stops, period) for it in range(WORKERS)]
+        self.dumper = Dumper(port, wanted, self.stops, period)
+        transactions = max(1, rate // 2 // TRANSACTION) if rate else 0
+        self.sysbench = Sysbench(port, seconds, transactions) if has("sysbench") else None
+        self.threads = [*self.workers, self.dumper, *([self.sysbench] if self.sysbench else [])]
+
+    def run(self, proxy):
+        """Has all send, and asks each second at least for the memory of the proxy."""
+        for it in self.threads:
+            it.start()
+        ends = time.monotonic() + self.seconds
+        while time.monotonic() < ends:
+            time.sleep(min(1.0, self.seconds / 10))
+            self.memory.append(proxy.memory())
+        self.stops.set()
+        for it in self.threads:
+            it.join()
+
+    def check(self, counts):
+        """Fails where what was sent and what was told differ."""
+        check([[]] * WORKERS, [it.wrong for it in self.workers], "what clients print")
+        check(0, self.dumper.wrong, "dumps that differ")
+        lost = {it for it in ("cut", "unread", "skipped", "refused", "lost") if counts[it]}
+        check(set(), lost, "what isn't audited")
+        check(counts["login"], counts["end", "quit"], "connections that end by a quit")
+        check(counts["login"], counts["end"], "ends")
+        check(sum(it.sent for it in self.workers), counts["of workers"], "lines of statements")
+        if self.sysbench:
+            # (a statement that fails, as by a deadlock, is counted apart)
+            sent = self.sysbench.counted("total") + self.sysbench.counted("ignored errors")
+            check(sent, counts["execute"], "lines of executions")
+            check(0, self.sysbench.counted("reconnects"), "connections that sysbench lost")
+
+    def tell(self, counts):
+        """Prints what passed, and the memory at the beginning and at each twelfth of the time."""
+        runs = sum(it.runs for it in self.workers)
+        said = f"  {self.seconds} s: {runs} clients with {counts['of workers']} statements, "
+        if self.sysbench:
+            said += (f"sysbench with {counts['execute']} executions in "
+                     f"{self.sysbench.counted('transactions')} transactions, ")
+        else:
+            print("left out: sysbench beside them (apt-get install sysbench)", flush=True)
+        lines = sum(number for kind, number in counts.items() if isinstance(kind, str)
+                    and kind != "of workers")
+        print(f"{said}{self.dumper.runs} dumps; {counts['login']} connections, {lines} lines",
+              flush=True)
+        parts = [self.memory[len(self.memory) * it // 12] for it in range(12)]
+        print(f"  KB of memory at each twelfth of the time: {parts}, {self.memory[-1]}", flush=True)
+
+
+def check_load(program, room, port, seconds, rate):
     """Clients and dumps for so long: none is cut, each statement has its line, and memory is flat."""
     fill(port)
-    wanted, stops = dump(port, "dumped"), threading.Event()
+    wanted = dump(port, "dumped")
     if wanted.count("INSERT") < 1:
         raise Failure("the table isn't dumped")
     with Proxy(program, port, os.path.join(room, "load.log"), "--digests") as proxy:
-        workers = [Worker(proxy.port, number, stops) for number in range(4)]
-        dumpers = [Dumper(proxy.port, wanted, stops)]
-        for it in workers + dumpers:
-            it.start()
-        ends, memory = time.monotonic() + seconds, []
-        while time.monotonic() < ends:
-            time.sleep(min(1.0, seconds / 10))
-            memory.append(proxy.memory())
-        stops.set()
-        for it in workers + dumpers:
-            it.join()
-        records = proxy.end()
-    check([[]] * 4, [it.wrong for it in workers], "what clients print")
-    check([0], [it.wrong for it in dumpers], "dumps that differ")
-    kinds = {it["kind"] for it in records} & {"cut", "unread", "skipped", "refused", "lost"}
-    check(set(), kinds, "what isn't audited")
-    check({"quit"}, {it["text"] for it in records if it["kind"] == "end"}, "how connections end")
-    told = [it for it in records if it["kind"] == "query" and " load_" in it["text"]]
-    begun = sum(it["kind"] == "query" and it["text"] in ("BEGIN", "COMMIT") for it in records)
-    check(sum(it.sent for it in workers), len(told) + begun, "lines of statements")
+        load = Load(proxy.port, wanted, seconds, rate)
+        load.run(proxy)
+        counts = counted(proxy.lines())
+    load.check(counts)
     # What it holds at first is room for what comes.
-    early, late = max(memory[:len(memory) // 2]), max(memory[len(memory) // 2:])
+    half = len(load.memory) // 2
+    early, late = max(load.memory[:half]), max(load.memory[half:])
     if late > early + 4096:
         raise Failure(f"it has {early} KB of memory in the first half, and {late} KB in the second")
-    runs, dumps = sum(it.runs for it in workers), sum(it.runs for it in dumpers)
-    print(f"  {seconds} s: {runs} clients with {len(told) + begun} statements, {dumps} dumps; "
-          f"{early} KB of memory, and {late} KB in the second half", flush=True)
+    load.tell(counts)
 
 
 # ---- Beside pt-query-digest -----------------------------------------------------------------------
@@ -218,6 +324,8 @@ DIFFERENCES = (
      ("SELECT name FROM goods WHERE id = 1", "SELECT name FROM goods WHERE id=1")),
     ("a comment leaves a blank to pt-query-digest, and makes another class",
      ("SELECT name FROM goods WHERE id = 1", "SELECT name FROM goods WHERE id = 1 /* why */")),
+    ("digits in a name are taken out by pt-query-digest, so tables of two names are one",
+     ("SELECT name FROM goods2", "SELECT name FROM goods3")),
     ("a quote that is written twice ends no string, but for pt-query-digest",
      ("SELECT id FROM goods WHERE name = 'it''s'", "SELECT id FROM goods WHERE name = 'its'")),
 )
@@ -294,15 +402,54 @@ def check_classes(records, known):
                           f"{[it for it in sorted(pairs) if it[at] in more]}")
 
 
-def check_pt(program, room, port, slow_log):
+@contextlib.contextmanager
+def captured(port, file):
+    """Has tcpdump write the packets of a server's port to a file, as pt-query-digest reads them."""
+    words = ["tcpdump", "-i", "lo", "-s", "65535", "-B", "65536", "-U", "-x", "-nn", "-q", "-tttt",
+             "port", str(port)]
+    with open(file, "w", encoding="utf-8") as out, subprocess.Popen(
+            words, stdin=subprocess.DEVNULL, stdout=out, stderr=subprocess.PIPE, text=True) as it:
+        try:
+            while "listening on" not in it.stderr.readline():
+                if it.poll() is not None:
+                    raise Failure("tcpdump doesn't begin")
+            yield
+            # (what was said last may not be captured yet)
+            time.sleep(2)
+        finally:
+            it.terminate()
+            said = it.stderr.read()
+        it.wait()
+    if "\n0 packets dropped by kernel" not in said:
+        raise Failure(f"tcpdump didn't capture all: {said}")
+
+
+def asked_pt(form, file, *options):
+    """Returns what pt-query-digest says of a file, and how much processor time it took."""
+    return measured(["pt-query-digest", "--no-version-check", "--output", "json", "--limit", "100%",
+                     "--type", form, *options, file])
+
+
+def check_faster(name, slowly, fast):
+    """Prints how much processor time the two took, and fails where that isn't what is promised."""
+    print(f"  {name}: pt-query-digest {slowly:.2f} s of a processor, audit-report {fast:.2f} s",
+          flush=True)
+    if slowly < FASTER * fast:
+        raise Failure("audit-report isn't ten times as fast")
+
+
+def check_pt(program, room, port, slow_log, count=STATEMENTS):
     """The classes, their counts and their rows are those of pt-query-digest, which takes longer."""
     sql(port, "CREATE TABLE goods (id INT PRIMARY KEY, name VARCHAR(99), price DOUBLE, kind INT);\n"
         "CREATE TABLE goods2 (id INT, name TEXT, `a b` INT);\n"
         "CREATE TABLE sold (id INT, name TEXT);\nINSERT INTO goods2 VALUES (1, 'one', 1);\n"
         "INSERT INTO goods VALUES (1, 'tea', 2.5, 1), (2, 'salt', 1, 1), (900, 'it''s', 7, 2)")
     at, log = random.Random(1), os.path.join(room, "digests.log")
-    texts = [statement(at) for _ in range(STATEMENTS)]
-    with Proxy(program, port, log, "--digests", "--kind", "query") as proxy:
+    texts, capture = [statement(at) for _ in range(count)], os.path.join(room, "capture.txt")
+    with contextlib.ExitStack() as stack:
+        if captures():
+            stack.enter_context(captured(port, capture))
+        proxy = stack.enter_context(Proxy(program, port, log, "--digests", "--kind", "query"))
         began = os.path.getsize(slow_log)
         sql(proxy.port, ";\n".join(texts))
         records = proxy.end()
@@ -310,21 +457,32 @@ def check_pt(program, room, port, slow_log):
     with open(slow_log, "rb") as whole, open(part, "wb") as it:
         whole.seek(began)
         it.write(whole.read())
-    check(STATEMENTS, len(records), "lines of statements")
+    check(count, len(records), "lines of statements")
     every = sorted({it["text"] for it in records})
     known = dict(zip(every, fingerprints(room, every)))
     check_classes(records, known)
-    said, slowly = measured(["pt-query-digest", "--no-version-check", "--output", "json",
-                             "--limit", "100%", part])
-    check(sums_by(lambda it: known[it["text"]], records), told_by_pt(said), "its classes")
     report = os.path.join(os.path.dirname(program), "audit-report")
     page, fast = measured([report, log])
     check(sums_by(lambda it: ("query", it["digest"]), records), rows_of_page(page), "the page")
-    classes = len({it["digest"] for it in records})
-    print(f"  {STATEMENTS} statements of {classes} classes: pt-query-digest {slowly:.2f} s of a "
-          f"processor, audit-report {fast:.2f} s", flush=True)
-    if slowly < FASTER * fast:
-        raise Failure("audit-report isn't ten times as fast")
+    said, slowly = asked_pt("slowlog", part)
+    sums = sums_by(lambda it: known[it["text"]], records)
+    check(sums, told_by_pt(said), "its classes")
+    print(f"  {count} statements of {len(sums)} classes", flush=True)
+    check_faster("by the slow log", slowly, fast)
+    if captures():
+        said, slowly = asked_pt("tcpdump", capture, "--watch-server", f"127.0.0.1:{port}")
+        # (it counts no rows of a capture)
+        check({it: [of[0], 0, of[2]] for it, of in sums.items()}, told_by_pt(said),
+              "its classes by a capture")
+        check_faster("by a capture", slowly, fast)
+    else:
+        print("left out: pt-query-digest by a capture, which root can make (apt-get install "
+              "tcpdump)", flush=True)
+
+
+def captures():
+    """Returns whether tcpdump may capture."""
+    return has("tcpdump") and os.geteuid() == 0
 
 
 def check_known_differences(program, room, port):
@@ -343,7 +501,7 @@ def check_known_differences(program, room, port):
         print(f"  {why}:\n    {ours}\n    {theirs}", flush=True)
 
 
-def test_audited(report, room, mariadb, program, seconds):
+def test_audited(report, room, mariadb, program, seconds, rate):
     """Runs both over a server that logs all as slow."""
     folder = os.path.join(room, "audited")
     os.makedirs(folder, exist_ok=True)
@@ -354,8 +512,7 @@ def test_audited(report, room, mariadb, program, seconds):
                           lambda: stack.enter_context(mariadb(folder, *options)))
         if not port:
             return
-        report.run(f"the audit under load for {seconds} s", check_load, program, folder, port,
-                   seconds)
+        report.run("the audit under load", check_load, program, folder, port, seconds, rate)
         if has("pt-query-digest"):
             report.run("the audit beside pt-query-digest", check_pt, program, folder, port, slow_log)
             report.run("where digests differ from pt-query-digest's", check_known_differences,

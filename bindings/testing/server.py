@@ -610,9 +610,9 @@ def pymysql_python():
     raise Failure("no Python has PyMySQL: apt-get install python3-pymysql")
 
 
-def test_server(report, room, library, load):
+def test_server(report, room, library, load, rate):
     """Runs the five examples, texts in each mode, random queries and odd commands, and so many
-    seconds of load on the audit."""
+    seconds of load on the audit, at this rate."""
     with contextlib.ExitStack() as stack:
         port = report.run("a MariaDB server", lambda: stack.enter_context(mariadb(room)))
         if not port:
@@ -639,4 +639,4 @@ def test_server(report, room, library, load):
         test_proxied(report, it, mariadb)
     program = os.path.join(room, "target", "release", "mysql-audit")
     if os.path.exists(program):
-        test_audited(report, room, mariadb, program, load)
+        test_audited(report, room, mariadb, program, load, rate)

@@ -1,11 +1,11 @@
 //! Which lines are written, and those of a loop on their way to the log.
 
-use crate::commands::digest_of;
 use crate::counts::Counts;
 use crate::lines::{Answer, Format, Heading, Outcome, Sink, Told};
 use crate::log::Log;
 use crate::network::Network;
 use crate::options::Options;
+use crate::texts::digest_of;
 use mysql_session::Mode;
 use std::cell::{Cell, RefCell};
 use std::collections::hash_map::RandomState;

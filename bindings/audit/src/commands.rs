@@ -2,7 +2,8 @@
 
 use crate::lines::{Format, Told};
 use crate::masking::masked;
-use mysql_session::{digest_in, Attributes, BulkRow, Bytes, Event, Mode, OtherCommand};
+use crate::texts::digest_of;
+use mysql_session::{Attributes, BulkRow, Event, Mode, OtherCommand};
 
 /// What is told for a secret that isn't part of a text.
 pub const HIDDEN: &[u8] = b"*****";
@@ -105,13 +106,6 @@ impl Telling {
         };
         without.about("unknown", payload)
     }
-}
-
-/// The digest of a text; none where there is no memory for it.
-pub fn digest_of(text: &[u8], mode: Mode) -> Option<Vec<u8>> {
-    let mut out = Bytes::new().ok()?;
-    digest_in(text, mode, &mut out).ok()?;
-    Some(out.as_slice().to_vec())
 }
 
 /// What a client asks for. None, if the event is something else, or asks for nothing: what long

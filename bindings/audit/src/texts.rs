@@ -1,8 +1,18 @@
-//! Texts, dates and times as lines have them.
+//! Texts, digests, dates and times as lines have them.
 
-use mysql_session::{Date, Time};
+use mysql_session::{digest_in, Bytes, Date, Mode, Time};
 use std::fmt::Write;
 use std::time::{Duration, SystemTime, UNIX_EPOCH};
+
+/// The digest of a statement, without the semicolons and blanks at its end, which servers drop. None
+/// where there is no memory for it.
+pub fn digest_of(text: &[u8], mode: Mode) -> Option<Vec<u8>> {
+    let is_kept = |byte: &u8| !matches!(byte, b';' | b' ' | b'\t'..=b'\r');
+    let end = text.iter().rposition(is_kept).map_or(0, |at| at + 1);
+    let mut out = Bytes::new().ok()?;
+    digest_in(&text[..end], mode, &mut out).ok()?;
+    Some(out.as_slice().to_vec())
+}
 
 /// Whether a character is one that a terminal doesn't show, or by which it turns what it shows.
 fn is_hidden(character: char) -> bool {
@@ -192,7 +202,9 @@ fn civil(days: u64) -> (u64, u64, u64) {
 
 #[cfg(test)]
 mod tests {
-    use super::{push_json, push_number, push_quoted, push_readable, push_seconds, Duration};
+    use super::{
+        digest_of, push_json, push_number, push_quoted, push_readable, push_seconds, Duration, Mode,
+    };
 
     fn written<T>(write: impl Fn(&mut String, T), what: T) -> String {
         let mut text = String::new();
@@ -218,6 +230,19 @@ mod tests {
         }
         let bytes = b"a\xff\x7f\xc3\xa9";
         assert_eq!(r"a\xff\u{7f}é", written(push_readable, &bytes[..]));
+    }
+
+    #[test]
+    fn digests_have_no_semicolon_at_the_end() {
+        let digest = |text: &str| digest_of(text.as_bytes(), Mode::default());
+        for text in ["SELECT 1", "SELECT 1;", "SELECT 2 ; ;\r\n"] {
+            assert_eq!(Some(b"select ?".to_vec()), digest(text));
+        }
+        assert_eq!(
+            Some(b"begin ; select ?".to_vec()),
+            digest("BEGIN; SELECT ';';")
+        );
+        assert_eq!(Some(Vec::new()), digest(" ; "));
     }
 
     #[test]

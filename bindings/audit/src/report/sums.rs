@@ -1,7 +1,8 @@
 //! What the lines of a log sum up to. However long a log is, it takes as much memory.
 
 use crate::json::{Fields, Items, Json};
-use mysql_session::{digest, Bytes};
+use crate::texts::digest_of;
+use mysql_session::Mode;
 use std::collections::hash_map::RandomState;
 use std::collections::{BTreeMap, HashMap};
 use std::hash::BuildHasher;
@@ -86,9 +87,8 @@ impl<'a> Line<'a> {
             return None;
         }
         let text = self.text.clone()?.bytes()?;
-        let mut out = Bytes::new().ok()?;
-        digest(&text, &mut out).ok()?;
-        Some(String::from_utf8_lossy(out.as_slice()).into_owned())
+        let digest = digest_of(&text, Mode::default())?;
+        Some(String::from_utf8_lossy(&digest).into_owned())
     }
 
     /// The address without its port.
@@ -586,6 +586,7 @@ mod tests {
         let mut sums = sums(9, false);
         for (text, seconds) in [
             ("\"text\":\"SELECT 1\"", 1),
+            ("\"text\":\"SELECT 1 ;\\n; \"", 1),
             ("\"text\":\"SELECT 'two' -- why\"", 3),
             ("\"digest\":\"select ?\",\"text\":\"anything\"", 2),
             ("\"text\":{\"hex\":\"73ff2031\"}", 1),
@@ -598,7 +599,7 @@ mod tests {
             .iter()
             .map(|it| (&*it.shown.text, it.sum.count))
             .collect();
-        assert_eq!(vec![("select ?", 3.0), ("s\u{fffd} ?", 1.0)], found);
+        assert_eq!(vec![("select ?", 4.0), ("s\u{fffd} ?", 1.0)], found);
         assert_eq!("SELECT 'two' -- why", top[0].example.text);
     }
 
