@@ -5,7 +5,8 @@ Each round runs each side once, so that a busy machine slows all sides alike. It
 and the median of the processor's microseconds (user and system) a row, an event or a set, in this process
 alone. By memory the bytes of a reply stand in it. By socket a process of its own sends the same bytes to
 each client through a socket of the file system. Each side's rows are compared with what was written. Peers
-that this Python hasn't are left out."""
+that this Python hasn't are left out. In the end, or by the workload `dropped`, it prints the memory behind a
+run whose rows or events were dropped, and behind ten more."""
 
 import datetime
 import decimal
@@ -102,6 +103,14 @@ def reply_of(form, row_of):
     return b"".join(packet(number + 1, it) for number, it in enumerate(payloads))
 
 
+def prepared_of(reply):
+    """The answer to the prepare of a statement without parameters, whose executions have this reply."""
+    at = 5
+    for _ in range(reply[4] + 1):
+        at += 4 + int.from_bytes(reply[at:at + 3], "little")
+    return packet(1, struct.pack("<BIHHBH", 0, 1, reply[4], 0, 0, 0)) + reply[5:at]
+
+
 def pieces_of(data):
     return (data[at:at + PIECE] for at in range(0, len(data), PIECE))
 
@@ -116,7 +125,7 @@ def payload_from(stream):
 
 
 def serve(listening, replies):
-    """Answers each client: a query that is a reply's name by that reply, all else by an OK packet."""
+    """Answers each client: a query that is a reply's name by that reply, an execution by that of the prepare before it, all else by an OK packet."""
     while True:
         client, _ = listening.accept()
         with client, client.makefile("rb") as stream:
@@ -124,7 +133,9 @@ def serve(listening, replies):
             payload_from(stream)
             client.sendall(packet(2, OK))
             while (command := payload_from(stream)) and command[0] != 1:
-                client.sendall(replies.get(command[1:], packet(1, OK)))
+                if command[0] != 0x17:
+                    reply = replies.get(command[1:], packet(1, OK))
+                client.sendall(prepared_of(reply) if command[0] == 0x16 else reply)
 
 
 class Server:
@@ -226,6 +237,23 @@ def rows_over_socket(path, name, kind=ms.ReplyKind.QUERY):
         return rows
 
 
+def rows_through_connection(path, name, binary):
+    """Rows of a connection that puts a query, or a prepare and an execution, and is fed what the socket brings."""
+    rows, execution = [], ms.Command.execute(1)
+    with socket.socket(socket.AF_UNIX) as it, ms.Connection.after_login(CAPABILITIES) as connection:
+        it.connect(path)
+        it.recv(PIECE)
+        it.sendall(packet(1, ms.put_login("u", CAPABILITIES, b"")))
+        it.recv(PIECE)
+        for command in (ms.Command.prepare(name), execution) if binary else (ms.Command.query(name),):
+            it.sendall(connection.put(ms.Side.CLIENT, command).packets)
+            while connection.turn == ms.Side.SERVER:
+                connection.feed(ms.Side.SERVER, it.recv(PIECE))
+                while (found := connection.take_rows(ms.Values())) or connection.next_event():
+                    rows += found
+        return rows
+
+
 def pings():
     ping, ok = packet(0, b"\x0e"), packet(1, OK)
     with ms.Connection.after_login(CAPABILITIES) as connection:
@@ -267,7 +295,9 @@ def workloads(path, replies):
                  "module, a table": (lambda: list(taken(binary, kind, ms.ReplyReader.take_tables)), None)}
         yield form + " binary, memory", sides
         sides = {"module, values": (lambda: rows_over_socket(path, name), wanted),
-                 "module, values, binary": (lambda: rows_over_socket(path, form + " binary", kind), wanted)}
+                 "module, values, binary": (lambda: rows_over_socket(path, form + " binary", kind), wanted),
+                 "module, rows of a connection": (lambda: rows_through_connection(path, name, False), wanted),
+                 "module, rows of a connection, binary": (lambda: rows_through_connection(path, form + " binary", True), wanted)}
         if MySQLdb:
             sides["MySQLdb"] = lambda: rows_of_client(MySQLdb.connect, path, name), wanted
         if pymysql:
@@ -284,6 +314,35 @@ def workloads(path, replies):
     if pymysql:
         sides["PyMySQL"] = lambda: sets_of_pymysql(query, sets), None
     yield "sets", sides
+
+
+def resident():
+    """Kilobytes of memory that this process has."""
+    with open("/proc/self/statm", encoding="ascii") as file:
+        return int(file.read().split()[1]) * os.sysconf("SC_PAGESIZE") // 1024
+
+
+def rows_dropped(reply):
+    """Reads a reply whose rows are taken by a connection, and let go piece by piece."""
+    with connected() as connection:
+        for piece in pieces_of(reply):
+            connection.feed(ms.Side.SERVER, piece)
+            while connection.take_rows(ms.Values()) or connection.next_event():
+                pass
+
+
+def print_memory(reply):
+    """Memory behind one reply, and behind ten more of them."""
+    runs = {"rows that are taken and dropped": lambda: rows_dropped(reply), "pings and their OKs": pings}
+    print("\n| memory | kilobytes behind a run | behind ten more |\n|---|---|---|")
+    for name, run in runs.items():
+        run()
+        gc.collect()
+        before = resident()
+        for _ in range(10):
+            run()
+        gc.collect()
+        print(f"| {name} | {before} | {resident()} |", flush=True)
 
 
 def timed(run, wanted):
@@ -314,6 +373,8 @@ def main():
                         found[side].append(timed(*how))
                 for side, times in found.items():
                     print(f"| {name} | {side} | {min(times):.2f} | {statistics.median(times):.2f} |", flush=True)
+            if not chosen or "dropped" in chosen:
+                print_memory(replies["texts text"])
         finally:
             server.stop()
 

@@ -188,7 +188,25 @@ public class It {
     }
 }
 """
+# Two rows under columns of each type, of which the second one has NULLs; and how drivers print them.
+KINDS: List[Tuple[str, str, Any]] = [
+    ("id", "int", 1), ("tiny", "tinyint", -1), ("tiny_u", "tinyint unsigned", 255),
+    ("small", "smallint", -300), ("medium", "mediumint", -70000), ("big", "bigint", -5000000000),
+    ("big_u", "bigint unsigned", 2**64 - 1), ("year", "year", 2024), ("f", "float", 1.5),
+    ("d", "double", -0.1), ("price", "decimal", "2.50"), ("bits", "bit", 65), ("c", "char", "tea"),
+    ("v", "varchar", "mat\u00e9"), ("long", "text", "a text"), ("color", "enum", "red"),
+    ("some", "set", "a,b"), ("b", "binary", "bin"), ("vb", "varbinary", "var"),
+    ("data", "blob", "data"), ("more", "json", '{"a": 1}'), ("day", "date", "2024-02-29"),
+    ("at", "datetime", "2024-02-29T13:14:15.000060"),
+    ("changed", "timestamp", "2024-02-29T01:02:03.500000"), ("took", "time", "-30:00:01.500000")]
+OF_KINDS = {"columns": {name: kind for name, kind, _ in KINDS},
+            "rows": [[value for _, _, value in KINDS], [2] + [None] * (len(KINDS) - 1)]}
+KINDS_BY_ID = "SELECT * FROM kinds WHERE id = ?"
+CLIENTS = pathlib.Path(__file__).resolve().parent.parent / "testing" / "clients"
+GO_DRIVER = "/usr/share/gocode/src/github.com/go-sql-driver/mysql"
+
 ANSWERS: Dict[str, test_server.Given] = {
+    "SELECT * FROM kinds": OF_KINDS, KINDS_BY_ID: {**OF_KINDS, "where": ["id"]},
     "SELECT * FROM times": TIMES, TIMES_BY_ID: {**TIMES, "where": ["id"]}, SUM: added,
     INSERT: lambda values: {"affected": 1, "id": len(values[1] or b"")},
     "SELECT * FROM secrets": {"error": 1142, "state": "42000", "message": "SELECT is denied"}}
@@ -455,6 +473,56 @@ class TestServer(unittest.TestCase):
                                       cwd=folder, stdout=subprocess.PIPE, stderr=subprocess.PIPE,
                                       timeout=300, universal_newlines=True)
         self.assertEqual((done.stderr, done.stdout), ("", "2024-02-29\n8.0.0-test-server\n" * 2))
+
+    def test_kinds(self) -> None:
+        """Columns of each type, by text and by an execution: a row's values are the same."""
+        with connected(ANSWERS) as it:
+            by_text = self.dicts(it.query("SELECT * FROM kinds"))
+            statement = it.prepare(KINDS_BY_ID).statement
+            executed = [self.dicts(results) for results in
+                        it.execute(KINDS_BY_ID, statement, [(1,), (2,)])]
+        self.assertEqual([[it] for it in by_text], executed)
+        first, second = by_text
+        self.assertEqual([first["f"], first["d"], first["bits"], first["big_u"], first["at"]],
+                         [1.5, -0.1, b"A", 2**64 - 1,
+                          datetime.datetime(2024, 2, 29, 13, 14, 15, 60)])
+        self.assertEqual(second, {**dict.fromkeys(first), "id": 2})
+
+    def drivers_kinds(self, *words: str, **changes: str) -> None:
+        """A driver's program prints each row by text, and then by an execution of each."""
+        own = {name: changes.get(name, str(value)) for name, _, value in KINDS}
+        own["at"], own["changed"] = own["at"].replace("T", " "), own["changed"].replace("T", " ")
+        first = "|".join(own.values())
+        rows = [first, "2" + "|NULL" * (len(KINDS) - 1)]
+        with contextlib.redirect_stdout(io.StringIO()), test_server.serving(ANSWERS) as port:
+            done = subprocess.run([*words, str(port)], stdout=subprocess.PIPE, encoding="utf-8",
+                                  stderr=subprocess.PIPE, timeout=300)
+        self.assertEqual((done.stderr, done.stdout.splitlines()), ("", rows * 2))
+
+    def test_kinds_by_go(self) -> None:
+        """go-sql-driver, where it is."""
+        if shutil.which("go") is None or not os.path.exists(GO_DRIVER):
+            self.skipTest("there is no go-sql-driver")
+        with tempfile.TemporaryDirectory() as folder, mock.patch.dict(os.environ, {
+                "GO111MODULE": "off", "GOPATH": "/usr/share/gocode", "GOCACHE": folder}):
+            made = os.path.join(folder, "kinds")
+            subprocess.run(["go", "build", "-o", made, "kinds.go"], cwd=CLIENTS, check=True,
+                           timeout=300)
+            self.drivers_kinds(made, bits="A")
+
+    def test_kinds_by_php(self) -> None:
+        """PHP's mysqli, where it is."""
+        looks = ["php", "-r", "exit(extension_loaded('mysqli') ? 0 : 1);"]
+        if shutil.which("php") is None or subprocess.run(looks).returncode:
+            self.skipTest("there is no mysqli")
+        self.drivers_kinds("php", str(CLIENTS / "kinds.php"))
+
+    def test_kinds_by_java(self) -> None:
+        """Connector/J, where it is."""
+        if shutil.which("javac") is None or not os.path.exists(CONNECTOR_J):
+            self.skipTest("there is no Java with Connector/J")
+        self.drivers_kinds("java", "-cp", CONNECTOR_J, str(CLIENTS / "Kinds.java"),
+                           at="2024-02-29 13:14:15.00006", changed="2024-02-29 01:02:03.5")
 
     def test_refused_login(self) -> None:
         """A client that finds no server that greets, and one that is sent away."""

@@ -178,6 +178,19 @@ def has_header(line):
     return ran.returncode == 0
 
 
+# What a program in Python may need of another package, which a distribution's Python may have.
+NUMPY = "import numpy\n"
+
+
+def python_for(text):
+    """A Python that has what a program needs, or None."""
+    if NUMPY not in text:
+        return "python3"
+    looks = (it for it in ("python3", "/usr/bin/python3") if has(it))
+    return next((it for it in looks if not subprocess.run(
+        [it, "-c", NUMPY], stderr=subprocess.DEVNULL).returncode), None)
+
+
 class Programs:
     """Runs programs of documents as they are there, in the repository's folder."""
 
@@ -212,7 +225,7 @@ class Programs:
 
     def python(self, text):
         """Runs a program in Python."""
-        return run(["python3", self.write("program.py", text)], cwd=ROOT,
+        return run([python_for(text), self.write("program.py", text)], cwd=ROOT,
                    env=python_environment(self.library))
 
     def test(self, language, text, output):
@@ -234,6 +247,10 @@ def test_documents(report, programs):
         for number, block in enumerate(blocks):
             if OPENSSL in block[1] and not has_header(OPENSSL):
                 print(f"left out: {name}, program {number} (apt-get install libssl-dev)", flush=True)
+                continue
+            if block[0] == "python" and python_for(block[1]) is None:
+                print(f"left out: {name}, program {number} (apt-get install python3-numpy)",
+                      flush=True)
                 continue
             report.run(f"{name}, program {number} ({block[0]})", programs.test, *block)
         lacking = {"c", "rust", "python"} - {it[0] for it in blocks}

@@ -19,9 +19,13 @@ The table has a query's text and its answer, in a file of JSON or as a dict:
 
 A query with question marks is prepared and executed; of its rows those are sent that have its
 values in the columns that `where` names. In a dict a function of the values may be there instead of
-an answer; at the prepare each of them is None. Columns are of the types tinyint, smallint, int,
-bigint, year, decimal, varchar, text, json, blob, date, datetime and time. Those of numbers may be
-unsigned. Texts are compared in small letters and with one blank between their words.
+an answer; at the prepare each of them is None. Texts are compared in small letters and with one
+blank between their words.
+
+Columns of numbers are of the types tinyint, smallint, mediumint, int, bigint, year, float, double,
+decimal and bit. All but the last may be unsigned, and a bit is a number below 256. Columns of texts
+are of char, varchar, text, enum, set and json, and those of bytes of binary, varbinary and blob.
+Those of times are of date, datetime, timestamp and time.
 
 Every login is let in. SET, USE, transactions, pings and the like are answered by OK. What drivers ask
 by themselves is answered by `asked.py`, but where the table has it. Any other query is error 1064, and
@@ -47,7 +51,7 @@ sys.path[:0] = [HERE, os.path.join(HERE, os.pardir)]
 import asked  # noqa: E402  (found by the line above)
 
 import mysql_session as ms  # noqa: E402
-from mysql_session import Capability, Column, ColumnType, ReplyKind, Side  # noqa: E402
+from mysql_session import Capability, Column, ColumnFlag, ColumnType, ReplyKind, Side  # noqa: E402
 
 VERSION = "8.0.0-test-server"
 
@@ -65,12 +69,25 @@ BINARY, TEXT = 63, 45  # the collation of what is no text, and of texts
 
 # Types of columns by their names, their collations, and their lengths in bytes.
 TYPES = {"tinyint": (ColumnType.TINY, BINARY, 4), "smallint": (ColumnType.SHORT, BINARY, 6),
-         "int": (ColumnType.LONG, BINARY, 11), "bigint": (ColumnType.LONGLONG, BINARY, 20),
-         "year": (ColumnType.YEAR, BINARY, 4), "decimal": (ColumnType.NEWDECIMAL, BINARY, 67),
-         "varchar": (ColumnType.VAR_STRING, TEXT, 1020), "text": (ColumnType.BLOB, TEXT, 65535),
-         "json": (ColumnType.JSON, BINARY, 65535), "blob": (ColumnType.BLOB, BINARY, 65535),
-         "date": (ColumnType.DATE, BINARY, 10), "datetime": (ColumnType.DATETIME, BINARY, 26),
-         "time": (ColumnType.TIME, BINARY, 17)}
+         "mediumint": (ColumnType.INT24, BINARY, 9), "int": (ColumnType.LONG, BINARY, 11),
+         "bigint": (ColumnType.LONGLONG, BINARY, 20), "year": (ColumnType.YEAR, BINARY, 4),
+         "float": (ColumnType.FLOAT, BINARY, 12), "double": (ColumnType.DOUBLE, BINARY, 22),
+         "decimal": (ColumnType.NEWDECIMAL, BINARY, 67), "bit": (ColumnType.BIT, BINARY, 8),
+         "char": (ColumnType.STRING, TEXT, 1020), "varchar": (ColumnType.VAR_STRING, TEXT, 1020),
+         "enum": (ColumnType.STRING, TEXT, 1020), "set": (ColumnType.STRING, TEXT, 1020),
+         "text": (ColumnType.BLOB, TEXT, 65535), "json": (ColumnType.JSON, BINARY, 65535),
+         "binary": (ColumnType.STRING, BINARY, 255),
+         "varbinary": (ColumnType.VAR_STRING, BINARY, 255),
+         "blob": (ColumnType.BLOB, BINARY, 65535), "date": (ColumnType.DATE, BINARY, 10),
+         "datetime": (ColumnType.DATETIME, BINARY, 26),
+         "timestamp": (ColumnType.TIMESTAMP, BINARY, 26), "time": (ColumnType.TIME, BINARY, 17)}
+
+FLOATS = (ColumnType.FLOAT, ColumnType.DOUBLE)
+
+# What servers tell by flags alone, and decimals: of a float as many as it wants, and microseconds.
+FLAGS = {"enum": ColumnFlag.ENUM, "set": ColumnFlag.SET}
+DECIMALS = {**dict.fromkeys(FLOATS, 31),
+            **dict.fromkeys((ColumnType.DATETIME, ColumnType.TIMESTAMP, ColumnType.TIME), 6)}
 
 DONE = ("set ", "use ", "begin", "start transaction", "commit", "rollback")
 
@@ -151,17 +168,22 @@ def column(name: str, kind: str) -> Column:
         raise ValueError(f"the column {name} is of no type that is known: {kind}")
     number, collation, length = TYPES[word]
     flags = (BINARY_FLAG if collation == BINARY else 0) | (UNSIGNED if more else 0)
-    return Column(name.encode(), number, flags, collation, length)
+    return Column(name.encode(), number, flags | FLAGS.get(word, 0), collation, length,
+                  DECIMALS.get(number, 0))
 
 
 def cell(value: Any, of: Column) -> ms.Parameter:
     """A value of JSON as a value of its column's type."""
+    if value is not None and of.type in FLOATS:
+        return float(value)
+    if value is not None and of.type == ColumnType.BIT:
+        return int(value).to_bytes(of.length // 8, "big")
     if not isinstance(value, str):
         found: ms.Parameter = value
         return found
     if of.type == ColumnType.DATE:
         return datetime.date.fromisoformat(value)
-    if of.type == ColumnType.DATETIME:
+    if of.type in (ColumnType.DATETIME, ColumnType.TIMESTAMP):
         return datetime.datetime.fromisoformat(value)
     if of.type == ColumnType.TIME:
         hours, minutes, seconds = value.lstrip("-").split(":")
@@ -193,6 +215,8 @@ def text_of(value: ms.Parameter) -> bytes:
         hours, rest = divmod(length.days * 86400 + length.seconds, 3600)
         micros = f".{length.microseconds:06}" if length.microseconds else ""
         return f"{sign}{hours:02}:{rest // 60:02}:{rest % 60:02}{micros}".encode()
+    if isinstance(value, float):
+        return repr(value).replace("e+", "e").encode()
     return value if isinstance(value, bytes) else str(value).encode()
 
 

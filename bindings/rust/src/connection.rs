@@ -335,6 +335,7 @@ impl Connection {
     /// # Errors
     /// The fault of the first packet; each further call answers it too. The events before it
     /// remain.
+    #[inline]
     pub fn next_event(&mut self) -> Result<Option<Event<'_>>, ConnectionFault> {
         self.begin_next();
         // SAFETY: "Handles": by `ConnectionHandle::get`; "Results go out": a field of this object.
@@ -374,6 +375,7 @@ impl Connection {
     ///
     /// # Errors
     /// Those of [`Connection::next_event`].
+    #[inline]
     pub fn next_event_lent(&mut self) -> Result<Option<Event<'_>>, ConnectionFault> {
         self.begin_next();
         let room = self.cells.structs.len();
@@ -395,6 +397,7 @@ impl Connection {
     }
 
     /// The event that was told is forgotten, and a greeting that comes next is looked at.
+    #[inline]
     fn begin_next(&mut self) {
         self.forget();
         if !self.is_greeted {
@@ -412,6 +415,7 @@ impl Connection {
     }
 
     /// The event that a call told, or its fault.
+    #[inline]
     fn told(&mut self, code: u32) -> Result<Option<Event<'_>>, ConnectionFault> {
         if let Err(code) = answer(code) {
             self.forget();
@@ -556,6 +560,7 @@ impl Connection {
     }
 
     /// The event that was told or put last, again, until the connection changes.
+    #[inline]
     pub fn event(&self) -> Option<Event<'_>> {
         let cells = &self.cells.structs[..self.cells.shown];
         // SAFETY: the library wrote the fields; the texts are "good until the next call on it" that
@@ -812,6 +817,7 @@ impl Connection {
     }
 
     /// The event that was told last is shown no more.
+    #[inline]
     fn forget(&mut self) {
         self.shown.0 = raw::Event::default();
         self.cells.shown = 0;

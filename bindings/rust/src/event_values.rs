@@ -113,6 +113,7 @@ pub struct EventRow<'a> {
 
 impl<'a> EventRow<'a> {
     /// How many cells there are.
+    #[inline]
     pub fn len(&self) -> usize {
         self.len
     }
@@ -123,6 +124,7 @@ impl<'a> EventRow<'a> {
     }
 
     /// What the cell of a number holds, from 0: bytes by text, values in binary.
+    #[inline]
     pub fn cell(&self, number: usize) -> Option<Value<'a>> {
         let shown = match self.cells.get(number) {
             Some(cell) => *cell,

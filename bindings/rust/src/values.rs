@@ -183,6 +183,7 @@ impl<'a> Value<'a> {
     ///
     /// # Safety
     /// The library wrote the fields, and the bytes stay as they are for `'a`.
+    #[inline]
     pub(crate) unsafe fn of(shown: raw::Value) -> Value<'a> {
         match shown.kind {
             0 => Value::Null,
