@@ -12,7 +12,7 @@ typedef const unsigned char *Pointer;
 size_t mysql_bench_read_rows(Pointer, size_t, size_t, _Bool, _Bool);
 size_t mysql_bench_read_connection_lent(Pointer, size_t, Pointer, size_t, size_t);
 
-enum { STREAM = SCALED(64 << 20), SAID = 100, PARTS = 10, IN_A_THREAD = 100000, MOST_THREADS = 64 };
+enum { STREAM = SCALED(64 << 20), SAID = 100, PARTS = 10, IN_A_THREAD = SCALED(100000), MOST_THREADS = 64 };
 
 static Bytes nothing = {(unsigned char *)"", 0};
 
