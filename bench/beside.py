@@ -18,23 +18,31 @@ def all_workloads():
         return re.findall(r'^    "([\w-]+)": ', it.read(), re.M)
 
 
-def instructions(build, workload):
-    """The instructions of a unit of each way of a workload, by the way's name."""
+def dumped(build, program, workload):
+    """Of each way of a workload the instructions and the units. A process does one workload, so that its heap is fresh."""
     words = ["valgrind", "--tool=callgrind", "--instr-atstart=no", "--callgrind-out-file=counts"]
     found = {}
     with tempfile.TemporaryDirectory(prefix="beside-") as room:
         build = os.path.abspath(build)
-        words += [f"{build}/counted", f"{build}/few", "1", workload]
+        words += [f"{build}/{program}", f"{build}/few", "1", workload]
         ran = subprocess.run(words, cwd=room, capture_output=True, text=True)
         if ran.returncode != 0:
-            print(f"# {workload}: {build} did not do the work", flush=True)
+            print(f"# {workload}: {build}/{program} did not do the work", flush=True)
         for file in pathlib.Path(room).glob("counts.*"):
             text = file.read_text(errors="replace")
             said = re.search(r"^desc: Trigger: Client Request: (\S+) (\S+) (\d+)$", text, re.M)
             total = re.search(r"^totals: (\d+)$", text, re.M)
             if said and total:
-                found[said[2]] = int(total[1]) / int(said[3])
+                found[said[2]] = int(total[1]), int(said[3])
     return found
+
+
+def instructions(build, program, workload):
+    """The instructions of a unit of each way of a workload, by the way's name: those inside the calls alone."""
+    ways = dumped(build, program, workload)
+    # Of a way that makes what it works on, less what it takes to do all once.
+    once = {way: ways.get(f"{way}-once", (0, 0)) for way in ways if not way.endswith("-once")}
+    return {way: (ways[way][0] - less[0]) / (ways[way][1] - less[1]) for way, less in once.items()}
 
 
 def written(count):
@@ -44,7 +52,7 @@ def written(count):
 if __name__ == "__main__":
     print("| workload | before | after | ratio |\n|---|---|---|---|")
     for each in sys.argv[3:] or all_workloads():
-        old, new = (instructions(it, each) for it in sys.argv[1:3])
-        for way in old.keys() & new.keys():
+        old, new = (instructions(it, "counted", each) for it in sys.argv[1:3])
+        for way in [it for it in old if it in new]:
             name = each if way == "library" else f"{each}, {way}"
             print(f"| {name} | {written(old[way])} | {written(new[way])} | {new[way] / old[way]:.2f} |", flush=True)

@@ -618,10 +618,10 @@ static void run(const char *what, int rounds) {
     Bytes query = load("query");
     if (BEGINS("frame")) {
         Bytes one = payload(IS("frame-16M") ? 16000000 : 100);
-        size_t count = IS("frame-16M") ? 64 : 10000000;
+        size_t count = IS("frame-16M") ? SCALED(64) : SCALED(10000000);
         MEASURE("hand-c", (double)count * one.len, frame(one, count, IS("frame-16M") ? 1 : 65536))
     } else if (BEGINS("split")) {
-        Bytes stream = IS("split-16M") ? framed(16000000, 64) : framed(100, 2560000);
+        Bytes stream = IS("split-16M") ? framed(16000000, SCALED(64)) : framed(100, SCALED(2560000));
         MEASURE("hand-c", (double)stream.len, split(stream))
         MEASURE("copy", (double)stream.len, copied(stream))
     } else if (BEGINS("receive")) {

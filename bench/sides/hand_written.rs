@@ -1,6 +1,5 @@
 //! The same work written by hand in safe Rust, over the same kinds of values: hand_written_rust INPUTS ROUNDS WORKLOAD..
 use std::hint::black_box;
-use std::time::Instant;
 
 const WIDTH: usize = 4;
 const PIECE: usize = 65_536;
@@ -829,7 +828,7 @@ fn place_of(name: &str) -> usize {
 fn cells(stream: &[u8], binary: bool, by_name: bool) -> Option<usize> {
     let rows = reply(stream, PIECE, binary)?;
     let mut sum = 0;
-    for _ in 0..1000 {
+    for _ in 0..CELL_TIMES {
         sum = 0;
         for row in black_box(&rows) {
             let at = |place: usize| if by_name { &row[place_of(NAMES[place])] } else { &row[place] };
@@ -847,20 +846,65 @@ fn convert(values: &[Vec<Value>], times: usize) -> usize {
     sum
 }
 
-fn processor() -> f64 {
-    // user and system time, in ticks of the scheduler's clock
-    let text = std::fs::read_to_string("/proc/self/schedstat").unwrap();
-    text.split(' ').next().unwrap().parse().unwrap()
+/// How many times fewer there are of all, where callgrind counts instructions in place of time (`--cfg counted`).
+const SCALE: usize = if cfg!(counted) { 50 } else { 1 };
+/// How often a thousand rows are gone over, which are read once: often enough that reading them counts for little.
+const CELL_TIMES: usize = if cfg!(counted) { 200 } else { 1000 };
+
+fn scaled(count: usize) -> usize {
+    count.div_ceil(SCALE)
 }
 
-fn measure(what: &str, units: usize, rounds: usize, mut run: impl FnMut() -> Option<usize>) {
-    let units = units as f64;
-    for _ in 0..rounds {
-        let (wall, before) = (Instant::now(), processor());
-        let check = run().unwrap();
-        println!("{what} hand-rust {:.4} {:.4} {check}", wall.elapsed().as_nanos() as f64 / units, (processor() - before) / units);
+#[cfg(not(counted))]
+mod measuring {
+    use std::time::Instant;
+
+    fn processor() -> f64 {
+        // user and system time, in ticks of the scheduler's clock
+        let text = std::fs::read_to_string("/proc/self/schedstat").unwrap();
+        text.split(' ').next().unwrap().parse().unwrap()
+    }
+
+    pub fn measure(what: &str, units: usize, rounds: usize, mut run: impl FnMut() -> Option<usize>) {
+        let units = units as f64;
+        for _ in 0..rounds {
+            let (wall, before) = (Instant::now(), processor());
+            let check = run().unwrap();
+            println!("{what} hand-rust {:.4} {:.4} {check}", wall.elapsed().as_nanos() as f64 / units, (processor() - before) / units);
+        }
     }
 }
+
+#[cfg(counted)]
+mod measuring {
+    const ZERO: usize = 1;
+    const DUMP_AT: usize = 3;
+    const START: usize = 4;
+    const STOP: usize = 5;
+
+    /// Asks callgrind for something as its header `callgrind.h` does, by instructions that otherwise do nothing.
+    fn ask(what: usize, name: &str) {
+        let words = [0x4354_0000 + what, name.as_ptr() as usize, 0, 0, 0, 0];
+        unsafe {
+            std::arch::asm!(
+                "rol rdi, 3", "rol rdi, 13", "rol rdi, 61", "rol rdi, 51", "xchg rbx, rbx",
+                in("rax") words.as_ptr(), inout("rdx") 0usize => _,
+            );
+        }
+    }
+
+    /// Has callgrind count what `run` takes, and dump it under a name with its units.
+    pub fn measure(what: &str, units: usize, _: usize, mut run: impl FnMut() -> Option<usize>) {
+        ask(START, "");
+        ask(ZERO, "");
+        let check = std::hint::black_box(run());
+        ask(STOP, "");
+        check.unwrap();
+        ask(DUMP_AT, &format!("{what} hand-rust {units}\0"));
+    }
+}
+
+use measuring::measure;
 
 fn framed(payload: usize, count: usize) -> Vec<u8> {
     let mut out = Vec::with_capacity((payload + 4) * count);
@@ -897,7 +941,7 @@ fn send_sets(what: &str, rounds: usize) {
     let works = String::from_utf8(load("works")).unwrap();
     let Some(line) = works.lines().find(|line| line.split(' ').next() == Some(what)) else { return };
     let words: Vec<_> = line.split(' ').collect();
-    let (count, times): (usize, usize) = (words[4].parse().unwrap(), words[5].parse().unwrap());
+    let (count, times): (usize, usize) = (words[4].parse().unwrap(), scaled(words[5].parse().unwrap()));
     let (query, sets) = (load(words[2]), load_sets(words[3], count, WIDTH));
     if what.starts_with("send-values") {
         let boxed = |set: Vec<Value>| set.into_iter().map(|value| Box::new(value) as Box<dyn ToValue>).collect();
@@ -921,15 +965,15 @@ fn send_sets(what: &str, rounds: usize) {
 fn run(what: &str, rounds: usize) {
     let query = load("query");
     let (binary, bytewise) = (what.contains("binary"), what.contains("bytewise"));
-    let (copies, piece) = if bytewise { (10, 1) } else { (100, PIECE) };
+    let (copies, piece) = if bytewise { (scaled(10), 1) } else { (scaled(100), PIECE) };
     match what.split('-').next().unwrap() {
         "frame" => {
-            let (len, count, full) = if what == "frame-100" { (100, 10_000_000, 65_536) } else { (16_000_000, 64, 1) };
+            let (len, count, full) = if what == "frame-100" { (100, scaled(10_000_000), 65_536) } else { (16_000_000, scaled(64), 1) };
             let payload = black_box(vec![b'a'; len]);
             measure(what, len * count, rounds, || Some(frame(&payload, count, full)));
         }
         "split" => {
-            let stream = if what == "split-16M" { framed(16_000_000, 64) } else { framed(100, 2_560_000) };
+            let stream = if what == "split-16M" { framed(16_000_000, scaled(64)) } else { framed(100, scaled(2_560_000)) };
             measure(what, stream.len(), rounds, || split(&stream));
         }
         "receive" => {
@@ -942,7 +986,7 @@ fn run(what: &str, rounds: usize) {
         }
         "reply" => {
             let stream = load(if binary { "reply-binary" } else { "reply-text" });
-            measure(what, 1_000_000, rounds, || match () {
+            measure(what, scaled(1_000_000), rounds, || match () {
                 _ if what.ends_with("-lent") => reply_lent(&stream, binary),
                 _ if what.ends_with("-stored") => reply_stored(&stream, binary),
                 _ => reply(&stream, piece, binary).map(|rows| rows.len()),
@@ -950,15 +994,15 @@ fn run(what: &str, rounds: usize) {
         }
         "write" => {
             let stream = load("cells-binary");
-            measure(what, 1_000_000, rounds, || write_reply(&stream, binary, 1000));
+            measure(what, 1000 * CELL_TIMES, rounds, || write_reply(&stream, binary, CELL_TIMES));
         }
         "cells" => {
             let stream = load(if binary { "cells-binary" } else { "cells-text" });
-            measure(what, 1_000_000, rounds, || cells(&stream, binary, what.contains("by-name")));
+            measure(what, 1000 * CELL_TIMES, rounds, || cells(&stream, binary, what.contains("by-name")));
         }
         "convert" => {
             let values = load_sets(if what == "convert-digits" { "digits" } else { "numbers" }, 10_000, 1);
-            measure(what, 10_000_000, rounds, || Some(convert(&values, 1000)));
+            measure(what, 10_000 * scaled(1000), rounds, || Some(convert(&values, scaled(1000))));
         }
         _ => send_sets(what, rounds),
     }

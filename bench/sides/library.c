@@ -23,21 +23,21 @@ int64_t mysql_bench_convert(Pointer, size_t, size_t, size_t);
 static void send_sets(const char *what, Work work, int rounds) {
     Bytes query = load(work.query), sets = load(work.sets);
     uint8_t road = strcmp(work.road, "text") == 0 ? MYSQL_SESSION_TEXT : strcmp(work.road, "execute") == 0 ? MYSQL_SESSION_EXECUTE : MYSQL_SESSION_BULK;
-    double units = (double)work.count * work.times;
+    size_t times = work.times;
     // By bulk too into one list.
     _Bool listed = ENDS("-listed") || ENDS("-apart") || ENDS("-one") || road == MYSQL_SESSION_BULK;
     if (ENDS("-kept")) {
         // Executions of a statement that was prepared before.
         _Bool prepared = road == MYSQL_SESSION_EXECUTE;
-        MEASURE("library", units, mysql_bench_send_kept(query.at, query.len, sets.at, sets.len, work.count, WIDTH, road, prepared, work.times))
+        MEASURE_TIMES("library", work.count, mysql_bench_send_kept(query.at, query.len, sets.at, sets.len, work.count, WIDTH, road, prepared, times))
     } else if (BEGINS("send-values")) {
-        MEASURE("library", units, mysql_bench_send_values(query.at, query.len, sets.at, sets.len, work.count, WIDTH, road, work.times))
+        MEASURE_TIMES("library", work.count, mysql_bench_send_values(query.at, query.len, sets.at, sets.len, work.count, WIDTH, road, times))
     } else if (listed) {
         size_t at_once = ENDS("-apart") ? 1 : work.count;
         mysql_session_handle *all = sets_of(load_values(work.sets, work.count * WIDTH), work.count, WIDTH, at_once);
-        MEASURE("library", units, send_all(all, work.count / at_once, query, road, work.times))
+        MEASURE("library", (double)work.count * times, send_all(all, work.count / at_once, query, road, times))
     } else {
-        MEASURE("library", units, mysql_bench_send_to(query.at, query.len, sets.at, sets.len, work.count, WIDTH, road, work.times))
+        MEASURE_TIMES("library", work.count, mysql_bench_send_to(query.at, query.len, sets.at, sets.len, work.count, WIDTH, road, times))
     }
 }
 
@@ -89,16 +89,16 @@ static void put_commands(const char *what, int rounds) {
     _Bool executions = ENDS("-executions");
     Bytes query = load("query"), sets = load("sets"), commands = executions ? repeated(load("prepare"), load("executes"), 1) : load("texts");
     Bytes ok = of_text(OK_PACKET, sizeof OK_PACKET - 1), two = of_text(TWO_OK_PACKETS, sizeof TWO_OK_PACKETS - 1), first = executions ? load("prepared") : ok;
-    double units = (double)CONNECTION_COMMANDS * PUT_TIMES;
-    MEASURE("library", units, mysql_bench_put_commands(commands.at, commands.len, first.at, first.len, ok.at, ok.len, PUT_TIMES))
-    MEASURE("payloads", units, put_commands_of(commands, first, ok, PUT_TIMES))
+    size_t times = PUT_TIMES;
+    MEASURE_TIMES("library", CONNECTION_COMMANDS, mysql_bench_put_commands(commands.at, commands.len, first.at, first.len, ok.at, ok.len, times))
+    MEASURE_TIMES("payloads", CONNECTION_COMMANDS, put_commands_of(commands, first, ok, times))
     if (!executions) first = two;
-    MEASURE("two-replies", units, mysql_bench_put_commands(commands.at, commands.len, first.at, first.len, two.at, two.len, PUT_TIMES))
+    MEASURE_TIMES("two-replies", CONNECTION_COMMANDS, mysql_bench_put_commands(commands.at, commands.len, first.at, first.len, two.at, two.len, times))
     if (executions) {
-        MEASURE("sets", units, mysql_bench_put_sets(commands.at, commands.len, first.at, first.len, sets.at, sets.len, CONNECTION_COMMANDS, WIDTH, ok.at, ok.len, PUT_TIMES))
-        MEASURE("sent", units, mysql_bench_send_kept(query.at, query.len, sets.at, sets.len, CONNECTION_COMMANDS, WIDTH, MYSQL_SESSION_EXECUTE, 1, PUT_TIMES))
+        MEASURE_TIMES("sets", CONNECTION_COMMANDS, mysql_bench_put_sets(commands.at, commands.len, first.at, first.len, sets.at, sets.len, CONNECTION_COMMANDS, WIDTH, ok.at, ok.len, times))
+        MEASURE_TIMES("sent", CONNECTION_COMMANDS, mysql_bench_send_kept(query.at, query.len, sets.at, sets.len, CONNECTION_COMMANDS, WIDTH, MYSQL_SESSION_EXECUTE, 1, times))
     } else {
-        MEASURE("sent", units, mysql_bench_send_kept(query.at, query.len, sets.at, sets.len, CONNECTION_COMMANDS, WIDTH, MYSQL_SESSION_TEXT, 0, PUT_TIMES))
+        MEASURE_TIMES("sent", CONNECTION_COMMANDS, mysql_bench_send_kept(query.at, query.len, sets.at, sets.len, CONNECTION_COMMANDS, WIDTH, MYSQL_SESSION_TEXT, 0, times))
     }
 }
 
@@ -164,7 +164,8 @@ static void run(const char *what, int rounds) {
         MEASURE("library", (double)CELL_ROWS * CELL_TIMES, mysql_bench_cells(stream.at, stream.len, binary, by_name, CELL_TIMES))
     } else if (BEGINS("convert")) {
         Bytes values = load(IS("convert-digits") ? "digits" : "numbers");
-        MEASURE("library", (double)CONVERTED * CONVERT_TIMES, mysql_bench_convert(values.at, values.len, CONVERTED, CONVERT_TIMES))
+        size_t times = CONVERT_TIMES;
+        MEASURE_TIMES("library", CONVERTED, mysql_bench_convert(values.at, values.len, CONVERTED, times))
     } else if (BEGINS("put-rows")) {
         put_rows(what, rounds);
     } else if (BEGINS("put-sets")) {

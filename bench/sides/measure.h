@@ -16,7 +16,7 @@ enum { SCALE = 1 };
 
 #define SCALED(count) (((count) + SCALE - 1) / SCALE)
 
-enum { WIDTH = 4, PIECE = 65536, COPIES = SCALED(100), BYTEWISE_COPIES = SCALED(10), ROWS = SCALED(1000000), CELL_ROWS = 1000, CELL_TIMES = SCALED(1000), CONNECTION_COMMANDS = 10000, PUT_TIMES = SCALED(20), LONG_DATA_SETS = 2, CONVERTED = 10000, CONVERT_TIMES = SCALED(1000) };
+enum { WIDTH = 4, PIECE = 65536, COPIES = SCALED(100), BYTEWISE_COPIES = SCALED(10), ROWS = SCALED(1000000), CELL_ROWS = 1000, CELL_TIMES = SCALE == 1 ? 1000 : 200, CONNECTION_COMMANDS = 10000, PUT_TIMES = SCALED(20), LONG_DATA_SETS = 2, CONVERTED = 10000, CONVERT_TIMES = SCALED(1000) };
 
 __attribute__((unused)) static double now(clockid_t clock) {
     struct timespec time;
@@ -117,6 +117,25 @@ __attribute__((unused)) static Bytes framed(size_t payload, size_t count) {
         printf("%s %s %.4f %.4f %zu\n", what, who, wall_ / (units), processor_ / (units), check_);   \
         fflush(stdout);                                                                              \
     }
+#endif
+
+// The same where the call first makes what it works on, and then works so many `times`, each so many units. Where
+// instructions are counted, what a call for one time takes is counted too, and who reads the dumps takes it off.
+#ifdef COUNTED
+#define MEASURE_TIMES(who, units, expression)                                                        \
+    {                                                                                                \
+        size_t all_ = times;                                                                         \
+        times = 1;                                                                                   \
+        /* Not counted: the heap is as such calls leave it. */                                       \
+        for (int again_ = 0; again_ < 3; again_++)                                                   \
+            if (!(expression)) fprintf(stderr, "%s %s wasn't done\n", what, who), exit(2);           \
+        MEASURE(who "-once", units, expression)                                                      \
+        times = all_ + 10;                                                                           \
+        MEASURE(who, (double)(units) * times, expression)                                            \
+        times = all_;                                                                                \
+    }
+#else
+#define MEASURE_TIMES(who, units, expression) MEASURE(who, (double)(units) * times, expression)
 #endif
 
 #define IS(name) (strcmp(what, name) == 0)

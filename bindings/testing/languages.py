@@ -135,35 +135,12 @@ def test_python(report, library, room, events=None):
         name, *others = words
         words = ["python3", os.path.join(TESTING, name + ".py"), *others]
         report.run(f"rows of {name}", run, words, **how)
-    if has("gcc"):
-        report.run("the extension for Python, sanitizers", sanitized, library, room)
     words = ["python3", os.path.join(TESTING, "codes.py"), "--check"]
     report.run("the page of codes", run, words, **how)
     report.run("a client, a server and an auditor", three_machines, events, **how)
     for file in sorted(glob.glob(os.path.join(folder, "examples", "*.py"))):
         words = ["python3", file, "--help"]
         report.run(os.path.relpath(file, ROOT) + " --help", run, words, **how)
-
-
-# Tests of the extension, but for those of time and of memory, which sanitizers take.
-SANITIZED = ["test_native", "test_rows", "test_lives.Threads", "test_lives.Interrupts",
-             "test_lives.EachCall"]
-
-
-def sanitized(library, room):
-    """Runs tests of the extension, compiled for sanitizers. Each object is a block of malloc, so
-    that they see where it ends; what Python itself never frees isn't told."""
-    folder, made = os.path.join(BINDINGS, "python"), os.path.join(room, "sanitized")
-    os.makedirs(made)
-    how = {**python_environment(made), "CC": " ".join(["gcc", "-g", *SANITIZERS])}
-    compiles = "import sys, make_native; make_native.compile_native(*sys.argv[1:])"
-    words = ["python3", "-c", compiles, archive_in(library), os.path.join(made, "_native.abi3.so")]
-    run(words, cwd=folder, env=how)
-    # The Python itself, and no program before it, is run with the sanitizer.
-    python = run(["python3", "-c", "import sys; print(sys.executable)"]).strip()
-    how.update(LD_PRELOAD=run(["gcc", "-print-file-name=libasan.so"]).strip(),
-               ASAN_OPTIONS="detect_leaks=0", PYTHONMALLOC="malloc")
-    run([python, "-m", "unittest", *SANITIZED], cwd=folder, env=how)
 
 
 def fuzz(library):
