@@ -166,6 +166,32 @@ def check_slow_reader(executable):
         proxy.stop()
 
 
+def check_long_waits(executable):
+    """Long lines wait again and again for a slow reader. Behind that the memory is as before."""
+    text, rounds = "SELECT '" + "x" * 50000 + "'", 6
+    with Program(executable, "--threads", "4") as proxy:
+        memory = []
+        for _ in range(rounds):
+            pairs = [Pair(proxy) for _ in range(4)]
+            for pair in pairs:
+                for _ in range(60):
+                    pair.say(text)
+                pair.close()
+            records = ends = 0
+            while ends < len(pairs):
+                record = json.loads(proxy.process.stdout.readline())
+                ends, records = ends + (record["kind"] == "end"), records + 1
+            check(len(pairs) * 62, records, "lines")
+            if not memory:
+                # The buffers that it wrote of go once it waits for lines.
+                time.sleep(0.2)
+            else:
+                wait_for(lambda: proxy.memory() < memory[0] + (3 << 20),
+                         f"memory of {memory} bytes, {proxy.memory()} now")
+            memory.append(proxy.memory())
+        proxy.stop()
+
+
 def check_stuck(executable):
     """Nobody reads a strict line, and clients are refused besides: a signal still ends the program."""
     with Program(executable, "--strict", "--connections", "1", "--grace", "0.3") as proxy:
@@ -381,7 +407,7 @@ def checks():
             ("a full disk for which clients wait", lambda it: check_waits(it, "--log-full", "wait")),
             ("a full disk for which strict lines wait", lambda it: check_waits(it, "--strict")),
             ("/dev/full", check_dev_full), ("a slow reader of the log", check_slow_reader),
-            ("a log that stands still", check_stuck), ("a log that is moved", check_moved),
-            ("a log that is rotated", check_rotated), ("older files are packed", check_packed),
-            ("the system's log", check_syslog), ("filters", check_filters),
-            ("digests", check_digests)]
+            ("long lines that wait", check_long_waits), ("a log that stands still", check_stuck),
+            ("a log that is moved", check_moved), ("a log that is rotated", check_rotated),
+            ("older files are packed", check_packed), ("the system's log", check_syslog),
+            ("filters", check_filters), ("digests", check_digests)]

@@ -43,7 +43,7 @@ use std::os::fd::AsRawFd;
 use std::process::{exit, ExitCode};
 use std::sync::Arc;
 use std::thread;
-use sys::{let_wait, raise_descriptors, Poll, SignalFile};
+use sys::{give_long_blocks_back, let_wait, raise_descriptors, Poll, SignalFile};
 use sys::{SIGHUP, SIGINT, SIGTERM, SIGUSR1, SIGUSR2, SIGXFSZ};
 
 const HELP: &str = include_str!("help.txt");
@@ -64,6 +64,7 @@ fn main() -> ExitCode {
             return ExitCode::from(2);
         }
     };
+    give_long_blocks_back();
     let mut handed = Handed::new(&options);
     match begin(options, &mut handed) {
         Ok(mut acceptor) => {

@@ -92,6 +92,30 @@ extern "C" {
     fn write(file: c_int, from: *const c_void, length: usize) -> isize;
 }
 
+#[cfg(target_env = "gnu")]
+extern "C" {
+    fn mallopt(what: c_int, value: c_int) -> c_int;
+}
+
+/// The setting of glibc from how many bytes on a block is mapped by itself.
+#[cfg(target_env = "gnu")]
+const M_MMAP_THRESHOLD: c_int = -3;
+/// Blocks of so many bytes are mapped by themselves.
+#[cfg(target_env = "gnu")]
+const MAPPED: c_int = 1 << 18;
+
+/// Has the system get long blocks back as soon as they are freed. By itself glibc raises that bound
+/// with each long block that is freed, and then keeps such blocks, for each thread by itself.
+#[cfg(target_env = "gnu")]
+pub fn give_long_blocks_back() {
+    // SAFETY: no other thread runs yet. Where it is refused all stays as it was.
+    unsafe { mallopt(M_MMAP_THRESHOLD, MAPPED) };
+}
+
+/// Other libraries give them back by themselves.
+#[cfg(not(target_env = "gnu"))]
+pub fn give_long_blocks_back() {}
+
 /// The descriptor that a call answers.
 fn file_of(answer: c_int) -> io::Result<OwnedFd> {
     match answer {
