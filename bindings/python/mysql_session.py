@@ -1147,7 +1147,7 @@ class RawRows(NamedTuple):
     """Rows whose columns the server left out, by MySQL's optional metadata. Their bytes aren't
     shown."""
 
-    count: int
+    count: int  # type: ignore[assignment]
     ended: bool
     status: int
     warnings: int
