@@ -269,7 +269,7 @@ class Load:
 
 
 def check_load(program, room, port, seconds, rate):
-    """Clients and dumps for so long: none is cut, each statement has its line, and memory is flat."""
+    """Clients and dumps for so long: none is cut, each has its line, and memory is bounded."""
     fill(port)
     wanted = dump(port, "dumped")
     if wanted.count("INSERT") < 1:
