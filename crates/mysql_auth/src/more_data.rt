@@ -3,7 +3,7 @@
 //!     let more: AuthMoreData = ParseBuf(payload).parse(alloc, ())?;
 //!     let data = more.data();
 
-ghost use Rattle.std.specs.Prelude.{◌≡◌, IfOk, List, None, [], ℕ, IsOkUnless, false};
+ghost use Rattle.std.specs.Prelude.{◌≡◌, IfOk, List, None, [], ℕ, IsOkUnless};
 ghost use Rattle.std.proofs.Common.{lit<};
 ghost use Rattle.std.specs.Cow.{cow_slice_items, cow_str_bytes};
 ghost use Rattle.mysql_fields.specs.Texts.{lossy_text};
@@ -86,10 +86,6 @@ impl<'a> MySerialize for AuthMoreData<'a> {
 
 impl<'a> Readable for AuthMoreData<'a> {
     type Ctx = ();
-
-    ghost SIZE = { None };
-
-    ghost AsksForMemory = { false };
 
     ghost Shown = { List ℕ };
 
@@ -189,10 +185,6 @@ impl<'a> MySerialize for PublicKeyResponse<'a> {
 
 impl<'a> Readable for PublicKeyResponse<'a> {
     type Ctx = ();
-
-    ghost SIZE = { None };
-
-    ghost AsksForMemory = { false };
 
     ghost Shown = { List ℕ };
 

@@ -3,7 +3,7 @@
 //!     let request: AuthNextFactor = ParseBuf(payload).parse(alloc, ())?;
 //!     let plugin = request.auth_plugin();
 
-ghost use Rattle.std.specs.Prelude.{◌≡◌, IfOk, None, [], false};
+ghost use Rattle.std.specs.Prelude.{◌≡◌, IfOk, None, []};
 ghost use Rattle.std.specs.Cow.{cow_slice_items};
 ghost use Rattle.mysql_auth.specs.PacketLaws.{next_factor_at-back};
 ghost use Rattle.mysql_auth.specs.Packets.{SwitchFields, next_factor, next_factor_at, switch_kept};
@@ -117,10 +117,6 @@ impl<'a> MySerialize for AuthNextFactor<'a> {
 
 impl<'a> Readable for AuthNextFactor<'a> {
     type Ctx = ();
-
-    ghost SIZE = { None };
-
-    ghost AsksForMemory = { false };
 
     ghost Shown = { SwitchFields };
 

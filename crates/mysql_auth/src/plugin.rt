@@ -3,7 +3,7 @@
 //!     let plugin = AuthPlugin::from_bytes(b"caching_sha2_password");
 //!     let name = plugin.as_bytes();
 
-ghost use Rattle.std.specs.Prelude.{◌≡◌, ◌++◌, ◌∷◌, [], IfOk, MatchOption, None, Ok, Some, ℕ, false};
+ghost use Rattle.std.specs.Prelude.{◌≡◌, ◌++◌, ◌∷◌, [], IfOk, MatchOption, None, Ok, Some, ℕ};
 ghost use Rattle.mysql_auth.specs.Plugins.{Keeps, Plugin, plugin_name, plugin_named, plugin_at, with_data};
 ghost use Rattle.mysql_auth.specs.Plugins.{without_zero};
 ghost use Rattle.mysql_auth.specs.Views.{plugin_view};
@@ -187,10 +187,6 @@ impl<'a> MySerialize for AuthPlugin<'a> {
 /// All bytes to the end, of which one trailing zero is dropped, name a plugin.
 impl<'a> Readable for AuthPlugin<'a> {
     type Ctx = ();
-
-    ghost SIZE = { None };
-
-    ghost AsksForMemory = { false };
 
     ghost Shown = { Plugin };
 

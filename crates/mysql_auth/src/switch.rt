@@ -3,7 +3,7 @@
 //!     let request: AuthSwitchRequest = ParseBuf(payload).parse(alloc, ())?;
 //!     let plugin = request.auth_plugin();
 
-ghost use Rattle.std.specs.Prelude.{◌≡◌, IfOk, None, Some, [], ℕ, false};
+ghost use Rattle.std.specs.Prelude.{◌≡◌, IfOk, None, Some, [], ℕ};
 ghost use Rattle.std.specs.Cow.{cow_slice_items};
 ghost use Rattle.byteorder.specs.Endian.{little_bytes};
 ghost use Rattle.mysql_auth.specs.PacketLaws.{switch_at-back};
@@ -58,8 +58,6 @@ impl Readable for OldAuthSwitchRequest {
     type Ctx = ();
 
     ghost SIZE = { Some 1 };
-
-    ghost AsksForMemory = { false };
 
     ghost Shown = { ℕ };
 
@@ -196,10 +194,6 @@ impl<'a> MySerialize for AuthSwitchRequest<'a> {
 
 impl<'a> Readable for AuthSwitchRequest<'a> {
     type Ctx = ();
-
-    ghost SIZE = { None };
-
-    ghost AsksForMemory = { false };
 
     ghost Shown = { SwitchFields };
 

@@ -1,6 +1,6 @@
 //! The type of a column of parameters.
 
-ghost use Rattle.std.specs.Prelude.{◌≡◌, Some, false, true};
+ghost use Rattle.std.specs.Prelude.{◌≡◌, Some, true};
 ghost use Rattle.mysql_field_constants.specs.Flags.{are_named};
 ghost use Rattle.mysql_const.specs.ExecuteFlags.{execute_param_flags};
 ghost use Rattle.mysql_fields.specs.Wire.{TellsPart};
@@ -92,8 +92,6 @@ impl Readable for StmtBulkExecuteParamType {
     type Ctx = ();
 
     ghost SIZE = { Some 2 };
-
-    ghost AsksForMemory = { false };
 
     ghost Shown = { ParamType };
 

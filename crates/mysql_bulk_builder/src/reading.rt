@@ -1,6 +1,6 @@
 //! Rows of a bulk execution, as they are read.
 
-ghost use Rattle.std.specs.Prelude.{◌≡◌, List, None};
+ghost use Rattle.std.specs.Prelude.{◌≡◌, List, None, true};
 ghost use Rattle.mysql_fields.specs.Laws.{unsized};
 ghost use Rattle.mysql_fields.specs.Wire.{Gives, GivesPart};
 ghost use Rattle.mysql_bulk_builder.specs.Reading.{bulk_row_at, bulk_value_at, held_at, param_value_at};
@@ -40,7 +40,7 @@ fn held(
 impl Readable for StmtBulkExecuteParamValue {
     type Ctx = (ColumnType, ColumnFlags);
 
-    ghost SIZE = { None };
+    ghost AsksForMemory = { true };
 
     ghost Shown = { ParamValue };
 
@@ -105,7 +105,7 @@ pub(crate) fn values_of(
 impl Readable for StmtBulkExecuteParamValues {
     type Ctx = Vec<(ColumnType, ColumnFlags)>;
 
-    ghost SIZE = { None };
+    ghost AsksForMemory = { true };
 
     ghost Shown = { List ParamValue };
 

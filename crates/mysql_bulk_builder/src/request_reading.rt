@@ -2,7 +2,7 @@
 //!
 //!     let request: ComStmtBulkExecuteRequest = ParseBuf(payload).parse(alloc, columns)?;
 
-ghost use Rattle.std.specs.Prelude.{◌≡◌, IfOk, None, length, map};
+ghost use Rattle.std.specs.Prelude.{◌≡◌, IfOk, None, length, map, true};
 ghost use Rattle.mysql_fields.specs.Laws.{unsized};
 ghost use Rattle.mysql_fields.specs.Wire.{GivesPart, TellsPart};
 ghost use Rattle.mysql_field_lists.specs.Lists.{elements_at};
@@ -120,7 +120,7 @@ fn columns_in_force(
 impl Readable for ComStmtBulkExecuteRequest {
     type Ctx = Vec<(ColumnType, ColumnFlags)>;
 
-    ghost SIZE = { None };
+    ghost AsksForMemory = { true };
 
     ghost Shown = { BulkExecution };
 

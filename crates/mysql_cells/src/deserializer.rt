@@ -7,7 +7,7 @@
 ghost use Rattle.mysql_cells.specs.Cells.{column_cell_at, has_no_sign, text_cell_at};
 ghost use Rattle.mysql_cells.specs.declared.value.Value.{Value as ValueOf};
 ghost use Rattle.mysql_fields.specs.Laws.{unsized};
-ghost use Rattle.std.specs.Prelude.{◌≡◌, None};
+ghost use Rattle.std.specs.Prelude.{◌≡◌, None, true};
 
 use crate::cells::{read_cell, read_text_cell};
 use crate::value::Value;
@@ -35,7 +35,7 @@ pub struct ValueDeserializer<T>(pub Value, PhantomData<T>);
 impl Readable for ValueDeserializer<TextValue> {
     type Ctx = ();
 
-    ghost SIZE = { None };
+    ghost AsksForMemory = { true };
 
     ghost Shown = { ValueOf };
 
@@ -69,7 +69,7 @@ impl<'de> MyDeserialize<'de> for ValueDeserializer<TextValue> {
 impl Readable for ValueDeserializer<BinValue> {
     type Ctx = (ColumnType, ColumnFlags);
 
-    ghost SIZE = { None };
+    ghost AsksForMemory = { true };
 
     ghost Shown = { ValueOf };
 

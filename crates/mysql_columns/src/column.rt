@@ -459,8 +459,6 @@ impl MySerialize for Column {
 impl Readable for Column {
     type Ctx = ();
 
-    ghost SIZE = { None };
-
     ghost AsksForMemory = { true };
 
     ghost Shown = { ColumnDefinition };

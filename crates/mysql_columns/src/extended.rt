@@ -287,8 +287,6 @@ fn metadata_of<'a>(in_force: bool, buf: &mut ParseBuf<'a>) -> Result<Option<&'a 
 impl Readable for ExtendedColumn {
     type Ctx = MariadbCapabilities;
 
-    ghost SIZE = { None };
-
     ghost AsksForMemory = { true };
 
     ghost Shown = { ExtendedDefinition };
@@ -430,8 +428,6 @@ fn default_of<'a>(buf: &mut ParseBuf<'a>) -> Result<Option<&'a [u8]>, WireError>
 
 impl Readable for ListedColumn {
     type Ctx = MariadbCapabilities;
-
-    ghost SIZE = { None };
 
     ghost AsksForMemory = { true };
 

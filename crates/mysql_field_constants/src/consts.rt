@@ -6,7 +6,7 @@
 //!     let filler: Skip<2> = buf.parse(alloc, ())?;
 //!     let (command, status) = (command.get(), status.get());
 
-ghost use Rattle.std.specs.Prelude.{◌≡◌, ◌<◌, ◌^◌, List, None, Option, Some, false, length, replicate, ℕ, ⊤};
+ghost use Rattle.std.specs.Prelude.{◌≡◌, ◌<◌, ◌^◌, List, Option, Some, length, replicate, ℕ, ⊤};
 ghost use Rattle.std.specs.Int.RustNames.{bit_and};
 ghost use Rattle.bitflags.specs.Sets.{known_bits};
 ghost use Rattle.byteorder.specs.Endian.{little_bytes};
@@ -53,8 +53,6 @@ impl<T, const N: u8> Readable for ConstU8<T, N> {
     type Ctx = ();
 
     ghost SIZE = { Some 1 };
-
-    ghost AsksForMemory = { false };
 
     ghost Shown = { ℕ };
 
@@ -123,8 +121,6 @@ impl<T, const N: u32> Readable for ConstU32<T, N> {
 
     ghost SIZE = { Some 4 };
 
-    ghost AsksForMemory = { false };
-
     ghost Shown = { ℕ };
 
     ghost shown = { λ _. N };
@@ -181,8 +177,6 @@ impl<const L: usize> Readable for Skip<L> {
 
     ghost SIZE = { Some L };
 
-    ghost AsksForMemory = { false };
-
     ghost Shown = { Unit {0} };
 
     ghost shown = { λ _. tt };
@@ -222,7 +216,7 @@ impl<'de, const L: usize> MyDeserialize<'de> for Skip<L> {
 pub struct RawFlags<T: Flags, U: IntRepr<Primitive = T::Bits>>(pub T::Bits, PhantomData<U>);
 
 impl<T: Flags, U: IntRepr<Primitive = T::Bits>> MySerialize for RawFlags<T, U> {
-    ghost written = { λ x. U.written x.0 };
+    ghost written = { λ x. U.form.written x.0 };
 
     fn serialize(&self, buf: &mut Vec<u8>) -> Result<(), AllocError> {
         U::serialize(self.0, buf)
@@ -264,8 +258,6 @@ impl<T: ConstBytesValue<LEN>, const LEN: usize> Readable for ConstBytes<T, LEN> 
     type Ctx = ();
 
     ghost SIZE = { Some LEN };
-
-    ghost AsksForMemory = { false };
 
     ghost Shown = { Unit {0} };
 
@@ -334,19 +326,17 @@ impl<T: Flags, U: IntRepr<Primitive = T::Bits>> Readable for RawFlags<T, U> {
 
     ghost SIZE = { U.SIZE };
 
-    ghost AsksForMemory = { false };
-
     ghost Shown = { T.Bits };
 
     ghost shown = { λ x. x.0 };
 
-    ghost read_at = { λ _ bytes. U.read_at bytes };
+    ghost read_at = { λ _ bytes. U.form.read_at bytes };
 
     ghost kept = { λ x. x.0 };
 
-    ghost IsReadBack = { λ _ x _. U.IsKept x.0 };
+    ghost IsReadBack = { λ _ x _. U.form.IsKept x.0 };
 
-    ghost sized = { λ _. U.sized };
+    ghost sized = { λ _. U.form.sized };
 
     fn size() -> Option<usize> {
         U::SIZE
@@ -354,7 +344,7 @@ impl<T: Flags, U: IntRepr<Primitive = T::Bits>> Readable for RawFlags<T, U> {
 }
 
 impl<T: Flags, U: IntRepr<Primitive = T::Bits>> ReadsBack for RawFlags<T, U> {
-    ghost reads_back = { λ _ x rest. U.reads_back x.0 rest };
+    ghost reads_back = { λ _ x rest. U.form.reads_back x.0 rest };
 }
 
 impl<'de, T: Flags, U: IntRepr<Primitive = T::Bits>> MyDeserialize<'de> for RawFlags<T, U> {
@@ -421,7 +411,7 @@ impl<T: ConstValue + fmt::Debug, U: IntRepr<Primitive = T::Number>> fmt::Debug f
 }
 
 impl<T: ConstValue, U: IntRepr<Primitive = T::Number>> MySerialize for Const<T, U> {
-    ghost written = { λ x. U.written (T.number x.0) };
+    ghost written = { λ x. U.form.written (T.number x.0) };
 
     fn serialize(&self, buf: &mut Vec<u8>) -> Result<(), AllocError> {
         U::serialize(self.0.to_number(), buf)
@@ -433,19 +423,17 @@ impl<T: ConstValue, U: IntRepr<Primitive = T::Number>> Readable for Const<T, U> 
 
     ghost SIZE = { U.SIZE };
 
-    ghost AsksForMemory = { false };
-
     ghost Shown = { T };
 
     ghost shown = { λ x. x.0 };
 
-    ghost read_at = { λ _ bytes. named_at T.named U.read_at bytes };
+    ghost read_at = { λ _ bytes. named_at T.named U.form.read_at bytes };
 
     ghost kept = { λ x. x.0 };
 
-    ghost IsReadBack = { λ _ x _. T.IsNamed x.0 × U.IsKept (T.number x.0) };
+    ghost IsReadBack = { λ _ x _. T.IsNamed x.0 × U.form.IsKept (T.number x.0) };
 
-    ghost sized = { λ _. named_at-sized U.SIZE T.named U.read_at U.sized };
+    ghost sized = { λ _. named_at-sized U.SIZE T.named U.form.read_at U.form.sized };
 
     fn size() -> Option<usize> {
         U::SIZE
@@ -453,8 +441,8 @@ impl<T: ConstValue, U: IntRepr<Primitive = T::Number>> Readable for Const<T, U> 
 }
 
 impl<T: ConstValue, U: IntRepr<Primitive = T::Number>> ReadsBack for Const<T, U> {
-    ghost reads_back = { λ _ x rest h. named_at-back T.named T.number U.read_at U.written x.0 rest
-        (T.names_back x.0 h.0) (U.reads_back (T.number x.0) rest h.1) };
+    ghost reads_back = { λ _ x rest h. named_at-back T.named T.number U.form.read_at U.form.written x.0 rest
+        (T.names_back x.0 h.0) (U.form.reads_back (T.number x.0) rest h.1) };
 }
 
 impl<'de, T: ConstValue, U: IntRepr<Primitive = T::Number>> MyDeserialize<'de> for Const<T, U> {
@@ -514,7 +502,7 @@ where
 }
 
 impl<T: IntRepr, U> MySerialize for RawConst<T, U> {
-    ghost written = { λ x. T.written x.0 };
+    ghost written = { λ x. T.form.written x.0 };
 
     fn serialize(&self, buf: &mut Vec<u8>) -> Result<(), AllocError> {
         T::serialize(self.0, buf)
@@ -526,19 +514,17 @@ impl<T: IntRepr, U> Readable for RawConst<T, U> {
 
     ghost SIZE = { T.SIZE };
 
-    ghost AsksForMemory = { false };
-
     ghost Shown = { T.Primitive };
 
     ghost shown = { λ x. x.0 };
 
-    ghost read_at = { λ _ bytes. T.read_at bytes };
+    ghost read_at = { λ _ bytes. T.form.read_at bytes };
 
     ghost kept = { λ x. x.0 };
 
-    ghost IsReadBack = { λ _ x _. T.IsKept x.0 };
+    ghost IsReadBack = { λ _ x _. T.form.IsKept x.0 };
 
-    ghost sized = { λ _. T.sized };
+    ghost sized = { λ _. T.form.sized };
 
     fn size() -> Option<usize> {
         T::SIZE
@@ -546,7 +532,7 @@ impl<T: IntRepr, U> Readable for RawConst<T, U> {
 }
 
 impl<T: IntRepr, U> ReadsBack for RawConst<T, U> {
-    ghost reads_back = { λ _ x rest. T.reads_back x.0 rest };
+    ghost reads_back = { λ _ x rest. T.form.reads_back x.0 rest };
 }
 
 impl<'de, T: IntRepr, U> MyDeserialize<'de> for RawConst<T, U> {

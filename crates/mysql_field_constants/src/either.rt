@@ -3,7 +3,7 @@
 //!     let id: Either<RawInt<u8>, RawInt<LeU16>> = buf.parse(alloc, Either::Right(()))?;
 //!     let number = id.unwrap_right().get();
 
-ghost use Rattle.std.specs.Prelude.{◌≡◌, ◌⊎◌, ◌||◌, None};
+ghost use Rattle.std.specs.Prelude.{◌≡◌, ◌⊎◌, ◌||◌};
 ghost use Rattle.mysql_field_constants.specs.Either.{EitherIsReadBack, IsLeft, IsRight, either_at, either_shown};
 ghost use Rattle.mysql_field_constants.specs.Either.{either_written};
 ghost use Rattle.mysql_field_constants.specs.EitherLaws.{either_at-back};
@@ -60,8 +60,6 @@ impl<T: MySerialize, U: MySerialize> MySerialize for Either<T, U> {
 
 impl<T: Readable, U: Readable> Readable for Either<T, U> {
     type Ctx = Either<T::Ctx, U::Ctx>;
-
-    ghost SIZE = { None };
 
     ghost AsksForMemory = { T.AsksForMemory || U.AsksForMemory };
 

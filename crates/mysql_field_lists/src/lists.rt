@@ -5,7 +5,7 @@
 //!     let ids: Seq<RawInt<LeU32>, Unknown> = buf.parse(alloc, count)?;
 
 ghost use Rattle.std.specs.Prelude.{◌≡◌, ◌==◌, ◌<◌, ◌≤◌, ◌-◌, ◌^◌, List, None, Ok, Option, Some, [], ◌∷◌, ◌++◌, IfErr};
-ghost use Rattle.std.specs.Prelude.{IfOk, length, map, take, ℕ};
+ghost use Rattle.std.specs.Prelude.{IfOk, length, map, take, ℕ, true};
 ghost use Rattle.std.proofs.Common.{ap};
 ghost use Rattle.std.specs.Cow.{IsOwnedSlice, cow_slice_items};
 ghost use Rattle.std.specs.List.{AllByRecursion, AllZip, flat_map};
@@ -399,7 +399,7 @@ impl<'a, T: MySerialize, U: SeqRepr> MySerialize for Seq<'a, T, U> {
 impl<'a, T: Readable<Ctx = ()>, U: SeqRepr> Readable for Seq<'a, T, U> {
     type Ctx = U::Ctx;
 
-    ghost SIZE = { None };
+    ghost AsksForMemory = { true };
 
     ghost Shown = { List T.Shown };
 

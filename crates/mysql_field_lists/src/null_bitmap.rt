@@ -5,7 +5,7 @@
 //!     let is_null = bitmap.is_null(2);
 
 ghost use Rattle.std.specs.Prelude.{◌≡◌, ◌≤◌, ◌<◌, ◌+◌, ◌/◌, ◌-◌, ◌==◌, ℕ, List, IfOk, None, OnErr, OnOk, length};
-ghost use Rattle.std.specs.Prelude.{slice_set, take, drop, false, replicate, if◌then◌else◌};
+ghost use Rattle.std.specs.Prelude.{slice_set, take, drop, replicate, if◌then◌else◌};
 ghost use Rattle.std.specs.Cow.{cow_slice_items};
 ghost use Rattle.std.specs.Int.{bit_at};
 ghost use Rattle.mysql_fields.specs.Forms.{bytes_at};
@@ -158,10 +158,6 @@ impl<T: SerializationSide, U: BitmapBytes> NullBitmap<T, U> {
 impl<'a, T: SerializationSide> Readable for NullBitmap<T, CowSlice<'a, u8>> {
     // how many columns there are
     type Ctx = usize;
-
-    ghost SIZE = { None };
-
-    ghost AsksForMemory = { false };
 
     ghost Shown = { List ℕ };
 

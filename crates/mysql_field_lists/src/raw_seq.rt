@@ -4,7 +4,7 @@
 //!     let first = ids.get(0);
 //!     let numbers: RawSeq<LeU16, Unknown> = buf.parse(alloc, count)?;
 
-ghost use Rattle.std.specs.Prelude.{◌≡◌, ◌==◌, List, None, Ok, Option, [], ◌++◌, IfOk, length, take, ℕ};
+ghost use Rattle.std.specs.Prelude.{◌≡◌, ◌==◌, List, None, Ok, Option, [], ◌++◌, IfOk, length, take, ℕ, true};
 ghost use Rattle.std.specs.Cow.{IsOwnedSlice, cow_slice_items};
 ghost use Rattle.std.specs.List.{AllByRecursion, flat_map, slice_get};
 ghost use Rattle.mysql_fields.specs.Laws.{unsized};
@@ -87,7 +87,7 @@ impl<'a, T: IntRepr, U> RawSeq<'a, T, U> {
 
 // Appends all numbers or none.
 fn put_numbers<T: IntRepr>(all: &[T::Primitive], buf: &mut Vec<u8>) -> Result<(), AllocError>
-    ensures { Appends result buf.old.items buf.new.items (flat_map T.written all.now) }
+    ensures { Appends result buf.old.items buf.new.items (flat_map T.form.written all.now) }
 {
     let len = buf.len();
     for number in all {
@@ -105,7 +105,7 @@ fn parse_numbers<T: IntRepr>(
     count: usize,
     rest: &mut ParseBuf,
 ) -> Result<Vec<T::Primitive>, WireError>
-    ensures { GivesPart (λ v. v.items) rest.new.0.now result (elements_at T.read_at count rest.old.0.now) }
+    ensures { GivesPart (λ v. v.items) rest.new.0.now result (elements_at T.form.read_at count rest.old.0.now) }
 {
     let mut items = Vec::new(alloc);
     for _ in 0..count {
@@ -117,7 +117,7 @@ fn parse_numbers<T: IntRepr>(
 
 impl<'a, T: IntRepr, U: SeqRepr> MySerialize for RawSeq<'a, T, U> {
     ghost written = { λ x. let all = take U.MAX_LEN (cow_slice_items x.0) in
-        U.written (length all) ++ flat_map T.written all };
+        U.written (length all) ++ flat_map T.form.written all };
 
     fn serialize(&self, buf: &mut Vec<u8>) -> Result<(), AllocError> {
         let all = self.0.as_slice();
@@ -136,21 +136,21 @@ impl<'a, T: IntRepr, U: SeqRepr> MySerialize for RawSeq<'a, T, U> {
 impl<'a, T: IntRepr, U: SeqRepr> Readable for RawSeq<'a, T, U> {
     type Ctx = U::Ctx;
 
-    ghost SIZE = { None };
+    ghost AsksForMemory = { true };
 
     ghost Shown = { List T.Primitive };
 
     ghost shown = { λ x. cow_slice_items x.0 };
 
-    ghost read_at = { λ ctx. counted_at (U.read_at ctx) T.read_at };
+    ghost read_at = { λ ctx. counted_at (U.read_at ctx) T.form.read_at };
 
     ghost kept = { λ x. take U.MAX_LEN (cow_slice_items x.0) };
 
     ghost IsReadBack = { λ ctx x _. U.IsReadBack ctx
         (length (take U.MAX_LEN (cow_slice_items x.0))) ×
-        AllByRecursion T.IsKept (take U.MAX_LEN (cow_slice_items x.0)) };
+        AllByRecursion T.form.IsKept (take U.MAX_LEN (cow_slice_items x.0)) };
 
-    ghost sized = { λ ctx. unsized (counted_at (U.read_at ctx) T.read_at) };
+    ghost sized = { λ ctx. unsized (counted_at (U.read_at ctx) T.form.read_at) };
 
     fn size() -> Option<usize>
         ensures { result ≡ None }
@@ -160,8 +160,8 @@ impl<'a, T: IntRepr, U: SeqRepr> Readable for RawSeq<'a, T, U> {
 }
 
 impl<'a, T: IntRepr, U: SeqRepr> ReadsBack for RawSeq<'a, T, U> {
-    ghost reads_back = { λ ctx x rest h. counted_numbers_at-back T.IsKept T.written T.read_at
-        T.reads_back U.written (U.read_at ctx) U.MAX_LEN (cow_slice_items x.0) rest
+    ghost reads_back = { λ ctx x rest h. counted_numbers_at-back T.form.IsKept T.form.written T.form.read_at
+        T.form.reads_back U.written (U.read_at ctx) U.MAX_LEN (cow_slice_items x.0) rest
         (λ n after small is. U.reads_back ctx n after small (counted (U.IsReadBack ctx) is h.0)) h.1 };
 }
 

@@ -4,7 +4,7 @@ use Rattle.std.proofs.Common.{length, take, drop, Result, Ok, Err, Option, Some,
 use Rattle.std.proofs.Common.{arith}
 use Rattle.std.proofs.lemmas.Bool.{cases_lt, le-ltb, lt-ltb, ltb-true}
 use Rattle.std.proofs.lemmas.List.{drop-drop}
-use Rattle.std.specs.Int.{Width, w8, w16, w32, w64, byte_len, cast_unsigned}
+use Rattle.std.specs.Int.{Width, byte_len, cast_unsigned}
 use Rattle.byteorder.specs.Endian.{little_bytes, little_number, twos_complement}
 use Rattle.mysql_buf.specs.FirstBytes.{first-enough, first-short}
 use Rattle.mysql_buf.specs.Laws.{FitsBytes}
@@ -155,30 +155,6 @@ fixed_number_at-back n x rest h = ap or_end (little-reads_back n x rest h)
 pub signed_at-back : (w : Width) (n : ℕ) (z : ℤ) (rest : List ℕ) → 1 ≤ n → n ≤ byte_len w →
     FitsBytes n z → signed_at n (little_bytes n (cast_unsigned w z) ++ rest) ≡ Ok (z, rest)
 signed_at-back w n z rest low high fits = ap or_end (little-signed-reads_back w n z rest low high fits)
-
-pub signed_8-back : (z : ℤ) (rest : List ℕ) → FitsBytes 1 z →
-    signed_at 1 (little_bytes 1 (cast_unsigned w8 z) ++ rest) ≡ Ok (z, rest)
-signed_8-back z rest = signed_at-back w8 1 z rest (omega arith) (omega arith)
-
-pub signed_16-back : (z : ℤ) (rest : List ℕ) → FitsBytes 2 z →
-    signed_at 2 (little_bytes 2 (cast_unsigned w16 z) ++ rest) ≡ Ok (z, rest)
-signed_16-back z rest = signed_at-back w16 2 z rest (omega arith) (omega arith)
-
-pub signed_24-back : (z : ℤ) (rest : List ℕ) → FitsBytes 3 z →
-    signed_at 3 (little_bytes 3 (cast_unsigned w32 z) ++ rest) ≡ Ok (z, rest)
-signed_24-back z rest = signed_at-back w32 3 z rest (omega arith) (omega arith)
-
-pub signed_32-back : (z : ℤ) (rest : List ℕ) → FitsBytes 4 z →
-    signed_at 4 (little_bytes 4 (cast_unsigned w32 z) ++ rest) ≡ Ok (z, rest)
-signed_32-back z rest = signed_at-back w32 4 z rest (omega arith) (omega arith)
-
-pub signed_56-back : (z : ℤ) (rest : List ℕ) → FitsBytes 7 z →
-    signed_at 7 (little_bytes 7 (cast_unsigned w64 z) ++ rest) ≡ Ok (z, rest)
-signed_56-back z rest = signed_at-back w64 7 z rest (omega arith) (omega arith)
-
-pub signed_64-back : (z : ℤ) (rest : List ℕ) → FitsBytes 8 z →
-    signed_at 8 (little_bytes 8 (cast_unsigned w64 z) ++ rest) ≡ Ok (z, rest)
-signed_64-back z rest = signed_at-back w64 8 z rest (omega arith) (omega arith)
 
 pub lenenc_number_at-back : (n : ℕ) (rest : List ℕ) → n < 2 ^ 64 →
     lenenc_number_at (lenenc_int n ++ rest) ≡ Ok (n, rest)

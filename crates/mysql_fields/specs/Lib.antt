@@ -3,3 +3,4 @@ pub mod Laws
 pub mod Wire
 pub mod TextLaws
 pub mod Texts
+pub mod Numbers

@@ -4,19 +4,11 @@
 //!     let number = id.get();
 //!     RawInt::<LenEnc>::new(300).serialize(&mut out)?;
 
-ghost use Rattle.std.specs.Prelude.{◌≡◌, ◌%◌, ◌<◌, ◌^◌, List, None, Ok, Option, Some, ◌++◌, false, length, ℕ};
-ghost use Rattle.std.specs.Int.{cast_unsigned, w8, w16, w32, w64};
-ghost use Rattle.byteorder.specs.Endian.{little_bytes};
-ghost use Rattle.mysql_buf.specs.Laws.{FitsBytes};
-ghost use Rattle.mysql_buf.specs.Varlen.{varlen};
-ghost use Rattle.mysql_buf.specs.Writing.{lenenc_int};
-ghost use Rattle.mysql_fields.specs.Forms.{lenenc_number_at, fixed_number_at, signed_at, upper_half, upper_half_at};
-ghost use Rattle.mysql_fields.specs.Forms.{varlen_number_at};
-ghost use Rattle.mysql_fields.specs.Laws.{lenenc_number_at-back, fixed_number_at-back, fixed_number_at-sized};
-ghost use Rattle.mysql_fields.specs.Laws.{signed_16-back, signed_24-back, signed_32-back, signed_56-back};
-ghost use Rattle.mysql_fields.specs.Laws.{signed_64-back, signed_8-back, signed_at-sized, unsized, upper_half_at-back};
-ghost use Rattle.mysql_fields.specs.Laws.{upper_half_at-sized, varlen_number_at-back};
-ghost use Rattle.mysql_fields.specs.Wire.{Appends, IsSized, Reading, Suffices, Tells};
+ghost use Rattle.std.specs.Prelude.{◌≡◌, None, Option, Some, length, refl, ℕ};
+ghost use Rattle.std.specs.Int.{w8, w16, w32, w64};
+ghost use Rattle.mysql_fields.specs.Numbers.{NumberForm, length_encoded, of_upper_half, of_variable_length};
+ghost use Rattle.mysql_fields.specs.Numbers.{signed, unsigned};
+ghost use Rattle.mysql_fields.specs.Wire.{Appends, Suffices, Tells};
 
 use crate::WireError;
 use crate::io::{MyDeserialize, MySerialize, Readable, ReadsBack};
@@ -39,21 +31,15 @@ pub trait IntRepr {
 
     ghost SIZE: { Option ℕ };
 
-    // the numbers that are read back
-    ghost IsKept: { Self.Primitive → Type 0 };
-
-    // the bytes that are written of a number
-    ghost written: { Self.Primitive → List ℕ };
-
-    // what reading answers, of every list of bytes
-    ghost read_at: { List ℕ → Reading Self.Primitive };
+    // how a number is written and read
+    ghost form: { NumberForm SIZE Self.Primitive };
 
     /// Appends a number.
     ///
     /// # Errors
     /// - `AllocError` for want of memory. The buffer is then as it was.
     fn serialize(number: Self::Primitive, buf: &mut Vec<u8>) -> Result<(), AllocError>
-        ensures { Appends result buf.old.items buf.new.items (written number) };
+        ensures { Appends result buf.old.items buf.new.items (form.written number) };
 
     /// Reads the number that stands first.
     ///
@@ -61,12 +47,7 @@ pub trait IntRepr {
     /// - `UnexpectedEof` where it is cut off. All bytes are then left.
     fn deserialize(buf: &mut ParseBuf) -> Result<Self::Primitive, WireError>
         requires { Suffices SIZE (length buf.old.0.now) }
-        ensures { Tells (λ x. x) buf.old.0.now buf.new.0.now result (read_at buf.old.0.now) };
-
-    // where there is a size, that many bytes are needed and eaten
-    ghost sized: { IsSized SIZE read_at };
-
-    ghost reads_back: { (x : Self.Primitive) (rest : List ℕ) → IsKept x → read_at (written x ++ rest) ≡ Ok (x, rest) };
+        ensures { Tells (λ x. x) buf.old.0.now buf.new.0.now result (form.read_at buf.old.0.now) };
 }
 
 /// A number in the representation `T`.
@@ -102,7 +83,7 @@ where
 }
 
 impl<T: IntRepr> MySerialize for RawInt<T> {
-    ghost written = { λ x. T.written x.0 };
+    ghost written = { λ x. T.form.written x.0 };
 
     fn serialize(&self, buf: &mut Vec<u8>) -> Result<(), AllocError> {
         T::serialize(self.0, buf)
@@ -118,23 +99,21 @@ impl<T: IntRepr> Readable for RawInt<T> {
 
     ghost SIZE = { T.SIZE };
 
-    ghost AsksForMemory = { false };
-
     ghost Shown = { T.Primitive };
 
     ghost shown = { λ x. x.0 };
 
     ghost kept = { λ x. x.0 };
 
-    ghost read_at = { λ _ bytes. T.read_at bytes };
+    ghost read_at = { λ _ bytes. T.form.read_at bytes };
 
-    ghost IsReadBack = { λ _ x _. T.IsKept x.0 };
+    ghost IsReadBack = { λ _ x _. T.form.IsKept x.0 };
 
-    ghost sized = { λ _. T.sized };
+    ghost sized = { λ _. T.form.sized };
 }
 
 impl<T: IntRepr> ReadsBack for RawInt<T> {
-    ghost reads_back = { λ _ x rest. T.reads_back x.0 rest };
+    ghost reads_back = { λ _ x rest. T.form.reads_back x.0 rest };
 }
 
 impl<'de, T: IntRepr> MyDeserialize<'de> for RawInt<T> {
@@ -156,15 +135,7 @@ impl IntRepr for u8 {
 
     ghost SIZE = { Some 1 };
 
-    ghost IsKept = { λ x. x < 2 ^ 8 };
-
-    ghost written = { little_bytes 1 };
-
-    ghost read_at = { fixed_number_at 1 };
-
-    ghost sized = { fixed_number_at-sized 1 };
-
-    ghost reads_back = { fixed_number_at-back 1 };
+    ghost form = { unsigned 1 };
 
     fn serialize(number: u8, buf: &mut Vec<u8>) -> Result<(), AllocError> {
         buf.put_u8(number)
@@ -183,15 +154,7 @@ impl IntRepr for i8 {
 
     ghost SIZE = { Some 1 };
 
-    ghost IsKept = { FitsBytes 1 };
-
-    ghost written = { λ z. little_bytes 1 (cast_unsigned w8 z) };
-
-    ghost read_at = { signed_at 1 };
-
-    ghost sized = { signed_at-sized 1 };
-
-    ghost reads_back = { signed_8-back };
+    ghost form = { signed w8 1 refl refl };
 
     fn serialize(number: i8, buf: &mut Vec<u8>) -> Result<(), AllocError> {
         buf.put_i8(number)
@@ -213,15 +176,7 @@ impl IntRepr for LeU16 {
 
     ghost SIZE = { Some 2 };
 
-    ghost IsKept = { λ x. x < 2 ^ 16 };
-
-    ghost written = { little_bytes 2 };
-
-    ghost read_at = { fixed_number_at 2 };
-
-    ghost sized = { fixed_number_at-sized 2 };
-
-    ghost reads_back = { fixed_number_at-back 2 };
+    ghost form = { unsigned 2 };
 
     fn serialize(number: u16, buf: &mut Vec<u8>) -> Result<(), AllocError> {
         buf.put_u16_le(number)
@@ -243,15 +198,7 @@ impl IntRepr for LeI16 {
 
     ghost SIZE = { Some 2 };
 
-    ghost IsKept = { FitsBytes 2 };
-
-    ghost written = { λ z. little_bytes 2 (cast_unsigned w16 z) };
-
-    ghost read_at = { signed_at 2 };
-
-    ghost sized = { signed_at-sized 2 };
-
-    ghost reads_back = { signed_16-back };
+    ghost form = { signed w16 2 refl refl };
 
     fn serialize(number: i16, buf: &mut Vec<u8>) -> Result<(), AllocError> {
         buf.put_i16_le(number)
@@ -273,15 +220,7 @@ impl IntRepr for LeU24 {
 
     ghost SIZE = { Some 3 };
 
-    ghost IsKept = { λ x. x < 2 ^ 24 };
-
-    ghost written = { little_bytes 3 };
-
-    ghost read_at = { fixed_number_at 3 };
-
-    ghost sized = { fixed_number_at-sized 3 };
-
-    ghost reads_back = { fixed_number_at-back 3 };
+    ghost form = { unsigned 3 };
 
     fn serialize(number: u32, buf: &mut Vec<u8>) -> Result<(), AllocError> {
         buf.put_u24_le(number)
@@ -303,15 +242,7 @@ impl IntRepr for LeI24 {
 
     ghost SIZE = { Some 3 };
 
-    ghost IsKept = { FitsBytes 3 };
-
-    ghost written = { λ z. little_bytes 3 (cast_unsigned w32 z) };
-
-    ghost read_at = { signed_at 3 };
-
-    ghost sized = { signed_at-sized 3 };
-
-    ghost reads_back = { signed_24-back };
+    ghost form = { signed w32 3 refl refl };
 
     fn serialize(number: i32, buf: &mut Vec<u8>) -> Result<(), AllocError> {
         buf.put_i24_le(number)
@@ -333,15 +264,7 @@ impl IntRepr for LeU32 {
 
     ghost SIZE = { Some 4 };
 
-    ghost IsKept = { λ x. x < 2 ^ 32 };
-
-    ghost written = { little_bytes 4 };
-
-    ghost read_at = { fixed_number_at 4 };
-
-    ghost sized = { fixed_number_at-sized 4 };
-
-    ghost reads_back = { fixed_number_at-back 4 };
+    ghost form = { unsigned 4 };
 
     fn serialize(number: u32, buf: &mut Vec<u8>) -> Result<(), AllocError> {
         buf.put_u32_le(number)
@@ -363,15 +286,7 @@ impl IntRepr for LeI32 {
 
     ghost SIZE = { Some 4 };
 
-    ghost IsKept = { FitsBytes 4 };
-
-    ghost written = { λ z. little_bytes 4 (cast_unsigned w32 z) };
-
-    ghost read_at = { signed_at 4 };
-
-    ghost sized = { signed_at-sized 4 };
-
-    ghost reads_back = { signed_32-back };
+    ghost form = { signed w32 4 refl refl };
 
     fn serialize(number: i32, buf: &mut Vec<u8>) -> Result<(), AllocError> {
         buf.put_i32_le(number)
@@ -393,15 +308,7 @@ impl IntRepr for LeU48 {
 
     ghost SIZE = { Some 6 };
 
-    ghost IsKept = { λ x. x < 2 ^ 48 };
-
-    ghost written = { little_bytes 6 };
-
-    ghost read_at = { fixed_number_at 6 };
-
-    ghost sized = { fixed_number_at-sized 6 };
-
-    ghost reads_back = { fixed_number_at-back 6 };
+    ghost form = { unsigned 6 };
 
     fn serialize(number: u64, buf: &mut Vec<u8>) -> Result<(), AllocError> {
         buf.put_u48_le(number)
@@ -423,15 +330,7 @@ impl IntRepr for LeU56 {
 
     ghost SIZE = { Some 7 };
 
-    ghost IsKept = { λ x. x < 2 ^ 56 };
-
-    ghost written = { little_bytes 7 };
-
-    ghost read_at = { fixed_number_at 7 };
-
-    ghost sized = { fixed_number_at-sized 7 };
-
-    ghost reads_back = { fixed_number_at-back 7 };
+    ghost form = { unsigned 7 };
 
     fn serialize(number: u64, buf: &mut Vec<u8>) -> Result<(), AllocError> {
         buf.put_u56_le(number)
@@ -453,15 +352,7 @@ impl IntRepr for LeI56 {
 
     ghost SIZE = { Some 7 };
 
-    ghost IsKept = { FitsBytes 7 };
-
-    ghost written = { λ z. little_bytes 7 (cast_unsigned w64 z) };
-
-    ghost read_at = { signed_at 7 };
-
-    ghost sized = { signed_at-sized 7 };
-
-    ghost reads_back = { signed_56-back };
+    ghost form = { signed w64 7 refl refl };
 
     fn serialize(number: i64, buf: &mut Vec<u8>) -> Result<(), AllocError> {
         buf.put_i56_le(number)
@@ -483,15 +374,7 @@ impl IntRepr for LeU64 {
 
     ghost SIZE = { Some 8 };
 
-    ghost IsKept = { λ x. x < 2 ^ 64 };
-
-    ghost written = { little_bytes 8 };
-
-    ghost read_at = { fixed_number_at 8 };
-
-    ghost sized = { fixed_number_at-sized 8 };
-
-    ghost reads_back = { fixed_number_at-back 8 };
+    ghost form = { unsigned 8 };
 
     fn serialize(number: u64, buf: &mut Vec<u8>) -> Result<(), AllocError> {
         buf.put_u64_le(number)
@@ -513,15 +396,7 @@ impl IntRepr for LeI64 {
 
     ghost SIZE = { Some 8 };
 
-    ghost IsKept = { FitsBytes 8 };
-
-    ghost written = { λ z. little_bytes 8 (cast_unsigned w64 z) };
-
-    ghost read_at = { signed_at 8 };
-
-    ghost sized = { signed_at-sized 8 };
-
-    ghost reads_back = { signed_64-back };
+    ghost form = { signed w64 8 refl refl };
 
     fn serialize(number: i64, buf: &mut Vec<u8>) -> Result<(), AllocError> {
         buf.put_i64_le(number)
@@ -543,15 +418,7 @@ impl IntRepr for LeU32LowerHalf {
 
     ghost SIZE = { Some 2 };
 
-    ghost IsKept = { λ x. x < 2 ^ 16 };
-
-    ghost written = { little_bytes 2 };
-
-    ghost read_at = { fixed_number_at 2 };
-
-    ghost sized = { fixed_number_at-sized 2 };
-
-    ghost reads_back = { fixed_number_at-back 2 };
+    ghost form = { unsigned 2 };
 
     fn serialize(number: u32, buf: &mut Vec<u8>) -> Result<(), AllocError> {
         buf.put_u16_le((number & 0xffff) as u16)
@@ -573,15 +440,7 @@ impl IntRepr for LeU32UpperHalf {
 
     ghost SIZE = { Some 2 };
 
-    ghost IsKept = { λ x. (x < 2 ^ 32) × (x % 2 ^ 16 ≡ 0) };
-
-    ghost written = { upper_half };
-
-    ghost read_at = { upper_half_at };
-
-    ghost sized = { upper_half_at-sized };
-
-    ghost reads_back = { upper_half_at-back };
+    ghost form = { of_upper_half };
 
     fn serialize(number: u32, buf: &mut Vec<u8>) -> Result<(), AllocError> {
         buf.put_u16_le((number >> 16) as u16)
@@ -605,15 +464,7 @@ impl IntRepr for LenEnc {
 
     ghost SIZE = { None };
 
-    ghost IsKept = { λ x. x < 2 ^ 64 };
-
-    ghost written = { lenenc_int };
-
-    ghost read_at = { lenenc_number_at };
-
-    ghost sized = { unsized lenenc_number_at };
-
-    ghost reads_back = { lenenc_number_at-back };
+    ghost form = { length_encoded };
 
     fn serialize(number: u64, buf: &mut Vec<u8>) -> Result<(), AllocError> {
         buf.put_lenenc_int(number)
@@ -639,15 +490,7 @@ impl IntRepr for VarLen {
 
     ghost SIZE = { None };
 
-    ghost IsKept = { λ x. x < 2 ^ 64 };
-
-    ghost written = { varlen };
-
-    ghost read_at = { varlen_number_at };
-
-    ghost sized = { unsized varlen_number_at };
-
-    ghost reads_back = { varlen_number_at-back };
+    ghost form = { of_variable_length };
 
     fn serialize(number: u64, buf: &mut Vec<u8>) -> Result<(), AllocError> {
         write_varlen_uint(buf, number)

@@ -5,7 +5,7 @@
 //!     let name: RawBytes<LenEnc> = buf.parse(alloc, ())?;
 //!     in_order!(id, name).serialize(&mut out)?;
 
-ghost use Rattle.std.specs.Prelude.{◌≡◌, ◌++◌, Bool, List, Ok, Option, [], false, length, true, ℕ};
+ghost use Rattle.std.specs.Prelude.{◌≡◌, ◌++◌, Bool, List, None, Ok, Option, [], false, length, ℕ};
 ghost use Rattle.mysql_fields.specs.Wire.{Reading, Answers, Appends, Suffices, IsSized, lacks};
 
 use crate::WireError;
@@ -77,10 +77,10 @@ pub trait Readable: Sized {
     /// What has to be known before a value is read.
     type Ctx: Drop;
 
-    ghost SIZE: { Option ℕ };
+    ghost SIZE: { Option ℕ } = { None };
 
     // whether reading may ask for memory, and so answer that it was refused
-    ghost AsksForMemory: { Bool } = { true };
+    ghost AsksForMemory: { Bool } = { false };
 
     // what a value is, apart from where its bytes lie
     ghost Shown: { Type 0 };

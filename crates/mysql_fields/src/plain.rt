@@ -4,7 +4,7 @@
 //!     let front: &[u8] = buf.parse(alloc, count)?;
 //!     let row: RowDeserializer<ServerSide, Text> = buf.parse(alloc, columns)?;
 
-ghost use Rattle.std.specs.Prelude.{◌≡◌, List, None, Some, false, length, ℕ};
+ghost use Rattle.std.specs.Prelude.{◌≡◌, List, None, Some, length, ℕ};
 ghost use Rattle.mysql_fields.specs.Forms.{bytes_at};
 ghost use Rattle.mysql_fields.specs.Laws.{bytes_at-back, bytes_at-sized, unsized};
 
@@ -37,8 +37,6 @@ impl<const N: usize> Readable for [u8; N] {
     type Ctx = ();
 
     ghost SIZE = { Some N };
-
-    ghost AsksForMemory = { false };
 
     ghost Shown = { List ℕ };
 
@@ -88,10 +86,6 @@ impl<'de, const N: usize> MyDeserialize<'de> for [u8; N] {
 impl<'a> Readable for &'a [u8] {
     type Ctx = usize;
 
-    ghost SIZE = { None };
-
-    ghost AsksForMemory = { false };
-
     ghost Shown = { List ℕ };
 
     ghost shown = { λ x. x.now };
@@ -125,10 +119,6 @@ impl<'de> MyDeserialize<'de> for &'de [u8] {
 /// As many bytes as the context says, as a buffer.
 impl<'a> Readable for ParseBuf<'a> {
     type Ctx = usize;
-
-    ghost SIZE = { None };
-
-    ghost AsksForMemory = { false };
 
     ghost Shown = { List ℕ };
 

@@ -6,7 +6,7 @@
 //!     RawBytes::<NullBytes>::from(bytes).serialize(&mut out)?;
 
 ghost use Rattle.std.specs.Prelude.{◌≡◌, ◌==◌, ◌-◌, ◌<◌, ◌^◌, IfErr, IfOk, List, None, Ok, Option, Some, [], ◌++◌};
-ghost use Rattle.std.specs.Prelude.{false, length, ℕ, ⊤};
+ghost use Rattle.std.specs.Prelude.{length, ℕ, ⊤};
 ghost use Rattle.std.specs.Cow.{cow_slice_items, cow_str_bytes};
 ghost use Rattle.std.specs.List.{before_first};
 ghost use Rattle.mysql_buf.specs.Reading.{is_zero};
@@ -197,8 +197,6 @@ impl<'a, T: BytesRepr> Readable for RawBytes<'a, T> {
     type Ctx = T::Ctx;
 
     ghost SIZE = { T.SIZE };
-
-    ghost AsksForMemory = { false };
 
     ghost Shown = { List ℕ };
 

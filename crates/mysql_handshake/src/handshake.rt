@@ -4,7 +4,7 @@
 //!     let version = greeting.server_version_parsed();
 //!     let plugin = greeting.auth_plugin();
 
-ghost use Rattle.std.specs.Prelude.{[], ◌≡◌, ◌≤◌, IfOk, None, Ok, Some, length, IsOkUnless, false};
+ghost use Rattle.std.specs.Prelude.{[], ◌≡◌, ◌≤◌, IfOk, None, Ok, Some, length, IsOkUnless};
 ghost use Rattle.std.specs.Cow.{cow_slice_items, cow_str_bytes};
 ghost use Rattle.std.specs.Option.{option_map};
 ghost use Rattle.mysql_fields.specs.Texts.{lossy_text};
@@ -572,10 +572,6 @@ impl MySerialize for FixedBlock {
 
 impl<'a> Readable for HandshakePacket<'a> {
     type Ctx = ();
-
-    ghost SIZE = { None };
-
-    ghost AsksForMemory = { false };
 
     ghost Shown = { HandshakeFields };
 

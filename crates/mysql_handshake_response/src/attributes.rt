@@ -4,7 +4,7 @@
 //!     attributes.serialize(&mut payload)?;
 
 ghost use Rattle.std.specs.Prelude.{◌≡◌, IfOk, IfSome, List, None, [], ◌∷◌, ◌++◌, length, map, slice_get, IsOkUnless};
-ghost use Rattle.std.specs.Prelude.{option_map};
+ghost use Rattle.std.specs.Prelude.{option_map, true};
 ghost use Rattle.std.specs.Cow.{cow_slice_items};
 ghost use Rattle.std.specs.List.{flat_map};
 ghost use Rattle.std.specs.String.{string_bytes};
@@ -277,7 +277,7 @@ fn parse_all<'de>(
 impl<'a> Readable for ConnectAttributes<'a> {
     type Ctx = ();
 
-    ghost SIZE = { None };
+    ghost AsksForMemory = { true };
 
     ghost Shown = { List Attribute };
 

@@ -3,7 +3,7 @@
 //!     let answer: HandshakeResponse = ParseBuf(payload).parse(alloc, ())?;
 //!     let user = answer.user();
 
-ghost use Rattle.std.specs.Prelude.{◌≡◌, IfOk, None, map, option_map, IsOkUnless};
+ghost use Rattle.std.specs.Prelude.{◌≡◌, IfOk, None, map, option_map, IsOkUnless, true};
 ghost use Rattle.std.specs.Cow.{cow_slice_items};
 ghost use Rattle.std.specs.Int.RustNames.{bit_and};
 ghost use Rattle.mysql_handshake_response.specs.AttributeViews.{attributes_view, lossy_attribute, text_attribute};
@@ -563,7 +563,7 @@ impl<'a> MySerialize for HandshakeResponse<'a> {
 impl<'a> Readable for HandshakeResponse<'a> {
     type Ctx = ();
 
-    ghost SIZE = { None };
+    ghost AsksForMemory = { true };
 
     ghost Shown = { ResponseFields };
 

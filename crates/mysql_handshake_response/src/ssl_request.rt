@@ -3,7 +3,7 @@
 //!     let request = SslRequest::new(capabilities, max_packet_size, character_set);
 //!     request.serialize(&mut payload)?;
 
-ghost use Rattle.std.specs.Prelude.{◌≡◌, Some, false};
+ghost use Rattle.std.specs.Prelude.{◌≡◌, Some};
 ghost use Rattle.mysql_fields.specs.Wire.{TellsPart};
 ghost use Rattle.mysql_handshake.specs.Capabilities.{offered};
 ghost use Rattle.mysql_handshake_response.specs.SslRequests.{IsSslRequest, SslRequestFields, ssl_fields_at};
@@ -149,8 +149,6 @@ impl Readable for SslRequest {
     type Ctx = ();
 
     ghost SIZE = { Some 32 };
-
-    ghost AsksForMemory = { false };
 
     ghost Shown = { SslRequestFields };
 

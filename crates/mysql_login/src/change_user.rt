@@ -4,7 +4,7 @@
 //!     let command = ComChangeUser::new().with_user(Some(name)).with_more_data(Some(more));
 //!     command.serialize(&mut payload)?;
 
-ghost use Rattle.std.specs.Prelude.{◌≡◌, [], IfOk, None, map, option_map};
+ghost use Rattle.std.specs.Prelude.{◌≡◌, [], IfOk, None, map, option_map, true};
 ghost use Rattle.std.specs.Cow.{cow_slice_items};
 ghost use Rattle.mysql_handshake_response.specs.Attributes.{attributes};
 ghost use Rattle.mysql_handshake_response.specs.AttributeViews.{attributes_view, text_attribute};
@@ -180,7 +180,7 @@ impl<'a> MySerialize for ComChangeUserMoreData<'a> {
 impl<'a> Readable for ComChangeUserMoreData<'a> {
     type Ctx = CapabilityFlags;
 
-    ghost SIZE = { None };
+    ghost AsksForMemory = { true };
 
     ghost Shown = { MoreFields };
 
@@ -467,7 +467,7 @@ impl<'a> MySerialize for ComChangeUser<'a> {
 impl<'a> Readable for ComChangeUser<'a> {
     type Ctx = CapabilityFlags;
 
-    ghost SIZE = { None };
+    ghost AsksForMemory = { true };
 
     ghost Shown = { ChangeUserFields };
 

@@ -5,7 +5,7 @@
 //!         _ => ..,
 //!     }
 
-ghost use Rattle.std.specs.Prelude.{◌≡◌, IfOk, None, map};
+ghost use Rattle.std.specs.Prelude.{◌≡◌, IfOk, None, map, true};
 ghost use Rattle.std.specs.List.{flat_map};
 ghost use Rattle.mysql_fields.specs.Laws.{unsized};
 ghost use Rattle.mysql_fields.specs.Wire.{Appends, Tells};
@@ -178,7 +178,7 @@ impl<'a> MySerialize for SessionStateChange<'a> {
 impl<'a> Readable for SessionStateChange<'a> {
     type Ctx = SessionStateType;
 
-    ghost SIZE = { None };
+    ghost AsksForMemory = { true };
 
     ghost Shown = { Change };
 

@@ -3,7 +3,7 @@
 //!     let read: OkPacketDeserializer<ResultSetTerminator> = ParseBuf(payload).parse(alloc, capabilities)?;
 //!     let packet = read.into_inner();
 
-ghost use Rattle.std.specs.Prelude.{◌≡◌, IfOk, None, false};
+ghost use Rattle.std.specs.Prelude.{◌≡◌, IfOk, None};
 ghost use Rattle.mysql_fields.specs.Laws.{unsized};
 ghost use Rattle.mysql_ok_packets.specs.OkPackets.{OkPacket as OkPacketFields, packet_at};
 ghost use Rattle.mysql_ok_packets.specs.Views.{ok_packet_view};
@@ -60,10 +60,6 @@ impl<'de, T> From<OkPacketDeserializer<'de, T>> for OkPacket<'de> {
 
 impl<'de, T: OkPacketKind> Readable for OkPacketDeserializer<'de, T> {
     type Ctx = CapabilityFlags;
-
-    ghost SIZE = { None };
-
-    ghost AsksForMemory = { false };
 
     ghost Shown = { OkPacketFields };
 

@@ -4,7 +4,7 @@
 //!         let change = state.decode(alloc)?;
 //!     }
 
-ghost use Rattle.std.specs.Prelude.{◌≡◌, IfOk, None, [], false, map, option_map};
+ghost use Rattle.std.specs.Prelude.{◌≡◌, IfOk, None, [], map, option_map};
 ghost use Rattle.std.specs.Cow.{cow_slice_items};
 ghost use Rattle.std.specs.List.{flat_map};
 ghost use Rattle.mysql_fields.specs.Laws.{unsized};
@@ -140,10 +140,6 @@ impl<'a> MySerialize for SessionStateInfo<'a> {
 
 impl<'a> Readable for SessionStateInfo<'a> {
     type Ctx = ();
-
-    ghost SIZE = { None };
-
-    ghost AsksForMemory = { false };
 
     ghost Shown = { State };
 

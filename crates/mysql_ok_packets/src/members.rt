@@ -1,6 +1,6 @@
 //! Changes of a session's state that are one text.
 
-ghost use Rattle.std.specs.Prelude.{◌≡◌, ◌<◌, ◌^◌, IfOk, IsOkUnless, List, None, Ok, [], false, length, refl, ℕ};
+ghost use Rattle.std.specs.Prelude.{◌≡◌, ◌<◌, ◌^◌, IfOk, IsOkUnless, List, None, Ok, [], length, refl, ℕ};
 ghost use Rattle.std.specs.Cow.{cow_slice_items, cow_str_bytes};
 ghost use Rattle.mysql_fields.specs.Texts.{lossy_text};
 ghost use Rattle.mysql_buf.specs.Writing.{lenenc_str};
@@ -82,10 +82,6 @@ impl<'a> MySerialize for Gtids<'a> {
 
 impl<'a> Readable for Gtids<'a> {
     type Ctx = ();
-
-    ghost SIZE = { None };
-
-    ghost AsksForMemory = { false };
 
     ghost Shown = { List ℕ };
 
@@ -211,10 +207,6 @@ impl<'a, const TYPE: u8> MySerialize for StateText<'a, TYPE> {
 
 impl<'a, const TYPE: u8> Readable for StateText<'a, TYPE> {
     type Ctx = ();
-
-    ghost SIZE = { None };
-
-    ghost AsksForMemory = { false };
 
     ghost Shown = { List ℕ };
 

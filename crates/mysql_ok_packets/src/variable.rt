@@ -1,6 +1,6 @@
 //! System variables of a session.
 
-ghost use Rattle.std.specs.Prelude.{◌≡◌, IfOk, IsOkUnless, None, false};
+ghost use Rattle.std.specs.Prelude.{◌≡◌, IfOk, IsOkUnless, None};
 ghost use Rattle.std.specs.Cow.{cow_slice_items, cow_str_bytes};
 ghost use Rattle.mysql_fields.specs.Texts.{lossy_text};
 ghost use Rattle.mysql_fields.specs.Laws.{unsized};
@@ -112,10 +112,6 @@ impl<'a> MySerialize for SystemVariable<'a> {
 
 impl<'a> Readable for SystemVariable<'a> {
     type Ctx = ();
-
-    ghost SIZE = { None };
-
-    ghost AsksForMemory = { false };
 
     ghost Shown = { Variable };
 

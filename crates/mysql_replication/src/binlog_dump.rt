@@ -3,7 +3,7 @@
 //!     let request = ComBinlogDump::new(server_id).with_pos(4).with_filename(name);
 //!     request.serialize(&mut payload)?;
 
-ghost use Rattle.std.specs.Prelude.{◌≡◌, [], IfOk, None, false};
+ghost use Rattle.std.specs.Prelude.{◌≡◌, [], IfOk, None};
 ghost use Rattle.std.specs.Cow.{cow_slice_items};
 ghost use Rattle.mysql_fields.specs.Laws.{unsized};
 ghost use Rattle.mysql_fields.specs.Wire.{TellsPart};
@@ -146,10 +146,6 @@ impl<'a> MySerialize for ComBinlogDump<'a> {
 
 impl<'a> Readable for ComBinlogDump<'a> {
     type Ctx = ();
-
-    ghost SIZE = { None };
-
-    ghost AsksForMemory = { false };
 
     ghost Shown = { BinlogDump };
 

@@ -1,7 +1,7 @@
 //! Sets as bytes: each alone, and in the block of a request for the binary log.
 
 ghost use Rattle.std.specs.Prelude.{◌≡◌, ◌^◌, ◌-◌, ◌<◌, ◌≤◌, List, None, Option, Some, [], false, length, map, min};
-ghost use Rattle.std.specs.Prelude.{unwrap_or, ℕ};
+ghost use Rattle.std.specs.Prelude.{unwrap_or, ℕ, true};
 ghost use Rattle.std.specs.Cow.{cow_slice_items};
 ghost use Rattle.std.specs.List.{flat_map};
 ghost use Rattle.mysql_fields.specs.Forms.{bytes_at, fixed_number_at};
@@ -47,8 +47,6 @@ impl Readable for GnoInterval {
     type Ctx = ();
 
     ghost SIZE = { Some 16 };
-
-    ghost AsksForMemory = { false };
 
     ghost Shown = { GnoInterval };
 
@@ -241,7 +239,7 @@ impl<'a> MySerialize for Sid<'a> {
 impl<'a> Readable for Sid<'a> {
     type Ctx = ();
 
-    ghost SIZE = { None };
+    ghost AsksForMemory = { true };
 
     ghost Shown = { SidParts };
 
@@ -417,7 +415,7 @@ impl<'a> MySerialize for SidBlock<'a> {
 impl<'a> Readable for SidBlock<'a> {
     type Ctx = ();
 
-    ghost SIZE = { None };
+    ghost AsksForMemory = { true };
 
     ghost Shown = { List SidParts };
 

@@ -3,7 +3,7 @@
 //!     let packet = ComRegisterSlave::new(server_id).with_hostname(host).with_port(3306);
 //!     packet.serialize(&mut payload)?;
 
-ghost use Rattle.std.specs.Prelude.{◌≡◌, [], IfOk, None, false};
+ghost use Rattle.std.specs.Prelude.{◌≡◌, [], IfOk, None};
 ghost use Rattle.std.specs.Cow.{cow_slice_items};
 ghost use Rattle.mysql_buf.specs.Writing.{front};
 ghost use Rattle.mysql_fields.specs.Laws.{unsized};
@@ -259,10 +259,6 @@ impl<'a> MySerialize for ComRegisterSlave<'a> {
 
 impl<'a> Readable for ComRegisterSlave<'a> {
     type Ctx = ();
-
-    ghost SIZE = { None };
-
-    ghost AsksForMemory = { false };
 
     ghost Shown = { RegisterSlave };
 

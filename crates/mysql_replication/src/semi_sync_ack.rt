@@ -2,7 +2,7 @@
 //!
 //!     SemiSyncAckPacket::new(position, filename).serialize(&mut payload)?;
 
-ghost use Rattle.std.specs.Prelude.{◌≡◌, [], None, false};
+ghost use Rattle.std.specs.Prelude.{◌≡◌, [], None};
 ghost use Rattle.std.specs.Cow.{cow_slice_items};
 ghost use Rattle.mysql_fields.specs.Laws.{unsized};
 ghost use Rattle.mysql_fields.specs.Wire.{TellsPart};
@@ -98,10 +98,6 @@ impl<'a> MySerialize for SemiSyncAckPacket<'a> {
 
 impl<'a> Readable for SemiSyncAckPacket<'a> {
     type Ctx = ();
-
-    ghost SIZE = { None };
-
-    ghost AsksForMemory = { false };
 
     ghost Shown = { SemiSyncAck };
 

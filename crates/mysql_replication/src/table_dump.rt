@@ -2,7 +2,7 @@
 //!
 //!     ComTableDump::new(database, table).serialize(&mut payload)?;
 
-ghost use Rattle.std.specs.Prelude.{◌≡◌, IfOk, None, false};
+ghost use Rattle.std.specs.Prelude.{◌≡◌, IfOk, None};
 ghost use Rattle.std.specs.Cow.{cow_slice_items};
 ghost use Rattle.mysql_buf.specs.Writing.{front};
 ghost use Rattle.mysql_fields.specs.Laws.{unsized};
@@ -112,10 +112,6 @@ impl<'a> MySerialize for ComTableDump<'a> {
 
 impl<'a> Readable for ComTableDump<'a> {
     type Ctx = ();
-
-    ghost SIZE = { None };
-
-    ghost AsksForMemory = { false };
 
     ghost Shown = { TableDump };
 

@@ -118,10 +118,6 @@ impl<'a> MySerialize for ErrPacket<'a> {
 impl<'a> Readable for ErrPacket<'a> {
     type Ctx = CapabilityFlags;
 
-    ghost SIZE = { None };
-
-    ghost AsksForMemory = { false };
-
     ghost Shown = { ErrPacketFields };
 
     ghost shown = { err_packet_view };

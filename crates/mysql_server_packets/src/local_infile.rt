@@ -3,7 +3,7 @@
 //!     let request: LocalInfilePacket = ParseBuf(payload).parse(alloc, ())?;
 //!     let name = request.file_name_ref();
 
-ghost use Rattle.std.specs.Prelude.{◌≡◌, [], IfOk, IsOkUnless, List, None, false, ℕ};
+ghost use Rattle.std.specs.Prelude.{◌≡◌, [], IfOk, IsOkUnless, List, None, ℕ};
 ghost use Rattle.std.specs.Cow.{cow_slice_items, cow_str_bytes};
 ghost use Rattle.mysql_fields.specs.Laws.{unsized};
 ghost use Rattle.mysql_fields.specs.declared.error.WireError.TheVariants as wire;
@@ -96,10 +96,6 @@ impl<'a> MySerialize for LocalInfilePacket<'a> {
 
 impl<'a> Readable for LocalInfilePacket<'a> {
     type Ctx = ();
-
-    ghost SIZE = { None };
-
-    ghost AsksForMemory = { false };
 
     ghost Shown = { List ℕ };
 

@@ -2,7 +2,7 @@
 //!
 //!     let report = ProgressReport::new(1, 2, 50000, CowSlice::Borrowed(b"copying"));
 
-ghost use Rattle.std.specs.Prelude.{◌≡◌, IfOk, IsOkUnless, None, Some, false};
+ghost use Rattle.std.specs.Prelude.{◌≡◌, IfOk, IsOkUnless, None, Some};
 ghost use Rattle.std.specs.Cow.{cow_slice_items, cow_str_bytes};
 ghost use Rattle.mysql_fields.specs.Laws.{unsized};
 ghost use Rattle.mysql_fields.specs.Wire.{TellsPart};
@@ -199,10 +199,6 @@ impl<'a> MySerialize for ProgressReport<'a> {
 
 impl<'a> Readable for ProgressReport<'a> {
     type Ctx = ();
-
-    ghost SIZE = { None };
-
-    ghost AsksForMemory = { false };
 
     ghost Shown = { ProgressReportFields };
 

@@ -3,7 +3,7 @@
 //!     let state = Some(SqlState::new(*b"42S02"));
 //!     let error = ServerError::new(1146, state, CowSlice::Borrowed(b"no such table"));
 
-ghost use Rattle.std.specs.Prelude.{◌≡◌, [], IfOk, IsOkUnless, List, None, Some, false, length, option_map, ℕ};
+ghost use Rattle.std.specs.Prelude.{◌≡◌, [], IfOk, IsOkUnless, List, None, Some, length, option_map, ℕ};
 ghost use Rattle.std.specs.Cow.{cow_slice_items, cow_str_bytes};
 ghost use Rattle.mysql_fields.specs.Laws.{unsized};
 ghost use Rattle.mysql_fields.specs.Wire.{TellsPart};
@@ -76,8 +76,6 @@ impl Readable for SqlState {
     type Ctx = ();
 
     ghost SIZE = { Some 6 };
-
-    ghost AsksForMemory = { false };
 
     ghost Shown = { List ℕ };
 
@@ -256,10 +254,6 @@ impl<'a> MySerialize for ServerError<'a> {
 /// What has to be known of an error: its code, and whether the server speaks the protocol of version 4.1.
 impl<'a> Readable for ServerError<'a> {
     type Ctx = (u16, bool);
-
-    ghost SIZE = { None };
-
-    ghost AsksForMemory = { false };
 
     ghost Shown = { ServerErrorFields };
 

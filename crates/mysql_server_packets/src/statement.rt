@@ -3,7 +3,7 @@
 //!     let packet: StmtPacket = ParseBuf(payload).parse(alloc, ())?;
 //!     let id = packet.statement_id();
 
-ghost use Rattle.std.specs.Prelude.{◌≡◌, Some, false};
+ghost use Rattle.std.specs.Prelude.{◌≡◌, Some};
 ghost use Rattle.mysql_fields.specs.Wire.{TellsPart};
 ghost use Rattle.mysql_server_packets.specs.PacketLaws.{prepare_ok_at-back, prepare_ok_at-sized};
 ghost use Rattle.mysql_server_packets.specs.Packets.{IsPrepareOk, PrepareOk, prepare_ok, prepare_ok_at};
@@ -133,8 +133,6 @@ impl Readable for StmtPacket {
     type Ctx = ();
 
     ghost SIZE = { Some 12 };
-
-    ghost AsksForMemory = { false };
 
     ghost Shown = { PrepareOk };
 

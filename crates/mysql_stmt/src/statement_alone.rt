@@ -3,7 +3,7 @@
 //!     let request = ComStmtClose::new(stmt_id);
 //!     request.serialize(&mut payload)?;
 
-ghost use Rattle.std.specs.Prelude.{◌≡◌, ◌<◌, ◌^◌, ℕ, Some, false};
+ghost use Rattle.std.specs.Prelude.{◌≡◌, ◌<◌, ◌^◌, ℕ, Some};
 ghost use Rattle.mysql_fields.specs.Wire.{TellsPart};
 ghost use Rattle.mysql_stmt.specs.CommandLaws.{alone_at-back, alone_at-sized};
 ghost use Rattle.mysql_stmt.specs.Commands.{IsId, alone, alone_at, alone_fields_at};
@@ -61,8 +61,6 @@ impl<const NUMBER: u8> Readable for StatementAlone<NUMBER> {
     type Ctx = ();
 
     ghost SIZE = { Some 5 };
-
-    ghost AsksForMemory = { false };
 
     ghost Shown = { ℕ };
 

@@ -5,5 +5,5 @@ use Rattle.mysql_field_lists.proofs.raw_seq.parse_numbers.Given as goal
 
 abbrev pub invariant-loop : goal.invariant-loop
 invariant-loop g l =
-    with_front l.items.items (elements_at g.T.IntRepr.read_at (l.count - l.counter) l.rest.0.now)
-    ≡ elements_at g.T.IntRepr.read_at l.count l.initial.rest.0.now
+    with_front l.items.items (elements_at g.T.IntRepr.form.read_at (l.count - l.counter) l.rest.0.now)
+    ≡ elements_at g.T.IntRepr.form.read_at l.count l.initial.rest.0.now
