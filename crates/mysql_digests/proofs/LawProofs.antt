@@ -9,7 +9,7 @@ use Rattle.mysql_queries.specs.declared.mode.Mode.{Mode}
 use Rattle.mysql_digests.specs.Digest.{IsDigest, Lexeme, Gap, Identifier, Value, digest_of, lexemes_of, with_token, pieces_behind, with_spaces, without_last}
 use Rattle.mysql_digests.specs.Laws.{OneDigest, SomeDigest, TextHasItsQuerysDigest, TextsHaveOneDigest, InsidesAreNotTold, DifferInside, is_string_kind, is_comment_kind}
 use Rattle.mysql_digests.specs.declared.left_out.Before.TheVariants.{Apart}
-use Rattle.mysql_digests.proofs.Alone.{alone_from, space}
+use Rattle.mysql_queries.proofs.Filled.{alone_from, space}
 use Rattle.mysql_digests.proofs.Same.{same_pieces, same_tokens}
 
 pub some_digest : SomeTokens → SomeDigest

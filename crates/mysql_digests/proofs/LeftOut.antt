@@ -9,7 +9,7 @@ use Rattle.mysql_digests.specs.declared.left_out.Before.{Before}
 use Rattle.mysql_digests.specs.declared.left_out.Before.TheVariants.{Apart, Joined, Power}
 use Rattle.mysql_digests.specs.declared.lexemes.Found.{Found}
 use Rattle.mysql_digests.specs.declared.lexemes.Found.TheVariants as found
-use Rattle.mysql_digests.proofs.FirstBytes.{and_true, same_number}
+use Rattle.mysql_queries.proofs.FirstBytes.{and_true, same_number}
 use Rattle.mysql_digests.proofs.Lexing.{digit_tokens}
 
 pub word_left : (before : Before) (what : Found) (bytes : List ℕ) (ls : List Lexeme) (value : Bool) → what ≡ found.Word → false ≡ is_power before → true ≡ is_string_prefix bytes → value ≡ value_follows ls → value ≡ is_left_out before (lexeme_view what bytes) ls

@@ -8,7 +8,7 @@ use Rattle.mysql_queries.specs.Tokens.{Kind, Quoted, LineComment, BlockComment, 
 use Rattle.mysql_queries.specs.declared.mode.Mode.{Mode}
 use Rattle.mysql_digests.specs.Digest.{Lexeme, Gap, Value, Word, Operator, Identifier, Byte, with_word_byte, with_operator_byte, with_byte, with_bytes, with_token, lexemes_of, is_blank, is_word_byte, is_operator_byte, digit_follows, value_follows}
 use Rattle.mysql_digests.specs.Lexemes.{BeginsWith, first_is_digit, first_is_value, is_value_kind}
-use Rattle.mysql_digests.proofs.FirstBytes.{bool_tells}
+use Rattle.mysql_queries.proofs.FirstBytes.{bool_tells}
 use Rattle.mysql_digests.proofs.FirstTokens.{not_empty}
 use Rattle.mysql_digests.proofs.TokenKinds.{blank_plain, kind_stays, plain_kind, plain_token, word_plain, operator_plain, digit_word, operator_no_word}
 

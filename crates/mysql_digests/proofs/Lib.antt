@@ -1,12 +1,9 @@
-pub mod ByteTables
-pub mod FirstBytes
 pub mod FirstTokens
 pub mod TokenKinds
 pub mod Lexing
 pub mod LeftOut
 pub mod HeldPieces
 pub mod Reading
-pub mod Alone
 pub mod LiteralForms
 pub mod Forms
 pub mod Same

@@ -13,7 +13,7 @@ use Rattle.mysql_queries.specs.declared.content.Content.TheVariants.{Null, Numbe
 use Rattle.mysql_queries.specs.declared.mode.Mode.{Mode}
 use Rattle.mysql_queries.specs.declared.spelling.Spelling.{Spelling}
 use Rattle.mysql_digests.specs.Digest.{is_value, is_word_byte, begins_number, is_string_prefix, ends_in_e, awaits_exponent, dot}
-use Rattle.mysql_digests.proofs.FirstBytes.{bool_tells}
+use Rattle.mysql_queries.proofs.FirstBytes.{bool_tells}
 use Rattle.mysql_digests.proofs.TokenKinds.{digit_word, plain_by}
 
 pub or_first : (p q : Bool) → p ≡ true → (p || q) ≡ true

@@ -12,8 +12,9 @@ use Rattle.mysql_queries.specs.declared.spelling.Spelling.{Spelling}
 use Rattle.mysql_digests.specs.Digest.{Lexeme, Gap, Value, Word, Operator, Identifier, Byte, Piece, with_operator_byte, with_word_byte, with_byte, with_bytes, with_token, with_value, with_lexeme, lexemes_of, pieces_behind, is_left_out, before_next, may_sign, is_exponent, is_power, is_string_prefix, digit_follows, value_follows, is_blank, is_word_byte, is_operator_byte}
 use Rattle.mysql_digests.specs.declared.left_out.Before.{Before}
 use Rattle.mysql_digests.specs.declared.left_out.Before.TheVariants.{Apart, Joined, Exponent, Power}
-use Rattle.mysql_digests.proofs.Alone.{AloneFrom, BeginsApart, IsApart, last_of}
-use Rattle.mysql_digests.proofs.FirstBytes.{and_true, bool_tells, HasQuote, kind_has_quote, Tells, kind_tells}
+use Rattle.mysql_queries.proofs.Filled.{AloneFrom}
+use Rattle.mysql_queries.proofs.Follow.{BeginsApart, IsApart, last_of}
+use Rattle.mysql_queries.proofs.FirstBytes.{and_true, bool_tells, HasQuote, kind_has_quote, Tells, kind_tells}
 use Rattle.mysql_digests.proofs.FirstTokens.{not_empty}
 use Rattle.mysql_digests.proofs.Forms.{Forms, IsForm, literal_forms}
 use Rattle.mysql_digests.proofs.Lexing.{NoWord, no_word_tokens, operator_step, word_step}

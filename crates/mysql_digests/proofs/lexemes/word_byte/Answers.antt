@@ -1,7 +1,7 @@
 use Rattle.std.proofs.Common.{refl, arith}
 use Rattle.mysql_digests.specs.Digest.{is_word_byte}
 use Rattle.mysql_digests.specs.declared.lexemes.TheConstants.{WORD}
-use Rattle.mysql_digests.proofs.ByteTables.{read}
+use Rattle.mysql_queries.proofs.ByteTables.{read}
 use Rattle.mysql_digests.proofs.lexemes.word_byte.Goals as goal
 
 pub returns : goal.returns
