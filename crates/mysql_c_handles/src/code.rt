@@ -64,6 +64,7 @@ pub enum Code {
 
 impl Code {
     /// The number that C sees.
+    #[inline(always)]
     pub fn number(self) -> u32
         ensures { result ≡ code_number self }
     {

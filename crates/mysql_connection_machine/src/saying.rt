@@ -54,6 +54,7 @@ fn go_on(
 
 /// What the next payload says, and the state behind it, with this number. After an error the state
 /// is as it was.
+#[inline(always)]
 pub fn say_bytes(
     alloc: Global,
     limits: Limits,

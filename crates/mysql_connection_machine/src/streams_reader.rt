@@ -222,6 +222,7 @@ impl StreamsReader {
     }
 
     /// The next event of both streams.
+    #[inline(always)]
     pub fn next_event(&mut self) -> Result<Option<Event>, ConnectionFault>
         ensures answers { Answers self.old.world result self.new.world }
         ensures unclear { IfOk result (λ found. IfSome found (λ event.

@@ -186,6 +186,7 @@ pub enum TokenKind {
 }
 
 /// The kind of the token that a text begins with.
+#[inline(always)]
 pub fn kind_at(text: &[u8]) -> TokenKind
     requires { 0 < length text.now }
     ensures { kind_view result ≡ kind_of text.now }

@@ -32,7 +32,6 @@ use mysql_rows::Row;
 use mysql_server_packets::{LocalInfilePacket, ProgressReport, ServerError, StmtPacket};
 use std::alloc::Global;
 use std::marker::Model;
-use std::mem;
 use std::rc::RcSlice;
 
 /// Rows that go on.
@@ -484,20 +483,12 @@ impl ReplyWriter {
         self.check_rows()?;
         let binary = self.context.kind.has_binary_rows();
         let results = self.results;
-        let Some(rows) = mem::replace(&mut self.rows, None) else {
+        let Some(rows) = &mut self.rows else {
             unreachable!()
         };
-        let answer = self.packets.put_row(binary, results, &rows, row, out);
-        let count = if answer.is_ok() {
-            rows.count + 1
-        } else {
-            rows.count
-        };
-        self.rows = Some(OpenRows {
-            columns: rows.columns,
-            count,
-        });
-        answer
+        self.packets.put_row(binary, results, rows, row, out)?;
+        rows.count += 1;
+        Ok(())
     }
 
     /// Writes a prepared statement with its parameters and its columns. The reply ends here.
