@@ -75,6 +75,7 @@ fn set_of(values: Vec<Value>) -> Params
 }
 
 /// A set of the values of a list.
+#[inline(always)]
 pub(crate) fn set_of_list<T: ToValue>(alloc: Global, list: &[T]) -> Result<Params, SetError>
     ensures ok { IfOk result (IsMadeOf (InOrder (map T.as_value list.now))) }
     ensures none { OnOk result (set_cause (InOrder (map T.as_value list.now)) ≡ None) }
@@ -203,6 +204,7 @@ impl<N: AsSlice<u8> + Drop, V: ToValue + Drop> IntoParams for Vec<(N, V)> {
 impl<T: ToValue> IntoParams for &[T] {
     ghost parts = { λ list. InOrder (map T.as_value list.now) };
 
+    #[inline(always)]
     fn to_params(&self, alloc: Global) -> Result<Params, SetError> {
         set_of_list(alloc, *self)
     }

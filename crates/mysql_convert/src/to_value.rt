@@ -39,11 +39,29 @@ pub trait ToValue {
             ((e ≡ to_value_error.TooLong) × (as_value self.now ≡ None))) };
 }
 
+/// A copy of a value of a kind that few have. It stands apart, so that the others are answered in
+/// place.
+#[inline(never)]
+fn copy_rare(alloc: Global, value: &Value) -> Result<Value, ToValueError>
+    ensures ok { IfOk result (λ copy. copy ≡ value.now) }
+    ensures err { IfErr result (λ e. e ≡ to_value_error.Memory) }
+{
+    Ok(value.clone(alloc)?)
+}
+
 impl ToValue for Value {
     ghost as_value = { λ value. Some value };
 
     fn to_value(&self, alloc: Global) -> Result<Value, ToValueError> {
-        Ok(self.clone(alloc)?)
+        match self {
+            Value::NULL => Ok(Value::NULL),
+            Value::Bytes(bytes) => Ok(Value::Bytes(bytes.clone(alloc)?)),
+            Value::Int(number) => Ok(Value::Int(*number)),
+            Value::UInt(number) => Ok(Value::UInt(*number)),
+            Value::Float(_) | Value::Double(_) | Value::Date(..) | Value::Time(..) => copy_rare(
+                alloc, self,
+            ),
+        }
     }
 }
 
