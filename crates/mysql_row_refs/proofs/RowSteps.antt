@@ -2,7 +2,7 @@
 use Rattle.std.proofs.Common.{◌≡◌, ℕ, suc, ◌-◌, ◌+◌, ◌≤◌, ◌<◌, Bool, true, List, [], ◌∷◌, ◌++◌, length, map, drop, get_or, Ok, Err, refl, sym, ap, ◌∙◌, append_assoc, append-nil, add-one, drop-cons, length-append, arith}
 use Rattle.std.proofs.lemmas.List.{drop_all, map-append}
 use Rattle.std.proofs.lemmas.List.Folds.{list_all-append}
-use Rattle.std.specs.List.{list_all, range_with_len}
+use Rattle.std.specs.List.{list_all}
 use Rattle.mysql_fields.specs.declared.error.WireError.{WireError}
 use Rattle.mysql_fields.specs.Wire.{Reading, ◌>>=◌}
 use Rattle.mysql_field_lists.specs.ElementLaws.{with_front, goes_on}
@@ -45,12 +45,6 @@ module _ (read_at : List ℕ → Reading Value) (payload : List ℕ) (places : L
 regroup : (front : List Value) (y : Value) (read : Reading (List Value)) → with_front front (read >>= λ x. Ok (y ∷ x.0, x.1)) ≡ with_front (front ++ y ∷ []) read
 regroup front y (Ok x) = ap (λ (ys : List Value). Ok (ys, x.1)) (simp append_assoc)
 regroup front y (Err e) = refl
-
--- the bit of this place, and those of the places after it
-pub next_bit : (null_at : ℕ → Bool) (count i : ℕ) → i < count → map null_at (range_with_len i (count - i)) ≡ null_at i ∷ map null_at (range_with_len (i + 1) (count - (i + 1)))
-next_bit null_at count i lt =
-    let k : count - i ≡ suc (count - (i + 1)) = omega arith in
-    rw k refl
 
 -- the column at this place, and those after it
 pub next_column : (columns : List Column) (i : ℕ) (column : Column) → i < length columns → column ≡ get_or columns i column → drop i columns ≡ column ∷ drop (i + 1) columns

@@ -65,6 +65,21 @@ fn one_byte_place(payload: &[u8], rest: &mut ParseBuf) -> Option<usize>
     Some(at)
 }
 
+/// The place of the length-encoded bytes that stand first. Most have a length of one byte.
+#[inline(always)]
+fn counted_place(payload: &[u8], rest: &mut ParseBuf) -> Option<usize>
+    requires { IsTail payload.now rest.old.0.now }
+    ensures some { IfSome result (λ at. lenenc_str_at rest.old.0.now ≡
+        Some (bytes_read (lenenc_str_at (drop at payload.now)), rest.new.0.now)) }
+    ensures inside { IfSome result (λ at. IsSome (lenenc_str_at (drop at payload.now))) }
+    ensures none { result ≡ None → lenenc_str_at rest.old.0.now ≡ None }
+{
+    match rest.0 {
+        [first, ..] if *first < 251 => one_byte_place(payload, rest),
+        _ => lenenc_place(payload, rest),
+    }
+}
+
 /// The cell that stands first, by the form of its type's cells; None where the bytes end before it does.
 #[inline(always)]
 fn form_place(
@@ -88,7 +103,7 @@ fn form_place(
         CellForm::Whole8 => Some(whole8(unsigned, rest.checked_eat_u64_le()?)),
         CellForm::FloatBits => Some(CellPlace::Float(rest.checked_eat_u32_le()?)),
         CellForm::DoubleBits => Some(CellPlace::Double(rest.checked_eat_u64_le()?)),
-        CellForm::Counted => Some(CellPlace::Bytes(lenenc_place(payload, rest)?)),
+        CellForm::Counted => Some(CellPlace::Bytes(counted_place(payload, rest)?)),
         CellForm::DateAndTime => Some(CellPlace::Date(short_place(payload, rest)?)),
         CellForm::Duration => Some(CellPlace::Time(short_place(payload, rest)?)),
         CellForm::Without => None,

@@ -1,11 +1,10 @@
 //! Rows that are read where they lie: the places of their cells.
 
-ghost use Rattle.std.specs.Prelude.{◌≡◌, ◌≤◌, ◌∷◌, [], Bool, IfOk, List, OnOk, length, map, true, vec_capacity};
+ghost use Rattle.std.specs.Prelude.{◌≡◌, ◌≤◌, [], IfOk, OnOk, length, map, true, vec_capacity};
 ghost use Rattle.std.specs.List.{list_all};
 ghost use Rattle.mysql_fields.specs.Wire.{TellsPart};
 ghost use Rattle.mysql_field_lists.specs.Lists.{elements_at};
 ghost use Rattle.mysql_field_lists.specs.NullBitmap.{bitmap_len};
-ghost use Rattle.mysql_field_lists.specs.NullBits.{bits_left};
 ghost use Rattle.mysql_cells.specs.Cells.{text_cell_at};
 ghost use Rattle.mysql_columns.specs.Views.{column_view};
 ghost use Rattle.mysql_rows.specs.Rows.{binary_cell_at, binary_cells_at, binary_resultset_row_at, binary_row_body_at};
@@ -16,7 +15,7 @@ use crate::cells::{binary_place, text_place};
 use crate::place::CellPlace;
 use mysql_buf::ParseBuf;
 use mysql_columns::Column;
-use mysql_field_lists::{NullBitmap, NullBits, ServerSide};
+use mysql_field_lists::{NullBitmap, ServerSide};
 use mysql_fields::WireError;
 
 /// The places of a text row's cells, of so many columns. What is left after a refusal isn't said.
@@ -40,18 +39,6 @@ pub fn text_places(
         places.push_reserved(place);
     }
     Ok(())
-}
-
-/// Whether the next column is NULL.
-#[inline(always)]
-fn next_is_null(nulls: &mut NullBits) -> bool
-    ensures { (first : Bool) (others : List Bool) → bits_left nulls.old ≡ first ∷ others →
-        (result ≡ first) × (bits_left nulls.new ≡ others) }
-{
-    match nulls.next() {
-        Some(is_null) => is_null,
-        None => false,
-    }
 }
 
 /// The place of a cell that is null, or stands first.
@@ -92,10 +79,9 @@ fn binary_places(
     ensures capacity { vec_capacity places.new ≡ vec_capacity places.old }
 {
     let bitmap = NullBitmap::<ServerSide, &[u8]>::from_bytes(bitmap);
-    let mut nulls = bitmap.iter(columns.len());
     for column in columns {
-        let is_null = next_is_null(&mut nulls);
-        let place = null_or_place(payload, is_null, column, rest)?;
+        let null = bitmap.is_null(places.len());
+        let place = null_or_place(payload, null, column, rest)?;
         places.push_reserved(place);
     }
     Ok(())

@@ -23,11 +23,11 @@ use mysql_cells::cell_form::{CellForm, form_of_type};
 use mysql_cells::typed_cell::{in_eight, in_four};
 use mysql_cells::{Cell, Value, cell_of as cell_by_type, put_cell};
 use mysql_columns::Column;
-use mysql_const::ColumnFlags;
+use mysql_const::{ColumnFlags, ColumnType};
 use std::alloc::{AllocError, AllocFailed};
 
 /// Whether a column's whole numbers have no sign.
-fn has_no_sign(flags: ColumnFlags) -> bool
+pub fn has_no_sign(flags: ColumnFlags) -> bool
     ensures { result ≡ is_without_sign flags }
 {
     flags.contains(ColumnFlags::UNSIGNED_FLAG)
@@ -142,7 +142,23 @@ fn put_four(number: Option<u32>, out: &mut Vec<u8>) -> Result<(), NotWritten>
     }
 }
 
-/// Appends the cell of a number with a sign, which the value is.
+/// Appends the eight bytes of a number with a sign, where it is in range.
+///
+/// The one kind that is out of range is refused first, so that nothing else is asked.
+#[inline(always)]
+fn put_long(unsigned: bool, number: i64, out: &mut Vec<u8>) -> Result<(), NotWritten>
+    ensures ok { OnOk result (IsSomeAnd (number_cell 8 w64 unsigned number)
+        (λ bytes. out.new.items ≡ out.old.items ++ bytes)) }
+    ensures kept { OnErr result (out.new.items ≡ out.old.items) }
+{
+    if unsigned && number < 0 {
+        return Err(NotWritten);
+    }
+    put_eight(in_eight(unsigned, i128::from(number)), out)
+}
+
+/// Appends the cell of a number with a sign, which the value is. The types that most such numbers
+/// have are named here: the table of all types takes longer to ask.
 #[inline(always)]
 fn put_int(column: &Column, value: &Value, number: i64, out: &mut Vec<u8>) -> Result<(), NotWritten>
     requires { value.now ≡ Int number }
@@ -151,9 +167,12 @@ fn put_int(column: &Column, value: &Value, number: i64, out: &mut Vec<u8>) -> Re
     ensures kept { OnErr result (out.new.items ≡ out.old.items) }
 {
     let unsigned = has_no_sign(column.flags());
-    match form_of_type(column.column_type()) {
-        CellForm::Whole8 => put_eight(in_eight(unsigned, i128::from(number)), out),
-        CellForm::Whole4 => put_four(in_four(unsigned, i128::from(number)), out),
+    match column.column_type() {
+        ColumnType::MYSQL_TYPE_LONGLONG => put_long(unsigned, number, out),
+        ColumnType::MYSQL_TYPE_LONG | ColumnType::MYSQL_TYPE_INT24 => put_four(
+            in_four(unsigned, i128::from(number)),
+            out,
+        ),
         _ => put_any(column, value, out),
     }
 }

@@ -1,6 +1,6 @@
 //! Rows read from their payloads.
 
-ghost use Rattle.std.specs.Prelude.{◌≡◌, ◌≤◌, ◌∷◌, Bool, IfOk, List, None, length};
+ghost use Rattle.std.specs.Prelude.{◌≡◌, ◌≤◌, ◌∷◌, Bool, IfOk, List, None, false, length, true};
 ghost use Rattle.mysql_fields.specs.Laws.{unsized};
 ghost use Rattle.mysql_wire.specs.Wire.{GivesPart};
 ghost use Rattle.mysql_field_lists.specs.NullBitmap.{bitmap_len, is_null_at};
@@ -8,16 +8,21 @@ ghost use Rattle.mysql_columns.specs.Views.{column_view};
 ghost use Rattle.mysql_rows.specs.Rows.{Row as RowOf, as_row, binary_cell_at, binary_cells_at, binary_row_at};
 ghost use Rattle.mysql_rows.specs.Rows.{binary_row_body_at, some_cells, text_row_at};
 ghost use Rattle.mysql_wire.specs.Lists.{elements_at};
-ghost use Rattle.mysql_cells.specs.Cells.{text_cell_at};
+ghost use Rattle.mysql_cells.specs.Cells.{column_cell_at, text_cell_at, value_at};
+ghost use Rattle.mysql_cells.specs.declared.cell_form.CellForm.TheVariants as cell_form;
 ghost use Rattle.mysql_field_lists.specs.NullBits.{bits_left};
 ghost use Rattle.mysql_rows.specs.Views.{column_views, row_view, shared_columns};
 
+use crate::binary_cell::has_no_sign;
 use crate::calls::new_row_raw;
 use crate::row::Row;
-use mysql_cells::{BinValue, Value, ValueDeserializer, read_text_cell};
+use mysql_cells::cell_form::{CellForm, form_of_type};
+use mysql_cells::cell_values::whole8;
+use mysql_cells::{Value, read_cell, read_text_cell};
 use mysql_columns::Column;
 use mysql_field_lists::{NullBitmap, NullBits, SerializationSide};
-use mysql_wire::{Binary, MyDeserialize, ParseBuf, ParseExt, Readable, Text, WireError};
+use mysql_queries::ByteString;
+use mysql_wire::{Binary, MyDeserialize, ParseBuf, Readable, Text, WireError};
 use std::alloc::{AllocError, Global};
 use std::marker::PhantomData;
 use std::rc::RcSlice;
@@ -91,7 +96,43 @@ fn next_is_null(nulls: &mut NullBits) -> bool
     }
 }
 
-// A cell that is null, or stands first.
+// A cell of eight bytes.
+#[inline(always)]
+fn eight_cell(unsigned: bool, rest: &mut ParseBuf) -> Result<Value, WireError>
+    ensures { GivesPart (λ value. value) rest.new.0.now result
+        (value_at cell_form.Whole8 unsigned rest.old.0.now) }
+{
+    match rest.checked_eat_u64_le() {
+        Some(number) => Ok(whole8(unsigned, number)),
+        None => Err(WireError::UnexpectedEof),
+    }
+}
+
+// A cell of length-encoded bytes, which have no sign.
+#[inline(always)]
+fn counted_cell(alloc: Global, rest: &mut ParseBuf) -> Result<Value, WireError>
+    ensures { GivesPart (λ value. value) rest.new.0.now result
+        (value_at cell_form.Counted false rest.old.0.now) }
+{
+    match rest.checked_eat_lenenc_str() {
+        Some(bytes) => Ok(Value::Bytes(ByteString::copy(alloc, bytes)?)),
+        None => Err(WireError::UnexpectedEof),
+    }
+}
+
+// A cell of any form.
+#[inline(never)]
+fn any_cell(alloc: Global, column: &Column, rest: &mut ParseBuf) -> Result<Value, WireError>
+    ensures { GivesPart (λ value. value) rest.new.0.now result (column_cell_at
+        ((column_view column.now).column_type, (column_view column.now).flags) rest.old.0.now) }
+{
+    let number = u8::from(column.column_type());
+    read_cell(alloc, number, has_no_sign(column.flags()), rest)
+}
+
+// A cell that is null, or stands first. The forms that most columns have come first.
+#[inline(always)]
+#[tactic(auto, unfolding(mysql_cells::specs::Cells::cell_at), using(crate::proofs::Forms::form_by_number))]
 fn binary_cell(
     alloc: Global,
     is_null: bool,
@@ -104,9 +145,17 @@ fn binary_cell(
     if is_null {
         return Ok(Value::NULL);
     }
-    let context = (column.column_type(), column.flags());
-    let value: ValueDeserializer<BinValue> = rest.parse(alloc, context)?;
-    Ok(value.0)
+    match form_of_type(column.column_type()) {
+        CellForm::Whole8 => eight_cell(has_no_sign(column.flags()), rest),
+        CellForm::Counted => counted_cell(alloc, rest),
+        _ => {
+            // A copy is borrowed: what nothing borrows is held in registers, for the other forms.
+            let mut bytes = *rest;
+            let value = any_cell(alloc, column, &mut bytes);
+            *rest = bytes;
+            value
+        }
+    }
 }
 
 // The cells of a binary row.
@@ -157,7 +206,7 @@ fn binary_row<S: SerializationSide>(
 impl<S> Readable for RowDeserializer<S, Text> {
     type Ctx = RcSlice<Column>;
 
-    ghost SIZE = { None };
+    ghost AsksForMemory = { true };
 
     ghost Shown = { RowOf };
 
@@ -197,7 +246,7 @@ impl<'de, S> MyDeserialize<'de> for RowDeserializer<S, Text> {
 impl<S: SerializationSide> Readable for RowDeserializer<S, Binary> {
     type Ctx = RcSlice<Column>;
 
-    ghost SIZE = { None };
+    ghost AsksForMemory = { true };
 
     ghost Shown = { RowOf };
 

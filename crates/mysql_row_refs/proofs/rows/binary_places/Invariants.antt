@@ -1,8 +1,6 @@
-use Rattle.std.proofs.Common.{◌≡◌, ◌-◌, length, map, true, vec_capacity}
-use Rattle.std.specs.List.{list_all, range_with_len}
+use Rattle.std.proofs.Common.{◌≡◌, length, map, true, vec_capacity}
+use Rattle.std.specs.List.{list_all}
 use Rattle.mysql_field_lists.specs.ElementLaws.{with_front}
-use Rattle.mysql_field_lists.specs.NullBitmap.{is_null_at}
-use Rattle.mysql_field_lists.specs.NullBits.{bits_left}
 use Rattle.mysql_rows.specs.Rows.{binary_cells_at}
 use Rattle.mysql_rows.specs.Views.{column_views}
 use Rattle.mysql_row_refs.specs.Places.{IsTail, held, is_inside}
@@ -11,7 +9,6 @@ use Rattle.mysql_row_refs.proofs.rows.binary_places.Given as goal
 
 abbrev pub invariant-loop-column : goal.invariant-loop-column
 invariant-loop-column l = record {
-  bits : bits_left l.nulls ≡ map (is_null_at 2 l.fn.bitmap) (range_with_len l.column-index (length l.columns - l.column-index));
   cells : with_front (map (held l.payload) l.places.items) (cells_from l.fn.bitmap l.columns l.column-index l.rest.0.now) ≡ binary_cells_at 2 l.fn.bitmap 0 (column_views l.columns) l.initial.rest.0.now;
   tail : IsTail l.payload l.rest.0.now;
   inside : list_all (is_inside l.payload) l.places.items ≡ true;
