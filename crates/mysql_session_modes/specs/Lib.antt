@@ -1,3 +1,4 @@
 pub mod SessionModes
+pub mod Steps
 pub mod Told
 pub mod Views

@@ -10,12 +10,12 @@
 //!     session = mode_behind_ok(session, &reply);
 
 ghost use Rattle.mysql_queries.specs.declared.spelling.Spelling.TheVariants.{Hexadecimal, Quoted};
-ghost use Rattle.mysql_session_modes.specs.SessionModes.{agrees, fresh_mode, has_bits};
+ghost use Rattle.mysql_session_modes.specs.SessionModes.{agrees, fresh_mode, has_bits, has_word};
 ghost use Rattle.mysql_session_modes.specs.SessionModes.{mode_behind_statement, mode_behind_text};
 ghost use Rattle.mysql_session_modes.specs.SessionModes.{tracked_mode, unknown_mode};
-ghost use Rattle.std.specs.Prelude.{◌≡◌, if◌then◌else◌, is_some};
+ghost use Rattle.std.specs.Prelude.{◌≡◌, codes, if◌then◌else◌, is_some};
 
-use crate::words::has_word;
+use crate::words::{has_statement, has_tracked_variables};
 use mysql_const::StatusFlags;
 use mysql_queries::{Mode, Spelling};
 
@@ -121,15 +121,27 @@ impl SessionMode {
     pub fn behind_text(self, text: &[u8]) -> SessionMode
         ensures { result ≡ mode_behind_text text.now self }
     {
-        if has_word(b"statement", text) {
-            SessionMode {
+        if has_statement(text) {
+            return SessionMode {
                 mode: None,
                 tracking: Tracking::Doubted,
-            }
-        } else if has_word(b"session_track_system_variables", text) {
+            };
+        }
+        match self.tracking {
+            Tracking::Tracked => self.behind_tracked(text),
+            _ => SessionMode::unknown(),
+        }
+    }
+
+    // Of a session whose mode is tracked, behind a text without the word `STATEMENT`.
+    fn behind_tracked(self, text: &[u8]) -> SessionMode
+        ensures { result ≡ (if has_word (codes "session_track_system_variables") text.now
+            then unknown_mode else self) }
+    {
+        if has_tracked_variables(text) {
             SessionMode::unknown()
         } else {
-            self.behind_statement()
+            self
         }
     }
 

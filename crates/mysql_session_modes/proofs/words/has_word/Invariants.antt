@@ -1,9 +1,11 @@
-use Rattle.std.proofs.Common.{◌≡◌, ℕ, length}
+use Rattle.std.proofs.Common.{◌≡◌, ◌≤◌, ◌-◌, drop, length}
 use Rattle.mysql_session_modes.specs.SessionModes as texts
 use Rattle.mysql_session_modes.proofs.words.has_word.Given as goal
 
-abbrev pub invariant-loop-behind : goal.invariant-loop-behind
-invariant-loop-behind l = texts.has_word l.fn.word l.rest ≡ texts.has_word l.fn.word l.fn.text
+abbrev pub invariant-loop-at : goal.invariant-loop-at
+invariant-loop-at l =
+    (l.at ≤ length l.fn.text)
+    × (texts.has_word l.fn.word (drop l.at l.fn.text) ≡ texts.has_word l.fn.word l.fn.text)
 
-abbrev pub decreases-loop-behind : goal.decreases-loop-behind
-decreases-loop-behind l = length l.rest
+abbrev pub decreases-loop-at : goal.decreases-loop-at
+decreases-loop-at l = length l.fn.text - l.at
