@@ -1,23 +1,28 @@
 -- A payload whose row isn't kept: a row is lent, or the payload is put as ever.
-use Rattle.std.proofs.Common.{◌≡◌, ◌+◌, ◌^◌, ◌<◌, List, Bool, true, false, Option, Some, None, Result, Ok, Err, refl, ap, sym, subst, ◌∙◌}
+use Rattle.std.proofs.Common.{◌≡◌, ◌+◌, ◌^◌, ◌<◌, List, Bool, true, false, Option, Some, None, Result, Ok, Err, refl, ap, sym, subst, ◌∙◌, if◌then◌else◌}
 use Rattle.std.specs.Prelude.{OnOk, IfErr, map}
 use Rattle.std.proofs.lemmas.List.{append-nil}
+use Rattle.mysql_fields.specs.Wire.{◌>>=◌}
 use Rattle.mysql_const.specs.declared.capabilities.Capabilities.{Capabilities}
 use Rattle.mysql_columns.specs.Columns.{ColumnDefinition}
+use Rattle.mysql_row_refs.specs.Lines.{begins_with}
 use Rattle.mysql_rows.specs.Rows.{Row}
 use Rattle.mysql_rows.specs.declared.row.Row.{Row as RowOf}
 use Rattle.mysql_server_packets.specs.Views.{progress_report_view}
 use Rattle.mysql_reply_events.specs.Events as events
 use Rattle.mysql_reply_events.specs.Events.{Event}
-use Rattle.mysql_reply_events.specs.Events.Event.{RowEvent}
-use Rattle.mysql_reply_events.specs.NextRows.{LendsRow}
-use Rattle.mysql_reply_events.specs.Reader.{ReaderState as EventsState, is_row_due}
+use Rattle.mysql_reply_events.specs.Events.Event.{RawRowEvent, RowEvent}
+use Rattle.mysql_reply_events.specs.NextRows.{LendsRow, TakesRow}
+use Rattle.mysql_reply_events.specs.Reader.{ReaderState as EventsState, ReadsRow, is_row_due}
+use Rattle.mysql_reply_events.specs.Readings.{begins_terminator, has_report_form, optional_metadata, report, server_error, terminator}
+use Rattle.mysql_reply_events.specs.Table.{event_at, goes_on}
 use Rattle.mysql_reply_events.specs.Views.{event_view}
 use Rattle.mysql_reply_events.specs.declared.context.Context.{Context}
 use Rattle.mysql_reply_events.specs.declared.context.ReplyKind.{ReplyKind}
 use Rattle.mysql_reply_events.specs.declared.context.ReplyKind.TheVariants as kinds
 use Rattle.mysql_reply_events.specs.declared.event.ReplyEvent.{ReplyEvent}
 use Rattle.mysql_reply_events.specs.declared.event.ReplyEvent.TheVariants as reading
+use Rattle.mysql_reply_events.specs.declared.fault.ReplyFault.TheVariants as event_faults
 use Rattle.mysql_replies.specs.declared.fault.ReplyFault.{ReplyFault}
 use Rattle.mysql_replies.specs.declared.fault.ReplyFault.TheVariants as faults
 use Rattle.mysql_replies.specs.declared.state.ReplyState.{ReplyState}
@@ -29,7 +34,7 @@ use Rattle.mysql_replies.specs.Putting.{HasRead, PutsEvent}
 use Rattle.mysql_replies.specs.RowSteps.{StateBorrowsNext, keeping}
 use Rattle.mysql_replies.specs.States.{FitsAt, IsReading, IsRowsPart, faulted, open_reply, reply_so_far}
 use Rattle.mysql_replies.specs.Views.{outcome_views, part_view}
-use Rattle.mysql_replies.proofs.Fitting.{fits_behind}
+use Rattle.mysql_replies.proofs.Fitting.{OnStep, fits_behind, on_bind, on_if}
 use Rattle.mysql_replies.proofs.KeptNone.{IsNoRow, behind_rows, faulted_rows}
 use Rattle.mysql_replies.proofs.Numbers.{goes_over_numbered}
 use Rattle.mysql_replies.proofs.RowSteps.{row_kept}
@@ -127,10 +132,10 @@ fits_without kind None part row fits = tt
 abbrev pub lent : ReplyState → EventsState → ReplyState
 lent old events = record old { events = events; count = old.count + 1 }
 
-pub row_lent : (old : ReplyState) (payload : Payload) (now : EventsState) → IsReading old → old.fault ≡ None → old.count + 1 < 2 ^ 64 → LendsRow old.events payload true now → IsBorrowing old payload (Ok true) (lent old now)
-row_lent old payload now keeps going room (due, read) =
+-- There are rows so far, and the payload is a row.
+lent_behind : (old : ReplyState) (payload : Payload) (now : EventsState) → IsReading old → old.fault ≡ None → old.count + 1 < 2 ^ 64 → (these : List ColumnDefinition) × IsRowsPart these (part_view old.part) → ReadsRow old.events payload now → IsBorrowing old payload (Ok true) (lent old now)
+lent_behind old payload now keeps going room at read =
     let new = lent old now in
-    let at = due_at old.events.context old.events.so_far.awaited old.events.so_far.columns (part_view old.part) payload due (keeps.fits going) in
     let part = rows_part (part_view old.part) at.0 at.1 in
     let kept : open_reply (keeping new read.row) ≡ behind (open_reply old) (RowEvent read.row) now.so_far = λ i. record {
       context = read.goes_on.context i;
@@ -165,3 +170,39 @@ row_lent old payload now keeps going room (due, read) =
       };
       keeps_none = ap (λ (f : Option ReplyFault). rows_listed (faulted (open_reply new) f)) going ∙ ap (λ (f : Option ReplyFault). rows_listed (faulted (open_reply old) f)) (sym going);
     }
+
+-- A row that was due, a first one too.
+pub row_lent : (old : ReplyState) (payload : Payload) (now : EventsState) → IsReading old → old.fault ≡ None → old.count + 1 < 2 ^ 64 → LendsRow old.events payload true now → IsBorrowing old payload (Ok true) (lent old now)
+row_lent old payload now keeps going room (due, read) =
+    lent_behind old payload now keeps going room (due_at old.events.context old.events.so_far.awaited old.events.so_far.columns (part_view old.part) payload due (keeps.fits going)) read
+
+-- Where no columns stand, no payload is a row that is known.
+abbrev NoRow : Event → events.ReplySoFar → Type 0
+NoRow event next = IsNoRow event
+
+none_known : (c : Context) (s : events.ReplySoFar) (payload : Payload) (b : Bool) → OnStep NoRow ((if b then Ok (RawRowEvent payload) else Err event_faults.BadRow) >>= λ event. goes_on s event (events.Rows true))
+none_known c s payload true = tt
+none_known c s payload false = tt
+
+no_columns : (c : Context) (payload : Payload) → OnStep NoRow (event_at c (record { awaited = events.Rows true; columns = None }) payload)
+no_columns c payload =
+    let s : events.ReplySoFar = record { awaited = events.Rows true; columns = None } in
+    on_if NoRow (has_report_form c payload) _ _ (on_bind NoRow (report payload) _ (λ said. tt))
+    (on_if NoRow (begins_with 255 payload) _ _ (on_bind NoRow (server_error c payload) _ (λ error. tt))
+    (on_if NoRow (begins_terminator c payload) _ _ (on_bind NoRow (terminator c payload) _ (λ ok. tt))
+    (none_known c s payload (optional_metadata c))))
+
+known_at : (c : Context) (columns : Option (List ColumnDefinition)) (part : Part) (payload : Payload) (row : Row) (next : events.ReplySoFar) → event_at c (record { awaited = events.Rows true; columns = columns }) payload ≡ Ok (RowEvent row, next) → FitsAt c.kind (events.Rows true) columns part → (these : List ColumnDefinition) × IsRowsPart these part
+known_at c (Some columns) part payload row next is fits = (columns, fits)
+known_at c None part payload row next is fits = absurd (subst (OnStep NoRow) is (no_columns c payload))
+
+-- A row behind another one.
+pub next_row_lent : (old : ReplyState) (payload : Payload) (now : EventsState) → IsReading old → old.fault ≡ None → old.count + 1 < 2 ^ 64 → TakesRow old.events payload true now → IsBorrowing old payload (Ok true) (lent old now)
+next_row_lent old payload now keeps going room (awaits, read) =
+    let c = old.events.context in
+    let columns = old.events.so_far.columns in
+    let is : event_at c (record { awaited = events.Rows true; columns = columns }) payload ≡ Ok (RowEvent read.row, now.so_far) =
+    subst (λ (a : events.Awaited). event_at c (record { awaited = a; columns = columns }) payload ≡ Ok (RowEvent read.row, now.so_far)) awaits read.event in
+    let fits : FitsAt c.kind (events.Rows true) columns (part_view old.part) =
+    subst (λ (a : events.Awaited). FitsAt c.kind a columns (part_view old.part)) awaits (keeps.fits going) in
+    lent_behind old payload now keeps going room (known_at c columns (part_view old.part) payload read.row now.so_far is fits) read

@@ -26,6 +26,26 @@ impl ReplyState {
         if self.count == u64::MAX {
             return Err(self.fail(ReplyFault::TooLarge));
         }
+        if self.events.take_row(payload) {
+            self.count += 1;
+            return Ok(true);
+        }
+        self.lend(alloc, payload)
+    }
+
+    /// Reads a payload that wasn't read as a row behind another one. A first row can be borrowed.
+    #[inline(never)]
+    fn lend(&mut self, alloc: Global, payload: &[u8]) -> Result<bool, ReplyFault>
+        requires reading { IsReading self.old }
+        requires going { self.old.fault ≡ None }
+        requires awaiting { IsAwaiting self.old }
+        requires room { self.old.count + 1 < 2 ^ 64 }
+        ensures reading { IsReading self.new }
+        ensures ok { OnOk result ((self.new.fault ≡ None) × (self.new.count ≡ self.old.count + 1)) }
+        ensures fault { IfErr result (λ fault. self.new.fault ≡ Some fault) }
+        ensures step { StateBorrowsNext self.old payload.now result self.new }
+        ensures keeps_none { rows_listed (reply_so_far self.new) ≡ rows_listed (reply_so_far self.old) }
+    {
         if self.events.lend_row(payload) {
             self.count += 1;
             return Ok(true);

@@ -84,6 +84,7 @@ impl ReplyState {
     }
 
     /// Reads any payload: its event, which is put.
+    #[inline(never)]
     pub fn take_event(&mut self, alloc: Global, payload: &[u8]) -> Result<(), ReplyFault>
         requires reading { IsReading self.old }
         requires going { self.old.fault ≡ None }

@@ -71,6 +71,7 @@ impl OpenRows {
     }
 
     /// Adds a row. Where memory ran out, nothing changes.
+    #[inline(always)]
     pub fn push(&mut self, row: Row) -> Result<(), AllocError>
         ensures ok { OnOk result (self.new ≡ record self.old { rows = self.old.rows ++ row_view row ∷ [] }) }
         ensures err { OnErr result (self.new ≡ self.old) }

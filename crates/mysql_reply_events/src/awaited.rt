@@ -1,7 +1,8 @@
 //! What is awaited of a reply.
 
-ghost use Rattle.std.specs.Prelude.{◌≡◌};
+ghost use Rattle.std.specs.Prelude.{◌≡◌, true};
 ghost use Rattle.mysql_reply_events.specs.Due.{bare};
+ghost use Rattle.mysql_reply_events.specs.Events.Awaited.{Rows};
 ghost use Rattle.mysql_reply_events.specs.Views.{awaited_view, due_view, turn_of};
 
 use mysql_columns::Column;
@@ -114,6 +115,19 @@ impl Awaited {
             Awaited::FileData => Turn::Client,
             Awaited::Nothing => Turn::Nobody,
             _ => Turn::Server,
+        }
+    }
+
+    /// A row came that was due: rows by the columns that stand are due behind it.
+    ///
+    /// Where they were awaited before, as behind most rows, nothing is written.
+    #[inline(always)]
+    pub fn pass_row(&mut self)
+        ensures { awaited_view self.new ≡ Rows true }
+    {
+        match self {
+            Awaited::Rows { known: true } => {}
+            _ => *self = Awaited::Rows { known: true },
         }
     }
 

@@ -338,7 +338,7 @@ impl EventReader {
     {
         match self.state.standing.read(self.alloc, payload) {
             Ok(()) => {
-                self.state.awaited = Awaited::Rows { known: true };
+                self.state.awaited.pass_row();
                 Ok(None)
             }
             Err(fault) => Err(self.fail(fault)),
@@ -382,6 +382,7 @@ impl EventReader {
     /// (`TakesRow`).
     ///
     /// MySQL: Client/Server Protocol, "Text Resultset Row" and "Binary Protocol Resultset Row".
+    #[inline(always)]
     pub fn take_row(&mut self, payload: &[u8]) -> bool
         requires { self.old.fault ≡ None }
         ensures { TakesRow self.old payload.now result self.new }
@@ -413,7 +414,7 @@ impl EventReader {
         }
         match self.state.standing.read(self.alloc, payload) {
             Ok(()) => {
-                self.state.awaited = Awaited::Rows { known: true };
+                self.state.awaited.pass_row();
                 true
             }
             Err(_) => false,
@@ -442,7 +443,7 @@ impl EventReader {
         };
         match row_packet(self.alloc, self.context, columns, payload) {
             Ok(row) => {
-                self.state.awaited = Awaited::Rows { known: true };
+                self.state.awaited.pass_row();
                 Ok(Some(row))
             }
             Err(fault) => Err(self.fail(fault)),

@@ -127,6 +127,7 @@ impl StandingColumns {
 
     /// Reads the places of the cells of the row that a payload is, where one was read before. No memory
     /// is asked for.
+    #[inline(always)]
     pub fn take_row(&mut self, payload: &[u8]) -> bool
         ensures rest { self.new ≡ record self.old { reader = self.new.reader } }
         ensures row { TakesRowAt self.old payload.now result self.new.reader }

@@ -1,5 +1,4 @@
-use Rattle.std.proofs.Common.{◌≡◌, true, None, Option, List, ap, sym, ◌∙◌}
-use Rattle.mysql_columns.specs.Columns.{ColumnDefinition}
+use Rattle.std.proofs.Common.{◌≡◌, true, None, ap, sym, ◌∙◌}
 use Rattle.mysql_reply_events.specs.Events.{ReplySoFar}
 use Rattle.mysql_reply_events.specs.Events.Awaited.{Rows}
 use Rattle.mysql_reply_events.specs.Reader.{ReaderState, is_row_due}
@@ -16,11 +15,13 @@ returns-in-Ok c =
     let columns : c.self.inside.state.standing.columns ≡ old.so_far.columns = ap (λ (s : ReaderState). s.so_far.columns) c.self.view_is in
     let fault : c.self.inside.fault ≡ None = ap (λ (s : ReaderState). s.fault) c.self.view_is ∙ c.requires in
     let standing : c.read.new.self.columns ≡ old.so_far.columns = ap (λ (s : Standing). s.columns) c.in-Ok.ensures.rest ∙ columns in
+    let so_far : record { awaited = awaited_view c.pass_row.new.self; columns = c.read.new.self.columns } ≡ record old.so_far { awaited = Rows true } =
+    (λ i. let s : ReplySoFar = record { awaited = c.pass_row.ensures i; columns = standing i } in s) in
     let due : is_row_due old.context old.so_far c.args.payload.now ≡ true =
     ap (λ (s : ReaderState). is_row_due s.context s.so_far c.args.payload.now) (sym c.self.view_is) ∙ sym c.is_row_due.ensures ∙ c.if-not-is_row_due.false in (
       due,
       reads_row old _ c.args.payload.now c.self.inside.state.standing.format due same context
-          (ap (λ (columns : Option (List ColumnDefinition)). let s : ReplySoFar = record { awaited = Rows true; columns = columns } in s) standing) fault
+          so_far fault
           (λ these h. c.in-Ok.ensures.row these (columns ∙ h)),
     )
 

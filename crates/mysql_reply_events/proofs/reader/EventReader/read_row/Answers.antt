@@ -2,7 +2,7 @@ use Rattle.std.proofs.Common.{◌≡◌, true, Some, Ok, Err, ap, sym, subst, �
 use Rattle.mysql_rows.specs.Views.{row_view, shared_columns}
 use Rattle.mysql_reply_events.specs.declared.context.Context.{Context}
 use Rattle.mysql_reply_events.specs.declared.fault.ReplyFault.{ReplyFault}
-use Rattle.mysql_reply_events.specs.Events.{ReplySoFar}
+use Rattle.mysql_reply_events.specs.Events.{Awaited, ReplySoFar}
 use Rattle.mysql_reply_events.specs.Events.Awaited.{Rows}
 use Rattle.mysql_reply_events.specs.Events.Event.{RowEvent}
 use Rattle.mysql_reply_events.specs.Reader.{HasFailed, ReaderState, ReadsOn, is_row_due}
@@ -10,7 +10,7 @@ use Rattle.mysql_reply_events.specs.Readings.{row}
 use Rattle.mysql_reply_events.specs.Standing.{columns_of}
 use Rattle.mysql_reply_events.specs.States.{so_far}
 use Rattle.mysql_reply_events.specs.Table.{Step, event_at}
-use Rattle.mysql_reply_events.specs.Views.{Refuses}
+use Rattle.mysql_reply_events.specs.Views.{Refuses, awaited_view}
 use Rattle.mysql_reply_events.proofs.KeptRows.{keeps, keeps_none}
 use Rattle.mysql_reply_events.proofs.reader.EventReader.read_row.Goals as goal
 
@@ -20,9 +20,12 @@ returns-in-Ok c =
     let due : is_row_due c.self.inside.context s c.args.payload.now ≡ true = sym c.is_row_due.ensures ∙ c.if-not-is_row_due.false in
     let stand : s.columns ≡ Some (shared_columns c.in-Some.columns) = sym c.columns.ensures ∙ ap columns_of c.in-Some.is in
     let next : ReplySoFar = record s { awaited = Rows true } in
-    let step : Step = Ok (RowEvent (row_view c.in-Ok.row), next) in (
+    let step : Step = Ok (RowEvent (row_view c.in-Ok.row), next) in
+    let same : step ≡ Ok (RowEvent (row_view c.in-Ok.row), record s { awaited = awaited_view c.pass_row.new.self }) =
+    ap (λ (a : Awaited). let step : Step = Ok (RowEvent (row_view c.in-Ok.row), record s { awaited = a }) in step) (sym c.pass_row.ensures) in (
       subst (λ (r : ReaderState). event_at r.context r.so_far c.args.payload.now ≡ step) c.self.view_is
-          (keeps c.self.inside.context s c.args.payload.now (shared_columns c.in-Some.columns) (row_view c.in-Ok.row) due stand c.in-Ok.ensures),
+          (keeps c.self.inside.context s c.args.payload.now (shared_columns c.in-Some.columns) (row_view c.in-Ok.row) due stand c.in-Ok.ensures)
+          ∙ same,
       record {
         context = ap (λ (r : ReaderState). r.context) c.self.view_is;
         fault = ap (λ (r : ReaderState). r.fault) c.self.view_is ∙ c.requires;

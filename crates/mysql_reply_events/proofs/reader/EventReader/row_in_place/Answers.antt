@@ -4,6 +4,7 @@ use Rattle.mysql_reply_events.specs.Events.{ReplySoFar}
 use Rattle.mysql_reply_events.specs.Events.Awaited.{Nothing, Rows}
 use Rattle.mysql_reply_events.specs.Reader.{HasFailed, ReaderState, ReadsOn}
 use Rattle.mysql_reply_events.specs.Standing.{Standing, format_of}
+use Rattle.mysql_reply_events.specs.Views.{awaited_view}
 use Rattle.mysql_reply_events.proofs.RowsInPlace.{reads_no_row, reads_row}
 use Rattle.mysql_reply_events.proofs.reader.EventReader.row_in_place.Goals as goal
 
@@ -15,8 +16,10 @@ returns-in-Ok c =
     let columns : c.self.inside.state.standing.columns ≡ old.so_far.columns = ap (λ (s : ReaderState). s.so_far.columns) c.self.view_is in
     let fault : c.self.inside.fault ≡ None = ap (λ (s : ReaderState). s.fault) c.self.view_is ∙ c.requires.going in
     let standing : c.read.new.self.columns ≡ old.so_far.columns = ap (λ (s : Standing). s.columns) c.in-Ok.ensures.rest ∙ columns in
+    let so_far : record { awaited = awaited_view c.pass_row.new.self; columns = c.read.new.self.columns } ≡ record old.so_far { awaited = Rows true } =
+    (λ i. let s : ReplySoFar = record { awaited = c.pass_row.ensures i; columns = standing i } in s) in
     reads_row old _ c.args.payload.now c.self.inside.state.standing.format c.requires.due same context
-    (ap (λ (columns : Option (List ColumnDefinition)). let s : ReplySoFar = record { awaited = Rows true; columns = columns } in s) standing) fault
+    so_far fault
     (λ these h. c.in-Ok.ensures.row these (columns ∙ h))
 
 pub returns-in-Err : goal.returns-in-Err
