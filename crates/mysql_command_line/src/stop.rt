@@ -58,7 +58,7 @@ impl From<BadTranscript> for Stop {
 }
 
 impl From<io::Error> for Stop {
-    // What is printed is written to the output, but for a text that a date is printed by.
+    // An event's line is printed into memory first. Any other error is the output's.
     fn from(error: io::Error) -> Stop {
         match error.kind() {
             io::ErrorKind::OutOfMemory => Stop::Memory,

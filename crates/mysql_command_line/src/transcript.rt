@@ -1,35 +1,38 @@
 //! A transcript of a connection, read piece by piece, whose events are printed.
 
-ghost use Rattle.std.specs.Prelude.{◌<◌, ◌≤◌, IfOk, length};
+ghost use Rattle.std.specs.Prelude.{◌<◌, ◌≡◌, ◌≤◌, IfErr, IfOk, length};
+ghost use Rattle.mysql_command_line.specs.declared.stop.Stop.TheVariants as stops;
 
 use crate::position::{Position, Record};
 use crate::stop::Stop;
-use mysql_connection_lines::{Form, Texts, print_event};
+use mysql_connection_lines::{Form, print_event};
 use mysql_connection_machine::{Connection, End, FeedRefusal};
 use mysql_connection_rules::{Fault, Limits, Reason, Side};
 use mysql_connection_state::{Event, Phase};
 use std::alloc::Global;
 use std::io::Write;
 
-/// Prints an event's line. One with texts is printed whole, or not at all where memory is refused.
-fn print_line<W: Write>(output: &mut W, event: &Event, form: Form) -> Result<(), Stop> {
-    match form {
-        Form::Short(_, Texts::Quoted, alloc) => {
-            let mut line = Vec::new(alloc);
-            print_event(&mut line, event, form)?;
-            output.write_all(line.as_slice())?;
-            Ok(())
-        },
-        _ => {
-            print_event(output, event, form)?;
-            Ok(())
-        },
+/// Prints an event's line whole, or nothing of it where memory is refused.
+fn print_line<W: Write>(
+    alloc: Global,
+    output: &mut W,
+    event: &Event,
+    form: Form,
+) -> Result<(), Stop>
+    ensures { IfErr result (λ stop. stop ≡ stops.Memory → output.new ≡ output.old) }
+{
+    let mut line = Vec::new(alloc);
+    print_event(&mut line, event, form)?;
+    match output.write_all(&line) {
+        Ok(()) => Ok(()),
+        Err(_) => Err(Stop::Writing),
     }
 }
 
 /// A transcript as far as it came, and the connection that it is of.
 #[derive(Drop)]
 pub(crate) struct Transcript {
+    alloc: Global,
     connection: Connection,
     position: Position,
     form: Form,
@@ -39,6 +42,7 @@ impl Transcript {
     /// One of which no byte came.
     pub(crate) fn new(alloc: Global, limits: Limits, form: Form) -> Transcript {
         Transcript {
+            alloc,
             connection: Connection::new(alloc, limits),
             position: Position::before_record(),
             form,
@@ -62,7 +66,7 @@ impl Transcript {
     fn print_events<W: Write>(&mut self, output: &mut W) -> Result<(), Stop> {
         for _ in 0..u64::MAX {
             match self.connection.next_event() {
-                Ok(Some(event)) => { print_line(output, &event, self.form)? },
+                Ok(Some(event)) => { print_line(self.alloc, output, &event, self.form)? },
                 _ => return Ok(()),
             }
         }
