@@ -1,6 +1,6 @@
 //! Streams cut into payloads, and payloads framed.
 
-ghost use Rattle.std.specs.Prelude.{◌≡◌, ◌≢◌, ◌-◌, length};
+ghost use Rattle.std.specs.Prelude.{◌≡◌, ◌≢◌, ◌-◌};
 ghost use Rattle.mysql_wire.specs.Incoming.{incoming_at};
 ghost use Rattle.mysql_c_handles.specs.Bytes.{OfBytes};
 ghost use Rattle.mysql_c_handles.specs.Codes.{code_number};

@@ -1,7 +1,7 @@
 //! Receivers of streams of commands.
 
-ghost use Rattle.std.specs.Prelude.{◌≡◌, ◌≢◌, ◌≤◌, ◌<◌, ◌⊎◌, false, true, Err, IfErr, IfOk, MatchOption, MatchResult};
-ghost use Rattle.std.specs.Prelude.{OnErr, OnOk, length, slice_get};
+ghost use Rattle.std.specs.Prelude.{◌≡◌, ◌≢◌, ◌<◌, ◌⊎◌, false, true, Err, IfErr, IfOk, MatchOption, MatchResult};
+ghost use Rattle.std.specs.Prelude.{OnOk, length, slice_get};
 ghost use Rattle.mysql_values.specs.Queries.{HasMixed};
 ghost use Rattle.mysql_values.specs.Sql.{read_by};
 ghost use Rattle.mysql_receive.specs.Views.{sets_of};

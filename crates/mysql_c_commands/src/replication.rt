@@ -2,10 +2,10 @@
 
 ghost use Rattle.std.specs.Prelude.{◌≡◌, map};
 ghost use Rattle.mysql_replication.specs.Sids.{sid_view};
-ghost use Rattle.mysql_replication.specs.Views.{binlog_dump_gtid_view, binlog_dump_view, register_slave_view};
+ghost use Rattle.mysql_replication.specs.Views.{binlog_dump_gtid_view, register_slave_view};
 ghost use Rattle.mysql_c_commands.specs.Gtids.{PutsBySids};
 ghost use Rattle.mysql_c_commands.specs.Putting.{Puts, PutsIf};
-ghost use Rattle.mysql_c_commands.specs.Replication.{Dump, Replica, dump_fields, dump_payload, is_replica};
+ghost use Rattle.mysql_c_commands.specs.Replication.{Dump, Replica, dump_payload, is_replica};
 ghost use Rattle.mysql_c_commands.specs.Replication.{replica_fields, replica_payload, sids_fields, sids_payload};
 
 use crate::gtids::sids_at;

@@ -1,6 +1,6 @@
 //! Parameter sets that are put together value by value.
 
-ghost use Rattle.std.specs.Prelude.{◌≡◌, ◌≢◌, pos};
+ghost use Rattle.std.specs.Prelude.{◌≡◌, ◌≢◌};
 ghost use Rattle.mysql_cells.specs.declared.value.Value.TheVariants as value;
 ghost use Rattle.mysql_c_handles.specs.Codes.{code_number};
 ghost use Rattle.mysql_c_handles.specs.Sets.{IsSets, OfSets};

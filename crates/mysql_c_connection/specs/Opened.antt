@@ -1,11 +1,10 @@
 -- What the calls about a connection say of the object that a handle stands for.
 -- MySQL: Client/Server Protocol, "Connection Lifecycle".
-use Rattle.std.specs.Prelude.{◌≡◌, ◌≢◌, ℕ, List, [], Option, Some, None, Result, Ok, Err, IfSome}
-use Rattle.mysql_connection_machine.specs.Endings.{Ending, end_view, ending_of}
+use Rattle.std.specs.Prelude.{◌≡◌, ℕ, List, Option, Some, None, Result, Ok, Err, IfSome}
+use Rattle.mysql_connection_machine.specs.Endings.{Ending, ending_of}
 use Rattle.mysql_connection_machine.specs.Endings as ending
 use Rattle.mysql_connection_machine.specs.Machines.{Answers, AnswersFault, Feeds, Machine, TakesBytes, both_ended}
 use Rattle.mysql_connection_machine.specs.Machines.{ended, failure_in, new_machine}
-use Rattle.mysql_connection_machine.specs.declared.end.End.{End}
 use Rattle.mysql_connection_machine.specs.declared.fault.ConnectionFault.{ConnectionFault}
 use Rattle.mysql_connection_machine.specs.declared.fault.FeedRefusal.{FeedRefusal}
 use Rattle.mysql_connection_machine.specs.declared.fault.FeedRefusal.TheVariants as refusal
@@ -20,7 +19,7 @@ use Rattle.mysql_c_connection.specs.declared.object.Object.TheVariants as object
 use Rattle.mysql_c_connection.specs.declared.object.OpenConnection.{OpenConnection}
 use Rattle.mysql_c_connection.specs.declared.shown.ShownConnectionEnd.{ShownConnectionEnd}
 use Rattle.mysql_c_connection_events.specs.declared.shown.ShownEvent.{ShownEvent}
-use Rattle.mysql_c_connection.specs.Codes.{code_number, fault_number, reason_number, side_number, side_numbered}
+use Rattle.mysql_c_connection.specs.Codes.{code_number, fault_number, reason_number, side_number}
 use Rattle.mysql_c_connection.specs.Events.{event_shown}
 use Rattle.mysql_c_connection_events.specs.Shown.{blank_shown}
 

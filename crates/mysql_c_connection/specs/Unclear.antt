@@ -1,7 +1,7 @@
 -- What C sees of the values of an execution that servers read each their way.
 -- MySQL: Client/Server Protocol, "COM_STMT_EXECUTE" and "Binary Protocol Value"; MariaDB:
 -- "COM_STMT_BULK_EXECUTE".
-use Rattle.std.specs.Prelude.{◌≡◌, ℕ, ◌+◌, ◌*◌, Bool, false, List, [], length, Option, Some, None, unwrap_or}
+use Rattle.std.specs.Prelude.{◌≡◌, ℕ, ◌+◌, ◌*◌, Bool, false, List, [], length, Option, None, unwrap_or}
 use Rattle.std.specs.Option.{option_map}
 use Rattle.mysql_commands.specs.declared.command.Command.{Command as HeldCommand}
 use Rattle.mysql_commands.specs.declared.command.Command.TheVariants as asked

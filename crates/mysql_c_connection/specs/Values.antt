@@ -1,6 +1,6 @@
 -- What C sees of the values and the attributes of the event that was told last.
 -- MySQL: Client/Server Protocol, "COM_STMT_EXECUTE" and "Text Resultset Row"; MariaDB: "COM_STMT_BULK_EXECUTE".
-use Rattle.std.specs.Prelude.{◌≡◌, ℕ, ◌==◌, List, [], Option, Some, None, MatchOption, length, slice_get}
+use Rattle.std.specs.Prelude.{◌≡◌, ℕ, ◌==◌, List, Option, Some, None, length, slice_get}
 use Rattle.std.specs.Prelude.{if◌then◌else◌, option_map}
 use Rattle.std.specs.Option.{option_and_then}
 use Rattle.mysql_authentication.specs.Events as logging

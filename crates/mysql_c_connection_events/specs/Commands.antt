@@ -10,7 +10,7 @@ use Rattle.mysql_executions.specs.declared.bulk.BulkValue.{BulkValue}
 use Rattle.mysql_ok_packets.specs.Written.{or_zero}
 use Rattle.mysql_replication.specs.Packets.{BinlogDump, BinlogDumpGtid, RegisterSlave, TableDump}
 use Rattle.mysql_c_connection_events.specs.Logins.{change_shown}
-use Rattle.mysql_c_connection_events.specs.Shown.{blank_shown, data_shown, nothing_shown, number_shown, statement_shown}
+use Rattle.mysql_c_connection_events.specs.Shown.{blank_shown, data_shown, number_shown, statement_shown}
 use Rattle.mysql_c_connection_events.specs.Shown.{text_shown}
 use Rattle.mysql_c_connection_events.specs.declared.shown.ShownEvent.{ShownEvent}
 

@@ -9,7 +9,6 @@ ghost use Rattle.mysql_c_connection_events.specs.Replies.{progress_shown, reply_
 
 use crate::packets::{telling_error, telling_packet};
 use crate::shown::{ShownEvent, blank, with_data, with_statement, with_text};
-use mysql_c_handles::start_of;
 use mysql_columns::ListedColumn;
 use mysql_reply_events::ReplyEvent;
 use mysql_server_packets::{ProgressReport, StmtPacket};

@@ -1,11 +1,11 @@
 -- A client, a server and an auditor between them see the same.
-use Rattle.std.proofs.Common.{◌≡◌, ◌<◌, ℕ, ◌/◌, Bool, true, false, List, [], ◌∷◌, ◌++◌, Option, Some, None, refl, sym, ap, subst, ◌∙◌, add-one, append-nil, arith}
-use Rattle.std.specs.Prelude.{◌&&◌, if◌then◌else◌, slice_index_or, IfSome}
+use Rattle.std.proofs.Common.{◌≡◌, ◌<◌, ℕ, Bool, true, false, List, [], Option, Some, None, refl, sym, ap, subst, ◌∙◌, arith}
+use Rattle.std.specs.Prelude.{if◌then◌else◌, slice_index_or, IfSome}
 use Rattle.mysql_connection_contents.proofs.Executing.{executions_are_shown, queries_are_shown}
 use Rattle.mysql_connection_contents.proofs.Faults.{FailsSo, calls_fail}
 use Rattle.mysql_connection_contents.proofs.Fronts.{heard_all, is_front}
 use Rattle.mysql_connection_contents.proofs.Histories.{history}
-use Rattle.mysql_connection_contents.proofs.Parties.{IsOf, any_keeps, anybody_may, other_kept, side_keeps, side_may}
+use Rattle.mysql_connection_contents.proofs.Parties.{IsOf, any_keeps, anybody_may, side_keeps, side_may}
 use Rattle.mysql_connection_contents.proofs.PutValues.{values_shown}
 use Rattle.mysql_connection_contents.proofs.Putting.{speaks}
 use Rattle.mysql_connection_contents.proofs.Texts.{texts_are_shown}
@@ -16,8 +16,10 @@ use Rattle.mysql_connection_contents.specs.Promise.{AllSeeTheSame, Has, HasRecor
 use Rattle.mysql_connection_contents.specs.Records.{HasHeard}
 use Rattle.mysql_connection_contents.specs.Shown.{IsBeginning, at_greeting, behind_login}
 use Rattle.mysql_connection_machine.specs.Machines.{new_machine}
-use Rattle.mysql_connection_rules.proofs.Agreeing.{had_too}
+use Rattle.mysql_connection_rules.proofs.Agreeing.{had_too, itself, other_kept}
 use Rattle.mysql_connection_rules.proofs.Packets.{PacketLaws}
+use Rattle.mysql_connection_rules.proofs.PutHeads.{and_no}
+use Rattle.mysql_connection_rules.proofs.Quiet.{end_of_none, none_found}
 use Rattle.mysql_connection_rules.proofs.Running.{come_all, had_runs, parts_of, runs-on, runs-split, set_stream, whole_comes}
 use Rattle.mysql_connection_rules.specs.AgreementLaws.{AgreesOn, Member, NumbersAreBytes, PutsAreRead, ThreeAgree}
 use Rattle.mysql_connection_rules.specs.Events.{Event}
@@ -30,9 +32,8 @@ use Rattle.mysql_connection_rules.specs.Steps.{turn}
 use Rattle.mysql_connection_rules.specs.Streams.{Beginning, End, Fails, Failure, Piece, no_bytes, come, Stream, Streams, Waits, World, client_by, has_number, next, next_by, of_server, server_by, start, stream_of, with_stream, words, words_by}
 use Rattle.mysql_connection_rules.specs.declared.side.Side.{Side}
 use Rattle.mysql_connection_rules.specs.declared.side.Side.TheVariants.{Client, Server}
-use Rattle.mysql_wire.specs.FirstPacket.{Short, first_packet, packet_by}
+use Rattle.mysql_wire.specs.FirstPacket.{first_packet}
 use Rattle.mysql_wire.specs.FirstPacketLaws.{FramingsAreFound}
-use Rattle.mysql_wire.specs.Framing.{max_payload_len}
 
 pub record LowerLaws : Type 0 where
   pub packets : PacketLaws
@@ -47,13 +48,6 @@ pub record LowerLaws : Type 0 where
 
 -- ---- where nothing is unread, nothing comes next
 
-none_found : (limit number : ℕ) → first_packet limit number [] ≡ Short
-none_found limit number = ap (λ (n : ℕ). packet_by n limit 0 number []) (add-one (limit / max_payload_len))
-
-and_false : (b : Bool) → (b && false) ≡ false
-and_false true = refl
-and_false false = refl
-
 no_words : (w : World) (closed : Bool) → w.unread.server.bytes ≡ [] → (if closed then words w else Waits) ≡ Waits
 no_words w true none = (let n = w.standing.number in ap (λ (l : List ℕ). if has_number n l then words_by w (first_packet w.limits.server n l) else Waits) none)
 no_words w false none = refl
@@ -67,17 +61,13 @@ turn_waits w (Some Server) client server =
     let s = w.standing in
     let limit = w.limits.server in
     ap (of_server w) server
-    ∙ ap (λ (b : Bool). if b then words_by w (first_packet limit (slice_index_or [] 3 0) []) else server_by w (first_packet limit s.number [])) (and_false s.answers)
+    ∙ ap (λ (b : Bool). if b then words_by w (first_packet limit (slice_index_or [] 3 0) []) else server_by w (first_packet limit s.number [])) (and_no s.answers)
     ∙ ap (server_by w) (none_found limit s.number)
 
 none_waits : (w : World) → w.unread.client.bytes ≡ [] → w.unread.server.bytes ≡ [] → next w ≡ Waits
 none_waits w client server = turn_waits w (turn w.standing.phase) client server
 
 -- ---- of its own side nothing is unread at the end of the list
-
-end_of_none : (xs ys : List ℕ) → xs ++ ys ≡ [] → ys ≡ []
-end_of_none [] ys h = h
-end_of_none (x ∷ xs) ys h = absurd (cc h)
 
 parts_kept : (own other : Side) (more : List ℕ) (closed whole_closed : Bool) (w : World) → same_side own other ≡ false → stream_of own (come_all (parts_of other more closed whole_closed) w).unread ≡ stream_of own w.unread
 parts_kept own other more true whole_closed w apart = refl
@@ -157,9 +147,6 @@ record_in laws begun client whole events last small came heard front xs spoken s
     (subst (λ (l : List Event). IsFront l events) (sym same) front)
 
 -- ---- all
-
-itself : (stream : Stream) → HasComeOf stream stream
-itself stream = record { read = refl; bytes = ([], append-nil stream.bytes); all = λ e. refl }
 
 pub all_see_the_same : LowerLaws → AllSeeTheSame
 all_see_the_same laws begun client server auditor connected =

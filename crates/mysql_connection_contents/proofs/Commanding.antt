@@ -1,5 +1,5 @@
 -- Packets that are put where a command is due are commands, and about the statement that they name.
-use Rattle.std.proofs.Common.{◌≡◌, ◌⊎◌, ◌<◌, inl, inr, ℕ, Bool, true, false, List, [], ◌∷◌, ◌++◌, Option, Some, None, Ok, map, refl, sym, ap, subst, ◌∙◌, append_assoc, append-nil, arith}
+use Rattle.std.proofs.Common.{◌≡◌, ◌⊎◌, ◌<◌, inl, inr, ℕ, Bool, true, false, List, [], ◌∷◌, Option, Some, None, Ok, map, refl, sym, ap, subst, ◌∙◌, arith}
 use Rattle.std.specs.Prelude.{◌==◌, ◌&&◌, if◌then◌else◌, ◌||◌}
 use Rattle.std.specs.List.{AllByRecursion, filter}
 use Rattle.std.specs.Option.{option_and_then}
@@ -8,23 +8,24 @@ use Rattle.mysql_commands.specs.Commands.{Command, command_at}
 use Rattle.mysql_commands.specs.Replies.{statement_of}
 use Rattle.mysql_connection_contents.proofs.Commands.{either}
 use Rattle.mysql_connection_contents.proofs.Ids.{said_is}
-use Rattle.mysql_connection_contents.proofs.Speaking.{grow_more, grow_none}
+use Rattle.mysql_connection_contents.proofs.Speaking.{packets_are_spoken}
 use Rattle.mysql_connection_contents.proofs.Statements.{both}
 use Rattle.mysql_connection_contents.specs.Contents.{Spoken, is_about, is_due, is_id, payloads_about}
-use Rattle.mysql_connection_contents.specs.PacketLaws.{HasSaidCommands, IsOf, PacketsAreCommands, SentPacketsAreAbout}
-use Rattle.mysql_connection_contents.specs.Records.{HasSpoken, PutsSpoken, spoken_by}
+use Rattle.mysql_connection_contents.specs.PacketLaws.{IsOf, PacketsAreCommands, SentPacketsAreAbout}
+use Rattle.mysql_connection_contents.specs.Records.{HasSpoken}
 use Rattle.mysql_connection_contents.specs.Records.HasSpoken.{puts}
 use Rattle.mysql_connection_machine.specs.Machines.{Machine}
 use Rattle.mysql_connection_machine.specs.PuttingPackets.{PutsAll}
 use Rattle.mysql_connection_rules.specs.Events.{Event, side_of}
 use Rattle.mysql_connection_rules.specs.Events as events
-use Rattle.mysql_connection_rules.specs.Puts.{has_place, is_free, is_turn, packets_for}
+use Rattle.mysql_connection_rules.specs.Puts.{has_place, is_free, is_turn}
 use Rattle.mysql_connection_rules.specs.Puts as puts_of
 use Rattle.mysql_connection_rules.specs.Standing.{Phase, Standing}
 use Rattle.mysql_connection_rules.specs.Standing as phases
 use Rattle.mysql_connection_rules.specs.StepLaws.{step_said}
 use Rattle.mysql_connection_rules.specs.Steps.{after_command, by_number, execution_by_id, execution_of, id_in_question, in_turn, is_unagreed_bulk, parameters_in_question, statement_in_question, step, turn}
-use Rattle.mysql_connection_rules.specs.Streams.{Beginning, Piece, Streams, World, grow, stream_of}
+use Rattle.mysql_connection_rules.specs.Streams.{Beginning, Streams, World, grow, stream_of}
+use Rattle.mysql_connection_rules.specs.Streams.Coming.{Piece}
 use Rattle.mysql_connection_rules.specs.declared.side.Side.TheVariants.{Client, Server}
 use Rattle.mysql_connection_statements.specs.Statements.{Statement, Statements, last_prepared, resolved}
 use Rattle.mysql_connection_recoding.specs.Agreement.{is_about_parameters}
@@ -137,56 +138,22 @@ due_for m (payload ∷ payloads) due = due
 moved_next : (w : World) (event : Event) (payload : List ℕ) (after : Standing) → IsNext after → IsNext (puts_of.put_on w event payload after).standing
 moved_next w event payload after next = next
 
-all_commands : (begun : Beginning) (streams : Streams) (xs : List Spoken) (old new : Machine) (payloads : List (List ℕ)) (before behind : List ℕ) → HasSpoken Client Server begun streams xs old.world → DueFor old payloads
-    → PutsAll old Client payloads before new behind → HasSaidCommands begun streams xs payloads before new behind
-all_commands begun streams xs old new [] before behind spoken due done = record {
-  has = record {
-    said = [];
-    bytes = [];
-    payloads_are = refl;
-    its_own = tt;
-    appended = sym (append-nil before ∙ done.1);
-    spoken = subst (λ (s : Streams). HasSpoken Client Server begun s (xs ++ []) new.world) (sym (grow_none Client streams))
-        (subst (λ (l : List Spoken). HasSpoken Client Server begun streams l new.world) (sym (append-nil xs))
-        (subst (λ (w : World). HasSpoken Client Server begun streams xs w) (ap (λ (m : Machine). m.world) done.0) spoken));
-  };
-  commands = tt;
-}
-all_commands begun streams xs old new (payload ∷ payloads) before behind spoken due done =
+-- a command was due at each of them
+all_due : (begun : Beginning) (streams : Streams) (xs : List Spoken) (old new : Machine) (payloads : List (List ℕ)) (before behind : List ℕ) (spoken : HasSpoken Client Server begun streams xs old.world) → DueFor old payloads
+    → (done : PutsAll old Client payloads before new behind) → AllByRecursion (λ x. is_due x.standing.phase ≡ true) (packets_are_spoken Client Server begun streams xs old new payloads before behind spoken done).said
+unfolding packets_are_spoken
+all_due begun streams xs old new [] before behind spoken due done = tt
+all_due begun streams xs old new (payload ∷ payloads) before behind spoken due done =
     let put = done.2.puts.0 in
     let written = put.1.written in
-    let x = spoken_by old.world put.0 payload in
-    let packets = packets_for put.0 old.world.standing payload in
-    let one : PutsSpoken old.world x done.0.world = record {
-      after = written.after;
-      standing = refl;
-      its_own = refl;
-      number = refl;
-      says = put.1.says;
-      may = written.may;
-      goes = written.goes;
-    } in
     let next : IsNext done.0.world.standing = subst (λ (w : World). IsNext w.standing) (sym written.goes) (moved_next old.world put.0 payload written.after (step_next old.world.standing payload put.0 written.after due put.1.says)) in
-    let rest = all_commands begun (grow Client (Piece packets) streams) (xs ++ x ∷ []) done.0 new payloads done.1 behind (puts x spoken put.1.its_own one)
-    (still_due done.0 payloads done.1 new behind next done.3) done.3 in
-    let more = rest.has in record {
-      has = record {
-        said = x ∷ more.said;
-        bytes = packets ++ more.bytes;
-        payloads_are = ap (λ (l : List (List ℕ)). payload ∷ l) more.payloads_are;
-        its_own = (put.1.its_own, more.its_own);
-        appended = more.appended ∙ ap (λ (l : List ℕ). l ++ more.bytes) written.appended ∙ append_assoc before packets more.bytes;
-        spoken = subst (λ (s : Streams). HasSpoken Client Server begun s (xs ++ x ∷ more.said) new.world)
-            (grow_more Client packets more.bytes streams)
-            (subst (λ (l : List Spoken). HasSpoken Client Server begun (grow Client (Piece more.bytes) (grow Client (Piece packets) streams)) l new.world)
-            (append_assoc xs (x ∷ []) more.said) more.spoken);
-      };
-      commands = (due, rest.commands);
-    }
+    (due, all_due begun (grow Client (Piece (puts_of.packets_for put.0 old.world.standing payload)) streams) _ done.0 new payloads done.1 behind _ (still_due done.0 payloads done.1 new behind next done.3) done.3)
 
 pub packets_are_commands : PacketsAreCommands
-packets_are_commands begun streams xs old new payloads before behind spoken due done =
-    all_commands begun streams xs old new payloads before behind spoken (due_for old payloads due) done
+packets_are_commands begun streams xs old new payloads before behind spoken due done = record {
+  has = packets_are_spoken Client Server begun streams xs old new payloads before behind spoken done;
+  commands = all_due begun streams xs old new payloads before behind spoken (due_for old payloads due) done;
+}
 
 pub sent_packets_are_about : SentPacketsAreAbout
 sent_packets_are_about begun streams xs old new payloads before behind id spoken due small is done =

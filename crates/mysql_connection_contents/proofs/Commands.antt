@@ -7,7 +7,7 @@ use Rattle.std.specs.Map.{lookup}
 use Rattle.std.specs.Ordering.{nat_cmp}
 use Rattle.std.proofs.lemmas.Bool.Decides.{nat_tests}
 use Rattle.mysql_commands.specs.Commands as commands
-use Rattle.mysql_commands.specs.Commands.{Command, command_at}
+use Rattle.mysql_commands.specs.Commands.{Command}
 use Rattle.mysql_connection_rules.specs.Standing.{Standing}
 use Rattle.mysql_connection_rules.specs.Standing.About.{Nothing}
 use Rattle.mysql_connection_rules.specs.Steps.{after_data, by_number, carried_types, changing, closing, execution_by_id, execution_of, reply_due}
@@ -37,12 +37,12 @@ same_id a b e = grind (arith, nat_tests)
 pub other_id : (a b : ℕ) → (a == b) ≡ false → b ≢ a
 other_id a b e h = (let same : a ≡ b = sym h in grind (arith, nat_tests))
 
-not_about_each : (a b d e : Bool) → (a || (b || (d || e))) ≡ false → (a ≡ false) × (b ≡ false) × (d ≡ false) × (e ≡ false)
-not_about_each false false false false h = (refl, refl, refl, refl)
-not_about_each true b d e h = absurd cc
-not_about_each false true d e h = absurd cc
-not_about_each false false true e h = absurd cc
-not_about_each false false false true h = absurd cc
+pub none_of_four : (a b d e : Bool) → (a || (b || (d || e))) ≡ false → (a ≡ false) × (b ≡ false) × (d ≡ false) × (e ≡ false)
+none_of_four false false false false h = (refl, refl, refl, refl)
+none_of_four true b d e h = absurd cc
+none_of_four false true d e h = absurd cc
+none_of_four false false true e h = absurd cc
+none_of_four false false false true h = absurd cc
 
 neither : (a b : Bool) → (a || b) ≡ true → a ≡ false → b ≡ false → ⊥
 neither true b h x y = cc
@@ -146,7 +146,7 @@ module _ (s : Standing) (id : ℕ) (p : InForce) (stands : Stands s.statements i
       → Same (by_number number body q at (number ∷ body) command s)
   other_goes number body q at command own not_about no_change no_close =
       let payload = number ∷ body in
-      let about = not_about_each (number == 0x17) (number == 0xfa) (number == 0x18) (number == 0x1a) not_about in
+      let about = none_of_four (number == 0x17) (number == 0xfa) (number == 0x18) (number == 0x1a) not_about in
       either Same (number == 0x01) _ _ (λ is. same_as _ refl refl refl) (λ is1.
       either Same (number == 0x11) _ _ (λ is. absurd (no_change (same_id number 0x11 is))) (λ is2.
       either Same (number == 0x16) _ _ (λ is. same_as _ refl refl refl) (λ is3.

@@ -5,7 +5,7 @@ use Rattle.std.specs.Option.{option_map}
 use Rattle.bitflags.proofs.OnLiterals.{bitflags_on_literals}
 use Rattle.mysql_buf.specs.Reading.{first}
 use Rattle.mysql_cells.specs.Cells.{cell_at}
-use Rattle.mysql_connection_contents.specs.Example.{accepts, agreed, answer, answers, asked_text, asks, begun, by_text, by_values, bytes, sent_data, events_said, executes_bulk, executes_data, executes_values, in_bulk, ok, of_text, queries, sends_data, small, text, with_data}
+use Rattle.mysql_connection_contents.specs.Example.{accepts, agreed, answers, asked_text, asks, begun, by_text, by_values, bytes, sent_data, events_said, executes_bulk, executes_data, executes_values, in_bulk, ok, of_text, queries, sends_data, small, text, with_data}
 use Rattle.mysql_connection_contents.specs.ExampleLaws.{BytesAreRead, EventsHaveContents, ExampleIsSeen}
 use Rattle.mysql_connection_contents.specs.Promise.{AllSeeTheSame}
 use Rattle.mysql_connection_rules.specs.Events.{Event}
@@ -16,7 +16,7 @@ use Rattle.mysql_connection_rules.specs.SessionModes.{mode_behind}
 use Rattle.mysql_connection_rules.specs.Standing as phases
 use Rattle.mysql_connection_rules.specs.Standing.{About, Phase, Standing, logged_in}
 use Rattle.mysql_connection_rules.specs.Steps.{step}
-use Rattle.mysql_connection_rules.specs.Streams.{Says, Stream, Streams, Waits, World, leads_on, moved, next, said_by, start}
+use Rattle.mysql_connection_rules.specs.Streams.{Says, Stream, Streams, World, leads_on, moved, next, said_by, start}
 use Rattle.mysql_connection_rules.specs.declared.side.Side.{Side}
 use Rattle.mysql_connection_rules.specs.declared.side.Side.TheVariants.{Client, Server}
 use Rattle.mysql_connection_statements.specs.Statements.{Statements, has_nothing, no_statements, statement_at}

@@ -1,26 +1,25 @@
 -- Calls of three connections by which the example's bytes went.
-use Rattle.std.proofs.Common.{◌≡◌, suc, ◌≤◌, ◌<◌, ◌^◌, ◌+◌, inr, ℕ, Bool, true, false, List, [], ◌∷◌, ◌++◌, None, Some, Ok, length, map, drop, refl, sym, ap, subst, ◌∙◌, append_assoc, arith}
+use Rattle.std.proofs.Common.{◌≡◌, suc, ◌≤◌, ◌^◌, ◌+◌, inr, ℕ, true, false, List, [], ◌∷◌, ◌++◌, None, Some, Ok, length, map, drop, refl, sym, ap, subst, ◌∙◌, arith}
 use Rattle.std.proofs.Math.Dec.{leb}
 use Rattle.std.proofs.Math.Nat.{le_refl}
 use Rattle.std.proofs.lemmas.Bool.{leb-true}
 use Rattle.std.proofs.lemmas.List.{length-append}
 use Rattle.std.specs.Global.{Box, Vec}
+use Rattle.std.specs.List.{flat_map}
 use Rattle.std.specs.declared.alloc.Global.{Global}
-use Rattle.std.specs.declared.borrow.CowSlice.{CowSlice}
 use Rattle.std.specs.declared.borrow.CowSlice.TheVariants.{Owned}
 use denote.RawPtr.{null_ptr}
 use Rattle.bitflags.proofs.OnLiterals.{bitflags_on_literals}
-use Rattle.mysql_buf.specs.Reading.{first}
 use Rattle.mysql_cells.specs.declared.value.Value.TheVariants.{Bytes}
 use Rattle.mysql_commands.specs.declared.command.Command.{Command as HeldCommand}
 use Rattle.mysql_commands.specs.declared.command.Command.TheVariants as commands
-use Rattle.mysql_connection_contents.proofs.Example.{accepting, answering, asked, asking, executes, executes_again, executes_all, executing, executing_again, executing_all, has_answer, has_data, has_executed, next_says, queried, querying, s0, sending, step_1, step_2, step_3, step_4, step_5, step_6, step_7, step_8, step_9, step_10, step_11, unread, world}
+use Rattle.mysql_connection_contents.proofs.Example.{accepting, answering, asked, asking, executes, executes_again, executes_all, executing, executing_again, executing_all, has_answer, has_data, has_executed, next_says, queried, querying, s0, sending, step_1, step_2, step_3, step_4, step_5, step_6, step_7, step_8, step_9, step_10, step_11, unread, w11 as v11, world}
 use Rattle.mysql_connection_contents.proofs.Speaking.{grow_more, grow_none}
-use Rattle.mysql_connection_contents.specs.Calls.{Call, Calls, Does, Done, Feed, NextEvent, Party, PutExecution, PutPackets}
+use Rattle.mysql_connection_contents.specs.Calls.{Calls, Does, Done, Feed, NextEvent, Party, PutExecution, PutPackets}
 use Rattle.mysql_connection_contents.specs.Example.{accepts, answer, answers, asked_text, asks, begun, by_text, by_values, bytes, sent_data, executes_bulk, executes_data, executes_values, in_bulk, of_text, ok, prepare, queries, sends_data, small, agreed, text, values, with_data}
 use Rattle.mysql_connection_contents.specs.ExampleLaws.{ExampleIsMade}
 use Rattle.mysql_connection_contents.specs.Shown.{behind_login}
-use Rattle.mysql_connection_machine.specs.Machines.{Machine, length_with, stream_in}
+use Rattle.mysql_connection_machine.specs.Machines.{Machine, length_with}
 use Rattle.mysql_connection_machine.specs.PuttingPackets.{StandFirst, StopsAt}
 use Rattle.mysql_connection_machine.specs.Writing.{PutsOn}
 use Rattle.mysql_connection_rules.specs.Events.{Event, side_of}
@@ -28,7 +27,7 @@ use Rattle.mysql_connection_rules.specs.Puts.{is_due, packets_for, put_on, step_
 use Rattle.mysql_connection_rules.specs.Refusals.{Written}
 use Rattle.mysql_connection_rules.specs.Standing.{Standing, kept}
 use Rattle.mysql_connection_rules.specs.Steps.{step}
-use Rattle.mysql_connection_rules.specs.Streams.{Piece, Says, Streams, World, come, limit_of, next, room, room_to_keep, stream_of}
+use Rattle.mysql_connection_rules.specs.Streams.{Piece, Says, World, come, leads_on, limit_of, moved, next, room, room_to_keep, said_by, stream_of}
 use Rattle.mysql_connection_rules.specs.declared.side.Side.{Side}
 use Rattle.mysql_connection_rules.specs.declared.side.Side.TheVariants.{Client, Server}
 use Rattle.mysql_connection_state.specs.Views.{event_view}
@@ -39,7 +38,6 @@ use Rattle.mysql_connection_writer.specs.Payloads.{payload_of}
 use Rattle.mysql_execution_writer.specs.Cells.{are_parameters, parameters_bytes}
 use Rattle.mysql_execution_writer.specs.Written.{can_be_put, execution_bytes}
 use Rattle.mysql_executions.specs.declared.bulk.BulkValue.TheVariants as bulk
-use Rattle.mysql_reply_events.specs.declared.event.ReplyEvent.{ReplyEvent}
 use Rattle.mysql_reply_events.specs.declared.event.ReplyEvent.TheVariants as replies
 use Rattle.mysql_stmt.specs.Executions.{null_bitmap, null_bits}
 use Rattle.mysql_wire.specs.Framing.{chunks, framing}
@@ -159,106 +157,94 @@ v9 = world (unread 77 []) (unread 50 []) (has_executed 0 false)
 abbrev v10 : World
 v10 = world (unread 88 []) (unread 50 []) (queried 1 true)
 
-abbrev v11 : World
-v11 = world (unread 88 []) (unread 61 []) (has_executed 0 false)
+-- ---- what is said, one after another
 
--- ---- what is taken
+-- who says it, its packet, the event as it is held, the call that puts it, and the world behind it
+record Said : Type 0 where
+  side : Side
+  packet : List ℕ
+  event : HeldEvent
+  puts : Done
+  behind : World
 
-abbrev came : Side → List ℕ → World → World
-came side packet w = come side (Piece packet) w
+abbrev came : Said → World → World
+came said w = come said.side (Piece said.packet) w
 
-told_1 : next (came Client prepare v0) ≡ Says asks v1
-told_1 = next_says (came Client prepare v0) Client asking 1 [] asks (asked 0 false) v1 refl step_1 refl
+-- it is said by the next packet of a connection, and can be put on one
+record Follows (w : World) (said : Said) : Type 0 where
+  is_open : (stream_of said.side w.unread).closed ≡ false
+  fits : leb (length_with said.side said.packet (going w)) (room said.side w.limits) ≡ true
+  told : next (came said w) ≡ Says (event_view said.event) said.behind
+  does : Does (going w) said.puts (going said.behind)
 
-told_2 : next (came Server answer v1) ≡ Says answers v2
-told_2 = next_says (came Server answer v1) Server answering 2 [] answers (has_answer 1 true) v2 refl step_2 refl
+abbrev AllFollow : World → List Said → World → Type 0
+AllFollow w [] last = w ≡ last
+AllFollow w (said ∷ more) last = Follows w said × AllFollow said.behind more last
 
-told_3 : next (came Client sent_data v2) ≡ Says sends_data v3
-told_3 = next_says (came Client sent_data v2) Client sending 1 [] sends_data (has_data 0 false) v3 refl step_3 refl
+abbrev by_packet : Side → List ℕ → HeldEvent → World → Said
+by_packet side packet event behind = record { side = side; packet = packet; event = event; puts = put side packet (event_view event); behind = behind }
 
-told_4 : next (came Client with_data v3) ≡ Says executes_data v4
-told_4 = next_says (came Client with_data v3) Client executing 1 [] executes_data (executes 0 true) v4 refl step_4 refl
+follows : (old new : World) (side : Side) (packet payload : List ℕ) (number : ℕ) (event : HeldEvent) (puts : Done) (after : Standing) → Does (going old) puts (going new) → step old.standing payload ≡ Ok (event_view event, after) → (stream_of side old.unread).closed ≡ false
+    → leb (length_with side packet (going old)) (room side old.limits) ≡ true → next (come side (Piece packet) old) ≡ said_by (come side (Piece packet) old) side number [] (step old.standing payload)
+    → leads_on (come side (Piece packet) old) side (event_view event) (moved (come side (Piece packet) old) side number [] after) ≡ Says (event_view event) new → Follows old (record { side = side; packet = packet; event = event; puts = puts; behind = new })
+follows old new side packet payload number event puts after does says is_open fits found leads = record {
+  is_open = is_open;
+  fits = fits;
+  told = next_says (come side (Piece packet) old) side payload number [] (event_view event) after new found says leads;
+  does = does;
+}
 
-told_5 : next (came Server ok v4) ≡ Says accepts v5
-told_5 = next_says (came Server ok v4) Server accepting 2 [] accepts (has_executed 1 true) v5 refl step_5 refl
+fits_in : (w : World) (said : Said) → Follows w said → length_with said.side said.packet (going w) ≤ room said.side w.limits
+fits_in w said h = leb-true (length_with said.side said.packet (going w)) (room said.side w.limits) h.fits
 
-told_6 : next (came Client in_bulk v5) ≡ Says executes_bulk v6
-told_6 = next_says (came Client in_bulk v5) Client executing_all 1 [] executes_bulk (executes_all 0 false) v6 refl step_6 refl
+-- it came, and its event was taken
+abbrev reads : Said → List Done
+reads said = fed said.side said.packet ∷ took said.event ∷ []
 
-told_7 : next (came Server ok v6) ≡ Says accepts v7
-told_7 = next_says (came Server ok v6) Server accepting 2 [] accepts (has_executed 1 true) v7 refl step_7 refl
+reading : (w : World) (said : Said) → Follows w said → Calls (going w) (reads said) (going said.behind)
+reading w said h = (going (came said w), feeding w said.side said.packet h.is_open (fits_in w said h), (going said.behind, taking (came said w) said.behind said.event h.told, refl))
 
-told_8 : next (came Client by_values v7) ≡ Says executes_values v8
-told_8 = next_says (came Client by_values v7) Client executing_again 1 [] executes_values (executes_again 0 false) v8 refl step_8 refl
+abbrev reads_bytes : Said → List Done
+reads_bytes said = byte_by_byte said.side said.packet ++ took said.event ∷ []
 
-told_9 : next (came Server ok v8) ≡ Says accepts v9
-told_9 = next_says (came Server ok v8) Server accepting 2 [] accepts (has_executed 1 true) v9 refl step_9 refl
+reading_bytes : (w : World) (said : Said) → Follows w said → Calls (going w) (reads_bytes said) (going said.behind)
+reading_bytes w said h =
+    behind_calls (byte_by_byte said.side said.packet) (took said.event ∷ []) (going w) (going (came said w)) (going said.behind) (bytes_fed said.side said.packet w h.is_open (fits_in w said h)) (going said.behind, taking (came said w) said.behind said.event h.told, refl)
 
-told_10 : next (came Client by_text v9) ≡ Says queries v10
-told_10 = next_says (came Client by_text v9) Client querying 1 [] queries (queried 0 false) v10 refl step_10 refl
+-- an end puts what it says, and reads what the other says
+abbrev calls_at : (own side : Side) → Said → List Done
+calls_at Client Client said = said.puts ∷ []
+calls_at Client Server said = reads said
+calls_at Server Client said = reads said
+calls_at Server Server said = said.puts ∷ []
 
-told_11 : next (came Server ok v10) ≡ Says accepts v11
-told_11 = next_says (came Server ok v10) Server accepting 2 [] accepts (has_executed 1 true) v11 refl step_11 refl
+calling : (own side : Side) (w : World) (said : Said) → Follows w said → Calls (going w) (calls_at own side said) (going said.behind)
+calling Client Client w said h = (going said.behind, h.does, refl)
+calling Client Server w said h = reading w said h
+calling Server Client w said h = reading w said h
+calling Server Server w said h = (going said.behind, h.does, refl)
 
--- ---- what is put
+all_called : (calls : Said → List Done) → ((w : World) (said : Said) → Follows w said → Calls (going w) (calls said) (going said.behind)) → (w : World) (all : List Said) (last : World) → AllFollow w all last → Calls (going w) (flat_map calls all) (going last)
+all_called calls each w [] last h = ap going h
+all_called calls each w (said ∷ more) last h = behind_calls (calls said) (flat_map calls more) (going w) (going said.behind) (going last) (each w said h.0) (all_called calls each said.behind more last h.1)
 
-put_1 : Does (going v0) (put Client prepare asks) (going v1)
-unfolding framing chunks
-put_1 = putting v0 v1 Client prepare asking asks (asked 0 false) (1, [], refl, refl) refl refl step_1 step_1 refl refl refl refl (inr refl)
+-- ---- an execution by its values
 
-put_2 : Does (going v1) (put Server answer answers) (going v2)
-unfolding framing chunks
-put_2 = putting v1 v2 Server answer answering answers (has_answer 1 true) (2, [], refl, refl) refl refl step_2 step_2 refl refl refl refl (inr refl)
+abbrev values_said : Event
+values_said = execution_said (has_executed 0 false) 1 values
 
-put_3 : Does (going v2) (put Client sent_data sends_data) (going v3)
-unfolding framing chunks
-put_3 = putting v2 v3 Client sent_data sending sends_data (has_data 0 false) (1, [], refl, refl) refl refl step_3 step_3 refl refl refl refl (inr refl)
-
-put_4 : Does (going v3) (put Client with_data executes_data) (going v4)
-unfolding framing chunks
-put_4 = putting v3 v4 Client with_data executing executes_data (executes 0 true) (1, [], refl, refl) refl refl step_4 step_4 refl refl refl refl (inr refl)
-
-put_5 : Does (going v4) (put Server ok accepts) (going v5)
-unfolding framing chunks
-put_5 = putting v4 v5 Server ok accepting accepts (has_executed 1 true) (2, [], refl, refl) refl refl step_5 step_5 refl refl refl refl (inr refl)
-
-put_6 : Does (going v5) (put Client in_bulk executes_bulk) (going v6)
-unfolding framing chunks
-put_6 = putting v5 v6 Client in_bulk executing_all executes_bulk (executes_all 0 false) (1, [], refl, refl) refl refl step_6 step_6 refl refl refl refl (inr refl)
-
-put_7 : Does (going v6) (put Server ok accepts) (going v7)
-unfolding framing chunks
-put_7 = putting v6 v7 Server ok accepting accepts (has_executed 1 true) (2, [], refl, refl) refl refl step_7 step_7 refl refl refl refl (inr refl)
-
-put_9 : Does (going v8) (put Server ok accepts) (going v9)
-unfolding framing chunks
-put_9 = putting v8 v9 Server ok accepting accepts (has_executed 1 true) (2, [], refl, refl) refl refl step_9 step_9 refl refl refl refl (inr refl)
-
-put_10 : Does (going v9) (put Client by_text queries) (going v10)
-unfolding framing chunks
-put_10 = putting v9 v10 Client by_text querying queries (queried 0 false) (1, [], refl, refl) refl refl step_10 step_10 refl refl refl refl (inr refl)
-
-put_11 : Does (going v10) (put Server ok accepts) (going v11)
-unfolding framing chunks
-put_11 = putting v10 v11 Server ok accepting accepts (has_executed 1 true) (2, [], refl, refl) refl refl step_11 step_11 refl refl refl refl (inr refl)
-
--- by values
-
-abbrev said_8 : Event
-said_8 = execution_said (has_executed 0 false) 1 values
-
-as_values : said_8 ≡ executes_values
+as_values : values_said ≡ executes_values
 unfolding execution_bytes can_be_put parameters_bytes are_parameters null_bitmap null_bits bitflags_on_literals
 as_values = refl
 
-its_payload : payload_of (has_executed 0 false) said_8 ≡ Some executing_again
+its_payload : payload_of (has_executed 0 false) values_said ≡ Some executing_again
 unfolding execution_bytes can_be_put parameters_bytes are_parameters null_bitmap null_bits bitflags_on_literals
 its_payload = refl
 
-says_8 : step (has_executed 0 false) executing_again ≡ Ok (said_8, executes_again 0 false)
+says_8 : step (has_executed 0 false) executing_again ≡ Ok (values_said, executes_again 0 false)
 says_8 = step_8 ∙ ap (λ (e : Event). Ok (e, executes_again 0 false)) (sym as_values)
 
-put_8 : PutsOn (going v7) said_8 [] (Ok tt) (going v8) by_values
+put_8 : PutsOn (going v7) values_said [] (Ok tt) (going v8) by_values
 unfolding framing chunks
 put_8 = (
   (
@@ -278,7 +264,7 @@ put_8 = (
 )
 
 abbrev put_values : Done
-put_values = record { call = PutExecution 1 values (Ok tt); appended = by_values; took = []; put = said_8 ∷ [] }
+put_values = record { call = PutExecution 1 values (Ok tt); appended = by_values; took = []; put = values_said ∷ [] }
 
 putting_values : Does (going v7) put_values (going v8)
 putting_values = record { before = []; does = ((tt, λ e. put_8), refl, refl) }
@@ -367,165 +353,75 @@ module _ (heap : Global) where
 
   -- ---- the three
 
-  -- a packet came, and its event was taken
-  abbrev read_at_once : Side → List ℕ → HeldEvent → List Done → List Done
-  read_at_once side packet event more = fed side packet ∷ took event ∷ more
+  said_1 : Follows v0 (by_packet Client prepare held_1 v1)
+  unfolding framing chunks
+  said_1 = follows v0 v1 Client prepare asking 1 held_1 (put Client prepare asks) (asked 0 false) (putting v0 v1 Client prepare asking asks (asked 0 false) (1, [], refl, refl) refl refl step_1 step_1 refl refl refl refl (inr refl)) step_1 refl refl refl refl
 
-  reading : (side : Side) (packet : List ℕ) (event : HeldEvent) (more : List Done) (old new : World) (last : Machine) → (stream_of side old.unread).closed ≡ false → leb (length_with side packet (going old)) (room side old.limits) ≡ true
-      → next (came side packet old) ≡ Says (event_view event) new → Calls (going new) more last → Calls (going old) (read_at_once side packet event more) last
-  reading side packet event more old new last is_open fits says rest = (going (came side packet old), feeding old side packet is_open (leb-true (length_with side packet (going old)) (room side old.limits) fits), (going new, taking (came side packet old) new event says, rest))
+  said_2 : Follows v1 (by_packet Server answer held_2 v2)
+  unfolding framing chunks
+  said_2 = follows v1 v2 Server answer answering 2 held_2 (put Server answer answers) (has_answer 1 true) (putting v1 v2 Server answer answering answers (has_answer 1 true) (2, [], refl, refl) refl refl step_2 step_2 refl refl refl refl (inr refl)) step_2 refl refl refl refl
 
-  abbrev read_bytes : Side → List ℕ → HeldEvent → List Done → List Done
-  read_bytes side packet event more = byte_by_byte side packet ++ took event ∷ more
+  said_3 : Follows v2 (by_packet Client sent_data held_3 v3)
+  unfolding framing chunks
+  said_3 = follows v2 v3 Client sent_data sending 1 held_3 (put Client sent_data sends_data) (has_data 0 false) (putting v2 v3 Client sent_data sending sends_data (has_data 0 false) (1, [], refl, refl) refl refl step_3 step_3 refl refl refl refl (inr refl)) step_3 refl refl refl refl
 
-  reading_bytes : (side : Side) (packet : List ℕ) (event : HeldEvent) (more : List Done) (old new : World) (last : Machine) → (stream_of side old.unread).closed ≡ false → leb (length_with side packet (going old)) (room side old.limits) ≡ true
-      → next (came side packet old) ≡ Says (event_view event) new → Calls (going new) more last → Calls (going old) (read_bytes side packet event more) last
-  reading_bytes side packet event more old new last is_open fits says rest =
-      behind_calls (byte_by_byte side packet) (took event ∷ more) (going old) (going (came side packet old)) last (bytes_fed side packet old is_open (leb-true (length_with side packet (going old)) (room side old.limits) fits)) (going new, taking (came side packet old) new event says, rest)
+  said_4 : Follows v3 (by_packet Client with_data held_4 v4)
+  unfolding framing chunks
+  said_4 = follows v3 v4 Client with_data executing 1 held_4 (put Client with_data executes_data) (executes 0 true) (putting v3 v4 Client with_data executing executes_data (executes 0 true) (1, [], refl, refl) refl refl step_4 step_4 refl refl refl refl (inr refl)) step_4 refl refl refl refl
 
-  abbrev client_10 : List Done
-  client_10 = read_at_once Server ok held_5 []
+  said_5 : Follows v4 (by_packet Server ok held_5 v5)
+  unfolding framing chunks
+  said_5 = follows v4 v5 Server ok accepting 2 held_5 (put Server ok accepts) (has_executed 1 true) (putting v4 v5 Server ok accepting accepts (has_executed 1 true) (2, [], refl, refl) refl refl step_5 step_5 refl refl refl refl (inr refl)) step_5 refl refl refl refl
 
-  abbrev client_8 : List Done
-  client_8 = read_at_once Server ok held_5 (put Client by_text queries ∷ client_10)
+  said_6 : Follows v5 (by_packet Client in_bulk held_6 v6)
+  unfolding framing chunks
+  said_6 = follows v5 v6 Client in_bulk executing_all 1 held_6 (put Client in_bulk executes_bulk) (executes_all 0 false) (putting v5 v6 Client in_bulk executing_all executes_bulk (executes_all 0 false) (1, [], refl, refl) refl refl step_6 step_6 refl refl refl refl (inr refl)) step_6 refl refl refl refl
 
-  abbrev client_6 : List Done
-  client_6 = read_at_once Server ok held_5 (put_values ∷ client_8)
+  said_7 : Follows v6 (by_packet Server ok held_5 v7)
+  unfolding framing chunks
+  said_7 = follows v6 v7 Server ok accepting 2 held_5 (put Server ok accepts) (has_executed 1 true) (putting v6 v7 Server ok accepting accepts (has_executed 1 true) (2, [], refl, refl) refl refl step_7 step_7 refl refl refl refl (inr refl)) step_7 refl refl refl refl
 
-  abbrev client_4 : List Done
-  client_4 = read_at_once Server ok held_5 (put Client in_bulk executes_bulk ∷ client_6)
+  said_8 : Follows v7 (record { side = Client; packet = by_values; event = held_8; puts = put_values; behind = v8 })
+  said_8 = follows v7 v8 Client by_values executing_again 1 held_8 put_values (executes_again 0 false) putting_values step_8 refl refl refl refl
 
-  abbrev client_1 : List Done
-  client_1 = read_at_once Server answer held_2 (put Client sent_data sends_data ∷ put Client with_data executes_data ∷ client_4)
+  said_9 : Follows v8 (by_packet Server ok held_5 v9)
+  unfolding framing chunks
+  said_9 = follows v8 v9 Server ok accepting 2 held_5 (put Server ok accepts) (has_executed 1 true) (putting v8 v9 Server ok accepting accepts (has_executed 1 true) (2, [], refl, refl) refl refl step_9 step_9 refl refl refl refl (inr refl)) step_9 refl refl refl refl
 
-  abbrev client_calls : List Done
-  client_calls = put Client prepare asks ∷ client_1
+  said_10 : Follows v9 (by_packet Client by_text held_10 v10)
+  unfolding framing chunks
+  said_10 = follows v9 v10 Client by_text querying 1 held_10 (put Client by_text queries) (queried 0 false) (putting v9 v10 Client by_text querying queries (queried 0 false) (1, [], refl, refl) refl refl step_10 step_10 refl refl refl refl (inr refl)) step_10 refl refl refl refl
 
-  client_did_10 : Calls (going v10) client_10 (going v11)
-  client_did_10 = reading Server ok held_5 [] v10 v11 (going v11) refl refl told_11 refl
+  said_11 : Follows v10 (by_packet Server ok held_5 v11)
+  unfolding framing chunks
+  said_11 = follows v10 v11 Server ok accepting 2 held_5 (put Server ok accepts) (has_executed 1 true) (putting v10 v11 Server ok accepting accepts (has_executed 1 true) (2, [], refl, refl) refl refl step_11 step_11 refl refl refl refl (inr refl)) step_11 refl refl refl refl
 
-  client_did_8 : Calls (going v8) client_8 (going v11)
-  client_did_8 = reading Server ok held_5 (put Client by_text queries ∷ client_10) v8 v9 (going v11) refl refl told_9 (going v10, put_10, client_did_10)
+  abbrev all_said : List Said
+  all_said =
+      by_packet Client prepare held_1 v1 ∷
+      by_packet Server answer held_2 v2 ∷
+      by_packet Client sent_data held_3 v3 ∷
+      by_packet Client with_data held_4 v4 ∷
+      by_packet Server ok held_5 v5 ∷
+      by_packet Client in_bulk held_6 v6 ∷
+      by_packet Server ok held_5 v7 ∷
+      record { side = Client; packet = by_values; event = held_8; puts = put_values; behind = v8 } ∷
+      by_packet Server ok held_5 v9 ∷
+      by_packet Client by_text held_10 v10 ∷
+      by_packet Server ok held_5 v11 ∷ []
 
-  client_did_6 : Calls (going v6) client_6 (going v11)
-  client_did_6 = reading Server ok held_5 (put_values ∷ client_8) v6 v7 (going v11) refl refl told_7 (going v8, putting_values, client_did_8)
+  all_follow : AllFollow v0 all_said v11
+  all_follow = (said_1, (said_2, (said_3, (said_4, (said_5, (said_6, (said_7, (said_8, (said_9, (said_10, (said_11, refl)))))))))))
 
-  client_did_4 : Calls (going v4) client_4 (going v11)
-  client_did_4 = reading Server ok held_5 (put Client in_bulk executes_bulk ∷ client_6) v4 v5 (going v11) refl refl told_5 (going v6, put_6, client_did_6)
-
-  client_did_1 : Calls (going v1) client_1 (going v11)
-  client_did_1 = reading Server answer held_2 (put Client sent_data sends_data ∷ put Client with_data executes_data ∷ client_4) v1 v2 (going v11) refl refl told_2 (going v3, put_3, (going v4, put_4, client_did_4))
-
-  client_did : Calls (going v0) client_calls (going v11)
-  client_did = (going v1, put_1, client_did_1)
-
-  abbrev server_9 : List Done
-  server_9 = read_at_once Client by_text held_10 (put Server ok accepts ∷ [])
-
-  abbrev server_7 : List Done
-  server_7 = read_at_once Client by_values held_8 (put Server ok accepts ∷ server_9)
-
-  abbrev server_5 : List Done
-  server_5 = read_at_once Client in_bulk held_6 (put Server ok accepts ∷ server_7)
-
-  abbrev server_3 : List Done
-  server_3 = read_at_once Client with_data held_4 (put Server ok accepts ∷ server_5)
-
-  abbrev server_2 : List Done
-  server_2 = read_at_once Client sent_data held_3 server_3
-
-  abbrev server_calls : List Done
-  server_calls = read_at_once Client prepare held_1 (put Server answer answers ∷ server_2)
-
-  server_did_9 : Calls (going v9) server_9 (going v11)
-  server_did_9 = reading Client by_text held_10 (put Server ok accepts ∷ []) v9 v10 (going v11) refl refl told_10 (going v11, put_11, refl)
-
-  server_did_7 : Calls (going v7) server_7 (going v11)
-  server_did_7 = reading Client by_values held_8 (put Server ok accepts ∷ server_9) v7 v8 (going v11) refl refl told_8 (going v9, put_9, server_did_9)
-
-  server_did_5 : Calls (going v5) server_5 (going v11)
-  server_did_5 = reading Client in_bulk held_6 (put Server ok accepts ∷ server_7) v5 v6 (going v11) refl refl told_6 (going v7, put_7, server_did_7)
-
-  server_did_3 : Calls (going v3) server_3 (going v11)
-  server_did_3 = reading Client with_data held_4 (put Server ok accepts ∷ server_5) v3 v4 (going v11) refl refl told_4 (going v5, put_5, server_did_5)
-
-  server_did_2 : Calls (going v2) server_2 (going v11)
-  server_did_2 = reading Client sent_data held_3 server_3 v2 v3 (going v11) refl refl told_3 server_did_3
-
-  server_did : Calls (going v0) server_calls (going v11)
-  server_did = reading Client prepare held_1 (put Server answer answers ∷ server_2) v0 v1 (going v11) refl refl told_1 (going v2, put_2, server_did_2)
-
-  abbrev audit_10 : List Done
-  audit_10 = read_bytes Server ok held_5 []
-
-  abbrev audit_9 : List Done
-  audit_9 = read_bytes Client by_text held_10 audit_10
-
-  abbrev audit_8 : List Done
-  audit_8 = read_bytes Server ok held_5 audit_9
-
-  abbrev audit_7 : List Done
-  audit_7 = read_bytes Client by_values held_8 audit_8
-
-  abbrev audit_6 : List Done
-  audit_6 = read_bytes Server ok held_5 audit_7
-
-  abbrev audit_5 : List Done
-  audit_5 = read_bytes Client in_bulk held_6 audit_6
-
-  abbrev audit_4 : List Done
-  audit_4 = read_bytes Server ok held_5 audit_5
-
-  abbrev audit_3 : List Done
-  audit_3 = read_bytes Client with_data held_4 audit_4
-
-  abbrev audit_2 : List Done
-  audit_2 = read_bytes Client sent_data held_3 audit_3
-
-  abbrev audit_1 : List Done
-  audit_1 = read_bytes Server answer held_2 audit_2
-
-  abbrev audit_0 : List Done
-  audit_0 = read_bytes Client prepare held_1 audit_1
-
-  audit_did_10 : Calls (going v10) audit_10 (going v11)
-  audit_did_10 = reading_bytes Server ok held_5 [] v10 v11 (going v11) refl refl told_11 refl
-
-  audit_did_9 : Calls (going v9) audit_9 (going v11)
-  audit_did_9 = reading_bytes Client by_text held_10 audit_10 v9 v10 (going v11) refl refl told_10 audit_did_10
-
-  audit_did_8 : Calls (going v8) audit_8 (going v11)
-  audit_did_8 = reading_bytes Server ok held_5 audit_9 v8 v9 (going v11) refl refl told_9 audit_did_9
-
-  audit_did_7 : Calls (going v7) audit_7 (going v11)
-  audit_did_7 = reading_bytes Client by_values held_8 audit_8 v7 v8 (going v11) refl refl told_8 audit_did_8
-
-  audit_did_6 : Calls (going v6) audit_6 (going v11)
-  audit_did_6 = reading_bytes Server ok held_5 audit_7 v6 v7 (going v11) refl refl told_7 audit_did_7
-
-  audit_did_5 : Calls (going v5) audit_5 (going v11)
-  audit_did_5 = reading_bytes Client in_bulk held_6 audit_6 v5 v6 (going v11) refl refl told_6 audit_did_6
-
-  audit_did_4 : Calls (going v4) audit_4 (going v11)
-  audit_did_4 = reading_bytes Server ok held_5 audit_5 v4 v5 (going v11) refl refl told_5 audit_did_5
-
-  audit_did_3 : Calls (going v3) audit_3 (going v11)
-  audit_did_3 = reading_bytes Client with_data held_4 audit_4 v3 v4 (going v11) refl refl told_4 audit_did_4
-
-  audit_did_2 : Calls (going v2) audit_2 (going v11)
-  audit_did_2 = reading_bytes Client sent_data held_3 audit_3 v2 v3 (going v11) refl refl told_3 audit_did_3
-
-  audit_did_1 : Calls (going v1) audit_1 (going v11)
-  audit_did_1 = reading_bytes Server answer held_2 audit_2 v1 v2 (going v11) refl refl told_2 audit_did_2
-
-  audit_did_0 : Calls (going v0) audit_0 (going v11)
-  audit_did_0 = reading_bytes Client prepare held_1 audit_1 v0 v1 (going v11) refl refl told_1 audit_did_1
+  -- whoever calls so at each of them
+  abbrev made : (calls : Said → List Done) → ((w : World) (said : Said) → Follows w said → Calls (going w) (calls said) (going said.behind)) → Party begun
+  made calls each = record { calls = flat_map calls all_said; machine = going v11; did = all_called calls each v0 all_said v11 all_follow }
 
 pub example_is_made : ExampleIsMade
 example_is_made heap = (
-  record { calls = client_calls heap; machine = going v11; did = client_did heap },
-  record { calls = server_calls heap; machine = going v11; did = server_did heap },
-  record { calls = audit_0 heap; machine = going v11; did = audit_did_0 heap },
+  made heap (λ said. calls_at Client said.side said) (λ w said. calling Client said.side w said),
+  made heap (λ said. calls_at Server said.side said) (λ w said. calling Server said.side w said),
+  made heap reads_bytes reading_bytes,
   record {
     connected = record {
       begins = behind_login small agreed;

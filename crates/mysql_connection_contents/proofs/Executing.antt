@@ -6,9 +6,10 @@ use Rattle.std.specs.Option.{option_and_then, option_map}
 use Rattle.mysql_const.specs.FlagSets.{contains}
 use Rattle.mysql_commands.specs.Commands.{BulkExecute, Command, Execute, Query, by_statement, command_at, or_other}
 use Rattle.mysql_commands.specs.Replies.{id_at, statement_of}
+use Rattle.mysql_connection_contents.proofs.Commands.{same_id}
 use Rattle.mysql_connection_contents.proofs.Ids.{not_anew, said_is, says_is, step_ids}
 use Rattle.mysql_connection_contents.proofs.Knowing.{Knows}
-use Rattle.mysql_connection_contents.proofs.Numbered.{mute_command, same_number}
+use Rattle.mysql_connection_contents.proofs.Numbered.{mute_command}
 use Rattle.mysql_connection_contents.proofs.Runs.{heard_spoken}
 use Rattle.mysql_connection_contents.proofs.Telling.{step_knows}
 use Rattle.mysql_connection_contents.proofs.Texts.{first_fits}
@@ -171,9 +172,9 @@ names_shown id st k payload c fit about (inr none) = none_either (is_about_param
 number_shown : (id : ℕ) (st : Statements) (k : Known) (c : Capabilities) (p : Option InForce) (number : ℕ) (body : List ℕ) (a b : Bool) → (number == 0x17) ≡ a → (number == 0xfa) ≡ b → st.last ≡ k.last
     → IsShown id st k (number ∷ body) (command_at c p (number ∷ body))
 number_shown id st k c p number body true b x y fit =
-    subst (λ (n : ℕ). IsShown id st k (n ∷ body) (command_at c p (n ∷ body))) (sym (same_number number 0x17 x)) (names_shown id st k (0x17 ∷ body) (command_at c p (0x17 ∷ body)) fit refl (execution_names c p body))
+    subst (λ (n : ℕ). IsShown id st k (n ∷ body) (command_at c p (n ∷ body))) (sym (same_id number 0x17 x)) (names_shown id st k (0x17 ∷ body) (command_at c p (0x17 ∷ body)) fit refl (execution_names c p body))
 number_shown id st k c p number body false true x y fit =
-    subst (λ (n : ℕ). IsShown id st k (n ∷ body) (command_at c p (n ∷ body))) (sym (same_number number 0xfa y)) (names_shown id st k (0xfa ∷ body) (command_at c p (0xfa ∷ body)) fit refl (bulk_names c p body))
+    subst (λ (n : ℕ). IsShown id st k (n ∷ body) (command_at c p (n ∷ body))) (sym (same_id number 0xfa y)) (names_shown id st k (0xfa ∷ body) (command_at c p (0xfa ∷ body)) fit refl (bulk_names c p body))
 number_shown id st k c p number body false false x y fit =
     let command = command_at c p (number ∷ body) in
     none_either (is_about_parameters (number ∷ body) && is_id (id_in_question st (number ∷ body)) id) (is_id (named k (executes command)) id) (sets_of command) (quiet_command command (mute_command c p number body (λ i. x i || y i)))

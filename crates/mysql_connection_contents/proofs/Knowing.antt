@@ -1,5 +1,5 @@
 -- The texts of the statements that stand are those that the events show.
-use Rattle.std.proofs.Common.{◌≡◌, ℕ, Bool, true, false, cond, List, [], ◌∷◌, Option, Some, None, refl, sym, ap, subst, ◌∙◌, arith}
+use Rattle.std.proofs.Common.{◌≡◌, ℕ, Bool, true, false, cond, List, [], ◌∷◌, Option, Some, None, refl, sym, ap, subst, ◌∙◌}
 use Rattle.std.specs.Prelude.{◌==◌, ◌||◌, if◌then◌else◌}
 use Rattle.std.specs.BTreeMap.{is_at}
 use Rattle.std.specs.Cmp.{unsigned_tied}
@@ -7,7 +7,6 @@ use Rattle.std.specs.List.Sorted.{IsStrictlySortedBy}
 use Rattle.std.specs.Map.{keys_of, lookup, remove_entry}
 use Rattle.std.specs.Option.{option_and_then, option_map}
 use Rattle.std.specs.Ordering.{nat_cmp}
-use Rattle.std.proofs.lemmas.Bool.Decides.{nat_tests}
 use Rattle.std.proofs.lemmas.Cmp.{nat_cmp_total}
 use Rattle.std.proofs.lemmas.Map.{lookup-none}
 use Rattle.std.proofs.lemmas.Map.Entries.{lookup_tail, none_below_head}
@@ -25,17 +24,9 @@ use Rattle.mysql_connection_rules.specs.Steps.{execution_by_id, execution_of, id
 use Rattle.mysql_connection_statements.proofs.Entries.{found_again, others_found, others_left}
 use Rattle.mysql_connection_statements.specs.Statements.{IsOrdered, Statement, Statements, after_close, change_at, changed, counted, executed, is_reset, last_prepared, pending_of, resolved, statement_at, unless_it, with_long_data, with_statement}
 use Rattle.mysql_connection_statements.specs.declared.pending.Pending.{Pending}
+use Rattle.mysql_connection_contents.proofs.Commands.{either, same_id}
 use Rattle.mysql_connection_contents.proofs.Numbered.{Anew, Closing, Plain, anew_is, change_is, closing_is, is_execution, is_special, plain_command}
 use Rattle.mysql_connection_contents.specs.Shown.{Known, behind_command, changes_user, closes, is_anew, last_behind, last_without, named, prepares, text_asked, without}
-
--- ---- one of two
-
-pub either : {A : Type 0} (P : A → Type 0) (test : Bool) (x y : A) → (test ≡ true → P x) → (test ≡ false → P y) → P (if test then x else y)
-either P true x y p q = p refl
-either P false x y p q = q refl
-
-same_id : (a b : ℕ) → (a == b) ≡ true → a ≡ b
-same_id a b e = grind (arith, nat_tests)
 
 -- ---- texts of statements
 

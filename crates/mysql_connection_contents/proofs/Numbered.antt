@@ -5,7 +5,7 @@ use Rattle.std.specs.List.{AllByRecursion}
 use Rattle.std.specs.Option.{option_map}
 use Rattle.std.proofs.lemmas.Bool.Decides.{nat_tests}
 use Rattle.mysql_buf.specs.Reading.{little_at}
-use Rattle.mysql_commands.specs.Commands.{BinlogDump, BinlogDumpGtid, BulkExecute, ChangeUser, Close, Command, Debug, Execute, Fetch, FieldList, Layout, LongData, Other, Ping, Prepare, ProcessInfo, ProcessKill, Query, Quit, Refresh, RegisterSlave, ResetConnection, ResetStatement, SetOption, Shutdown, Statistics, TableDump}
+use Rattle.mysql_commands.specs.Commands.{BinlogDump, BinlogDumpGtid, BulkExecute, ChangeUser, Close, Command, Debug, Execute, Fetch, FieldList, Layout, LongData, Other, Ping, ProcessInfo, ProcessKill, Query, Quit, Refresh, RegisterSlave, ResetConnection, ResetStatement, SetOption, Shutdown, Statistics, TableDump}
 use Rattle.mysql_commands.specs.Commands.{all_of, by_statement, command_at, fetch_at, field_list_at, first_of, layouts, level_at, long_data_at, or_other, query_at}
 use Rattle.mysql_commands.specs.Replies.{statement_of}
 use Rattle.mysql_const.specs.Tables.{entry_of}
@@ -22,6 +22,7 @@ use Rattle.mysql_fields.specs.Forms.{fixed_number_at}
 use Rattle.mysql_fields.specs.Texts.{null_text_at}
 use Rattle.mysql_fields.specs.Wire.{Reading, or_end, ◌>>=◌}
 use Rattle.mysql_connection_contents.specs.Shown.{begins_anew, changes_user, closes, executes, prepares}
+use Rattle.mysql_connection_contents.proofs.Commands.{none_of_four, same_id}
 
 -- ---- commands that do nothing to statements
 
@@ -91,13 +92,6 @@ Layouts = List (ℕ × Layout)
 
 other_plain : {runs : Bool} (number : ℕ) (body : List ℕ) → (number == 0x11) ≡ false → (number == 0x19) ≡ false → (number == 0x1f) ≡ false → Plain runs (Other (number ∷ body))
 other_plain number body user gone anew = record { user = user; anew = anew; text = refl; gone = ap (λ (b : Bool). if b then statement_of (number ∷ body) else None) gone; mute = λ e. refl }
-
-none_of_four : (a b c d : Bool) → (a || (b || (c || d))) ≡ false → (a ≡ false) × (b ≡ false) × (c ≡ false) × (d ≡ false)
-none_of_four false false false false h = (refl, refl, refl, refl)
-none_of_four true b c d h = absurd cc
-none_of_four false true c d h = absurd cc
-none_of_four false false true d h = absurd cc
-none_of_four false false false true h = absurd cc
 
 -- by the row that stands first, or those behind it
 row_plain : (number : ℕ) (body : List ℕ) (row : ℕ × Layout) (rows : Layouts) (test : Bool) → nat_eq number row.0 ≡ test → is_special number ≡ false → RowPlain row
@@ -230,9 +224,6 @@ change_is capabilities parameters body = changed_by (first_of (change_in_force_a
     changed_by None = refl
     changed_by (Some x) = refl
 
-pub prepare_is : (capabilities : Capabilities) (parameters : Option InForce) (body : List ℕ) → command_at capabilities parameters (0x16 ∷ body) ≡ Prepare body
-prepare_is capabilities parameters body = refl
-
 pub record Anew (command : Command) : Type 0 where
   pub mute : executes command ≡ None
   pub user : changes_user command ≡ false
@@ -273,18 +264,15 @@ change_mute capabilities parameters body = changed_by (first_of (change_in_force
     changed_by None = refl
     changed_by (Some x) = refl
 
-pub same_number : (a b : ℕ) → (a == b) ≡ true → a ≡ b
-same_number a b e = grind (arith, nat_tests)
-
 abbrev Mute : Capabilities → Option InForce → List ℕ → ℕ → Type 0
 Mute capabilities parameters body number = executes (command_at capabilities parameters (number ∷ body)) ≡ None
 
 mute_by : (capabilities : Capabilities) (parameters : Option InForce) (number : ℕ) (body : List ℕ) (a b c d : Bool) → (number == 0x11) ≡ a → (number == 0x16) ≡ b → (number == 0x19) ≡ c → (number == 0x1f) ≡ d
     → is_execution number ≡ false → Mute capabilities parameters body number
-mute_by capabilities parameters number body true b c d x y z w mute = subst (Mute capabilities parameters body) (sym (same_number number 0x11 x)) (change_mute capabilities parameters body)
-mute_by capabilities parameters number body false true c d x y z w mute = subst (Mute capabilities parameters body) (sym (same_number number 0x16 y)) refl
-mute_by capabilities parameters number body false false true d x y z w mute = subst (Mute capabilities parameters body) (sym (same_number number 0x19 z)) (closing_is capabilities parameters body).mute
-mute_by capabilities parameters number body false false false true x y z w mute = subst (Mute capabilities parameters body) (sym (same_number number 0x1f w)) (anew_is capabilities parameters body).mute
+mute_by capabilities parameters number body true b c d x y z w mute = subst (Mute capabilities parameters body) (sym (same_id number 0x11 x)) (change_mute capabilities parameters body)
+mute_by capabilities parameters number body false true c d x y z w mute = subst (Mute capabilities parameters body) (sym (same_id number 0x16 y)) refl
+mute_by capabilities parameters number body false false true d x y z w mute = subst (Mute capabilities parameters body) (sym (same_id number 0x19 z)) (closing_is capabilities parameters body).mute
+mute_by capabilities parameters number body false false false true x y z w mute = subst (Mute capabilities parameters body) (sym (same_id number 0x1f w)) (anew_is capabilities parameters body).mute
 mute_by capabilities parameters number body false false false false x y z w mute = (plain_command capabilities parameters number body (λ i. x i || (y i || (z i || w i)))).mute mute
 
 -- a command by any other number than the two that execute

@@ -4,7 +4,7 @@ use Rattle.std.specs.Prelude.{not}
 use Rattle.std.specs.List.{list_all}
 use Rattle.mysql_connection_contents.proofs.Histories.{Keeps, MayDo, both_true, written_puts}
 use Rattle.mysql_connection_contents.specs.Calls.{Done, feeds_other, is_by}
-use Rattle.mysql_connection_rules.proofs.Agreeing.{had_too}
+use Rattle.mysql_connection_rules.proofs.Agreeing.{had_too, other_kept}
 use Rattle.mysql_connection_rules.proofs.Packets.{PacketLaws}
 use Rattle.mysql_connection_rules.proofs.Quiet.{next_quiet}
 use Rattle.mysql_connection_rules.proofs.Running.{had_runs, runs-closed}
@@ -42,12 +42,6 @@ whose Client Server Server a = inr refl
 whose Server Client Client a = inr refl
 whose Server Client Server a = inl refl
 whose Server Server side a = absurd (cc a)
-
-pub other_kept : (own other : Side) (coming : Coming) (w : World) → same_side own other ≡ false → stream_of own (come other coming w).unread ≡ stream_of own w.unread
-other_kept Client Client coming w e = absurd (cc e)
-other_kept Client Server coming w e = refl
-other_kept Server Client coming w e = refl
-other_kept Server Server coming w e = absurd (cc e)
 
 -- ---- anybody
 

@@ -1,6 +1,6 @@
 -- What a client puts by `put_execution` is executed with the contents of its values.
 use Rattle.std.proofs.Common.{◌≡◌, ◌<◌, ◌^◌, ℕ, Bool, true, false, List, [], ◌∷◌, ◌++◌, Option, Some, None, Result, Ok, Err, map, pos, refl, sym, ap, subst, ◌∙◌, append_assoc, append-nil, arith}
-use Rattle.std.specs.Prelude.{not, ◌==◌, ◌&&◌, ◌||◌, if◌then◌else◌, nat_lt}
+use Rattle.std.specs.Prelude.{not, ◌==◌, ◌||◌, if◌then◌else◌, nat_lt}
 use Rattle.std.specs.List.{flat_map, list_all}
 use Rattle.std.proofs.lemmas.Bool.Decides.{nat_tests}
 use Rattle.std.proofs.lemmas.Grind.{flat_map-append}
@@ -10,7 +10,7 @@ use Rattle.mysql_cells.specs.declared.value.Value.TheVariants.{Bytes, Date, Doub
 use Rattle.mysql_command_writer.specs.Refusals.{can_execute}
 use Rattle.mysql_commands.specs.Commands.{Execute}
 use Rattle.mysql_connection_contents.proofs.Histories.{both_true}
-use Rattle.mysql_connection_contents.proofs.Numbered.{same_number}
+use Rattle.mysql_connection_contents.proofs.Commands.{same_id}
 use Rattle.mysql_connection_contents.specs.Calls.{Call, Calls, Close, DoesBy, Done, Feed, NextEvent, NextEventLent, Put, PutExecution, PutPackets, PutPayload, PutRow, events_in, where_ok}
 use Rattle.mysql_connection_contents.specs.Contents.{is_id}
 use Rattle.mysql_connection_contents.specs.PutValues.{PutValuesAreExecuted, ShowsValues, executes_values, names, values_in, values_put}
@@ -23,12 +23,10 @@ use Rattle.mysql_connection_rules.specs.Runs.{IsFront}
 use Rattle.mysql_connection_rules.specs.Standing.{Standing}
 use Rattle.mysql_connection_statements.specs.Statements.{last_prepared}
 use Rattle.mysql_connection_writer.specs.Commands.{parameters_of}
-use Rattle.mysql_connection_writer.specs.Executions.{bound_to, execution_by, execution_said}
-use Rattle.mysql_const.specs.declared.capabilities.Capabilities.{Capabilities}
+use Rattle.mysql_connection_writer.specs.Executions.{bound_to, execution_said}
 use Rattle.mysql_execution_writer.specs.Cells.{as_read}
 use Rattle.mysql_execution_writer.specs.InForce.{without_types}
 use Rattle.mysql_executions.specs.Executions.{Execution}
-use Rattle.mysql_executions.specs.InForce.{InForce}
 use Rattle.mysql_values.specs.Content.{Content}
 use Rattle.mysql_values.specs.Values.{content_of}
 
@@ -76,10 +74,6 @@ values_said id k s values small =
 
 -- ---- no execution of it
 
-either_true : (a b : Bool) → (a || b) ≡ true → a ≡ false → b ≡ true
-either_true true b h e = absurd cc
-either_true false b h e = h
-
 none_named : (id : ℕ) (k : Known) (q : Option ℕ) (sets : Sets) → not (is_id q id || is_id q last_prepared) ≡ true → (if is_id (named k q) id then sets else []) ≡ []
 none_named id k None sets h = refl
 none_named id k (Some own) sets h = by_tests (own == id) (own == last_prepared) refl refl h
@@ -114,7 +108,7 @@ Executed id k call ev = executed_from id k ev ≡ map (map content_of) (values_p
 execution_executed : (id : ℕ) (k : Known) (s : Standing) (own : ℕ) (values : List Value) (answer : Result (Unit {0}) PutRefusal) → id < last_prepared → (own == id) ≡ true
     → executed_from id k (where_ok answer (λ done. execution_said s own values)) ≡ map (map content_of) (values_put id (PutExecution own values answer))
 execution_executed id k s own values (Ok done) small is =
-    let same = same_number own id is in
+    let same = same_id own id is in
     append-nil (executed_by id k (execution_said s own values))
     ∙ ap (λ (n : ℕ). executed_by id k (execution_said s n values)) same
     ∙ values_said id k s values small

@@ -1,8 +1,7 @@
 -- What a machine put and took is what is heard of its streams.
-use Rattle.std.proofs.Common.{◌≡◌, ℕ, ◌+◌, ◌-◌, ◌<◌, ◌≤◌, Bool, true, false, List, [], ◌∷◌, ◌++◌, Option, Some, None, Ok, length, refl, sym, ap, subst, ◌∙◌, arith}
-use Rattle.std.specs.Prelude.{not, ◌&&◌}
-use Rattle.std.proofs.lemmas.List.{append-nil, map-append}
-use Rattle.std.proofs.lemmas.Grind.{common_steps}
+use Rattle.std.proofs.Common.{◌≡◌, ℕ, ◌+◌, ◌-◌, ◌<◌, ◌≤◌, true, List, [], ◌∷◌, ◌++◌, Some, Ok, length, refl, sym, ap, subst, ◌∙◌}
+use Rattle.std.specs.Prelude.{◌&&◌}
+use Rattle.std.proofs.lemmas.List.{map-append}
 use Rattle.mysql_wire.specs.FirstPacket.{Whole, first_packet}
 use Rattle.mysql_wire.specs.FirstPacketLaws.{FramingsAreFound, PacketsStay, StaysBy}
 use Rattle.mysql_connection_rules.specs.declared.side.Side.{Side}
@@ -11,13 +10,14 @@ use Rattle.mysql_connection_rules.specs.Events.{Event, side_of}
 use Rattle.mysql_connection_rules.specs.Events as events
 use Rattle.mysql_connection_rules.specs.Standing.{Standing}
 use Rattle.mysql_connection_rules.specs.Steps.{step, turn}
-use Rattle.mysql_connection_rules.specs.Streams.{Beginning, Coming, End, Piece, Stream, Streams, World, behind, come, limit_of, moved, numbered, start, stream_of}
+use Rattle.mysql_connection_rules.specs.Streams.{Beginning, Coming, End, Piece, Streams, World, come, limit_of, moved, start, stream_of}
 use Rattle.mysql_connection_rules.specs.AgreementLaws.{NumbersAreBytes, PutsAreRead}
 use Rattle.mysql_connection_rules.specs.PuttingMachines.{HadAs, HadOrPut, Puts}
 use Rattle.mysql_connection_rules.specs.PuttingMachines.HadAs.{fresh_as, comes_as, ends_as, takes_as, puts_as}
 use Rattle.mysql_connection_rules.specs.PuttingMachines.HadOrPut.{fresh as fresh_too, comes as comes_too, takes as takes_too, puts as puts_too}
-use Rattle.mysql_connection_rules.specs.Puts.{is_due, is_free, is_none, is_turn, number_for, packets_for, past}
-use Rattle.mysql_connection_rules.proofs.Putting.{both}
+use Rattle.mysql_connection_rules.specs.Puts.{is_due, is_free, is_turn, number_for, packets_for, past}
+use Rattle.mysql_connection_rules.proofs.OneStep.{longer_for, moved_on}
+use Rattle.mysql_connection_rules.proofs.Putting.{both, free_by, moved_is, turn_is, whole_found}
 use Rattle.mysql_connection_contents.specs.Contents.{Heard, Spoken, events_of}
 use Rattle.mysql_wire.specs.Framing.{framing, number_after}
 use Rattle.mysql_connection_contents.specs.Records.{HasSpoken, MachinesHearWhatTheyPut, PutsSpoken}
@@ -26,36 +26,6 @@ use Rattle.mysql_connection_contents.proofs.Farewells.{no_last_words}
 
 -- ---- more bytes behind
 
-longer : Coming → List ℕ → List ℕ
-longer (Piece piece) rest = rest ++ piece
-longer End rest = rest
-
-longer_for : Side → Side → Coming → List ℕ → List ℕ
-longer_for Client Client coming rest = longer coming rest
-longer_for Client Server coming rest = rest
-longer_for Server Client coming rest = rest
-longer_for Server Server coming rest = longer coming rest
-
-read_on : (read : ℕ) (bytes rest piece : List ℕ) → read + (length (bytes ++ piece) - length (rest ++ piece)) ≡ read + (length bytes - length rest)
-read_on read bytes rest piece = grind (arith, common_steps)
-
-behind_on : (stream : Stream) (rest piece : List ℕ)
-    → behind (rest ++ piece) (record { read = stream.read; bytes = stream.bytes ++ piece; closed = stream.closed })
-    ≡ record { read = (behind rest stream).read; bytes = rest ++ piece; closed = stream.closed }
-behind_on stream rest piece = λ i. record { read = read_on stream.read stream.bytes rest piece i; bytes = rest ++ piece; closed = stream.closed }
-
-moved_on : (w : World) (own side : Side) (coming : Coming) (number : ℕ) (rest : List ℕ) (s : Standing)
-    → moved (come side coming w) own number (longer_for own side coming rest) s ≡ come side coming (moved w own number rest s)
-unfolding longer longer_for
-moved_on w Client Client (Piece piece) number rest s =
-    λ i. record { limits = w.limits; standing = numbered Client number s; unread = record { client = behind_on w.unread.client rest piece i; server = w.unread.server } }
-moved_on w Client Client End number rest s = refl
-moved_on w Client Server coming number rest s = refl
-moved_on w Server Client coming number rest s = refl
-moved_on w Server Server (Piece piece) number rest s =
-    λ i. record { limits = w.limits; standing = numbered Server number s; unread = record { client = w.unread.client; server = behind_on w.unread.server rest piece i } }
-moved_on w Server Server End number rest s = refl
-
 module _ (stay : PacketsStay) where
   -- a packet that was found is found with more bytes behind it
   packet_on : (limit number : ℕ) (bytes piece payload : List ℕ) (next : ℕ) (rest : List ℕ) → first_packet limit number bytes ≡ Whole payload next rest → first_packet limit number (bytes ++ piece) ≡ Whole payload next (rest ++ piece)
@@ -63,7 +33,6 @@ module _ (stay : PacketsStay) where
 
   found_on : (w : World) (own side : Side) (coming : Coming) (payload : List ℕ) (next : ℕ) (rest : List ℕ) → first_packet (limit_of own w.limits) w.standing.number (stream_of own w.unread).bytes ≡ Whole payload next rest
       → first_packet (limit_of own w.limits) w.standing.number (stream_of own (come side coming w).unread).bytes ≡ Whole payload next (longer_for own side coming rest)
-  unfolding longer longer_for
   found_on w Client Client (Piece piece) payload next rest is = packet_on w.limits.client w.standing.number w.unread.client.bytes piece payload next rest is
   found_on w Client Client End payload next rest is = is
   found_on w Client Server coming payload next rest is = is
@@ -95,18 +64,6 @@ one_more (y ∷ xs) w mid last x h more = (h.0, (h.1.0, h.1.1, h.1.2, h.1.3, h.1
 
 -- ---- a payload that is put
 
-free_by : (closed : Bool) (bytes : List ℕ) → (not closed && is_none bytes) ≡ true → bytes ≡ []
-free_by false [] h = refl
-free_by false (byte ∷ bytes) h = absurd (cc h)
-free_by true bytes h = absurd (cc h)
-
-turn_is : (side : Side) (its : Option Side) → is_turn side its ≡ true → its ≡ Some side
-turn_is side None h = absurd (cc h)
-turn_is Client (Some Client) h = refl
-turn_is Client (Some Server) h = absurd (cc h)
-turn_is Server (Some Client) h = absurd (cc h)
-turn_is Server (Some Server) h = refl
-
 -- an event that is no last words is due where it is its side's turn
 record Usual (w : World) (event : Event) : Type 0 where
   none : (stream_of (side_of event) w.unread).bytes ≡ []
@@ -117,7 +74,7 @@ usual_by : (w : World) (event : Event) → (is_free (stream_of (side_of event) w
 usual_by w event due number =
     let stream = stream_of (side_of event) w.unread in
     let parts = both (is_free stream) (is_turn (side_of event) (turn w.standing.phase)) due in
-    record { none = free_by stream.closed stream.bytes parts.0; its = turn_is (side_of event) (turn w.standing.phase) parts.1; number = number }
+    record { none = (free_by stream.closed stream.bytes parts.0).1; its = turn_is (side_of event) (turn w.standing.phase) parts.1; number = number }
 
 usual : (w : World) (event : Event) (payload : List ℕ) (after : Standing) → step w.standing payload ≡ Ok (event, after) → is_due w event ≡ true → Usual w event
 usual w (events.Greeting said) payload after says due = usual_by w (events.Greeting said) due refl
@@ -129,38 +86,11 @@ usual w (events.Replied said) payload after says due = usual_by w (events.Replie
 usual w (events.FileData bytes) payload after says due = usual_by w (events.FileData bytes) due refl
 usual w (events.Farewell error) payload after says due = absurd (no_last_words error w.standing payload after says)
 
-read_all : (read : ℕ) (old bytes : List ℕ) → old ≡ [] → read + (length (old ++ bytes) - 0) ≡ read + length bytes
-read_all read old bytes e = ap (λ (l : List ℕ). read + (length (l ++ bytes) - 0)) e ∙ (omega arith)
-
-moved_past : (w : World) (side : Side) (number : ℕ) (bytes : List ℕ) (after : Standing) → (stream_of side w.unread).bytes ≡ []
-    → moved (come side (Piece bytes) w) side number [] after ≡ past w side number bytes after
-moved_past w Client number bytes after none = λ i. record {
-  limits = w.limits;
-  standing = numbered Client number after;
-  unread = record {
-    client = record { read = read_all w.unread.client.read w.unread.client.bytes bytes none i; bytes = sym none i; closed = w.unread.client.closed };
-    server = w.unread.server;
-  };
-}
-moved_past w Server number bytes after none = λ i. record {
-  limits = w.limits;
-  standing = numbered Server number after;
-  unread = record {
-    client = w.unread.client;
-    server = record { read = read_all w.unread.server.read w.unread.server.bytes bytes none i; bytes = sym none i; closed = w.unread.server.closed };
-  };
-}
-
 module _ (found : FramingsAreFound) where
-  whole_found : (limit number : ℕ) (bytes payload : List ℕ) → bytes ≡ [] → number < 256 → length payload ≤ limit → first_packet limit number (bytes ++ framing payload number) ≡ Whole payload (number_after payload number) []
-  whole_found limit number bytes payload none byte within =
-      ap (λ (l : List ℕ). first_packet limit number (l ++ framing payload number)) none
-      ∙ ap (first_packet limit number) (sym (append-nil (framing payload number))) ∙ found limit number payload [] byte within
-
   found_put : (w : World) (side : Side) (payload : List ℕ) → w.standing.number < 256 → (stream_of side w.unread).bytes ≡ [] → length payload ≤ limit_of side w.limits
       → first_packet (limit_of side w.limits) w.standing.number (stream_of side (come side (Piece (framing payload w.standing.number)) w).unread).bytes ≡ Whole payload (number_after payload w.standing.number) []
-  found_put w Client payload byte none within = whole_found w.limits.client w.standing.number w.unread.client.bytes payload none byte within
-  found_put w Server payload byte none within = whole_found w.limits.server w.standing.number w.unread.server.bytes payload none byte within
+  found_put w Client payload byte none within = whole_found found w.limits.client w.standing.number w.unread.client.bytes payload none byte within
+  found_put w Server payload byte none within = whole_found found w.limits.server w.standing.number w.unread.server.bytes payload none byte within
 
   -- by the side whose event it is
   heard_of : (old : World) (x : Spoken) (new : World) (side : Side) → side ≡ side_of x.event → old.standing.number < 256 → (p : PutsSpoken old x new) → Usual old x.event → x.side ≡ side
@@ -173,7 +103,7 @@ module _ (found : FramingsAreFound) where
       let there : first_packet (limit_of side old.limits) n (stream_of side (come side (Piece (framing x.payload n)) old).unread).bytes ≡ Whole x.payload x.number [] =
       found_put old side x.payload byte none within ∙ ap (λ k. Whole x.payload k []) (sym p.number) in
       let goes : moved (come side (Piece (framing x.payload n)) old) side x.number [] p.after ≡ new =
-      moved_past old side x.number (framing x.payload n) p.after none
+      moved_is old side x.number (framing x.payload n) p.after none
       ∙ ap (λ t. past old t x.number (framing x.payload n) p.after) its
       ∙ ap (λ k. past old (side_of x.event) k (framing x.payload n) p.after) p.number
       ∙ ap (λ k. past old (side_of x.event) (number_after x.payload k) (framing x.payload k) p.after) (sym u.number)

@@ -1,7 +1,7 @@
 -- What stands of one statement behind a part of a reply.
 use Rattle.std.proofs.Common.{◌≡◌, ◌≢◌, ℕ, ◌+◌, Bool, true, false, refl, sym, subst, ◌∙◌}
 use Rattle.std.specs.Prelude.{◌==◌}
-use Rattle.mysql_connection_rules.specs.Standing.{About, InReply, Phase, Standing}
+use Rattle.mysql_connection_rules.specs.Standing.{About, InReply, Standing}
 use Rattle.mysql_connection_rules.specs.Standing.About.{Executing, OfStatement, Preparing, Resetting, Streaming}
 use Rattle.mysql_connection_rules.specs.Standing as phases
 use Rattle.mysql_connection_rules.specs.Steps.{after_event, behind_reply, changed_by, in_phase, is_whole, phase_behind, reply_after, with_columns, with_statements}

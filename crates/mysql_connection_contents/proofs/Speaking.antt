@@ -35,7 +35,7 @@ grow_more Server first more s = ap (λ (l : List ℕ). record {
 
 -- ---- payload by payload
 
-pub packets_are_spoken : PacketsAreSpoken
+unfoldable pub packets_are_spoken : PacketsAreSpoken
 packets_are_spoken own other begun streams xs old new [] before behind spoken done = record {
   said = [];
   bytes = [];

@@ -1,5 +1,5 @@
 -- What any payload leaves of the texts is what its event shows.
-use Rattle.std.proofs.Common.{◌≡◌, ℕ, ◌+◌, Bool, true, false, List, Option, Some, Result, Ok, Err, refl, sym, ap, subst, ◌∙◌}
+use Rattle.std.proofs.Common.{◌≡◌, ℕ, ◌+◌, Bool, List, Option, Some, Ok, refl, sym, ap, subst, ◌∙◌}
 use Rattle.std.specs.Prelude.{◌==◌, if◌then◌else◌}
 use Rattle.mysql_authentication.specs.Events.{Authentication as AuthenticationSaid, Greeting as GreetingSaid, Response as ResponseSaid}
 use Rattle.mysql_authentication.specs.Events.Authentication.{Accepted, AuthMore, AuthSwitch, Denied, NextFactor, OldAuthSwitch, PluginData}
@@ -13,19 +13,19 @@ use Rattle.mysql_connection_rules.specs.Standing.{About, InReply, Phase, Standin
 use Rattle.mysql_connection_rules.specs.Standing.About.{Executing, OfStatement, Preparing, Resetting, Streaming}
 use Rattle.mysql_connection_rules.specs.Standing as phases
 use Rattle.mysql_connection_rules.specs.StepLaws.{step_said}
-use Rattle.mysql_connection_rules.specs.Steps.{Step, about_after, after_acceptance, after_authentication, after_command, after_denial, after_event, after_greeting, after_response, behind_reply as behind_part, by_turn, changed_by, context_of, greets_anew}
+use Rattle.mysql_connection_rules.specs.Steps.{about_after, after_acceptance, after_authentication, after_command, after_denial, after_event, after_greeting, after_response, behind_reply as behind_part, by_turn, changed_by, context_of, greets_anew}
 use Rattle.mysql_connection_rules.specs.Steps.{in_phase, in_turn, is_compressed, is_fast, is_whole, of_login, of_reply, parameters_in_question, phase_behind, reply_after, says, step, turn_in_reply, with_columns, with_statements}
 use Rattle.mysql_connection_rules.specs.declared.exchange.Exchange.{Exchange}
 use Rattle.mysql_connection_rules.specs.declared.exchange.Exchange.TheVariants as exchanges
-use Rattle.mysql_connection_rules.specs.declared.fault.Fault.{Fault}
-use Rattle.mysql_connection_rules.specs.declared.fault.Fault.TheVariants as faults
 use Rattle.mysql_connection_rules.specs.declared.side.Side.{Side}
 use Rattle.mysql_connection_rules.specs.declared.side.Side.TheVariants.{Client, Server}
 use Rattle.mysql_connection_statements.specs.Statements.{IsOrdered, Statements, after_prepared, counted, having_columns, no_statements, prepared_as, taken_back}
 use Rattle.mysql_reply_events.specs.Events.{Event as ReplySaid, ReplySoFar}
 use Rattle.mysql_reply_events.specs.Events.Event.{ErrorEvent, LineEvent, OkEvent, PreparedEvent}
 use Rattle.mysql_reply_events.specs.Table.{event_at, file_data_at}
-use Rattle.mysql_connection_contents.proofs.Knowing.{AboutFits, AskedFits, Knows, TextsFit, command_knows, either, kept_last, kept_text, put_text}
+use Rattle.mysql_connection_contents.proofs.Commands.{either}
+use Rattle.mysql_connection_contents.proofs.Ids.{not_anew, said_is, says_is}
+use Rattle.mysql_connection_contents.proofs.Knowing.{AboutFits, AskedFits, Knows, TextsFit, command_knows, kept_last, kept_text, put_text}
 use Rattle.mysql_connection_contents.specs.Shown.{Known, behind, behind_ok, behind_prepared, behind_reply}
 
 -- ---- replies
@@ -117,23 +117,6 @@ response_quiet s (SecureRequest request) = record { statements = refl; fits = λ
 response_quiet s (LoggedIn login) = record { statements = refl; fits = λ asked. tt }
 
 -- ---- the table
-
-abbrev pair : Event → Standing → Event × Standing
-pair e s = (e, s)
-
-abbrev said_so : Event → Standing → Step
-said_so e s = Ok (pair e s)
-
-said_is : (e f : Event) (s t : Standing) → said_so e s ≡ said_so f t → (e ≡ f) × (s ≡ t)
-said_is e f s t h = let same : pair e s ≡ pair f t = cc in (ap (λ (p : Event × Standing). p.0) same, ap (λ (p : Event × Standing). p.1) same)
-
-says_is : {X : Type 0} (event : X → Event) (after : X → Standing) (read : Result X Fault) (e : Event) (mid : Standing) → says event after read ≡ Ok (e, mid) → (x : X) × (e ≡ event x) × (mid ≡ after x)
-says_is event after (Ok x) e mid h = let same = said_is (event x) e (after x) mid h in (x, sym same.0, sym same.1)
-says_is event after (Err fault) e mid h = absurd cc
-
-not_anew : (anew : Bool) (step : Step) (e : Event) (mid : Standing) → (if anew then Err faults.BadGreeting else step) ≡ Ok (e, mid) → step ≡ Ok (e, mid)
-not_anew true step e mid h = absurd cc
-not_anew false step e mid h = h
 
 module _ (s : Standing) (k : Known) (fit : TextsFit s.statements k) (own : IsOrdered s.statements) where
   abbrev Becomes : Event → Standing → Type 0

@@ -10,7 +10,7 @@ use Rattle.mysql_connection_rules.specs.declared.side.Side.{Side}
 use Rattle.mysql_connection_rules.specs.Events.{Event}
 use Rattle.mysql_connection_rules.specs.Events as events
 use Rattle.mysql_connection_rules.specs.Runs.{Runs}
-use Rattle.mysql_connection_rules.specs.Standing.{About, InReply, Phase, Standing}
+use Rattle.mysql_connection_rules.specs.Standing.{About, Phase, Standing}
 use Rattle.mysql_connection_rules.specs.Standing.About.{Executing, Preparing, Resetting}
 use Rattle.mysql_connection_rules.specs.Standing as phases
 use Rattle.mysql_connection_rules.specs.Steps.{id_in_question, step, turn}

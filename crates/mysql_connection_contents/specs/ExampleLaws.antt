@@ -1,7 +1,7 @@
 -- What the example's bytes say, and to whom. Each law is the contract of a function in src/example_laws.rt.
 -- MySQL: Client/Server Protocol, "Connection Lifecycle" and "Prepared Statements"; MariaDB:
 -- "COM_STMT_BULK_EXECUTE".
-use Rattle.std.specs.Prelude.{◌≡◌, Bool, true, false, List, [], ◌∷◌, Some}
+use Rattle.std.specs.Prelude.{◌≡◌, Bool, true, false, [], ◌∷◌, Some}
 use Rattle.std.specs.List.{list_all}
 use Rattle.std.specs.Option.{option_map}
 use Rattle.std.specs.declared.alloc.Global.{Global}

@@ -1,6 +1,7 @@
 -- What is put by its payload.
 use Rattle.std.proofs.Common.{◌≡◌, ◌<◌, ◌≤◌, ℕ, Bool, true, false, List, Option, None, Ok, Err, length, refl, subst, sym, ap, ◌∙◌}
 use Rattle.std.specs.Prelude.{◌&&◌}
+use Rattle.mysql_connection_rules.proofs.Putting.{both}
 use Rattle.mysql_connection_rules.specs.AgreementLaws.{PutsAreRead}
 use Rattle.mysql_connection_rules.specs.Puts.{has_place, is_due, is_free, is_turn, same_side, step_for}
 use Rattle.mysql_connection_state.specs.Laws.{IsInTurn, PayloadsAreInTurn}
@@ -20,11 +21,6 @@ use Rattle.mysql_connection_machine.specs.declared.put_refusal.PutRefusal.TheVar
 use Rattle.mysql_connection_machine.proofs.PutEvents.{read_written}
 
 -- ---- tests that hold
-
-both : (a b : Bool) → (a && b) ≡ true → (a ≡ true) × (b ≡ true)
-both true true h = (refl, refl)
-both true false h = absurd (cc h)
-both false b h = absurd (cc h)
 
 and_holds : (a b : Bool) → a ≡ true → b ≡ true → (a && b) ≡ true
 and_holds true b h k = k

@@ -7,6 +7,7 @@ use Rattle.mysql_wire.specs.Framing.{max_payload_len, chunk, slice, chunks, fram
 use Rattle.mysql_wire.specs.Stream.{Numbering, first_number, after, after_all, framings}
 use Rattle.mysql_wire.specs.FirstPacket.{Short, Whole, first_packet, packet_by}
 use Rattle.mysql_wire.specs.FirstPacketLaws.{FramingsAreFound}
+use Rattle.mysql_connection_rules.proofs.PutHeads.{framed_as}
 use Rattle.mysql_connection_rules.specs.Streams.{limit_of}
 use Rattle.mysql_connection_rules.specs.declared.limits.Limits.{Limits}
 use Rattle.mysql_connection_rules.specs.declared.side.Side.{Side}
@@ -17,15 +18,6 @@ use Rattle.mysql_connection_machine.specs.PuttingPackets.{StandFirst, StopsAt, f
 use Rattle.mysql_connection_machine.specs.PuttingPayloads.{is_due_of}
 
 -- ---- the framing of a payload is found
-
--- the first chunk of a payload and those behind it
-framed_as : (payload : List ℕ) (number : ℕ) → (rest : List ℕ) × (framing payload number ≡ chunk (number + 0) (slice payload 0) ++ rest)
-unfolding framing chunks
-framed_as payload number =
-    let later = length payload / max_payload_len in (
-      flat_map (λ i. chunk (number + i) (slice payload i)) (range_with_len 1 later),
-      ap (λ (n : ℕ). flat_map (λ i. chunk (number + i) (slice payload i)) (range_with_len 0 n)) (add-one later),
-    )
 
 number_said : (number : ℕ) (bytes rest behind : List ℕ) → slice_index_or ((chunk number bytes ++ rest) ++ behind) 3 0 ≡ number % 256
 number_said number bytes rest behind = refl

@@ -7,7 +7,6 @@ ghost use Rattle.mysql_connection_machine.specs.PuttingRows.{is_row};
 ghost use Rattle.mysql_connection_machine.specs.Writing.{GoesOnBehind, PutsBehind, PutsDue, PutsEvent};
 ghost use Rattle.mysql_connection_machine.specs.Writing.{PutsPayload, StandsBehind, WritesBehindRoom};
 ghost use Rattle.mysql_connection_machine.specs.Writing.{passed_by, refused_as};
-ghost use Rattle.mysql_connection_rules.specs.Events.{side_of};
 ghost use Rattle.mysql_connection_rules.specs.Streams.{limit_of, stream_of};
 ghost use Rattle.mysql_connection_state.specs.Views.{event_view};
 ghost use Rattle.mysql_connection_writer.specs.Writes.{Says};

@@ -23,9 +23,6 @@ pub found_is : {X F : Type 0} (r : Option X) (f : F) (x : X) → ok_or r f ≡ O
 found_is (Some y) f x e = cc
 found_is None f x e = absurd cc
 
-pub some_is : {X : Type 0} (x y : X) → Some x ≡ Some y → x ≡ y
-some_is x y e = cc
-
 pub some_of : {X : Type 0} (r : Option X) → is_some r ≡ true → (x : X) × (r ≡ Some x)
 some_of (Some x) e = (x, refl)
 some_of None e = absurd cc

@@ -1,7 +1,7 @@
 //! The ids of a connection's statements on another connection.
 
 ghost use Rattle.std.specs.Prelude.{◌≡◌, IfErr, IfOk, Ok, OnErr, OnOk, true};
-ghost use Rattle.std.specs.Option.{ok_or, option_copied};
+ghost use Rattle.std.specs.Option.{ok_or};
 ghost use Rattle.mysql_commands.specs.Commands as commands;
 ghost use Rattle.mysql_commands.specs.Views.{command_view};
 ghost use Rattle.mysql_connection_recoding.specs.Known.{known};

@@ -87,7 +87,7 @@ member_agrees laws begun m sent events last had came run =
 
 -- ---- what one side's machine put
 
-other_kept : (own other : Side) (coming : Coming) (w : World) → same_side own other ≡ false → stream_of own (come other coming w).unread ≡ stream_of own w.unread
+pub other_kept : (own other : Side) (coming : Coming) (w : World) → same_side own other ≡ false → stream_of own (come other coming w).unread ≡ stream_of own w.unread
 other_kept Client Client coming w e = absurd (cc e)
 other_kept Client Server coming w e = refl
 other_kept Server Client coming w e = refl
@@ -228,7 +228,7 @@ own_events laws own other begun put m whole events last apart had came run =
     ∙ ap (λ (l : List Event). filter (is_of own) m.events ++ l) (runs_quiet laws.positions own rest.later left.0 left.1 none left.2)
     ∙ append-nil (filter (is_of own) m.events) ∙ mine.own_events
 
-itself : (stream : Stream) → HasComeOf stream stream
+pub itself : (stream : Stream) → HasComeOf stream stream
 itself stream = record { read = refl; bytes = ([], append-nil stream.bytes); all = λ e. refl }
 
 pub three_agree : RunLaws → ThreeAgree

@@ -75,7 +75,7 @@ fails_on w Server Client coming fault = refl
 fails_on w Server Server (Piece piece) fault = refl
 fails_on w Server Server End fault = refl
 
-abbrev longer_for : Side → Side → Coming → List ℕ → List ℕ
+abbrev pub longer_for : Side → Side → Coming → List ℕ → List ℕ
 longer_for Client Client coming rest = longer coming rest
 longer_for Client Server coming rest = rest
 longer_for Server Client coming rest = rest
@@ -90,7 +90,7 @@ behind_on : (stream : Stream) (rest piece : List ℕ)
     ≡ record { read = (behind rest stream).read; bytes = rest ++ piece; closed = stream.closed }
 behind_on stream rest piece = λ i. record { read = read_on stream.read stream.bytes rest piece i; bytes = rest ++ piece; closed = stream.closed }
 
-moved_on : (w : World) (own side : Side) (coming : Coming) (number : ℕ) (rest : List ℕ) (s : Standing)
+pub moved_on : (w : World) (own side : Side) (coming : Coming) (number : ℕ) (rest : List ℕ) (s : Standing)
     → moved (come side coming w) own number (longer_for own side coming rest) s ≡ come side coming (moved w own number rest s)
 moved_on w Client Client (Piece piece) number rest s =
     λ i. record { limits = w.limits; standing = numbered Client number s; unread = record { client = behind_on w.unread.client rest piece i; server = w.unread.server } }

@@ -34,12 +34,12 @@ both true true h = (refl, refl)
 both true false h = absurd (cc h)
 both false b h = absurd (cc h)
 
-free_by : (closed : Bool) (bytes : List ℕ) → (not closed && is_none bytes) ≡ true → (closed ≡ false) × (bytes ≡ [])
+pub free_by : (closed : Bool) (bytes : List ℕ) → (not closed && is_none bytes) ≡ true → (closed ≡ false) × (bytes ≡ [])
 free_by false [] h = (refl, refl)
 free_by false (byte ∷ bytes) h = absurd (cc h)
 free_by true bytes h = absurd (cc h)
 
-turn_is : (side : Side) (its : Option Side) → is_turn side its ≡ true → its ≡ Some side
+pub turn_is : (side : Side) (its : Option Side) → is_turn side its ≡ true → its ≡ Some side
 turn_is side None h = absurd (cc h)
 turn_is Client (Some Client) h = refl
 turn_is Client (Some Server) h = absurd (cc h)
@@ -60,7 +60,7 @@ fits a b h = grind (arith, nat_tests)
 
 -- ---- what is found, and what is left
 
-whole_found : FramingsAreFound → (limit number : ℕ) (bytes payload : List ℕ) → bytes ≡ [] → number < 256 → length payload ≤ limit
+pub whole_found : FramingsAreFound → (limit number : ℕ) (bytes payload : List ℕ) → bytes ≡ [] → number < 256 → length payload ≤ limit
     → first_packet limit number (bytes ++ framing payload number) ≡ Whole payload (number_after payload number) []
 whole_found found limit number bytes payload none byte h =
     ap (λ (l : List ℕ). first_packet limit number (l ++ framing payload number)) none
@@ -69,7 +69,7 @@ whole_found found limit number bytes payload none byte h =
 read_all : (read : ℕ) (old bytes : List ℕ) → old ≡ [] → read + (length (old ++ bytes) - 0) ≡ read + length bytes
 read_all read old bytes e = ap (λ (l : List ℕ). read + (length (l ++ bytes) - 0)) e ∙ (omega arith)
 
-moved_is : (w : World) (side : Side) (number : ℕ) (bytes : List ℕ) (after : Standing) → (stream_of side w.unread).bytes ≡ []
+pub moved_is : (w : World) (side : Side) (number : ℕ) (bytes : List ℕ) (after : Standing) → (stream_of side w.unread).bytes ≡ []
     → moved (come side (Piece bytes) w) side number [] after ≡ past w side number bytes after
 moved_is w Client number bytes after none = λ i. record {
   limits = w.limits;

@@ -70,7 +70,7 @@ end_quiet w true =
 end_quiet w false = tt
 
 -- in no bytes less than a packet stands
-none_found : (limit number : ℕ) → first_packet limit number [] ≡ Short
+pub none_found : (limit number : ℕ) → first_packet limit number [] ≡ Short
 none_found limit number = ap (λ (n : ℕ). packet_by n limit 0 number []) (add-one (limit / max_payload_len))
 
 -- no last words stand in them
@@ -124,7 +124,7 @@ turn_quiet w (Some Server) Client t none =
     either_quiet w (is_early s bytes) (first_packet limit (slice_index_or bytes 3 0) bytes) (first_packet limit s.number bytes) t
 turn_quiet w (Some Server) Server t none = subst (Quiet Server) (sym (server_waits w none)) tt
 
-end_of_none : (xs ys : List ℕ) → xs ++ ys ≡ [] → ys ≡ []
+pub end_of_none : (xs ys : List ℕ) → xs ++ ys ≡ [] → ys ≡ []
 end_of_none [] ys h = h
 end_of_none (x ∷ xs) ys h = absurd (cc h)
 

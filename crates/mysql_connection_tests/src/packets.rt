@@ -7,7 +7,7 @@ use mysql_connection::{
     PayloadRefusal, PutRefusal, Side,
 };
 use mysql_session::Value;
-use std::alloc::{AllocError, Global};
+use std::alloc::Global;
 use tests_support::{Assert, Given, assert_bytes, given_values, once_more};
 
 // Puts all of some packets, for want of memory once more from there on: whether they were put.

@@ -1,14 +1,12 @@
 -- Rows behind others: what they say, and what stands behind them.
-use Rattle.std.proofs.Common.{◌≡◌, ◌==◌, ◌++◌, ◌∙◌, if◌then◌else◌, ℕ, List, length, Bool, true, false, Option, Some, None, Result, Ok, Err}
-use Rattle.std.proofs.Common.{refl, sym, ap, subst, rules}
+use Rattle.std.proofs.Common.{◌≡◌, ◌==◌, ◌++◌, ◌∙◌, if◌then◌else◌, ℕ, List, length, Bool, true, false, Option, Some, Result, Ok, Err}
+use Rattle.std.proofs.Common.{refl, sym, ap, subst}
 use Rattle.std.proofs.lemmas.Bool.{eq-eqb}
 use Rattle.std.specs.declared.alloc.AllocError.{AllocError}
 use Rattle.mysql_authentication.specs.Readings.{authentication_at, greeting_at, response_at}
 use Rattle.mysql_columns.specs.Columns.{ColumnDefinition}
 use Rattle.mysql_commands.specs.Commands.{Command, command_at}
 use Rattle.mysql_connection_rules.specs.Puts.{step_for}
-use Rattle.mysql_connection_rules.specs.declared.exchange.Exchange.{Exchange}
-use Rattle.mysql_connection_rules.specs.declared.fault.Fault.{Fault}
 use Rattle.mysql_connection_rules.specs.declared.fault.Fault.TheVariants as faults
 use Rattle.mysql_connection_rules.specs.Events.{Event}
 use Rattle.mysql_connection_rules.specs.Events as events
@@ -17,26 +15,26 @@ use Rattle.mysql_connection_rules.specs.Standing as phases
 use Rattle.mysql_connection_rules.specs.SessionModes.{mode_behind}
 use Rattle.mysql_connection_rules.specs.StepLaws.{step_said, step_says}
 use Rattle.mysql_connection_rules.specs.Steps.{about_after, after_authentication, after_command, after_event, after_greeting, after_part}
-use Rattle.mysql_connection_rules.specs.Steps.{after_response, by_turn, changed_by, context_of, file_step, greets_anew, in_phase, in_turn}
-use Rattle.mysql_connection_rules.specs.Steps.{of_login, of_reply, parameters_in_question, reply_after, reply_step, says, step}
-use Rattle.mysql_connection_rules.specs.Steps.{turn_in_reply, with_statements}
+use Rattle.mysql_connection_rules.specs.Steps.{after_response, changed_by, context_of, greets_anew, in_phase, in_turn}
+use Rattle.mysql_connection_rules.specs.Steps.{of_login, parameters_in_question, reply_after, reply_step, says, step}
+use Rattle.mysql_connection_rules.specs.Steps.{with_statements}
 use Rattle.mysql_connection_state.specs.Follows.{IsReplyReader, ReadsReply}
 use Rattle.mysql_connection_statements.specs.Statements.{Statements, counted}
 use Rattle.mysql_reply_events.specs.declared.context.Context.{Context}
-use Rattle.mysql_reply_events.specs.Behind.{EventsLeadOn, behind}
+use Rattle.mysql_reply_events.specs.Behind.{EventsLeadOn}
 use Rattle.mysql_reply_events.specs.Events.{Awaited, ReplySoFar}
 use Rattle.mysql_reply_events.specs.Events.Awaited.{Rows}
 use Rattle.mysql_reply_events.specs.Events.Event.{RowEvent}
 use Rattle.mysql_reply_events.specs.Reader.{ReaderState}
 use Rattle.mysql_reply_events.specs.Table.{event_at}
 use Rattle.mysql_reply_event_writer.specs.NextRows as written
-use Rattle.mysql_reply_event_writer.specs.NextRows.{IsReadAmongRows, under}
+use Rattle.mysql_reply_event_writer.specs.NextRows.{under}
 use Rattle.mysql_reply_event_writer.specs.Written.{event_payload}
 use Rattle.mysql_rows.specs.Rows.{Row}
 use Rattle.mysql_connection_writer.proofs.Lifting.{ok_same, said_of}
 use Rattle.mysql_connection_writer.proofs.PlainBytes.{by_server}
 use Rattle.mysql_connection_writer.proofs.Replies.{said_after}
-use Rattle.mysql_connection_writer.specs.NextRows.{IsAmongRows, IsAnswered, RowsLeadToRows, WritesNextRow, columns_due, row_due, row_said, under_as_many}
+use Rattle.mysql_connection_writer.specs.NextRows.{IsAmongRows, IsAnswered, RowsLeadToRows, WritesNextRow, columns_due, row_due, under_as_many}
 use Rattle.mysql_connection_writer.specs.Payloads.{Payload, payload_in, payload_of}
 use Rattle.mysql_connection_writer.specs.Phases.{is_file}
 
@@ -136,21 +134,7 @@ next_row_written s reader row columns old new (Ok true) among its known w =
 next_row_written s reader row columns old new (Ok false) among its known w = w
 next_row_written s reader row columns old new (Err refused) among its known w = w
 
--- a row of the columns that are due is the one that is due
-pub columns_are_due : (s : Standing) (reader : ReaderState) (row : Row) (columns : List ColumnDefinition) →
-    IsReplyReader s (Some reader) → reader.so_far.columns ≡ Some columns → row.columns ≡ columns → row_due s row ≡ row
-columns_are_due s reader row columns its known same =
-    let there : its.0.so_far.columns ≡ Some columns = ap (λ (x : ReplySoFar). x.columns) (sym its.1.so_far) ∙ known in
-    let due : columns_due s.phase ≡ Some columns = ap columns_due its.1.phase ∙ there in
-    ap (λ (its : Option (List ColumnDefinition)). under_as_many its row) due ∙ go (length columns == length row.cells) where
-      go : (many : Bool) → (if many then under columns row else row) ≡ row
-      go true = ap (λ (c : List ColumnDefinition). under c row) (sym same)
-      go false = refl
-
 -- ROWS LEAD TO ROWS
-
-same_row_event : (a b : Row) → events.Replied (RowEvent a) ≡ events.Replied (RowEvent b) → a ≡ b
-same_row_event a b e = cc
 
 reply_leads : EventsLeadOn → (r : InReply) (s after : Standing) (row : Row) (p : Payload) → s.phase ≡ phases.Reply r →
     (after_is : (next : ReplySoFar) × (event_at (context_of s r) r.so_far p ≡ Ok (RowEvent row, next)) ×

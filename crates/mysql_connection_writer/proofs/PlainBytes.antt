@@ -5,7 +5,6 @@ use Rattle.mysql_reply_events.specs.Events.Awaited.{FileData, First}
 use Rattle.mysql_reply_events.specs.Table.{event_at, file_data_at}
 use Rattle.mysql_connection_rules.specs.declared.side.Side.{Side}
 use Rattle.mysql_connection_rules.specs.declared.side.Side.TheVariants.{Client, Server}
-use Rattle.mysql_connection_rules.specs.Events.{Event}
 use Rattle.mysql_connection_rules.specs.Events as events
 use Rattle.mysql_connection_rules.specs.Standing.{InReply, Phase, Standing}
 use Rattle.mysql_connection_rules.specs.Standing as phases

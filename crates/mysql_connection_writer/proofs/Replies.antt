@@ -9,7 +9,6 @@ use Rattle.mysql_reply_events.specs.declared.fault.ReplyFault.{ReplyFault}
 use Rattle.mysql_reply_events.specs.declared.fault.ReplyFault.TheVariants as reply_faults
 use Rattle.mysql_reply_event_writer.specs.Puts.{CanBePut, takes_payload}
 use Rattle.mysql_reply_event_writer.specs.Written.{event_payload}
-use Rattle.mysql_connection_rules.specs.Events.{Event}
 use Rattle.mysql_connection_rules.specs.Events as events
 use Rattle.mysql_connection_rules.specs.Standing.{InReply, Phase, Standing}
 use Rattle.mysql_connection_rules.specs.Standing as phases

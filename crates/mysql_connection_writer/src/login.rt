@@ -1,7 +1,6 @@
 //! The first payload of each side.
 
 ghost use Rattle.std.specs.Prelude.{◌≡◌, ◌↔◌, IfOk, IsTrue, Ok};
-ghost use Rattle.mysql_authentication.specs.Events.{Greeted};
 ghost use Rattle.mysql_authentication.specs.Readings.{greeting_at, response_at};
 ghost use Rattle.mysql_authentication.specs.Statements.{HoldsError, HoldsGreeting, HoldsHandshake};
 ghost use Rattle.mysql_authentication.specs.Views.{greeting_view, response_event_view};

@@ -1,6 +1,6 @@
 -- A text in quotes is read back, and no line has a control character.
-use Rattle.std.proofs.Common.{◌≡◌, ℕ, ◌+◌, ◌*◌, ◌/◌, ◌%◌, ◌<◌, Bool, true, false, cond, not, ◌&&◌, ◌||◌, ◌==◌, nat_lt, ◌⊎◌, inl, inr}
-use Rattle.std.proofs.Common.{List, [], ◌∷◌, ◌++◌, fold, flat_map, Some, refl, sym, ap, ◌∙◌, subst, arith, append-nil, append_assoc}
+use Rattle.std.proofs.Common.{◌≡◌, ℕ, ◌+◌, ◌*◌, ◌/◌, ◌%◌, ◌<◌, Bool, true, false, cond, not, ◌&&◌, ◌==◌, nat_lt, ◌⊎◌, inl, inr}
+use Rattle.std.proofs.Common.{List, [], ◌∷◌, ◌++◌, fold, flat_map, refl, sym, ap, ◌∙◌, subst, arith, append-nil, append_assoc}
 use Rattle.std.specs.List.{list_all}
 use Rattle.std.specs.Str.{IsUtf8, is_utf8}
 use Rattle.std.proofs.lemmas.Bool.Decides.{nat_tests}
@@ -8,10 +8,10 @@ use Rattle.std.proofs.lemmas.List.Folds.{list_all-append}
 use Rattle.std.proofs.lemmas.List.Sums.{fold-append}
 use Rattle.std.proofs.lemmas.Str.{IsUtf8-from_is_utf8, is_utf8-from_IsUtf8}
 use Rattle.mysql_event_lines.specs.Laws.{QuotedIsRead, ReadableHasNoControls}
-use Rattle.mysql_event_lines.specs.Quoted.{Reader, Before, Inside, Escape, First, Second, Behind, Failed}
+use Rattle.mysql_event_lines.specs.Quoted.{Inside, First, Second}
 use Rattle.mysql_event_lines.specs.Quoted.{backslash, digit_of, digit_value, digits_of, escaped, in_digits, is_control}
-use Rattle.mysql_event_lines.specs.Quoted.{has_no_wide_control, is_between, quote, quoted, read_byte, readable}
-use Rattle.mysql_event_lines.specs.Quoted.{scan_byte, text_read, unquoted}
+use Rattle.mysql_event_lines.specs.Quoted.{has_no_wide_control, is_between, quote, quoted, read_byte}
+use Rattle.mysql_event_lines.specs.Quoted.{scan_byte, text_read}
 use Rattle.mysql_event_lines.specs.declared.quoted.Scan.{Scan}
 use Rattle.mysql_event_lines.specs.declared.quoted.Scan.TheVariants.{Begun, Between, Found}
 

@@ -4,7 +4,7 @@
 //!     push_readable(&mut line, "It's 5\" wide\n".as_bytes())?;   // "It's 5\" wide\n"
 //!     push_readable(&mut line, &[0xff, 0x00])?;                   // xff00
 
-ghost use Rattle.std.specs.Prelude.{◌≡◌, ◌++◌, ◌<◌, ◌∷◌, OnOk, flat_map};
+ghost use Rattle.std.specs.Prelude.{◌≡◌, ◌++◌, ◌<◌, ◌∷◌, OnOk};
 ghost use Rattle.std.specs.Str.{is_utf8};
 ghost use Rattle.mysql_event_lines.specs.Laws.{QuotedIsRead, ReadableHasNoControls};
 ghost use Rattle.mysql_event_lines.specs.Quoted.{digit_of, digits_of, escaped, has_no_wide_control};

@@ -1,5 +1,5 @@
 -- Objects of another kind, numbers and roads.
-use Rattle.std.proofs.Common.{◌≡◌, ℕ, inl, inr, ◌⊎◌, refl, arith}
+use Rattle.std.proofs.Common.{inl, inr, refl, arith}
 use Rattle.mysql_witnesses.specs.Commands.{NegativeNumbersAreShown, NoRoadIsNoSending, OtherObjectsAreTold}
 
 pub other_objects_are_told : OtherObjectsAreTold

@@ -1,5 +1,5 @@
 -- Events that were told, and the room of each side.
-use Rattle.std.proofs.Common.{◌≡◌, ℕ, ap, ◌∙◌, arith}
+use Rattle.std.proofs.Common.{ap, ◌∙◌}
 use Rattle.mysql_c_connection.specs.Opened.{event_in}
 use Rattle.mysql_witnesses.specs.Connections.{AttributesHaveNames, EachSideHasItsRoom, ToldEventsAreHeld}
 

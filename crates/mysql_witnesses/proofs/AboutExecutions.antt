@@ -1,5 +1,5 @@
 -- Executions and commands that aren't put.
-use Rattle.std.proofs.Common.{◌≡◌, true, false, List, ℕ, [], ◌∷◌}
+use Rattle.std.proofs.Common.{◌≡◌, true, false, [], ◌∷◌}
 use Rattle.mysql_commands.specs.Commands.{Command, FieldList, Other, Ping}
 use Rattle.mysql_execution_writer.specs.Cells.{are_parameters}
 use Rattle.mysql_execution_writer.specs.Written.{can_be_put}

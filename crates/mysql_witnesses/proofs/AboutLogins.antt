@@ -1,5 +1,5 @@
 -- Answers of 32 bytes and more.
-use Rattle.std.proofs.Common.{◌≡◌, ℕ, Bool, true, false, List, Result, Ok, Err, length, ap}
+use Rattle.std.proofs.Common.{◌≡◌, Bool, true, false, Result, Ok, Err, ap}
 use Rattle.std.specs.Prelude.{nat_le}
 use Rattle.bitflags.proofs.OnLiterals.{bitflags_on_literals}
 use Rattle.mysql_authentication.specs.Events.{CutOff, LoggedIn, Response, SecureRequest}

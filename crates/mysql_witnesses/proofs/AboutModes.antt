@@ -1,6 +1,6 @@
 -- The mode that a connection knows.
-use Rattle.std.proofs.Common.{◌≡◌, Bool, true, false, refl}
-use Rattle.mysql_connection_rules.specs.SessionModes.{is_resetting, mode_behind}
+use Rattle.std.proofs.Common.{refl}
+use Rattle.mysql_connection_rules.specs.SessionModes.{mode_behind}
 use Rattle.mysql_session_modes.specs.SessionModes.{has_word, is_word_at, mode_behind_text}
 use Rattle.mysql_session_modes.specs.Told.{mode_behind_ok}
 use Rattle.mysql_witnesses.specs.Modes.{DoubtedModesStay, ExecutionsForgetTheMode, LoginsTellTheMode}

@@ -1,7 +1,7 @@
 -- Bulk requests, writers and recodings.
-use Rattle.std.proofs.Common.{◌≡◌, ◌++◌, ℕ, zero, suc, ◌+◌, ◌<◌, ◌≤◌, List, [], ◌∷◌, Option, Some, length, get_or, refl, sym, ap, subst, ◌∙◌, inl, inr, arith, length-append}
+use Rattle.std.proofs.Common.{◌≡◌, ◌++◌, ℕ, zero, suc, ◌+◌, ◌<◌, ◌≤◌, List, [], ◌∷◌, Option, Some, length, get_or, refl, ap, ◌∙◌, inl, inr, arith, length-append}
 use Rattle.mysql_bulk_builder.specs.Bulk.{bulk_execution}
-use Rattle.mysql_bulk_builder.specs.TypedCut.{HasKnownColumns, IsTightTyped, Part, Typed, Untyped}
+use Rattle.mysql_bulk_builder.specs.TypedCut.{HasKnownColumns}
 use Rattle.mysql_bulk_builder.specs.TypedCutLaws.{TightTypedIsUnique, WholeIsTight}
 use Rattle.mysql_command_rules.specs.Sent.{SentPayload, as_execution, payloads_of, prepare_of}
 use Rattle.mysql_command_rules.specs.declared.refusal.Refusal.{Refusal}

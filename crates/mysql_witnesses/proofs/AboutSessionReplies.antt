@@ -1,5 +1,5 @@
 -- Events that aren't put.
-use Rattle.std.proofs.Common.{◌≡◌, ℕ, Bool, true, false, List, [], ◌∷◌, Some, None, Ok, Err, is_some, length, ap, subst, ◌+◌, ◌/◌, ◌%◌}
+use Rattle.std.proofs.Common.{◌≡◌, ℕ, Bool, true, false, List, [], ◌∷◌, Some, Ok, Err, is_some, ap, subst, ◌+◌, ◌/◌, ◌%◌}
 use Rattle.bitflags.proofs.OnLiterals.{bitflags_on_literals}
 use Rattle.mysql_buf.specs.Reading.{first}
 use Rattle.mysql_ok_packets.specs.OkPackets.{info_at, ok_packet_at, status_and_info_at}
@@ -10,7 +10,7 @@ use Rattle.mysql_reply_events.specs.Events.Event.{LineEvent, OkEvent}
 use Rattle.mysql_reply_events.specs.Reader.{ReaderState}
 use Rattle.mysql_reply_events.specs.Table.{Step, event_at}
 use Rattle.mysql_witnesses.specs.SessionReplies.{EmptyInfosAreNotPut, EventsThatReadOtherwiseAreNotPut, NothingIsBadWhereNothingIsDue, NumbersCountChunks}
-use Rattle.mysql_witnesses.specs.SessionReplies.{ok_with, query_by, reader_awaiting}
+use Rattle.mysql_witnesses.specs.SessionReplies.{ok_with, reader_awaiting}
 
 has_info : Event → Bool
 has_info (OkEvent ok) = is_some ok.info

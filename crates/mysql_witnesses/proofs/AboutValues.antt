@@ -1,8 +1,7 @@
 -- The text of a time, and a set of two values.
-use Rattle.std.proofs.Common.{◌≡◌, List, [], ◌∷◌, Some, Vec, refl}
+use Rattle.std.proofs.Common.{◌≡◌, List, [], ◌∷◌, Some, refl}
 use Rattle.std.specs.Fmt.{digits}
 use Rattle.std.specs.Prelude.{map}
-use Rattle.std.specs.declared.alloc.Global.{Global}
 use Rattle.mysql_cells.specs.declared.value.Value.{Value}
 use Rattle.mysql_witnesses.specs.Values.{EachPlaceHasItsValue, ZeroTimesAreBoundWithoutSign}
 

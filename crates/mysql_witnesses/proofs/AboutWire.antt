@@ -1,5 +1,5 @@
 -- Streams, fields and packets.
-use Rattle.std.proofs.Common.{◌≡◌, ℕ, Bool, true, false, List, [], ◌∷◌, length, Option, Some, None, Ok, Err, refl, ap, ◌∙◌, inl, inr, arith, ◌+◌, ◌/◌, ◌%◌}
+use Rattle.std.proofs.Common.{◌≡◌, ℕ, true, false, List, [], ◌∷◌, Option, Some, None, Err, refl, ap, inl, inr, ◌+◌, ◌/◌, ◌%◌}
 use Rattle.mysql_buf.specs.Reading as buffer
 use Rattle.mysql_fields.specs.Wire.{or_end}
 use Rattle.mysql_fields.specs.declared.error.WireError.TheVariants.{Memory}

@@ -2,7 +2,6 @@
 use Rattle.std.proofs.Common.{ap, refl}
 use Rattle.bitflags.proofs.OnLiterals.{bitflags_on_literals}
 use Rattle.mysql_buf.specs.Reading.{first}
-use Rattle.mysql_cells.specs.Cells.{cell_at}
 use Rattle.mysql_connection_rules.specs.Streams.{World}
 use Rattle.mysql_execution_writer.specs.Cells.{are_parameters, parameters_bytes}
 use Rattle.mysql_execution_writer.specs.Written.{can_be_put, execution_bytes}

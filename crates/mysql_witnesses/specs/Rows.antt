@@ -1,6 +1,6 @@
 -- What the definitions of rows exclude. MySQL: Client/Server Protocol, "Text Resultset Row", "Binary
 -- Protocol Resultset Row", "Null-Bitmap", "EOF_Packet".
-use Rattle.std.specs.Prelude.{◌≡◌, ℕ, ◌^◌, true, false, List, [], ◌∷◌, Some, Ok, Err, slice_get}
+use Rattle.std.specs.Prelude.{◌≡◌, ℕ, ◌^◌, true, List, [], ◌∷◌, Some, Ok, Err, slice_get}
 use Rattle.mysql_cells.specs.declared.value.Value.TheVariants.{NULL, UInt}
 use Rattle.mysql_columns.specs.Columns.{ColumnDefinition}
 use Rattle.mysql_row_refs.specs.RowRefs.{row_of}

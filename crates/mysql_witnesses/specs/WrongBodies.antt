@@ -21,7 +21,6 @@ use Rattle.mysql_connection_writer.specs.Executions.{execution_by}
 use Rattle.mysql_connection_writer.specs.declared.refusal.BadEvent.{BadEvent as Cause}
 use Rattle.mysql_const.specs.declared.capabilities.Capabilities.{Capabilities}
 use Rattle.mysql_const.specs.declared.column_type.ColumnType.TheVariants.{MYSQL_TYPE_VAR_STRING}
-use Rattle.mysql_executions.specs.declared.types.BoundType.{BoundType}
 use Rattle.mysql_executions.specs.declared.types.ParameterType.{ParameterType}
 use Rattle.mysql_handshake.specs.Capabilities.{both_words}
 use Rattle.mysql_reply_events.specs.Events.Event.{ProgressEvent}
