@@ -15,7 +15,7 @@ import tempfile
 def all_workloads():
     """The workloads of the runner."""
     with open(os.path.join(os.path.dirname(os.path.abspath(__file__)), "run.py")) as it:
-        return re.findall(r'^    "([\w-]+)": ', it.read(), re.M)
+        return re.findall(r'^    "([\w-]+)": ', it.read().partition("WORKLOADS = {")[2], re.M)
 
 
 def dumped(build, program, workload):

@@ -44,6 +44,7 @@ WORKLOADS = {
     "send-execute-plain": CLIENTS,
     "send-execute-plain-listed": LISTS,
     "send-execute-plain-kept": CLIENTS,
+    "make-sets": ["library"],
     "send-bulk": HAND,
     "send-bulk-plain": HAND,
     "send-values-text": HAND,

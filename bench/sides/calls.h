@@ -87,6 +87,16 @@ LENT mysql_session_handle *sets_of(const Value *values, size_t count, size_t wid
     return all;
 }
 
+// Makes sets behind one handle so many times. Answers how many calls that took.
+LENT size_t make_sets(const Value *values, size_t count, size_t width, size_t times) {
+    for (size_t n = 0; n < times; n++) {
+        mysql_session_handle *all = sets_of(values, count, width, count);
+        mysql_session_free(all);
+        free(all);
+    }
+    return times * count * (width + 1);
+}
+
 // Sends what stands behind each handle by a call, into bytes that are emptied before. Answers the bytes of all.
 LENT size_t send_once(mysql_session_handle *sets, size_t handles, Bytes query, uint32_t road, mysql_session_handle *out) {
     size_t written = 0;
@@ -113,36 +123,49 @@ LENT size_t send_all(mysql_session_handle *sets, size_t handles, Bytes query, ui
 
 // Streams of commands read back, and recoded.
 
+// What is done with the sets or the rows that are there behind a piece: they are kept, taken, or taken and their values looked at.
+typedef enum { KEPT, TAKEN, LOOKED_AT } How;
+
+// Looks at the contents of sets, each by a call.
+LENT void look_at_sets(mysql_session_handle *receiver, size_t sets) {
+    for (size_t set = 0; set < sets; set++)
+        for (size_t place = 0; place < WIDTH; place++) {
+            mysql_session_content content;
+            done(mysql_session_receiver_content(receiver, set, place, &content));
+        }
+}
+
 // Feeds bytes in pieces. Answers how many sets were taken, which is none where all are kept.
-LENT size_t feed_receiver(mysql_session_handle *receiver, Bytes bytes, size_t piece, _Bool taken) {
+LENT size_t feed_receiver(mysql_session_handle *receiver, Bytes bytes, size_t piece, How how) {
     size_t count = 0;
     PIECES(bytes, piece, at, len,
         size_t sets = 0;
         mysql_session_receiver_feed(receiver, at, len);
-        if (taken) {
+        if (how != KEPT) {
             done(mysql_session_receiver_sets(receiver, &sets));
+            if (how == LOOKED_AT) look_at_sets(receiver, sets);
             if (sets) done(mysql_session_receiver_clear(receiver));
             count += sets;
         })
     return count;
 }
 
-// Reads a stream that is a front and then a block so many times; the sets that stand are taken behind each piece, or kept.
-LENT size_t receive_long(Bytes query, Bytes front, Bytes block, size_t times, size_t piece, _Bool taken) {
+// Reads a stream that is a front and then a block so many times; the sets that are there are kept, taken or looked at behind each piece.
+LENT size_t receive_long(Bytes query, Bytes front, Bytes block, size_t times, size_t piece, How how) {
     mysql_session_handle receiver = MYSQL_SESSION_NOTHING;
     mysql_session_end end = {0};
     size_t left = 0;
     done(mysql_session_receiver_new(&receiver, query.at, query.len, STATEMENT, LIMIT, 0));
-    size_t count = feed_receiver(&receiver, front, piece, taken);
-    for (size_t i = 0; i < times; i++) count += feed_receiver(&receiver, block, piece, taken);
+    size_t count = feed_receiver(&receiver, front, piece, how);
+    for (size_t i = 0; i < times; i++) count += feed_receiver(&receiver, block, piece, how);
     done(mysql_session_receiver_end(&receiver, &end));
     done(mysql_session_receiver_sets(&receiver, &left));
     mysql_session_free(&receiver);
     return end.kind == MYSQL_SESSION_END_WHOLE ? count + left : 0;
 }
 
-LENT size_t receive(Bytes query, Bytes stream, size_t piece, _Bool taken) {
-    return receive_long(query, (Bytes){stream.at, 0}, stream, 1, piece, taken);
+LENT size_t receive(Bytes query, Bytes stream, size_t piece, How how) {
+    return receive_long(query, (Bytes){stream.at, 0}, stream, 1, piece, how);
 }
 
 LENT size_t recode(Bytes query, Bytes stream) {
@@ -172,13 +195,33 @@ LENT size_t rows_of(mysql_session_handle *reply) {
     return rows;
 }
 
+// Looks at the cells of a result's rows, each by a call.
+LENT void look_at_rows(mysql_session_handle *reply, size_t number, size_t rows) {
+    for (size_t row = 0; row < rows; row++)
+        for (size_t column = 0; column < WIDTH; column++) {
+            mysql_session_value value;
+            done(mysql_session_reply_cell(reply, number, row, column, &value));
+        }
+}
+
+LENT void look_at_results(mysql_session_handle *reply) {
+    size_t results = 0;
+    done(mysql_session_reply_results(reply, &results));
+    for (size_t number = 0; number < results; number++) {
+        mysql_session_result result;
+        done(mysql_session_reply_result(reply, number, &result));
+        look_at_rows(reply, number, result.rows);
+    }
+}
+
 // Feeds bytes in pieces. Answers how many rows were taken.
-LENT size_t feed_reply(mysql_session_handle *reply, Bytes bytes, size_t piece, _Bool taken) {
+LENT size_t feed_reply(mysql_session_handle *reply, Bytes bytes, size_t piece, How how) {
     size_t count = 0;
     PIECES(bytes, piece, at, len,
         mysql_session_reply_feed(reply, at, len);
-        if (taken) {
+        if (how != KEPT) {
             done(mysql_session_reply_take(reply));
+            if (how == LOOKED_AT) look_at_results(reply);
             count += rows_of(reply);
         })
     return count;
@@ -187,20 +230,20 @@ LENT size_t feed_reply(mysql_session_handle *reply, Bytes bytes, size_t piece, _
 LENT uint32_t kind_of(_Bool binary) { return binary ? MYSQL_SESSION_REPLY_TO_EXECUTE : MYSQL_SESSION_REPLY_TO_QUERY; }
 
 // Reads a reply that is a front and then a block so many times. Answers how many rows there are, also where it goes on.
-LENT size_t read_reply_long(Bytes front, Bytes block, size_t times, size_t piece, _Bool binary, _Bool taken) {
+LENT size_t read_reply_long(Bytes front, Bytes block, size_t times, size_t piece, _Bool binary, How how) {
     mysql_session_handle reply = MYSQL_SESSION_NOTHING;
     mysql_session_end end = {0};
     done(mysql_session_reply_new(&reply, kind_of(binary), MYSQL_SESSION_CLIENT_PROTOCOL_41, 1, LIMIT));
-    size_t count = feed_reply(&reply, front, piece, taken);
-    for (size_t i = 0; i < times; i++) count += feed_reply(&reply, block, piece, taken);
+    size_t count = feed_reply(&reply, front, piece, how);
+    for (size_t i = 0; i < times; i++) count += feed_reply(&reply, block, piece, how);
     done(mysql_session_reply_end(&reply, &end));
     count += rows_of(&reply);
     mysql_session_free(&reply);
     return end.kind == MYSQL_SESSION_END_FAULT ? 0 : count;
 }
 
-LENT size_t read_reply(Bytes stream, size_t piece, _Bool binary, _Bool taken) {
-    return read_reply_long((Bytes){stream.at, 0}, stream, 1, piece, binary, taken);
+LENT size_t read_reply(Bytes stream, size_t piece, _Bool binary, How how) {
+    return read_reply_long((Bytes){stream.at, 0}, stream, 1, piece, binary, how);
 }
 
 // Whole connections read.
@@ -268,8 +311,8 @@ LENT size_t lend_whole_connection(Bytes client, Bytes server, size_t size) {
 
 // The same bytes apart: the commands by a receiver, and each reply, of so many bytes, by a reader of its own.
 LENT size_t read_apart(Bytes query, Bytes commands, Bytes replies, size_t reply, size_t size, _Bool binary) {
-    size_t count = receive(query, commands, size, 1);
-    PIECES(replies, reply, at, len, count += read_reply((Bytes){(unsigned char *)at, len}, size, binary, 1);)
+    size_t count = receive(query, commands, size, TAKEN);
+    PIECES(replies, reply, at, len, count += read_reply((Bytes){(unsigned char *)at, len}, size, binary, TAKEN);)
     return count;
 }
 

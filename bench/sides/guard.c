@@ -121,10 +121,10 @@ int main(int argc, char **argv) {
     COUNT("split", FRAMES, split(packets));
     COUNT("send-text", sets, send_all(given, 1, query, MYSQL_SESSION_TEXT, 1));
     COUNT("send-execute", sets, send_all(given, 1, query, MYSQL_SESSION_EXECUTE, 1));
-    COUNT("receive-executes", sets, receive(query, executions, PIECE, 0));
+    COUNT("receive-executes", sets, receive(query, executions, PIECE, KEPT));
     COUNT("recode-executes", sets, recode(query, executions));
-    COUNT("reply-text", rows, read_reply(text_rows, PIECE, 0, 0));
-    COUNT("reply-binary", rows, read_reply(binary_rows, PIECE, 1, 0));
+    COUNT("reply-text", rows, read_reply(text_rows, PIECE, 0, KEPT));
+    COUNT("reply-binary", rows, read_reply(binary_rows, PIECE, 1, KEPT));
     COUNT("connection-queries", sets, read_whole_connection(asking, answering, PIECE));
     COUNT("connection-executions", sets, read_whole_connection(executing, executed, PIECE));
     COUNT("rows-lent-text", rows, lend_whole_connection(asking_rows, answering_rows, PIECE));

@@ -14,7 +14,7 @@ size_t mysql_bench_read_connection_lent(Pointer, size_t, Pointer, size_t, size_t
 size_t mysql_bench_cells(Pointer, size_t, _Bool, _Bool, size_t);
 size_t mysql_bench_put_commands(Pointer, size_t, Pointer, size_t, Pointer, size_t, size_t);
 size_t mysql_bench_put_sets(Pointer, size_t, Pointer, size_t, Pointer, size_t, size_t, size_t, Pointer, size_t, size_t);
-size_t mysql_bench_put_rows(Pointer, size_t, Pointer, size_t, Pointer, size_t, Pointer, size_t, size_t, size_t, _Bool, size_t);
+size_t mysql_bench_put_rows(Pointer, size_t, Pointer, size_t, Pointer, size_t, Pointer, size_t, size_t, size_t, _Bool, _Bool, size_t);
 int64_t mysql_bench_convert(Pointer, size_t, size_t, size_t);
 
 #define OK_PACKET "\7\0\0\1\0\0\0\2\0\0\0"
@@ -54,12 +54,13 @@ static Streams streams_of(const char *what) {
     return (Streams){client, server, commands, replies, rows ? replies.len : replies.len / CONNECTION_COMMANDS};
 }
 
-// The rows lent, looked at and let go, by the connection and by a reader of the reply.
+// The rows lent, looked at and let go, by the connection in Rattle and in C, and by a reader of the reply.
 static void lend_connection(const char *what, int rounds) {
     Bytes query = load("query");
     Streams all = streams_of(what);
     MEASURE("library", (double)ROWS, mysql_bench_read_connection_lent(all.client.at, all.client.len, all.server.at, all.server.len, PIECE))
-    MEASURE("apart", (double)ROWS, receive(query, all.commands, PIECE, 1) + mysql_bench_read_rows(all.replies.at, all.replies.len, PIECE, 0, 0))
+    MEASURE("in-c", (double)ROWS, lend_whole_connection(all.client, all.server, PIECE))
+    MEASURE("apart", (double)ROWS, receive(query, all.commands, PIECE, TAKEN) + mysql_bench_read_rows(all.replies.at, all.replies.len, PIECE, 0, 0))
 }
 
 static void read_connection(const char *what, int rounds) {
@@ -109,7 +110,7 @@ static size_t behind_packets(Bytes stream, size_t count) {
     return at;
 }
 
-// A reply of many rows put on a connection, each by its cells, and the same result written by one call.
+// A reply of many rows put on a connection, each by its cells, or as an event; and the same result written by one call.
 static void put_rows(const char *what, int rounds) {
     _Bool binary = ENDS("-binary");
     Bytes none = {0}, stream = load(binary ? "cells-binary" : "cells-text"), command = first_packet(load(binary ? "executes" : "texts"));
@@ -117,7 +118,8 @@ static void put_rows(const char *what, int rounds) {
     // The packets before the rows: the count, the columns, and their end.
     size_t from = behind_packets(stream, WIDTH + 2), to = behind_packets(stream, WIDTH + 2 + CELL_ROWS);
     double units = (double)CELL_ROWS * CELL_TIMES;
-    MEASURE("library", units, mysql_bench_put_rows(prepare.at, prepare.len, prepared.at, prepared.len, command.at, command.len, stream.at, stream.len, from, to, binary, CELL_TIMES))
+    for (int by_event = 0; by_event < 2; by_event++)
+        MEASURE(by_event ? "events" : "library", units, mysql_bench_put_rows(prepare.at, prepare.len, prepared.at, prepared.len, command.at, command.len, stream.at, stream.len, from, to, binary, by_event, CELL_TIMES))
     MEASURE("written", units, mysql_bench_write_reply(stream.at, stream.len, binary, binary, CELL_TIMES))
 }
 
@@ -137,11 +139,17 @@ static void run(const char *what, int rounds) {
     } else if (IS("places")) {
         Bytes query = load("query");
         MEASURE("library", 1.0 * SCALED(1000000), mysql_bench_places(query.at, query.len, SCALED(1000000)))
+    } else if (IS("make-sets")) {
+        Value *values = load_values("sets", CONNECTION_COMMANDS * WIDTH);
+        MEASURE("library", 1e4 * COPIES, make_sets(values, CONNECTION_COMMANDS, WIDTH, COPIES))
     } else if (BEGINS("receive")) {
         Bytes query = load("query"), stream = commands(what, copies);
-        // Beside a reader from which sets are taken, the one that keeps them all.
-        if (taken) MEASURE("library", 1e4 * copies, receive(query, stream, piece, 1))
-        MEASURE(taken ? "kept" : "library", 1e4 * copies, receive(query, stream, piece, 0))
+        // Beside a reader from which sets are taken, one whose contents are looked at, and one that keeps them all.
+        if (taken) {
+            MEASURE("library", 1e4 * copies, receive(query, stream, piece, TAKEN))
+            MEASURE("looked-at", 1e4 * copies, receive(query, stream, piece, LOOKED_AT))
+        }
+        MEASURE(taken ? "kept" : "library", 1e4 * copies, receive(query, stream, piece, KEPT))
     } else if (BEGINS("recode")) {
         Bytes query = load("query"), stream = commands(what, copies);
         MEASURE("library", 1e4 * copies, recode(query, stream))
@@ -153,8 +161,11 @@ static void run(const char *what, int rounds) {
         MEASURE("library", (double)ROWS, mysql_bench_read_rows(stream.at, stream.len, piece, binary, 1))
     } else if (BEGINS("reply")) {
         Bytes stream = load(binary ? "reply-binary" : "reply-text");
-        if (taken) MEASURE("library", (double)ROWS, read_reply(stream, piece, binary, 1))
-        MEASURE(taken ? "kept" : "library", (double)ROWS, read_reply(stream, piece, binary, 0))
+        if (taken) {
+            MEASURE("library", (double)ROWS, read_reply(stream, piece, binary, TAKEN))
+            MEASURE("looked-at", (double)ROWS, read_reply(stream, piece, binary, LOOKED_AT))
+        }
+        MEASURE(taken ? "kept" : "library", (double)ROWS, read_reply(stream, piece, binary, KEPT))
     } else if (BEGINS("write-reply")) {
         Bytes stream = load("cells-binary");
         MEASURE("library", (double)CELL_ROWS * CELL_TIMES, mysql_bench_write_reply(stream.at, stream.len, 1, binary, CELL_TIMES))

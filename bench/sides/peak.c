@@ -55,10 +55,10 @@ static Bytes filled(const char *front, size_t front_len, int byte, size_t count,
 static void commands_of_one_value(void) {
     Bytes query = {(void *)"SELECT ?", 8};
     Bytes stream = packet(0, filled("\3SELECT '", 9, 'a', 16000000, "'"));
-    PEAK("a text with a string of 16 MB, one piece", stream.len, receive(query, stream, stream.len, 0));
-    PEAK("the same in pieces of 64 KiB", stream.len, receive(query, stream, PIECE, 0));
+    PEAK("a text with a string of 16 MB, one piece", stream.len, receive(query, stream, stream.len, KEPT));
+    PEAK("the same in pieces of 64 KiB", stream.len, receive(query, stream, PIECE, KEPT));
     stream = packet(0, filled("\3SELECT 0x", 10, '7', 16000000, ""));
-    PEAK("a text with 16 MB of hexadecimal", stream.len, receive(query, stream, PIECE, 0));
+    PEAK("a text with 16 MB of hexadecimal", stream.len, receive(query, stream, PIECE, KEPT));
 }
 
 // Streams that are as long as wanted: a front, and then a block again and again, which alone is held here.
@@ -72,14 +72,14 @@ static size_t length(Endless all, size_t times) { return all.front.len + times *
 static void receive_taken(const char *what, Endless all, size_t most_len) {
     for (size_t len = SHORTEST; len <= most_len; len *= 10) {
         size_t times = len / all.block.len + 1;
-        PEAK(what, length(all, times), receive_long(all.query, all.front, all.block, times, PIECE, 1));
+        PEAK(what, length(all, times), receive_long(all.query, all.front, all.block, times, PIECE, TAKEN));
     }
 }
 
 static void reply_taken(const char *what, Endless all, size_t most_len) {
     for (size_t len = SHORTEST; len <= most_len; len *= 10) {
         size_t times = len / all.block.len + 1;
-        PEAK(what, length(all, times), read_reply_long(all.front, all.block, times, PIECE, all.binary, 1));
+        PEAK(what, length(all, times), read_reply_long(all.front, all.block, times, PIECE, all.binary, TAKEN));
     }
 }
 
@@ -99,7 +99,7 @@ static Endless wide_executions(void) {
 static void wide_executions_kept(size_t times) {
     Endless all = wide_executions();
     Bytes stream = repeated(all.front, all.block, times);
-    PEAK("executes of 65535 NULLs without types", stream.len, receive(all.query, stream, PIECE, 0));
+    PEAK("executes of 65535 NULLs without types", stream.len, receive(all.query, stream, PIECE, KEPT));
     free(stream.at);
 }
 
@@ -123,7 +123,7 @@ static void small_rows_kept(const char *what, unsigned char byte) {
     Bytes stream = repeated(all.front, all.block, 244);
     unsigned char end[9] = {5, 0, 0, 7, 0xfe, 0, 0, 2, 0};
     stream = repeated(stream, (Bytes){end, 9}, 1);
-    PEAK(what, stream.len, read_reply(stream, PIECE, 0, 0));
+    PEAK(what, stream.len, read_reply(stream, PIECE, 0, KEPT));
     free(stream.at);
 }
 
@@ -144,7 +144,7 @@ static void wide_rows_kept(size_t times) {
     Bytes stream = repeated(all.front, all.block, times);
     unsigned char end[9] = {5, 0, 0, 2, 0xfe, 0, 0, 2, 0};
     stream = repeated(stream, (Bytes){end, 9}, 1);
-    PEAK("a reply of rows of 65535 NULLs", stream.len, read_reply(stream, PIECE, 1, 0));
+    PEAK("a reply of rows of 65535 NULLs", stream.len, read_reply(stream, PIECE, 1, KEPT));
     free(stream.at);
 }
 
@@ -153,7 +153,7 @@ static void bulk_of_nulls(void) {
     static const char head[] = "\xfa\1\0\0\0\x80\0\x08\0";
     Bytes query = {(void *)"SELECT ?", 8}, front = packet(0, filled("\x16SELECT ?", 9, 0, 0, ""));
     Bytes block = packet(0, filled(head, 9, 1, 16000000, ""));
-    PEAK("one bulk request of 16 million NULLs, taken", front.len + block.len, receive_long(query, front, block, 1, PIECE, 1));
+    PEAK("one bulk request of 16 million NULLs, taken", front.len + block.len, receive_long(query, front, block, 1, PIECE, TAKEN));
 }
 
 // A statement's long data that no execution ever takes: what waits is held, also by a reader from which sets are taken.
@@ -162,7 +162,7 @@ static void waiting_pieces(void) {
     Bytes block = repeated(none, packet(0, filled("\x18\1\0\0\0\0", 6, 0, 1000, "")), 1000);
     size_t len = front.len + 64 * block.len;
     // Its end isn't whole, so that the count that is answered is 0.
-    PEAK("long data of 1000 bytes that waits, taken", len, receive_long(query, front, block, 64, PIECE, 1));
+    PEAK("long data of 1000 bytes that waits, taken", len, receive_long(query, front, block, 64, PIECE, TAKEN));
 }
 
 // A connection that logs in and asks for one reply, whose rows go on: events are taken and dropped.
@@ -192,16 +192,16 @@ int main(int argc, char **argv) {
     (void)argc;
     INPUTS = argv[1];
     Bytes query = load("query"), stream = commands("texts", 10);
-    PEAK("texts of 123 bytes, pieces of 64 KiB", stream.len, receive(query, stream, PIECE, 0));
+    PEAK("texts of 123 bytes, pieces of 64 KiB", stream.len, receive(query, stream, PIECE, KEPT));
     stream = commands("executes", 10);
-    PEAK("executes of 85 bytes, pieces of 64 KiB", stream.len, receive(query, stream, PIECE, 0));
+    PEAK("executes of 85 bytes, pieces of 64 KiB", stream.len, receive(query, stream, PIECE, KEPT));
     stream = commands("bulks", 10);
-    PEAK("bulk rows of 65 bytes, pieces of 64 KiB", stream.len, receive(query, stream, PIECE, 0));
+    PEAK("bulk rows of 65 bytes, pieces of 64 KiB", stream.len, receive(query, stream, PIECE, KEPT));
     commands_of_one_value();
     wide_executions_kept(13);
     wide_executions_kept(64);
     stream = load("reply-text");
-    PEAK("a reply of rows of 46 bytes", stream.len, read_reply(stream, PIECE, 0, 0));
+    PEAK("a reply of rows of 46 bytes", stream.len, read_reply(stream, PIECE, 0, KEPT));
     small_rows_kept("a reply of rows of four empty cells", 0);
     small_rows_kept("a reply of rows of four NULLs", 251);
     wide_rows_kept(2);

@@ -69,11 +69,11 @@ static void row_of(size_t len) {
     printf("| %zu |", len);
     sent(one, len, 0);
     sent(one, len, 1);
-    COLUMN(LONGEST, WORK, receive(one, text, PIECE, 0));
-    COLUMN(LONGEST, WORK_BYTEWISE, receive(one, text, 1, 0));
-    COLUMN(MOST, WORK, receive(query, texts, PIECE, 0));
-    COLUMN(MOST, WORK, receive(query, commands, PIECE, 0));
-    COLUMN(LONGEST, WORK_BYTEWISE, receive(query, commands, 1, 0));
+    COLUMN(LONGEST, WORK, receive(one, text, PIECE, KEPT));
+    COLUMN(LONGEST, WORK_BYTEWISE, receive(one, text, 1, KEPT));
+    COLUMN(MOST, WORK, receive(query, texts, PIECE, KEPT));
+    COLUMN(MOST, WORK, receive(query, commands, PIECE, KEPT));
+    COLUMN(LONGEST, WORK_BYTEWISE, receive(query, commands, 1, KEPT));
     COLUMN(MOST, WORK, recode(query, commands));
     connection_of(len);
     printf("\n");

@@ -200,10 +200,20 @@ fn put_all(connection: &mut Connection, side: Side, packets: &[u8], out: &mut Ve
     connection.put_packets(side, packets, out).is_ok()
 }
 
-/// Puts rows. Answers whether all were put.
-fn put_rows(connection: &mut Connection, rows: &[Row], out: &mut Vec<u8>) -> bool {
+/// Puts rows by their cells. Answers whether all were put.
+fn put_cells(connection: &mut Connection, rows: &[Row], out: &mut Vec<u8>) -> bool {
     for row in rows {
         if connection.put_row(row, out).is_err() {
+            return false;
+        }
+    }
+    true
+}
+
+/// Puts events. Answers whether all were put.
+fn put_events(connection: &mut Connection, events: &[Event], out: &mut Vec<u8>) -> bool {
+    for event in events {
+        if connection.put(event, out).is_err() {
             return false;
         }
     }
@@ -213,30 +223,63 @@ fn put_rows(connection: &mut Connection, rows: &[Row], out: &mut Vec<u8>) -> boo
 /// A prepare and its reply, a command, the packets before its reply's rows, and those behind them.
 type Parts<'a> = [&'a [u8]; 5];
 
-/// Puts a command, and its reply with these rows, so many times, into a buffer that is emptied before
-/// each. Answers the bytes of the last time.
+/// Puts a prepare and its reply. Answers whether they were put.
+fn put_prepare(connection: &mut Connection, parts: Parts<'_>, out: &mut Vec<u8>) -> bool {
+    let [prepare, prepared, _, _, _] = parts;
+    put_all(connection, Side::Client, prepare, out)
+        && put_all(connection, Side::Server, prepared, out)
+}
+
+/// Puts a command and the packets before its reply's rows. Answers whether they were put.
+fn put_before(connection: &mut Connection, parts: Parts<'_>, out: &mut Vec<u8>) -> bool {
+    let [_, _, command, before, _] = parts;
+    put_all(connection, Side::Client, command, out)
+        && put_all(connection, Side::Server, before, out)
+}
+
+/// Puts a command, and its reply with rows by their cells and as events, so many times, into a buffer
+/// that is emptied before each. Answers the bytes of the last time.
 fn put_replies(
     connection: &mut Connection,
     parts: Parts<'_>,
-    rows: &[Row],
+    cells: &[Row],
+    events: &[Event],
     times: usize,
     out: &mut Vec<u8>,
 ) -> usize {
-    let [prepare, prepared, command, before, behind] = parts;
-    let mut are_put = put_all(connection, Side::Client, prepare, out)
-        && put_all(connection, Side::Server, prepared, out);
+    let [_, _, _, _, behind] = parts;
+    let mut are_put = put_prepare(connection, parts, out);
     for _ in 0..times {
         out.clear();
         are_put = are_put
-            && put_all(connection, Side::Client, command, out)
-            && put_all(connection, Side::Server, before, out)
-            && put_rows(connection, rows, out)
+            && put_before(connection, parts, out)
+            && put_cells(connection, cells, out)
+            && put_events(connection, events, out)
             && put_all(connection, Side::Server, behind, out);
     }
     if are_put { out.len() } else { 0 }
 }
 
-/// Puts a command and its reply on one connection so many times, each row by its cells.
+/// The events of rows behind what comes before them, of which there are fewer than bytes.
+fn events_of(alloc: Global, parts: Parts<'_>, rows: &[u8]) -> Result<Vec<Event>, AllocError> {
+    let mut connection = logged_in(alloc);
+    let mut out = Vec::new(alloc);
+    let mut found = Vec::new(alloc);
+    if put_prepare(&mut connection, parts, &mut out)
+        && put_before(&mut connection, parts, &mut out)
+        && feed(&mut connection, Side::Server, rows)
+    {
+        for _ in rows {
+            match next_of(&mut connection) {
+                Some(event) => found.push(event)?,
+                None => return Ok(found),
+            }
+        }
+    }
+    Ok(found)
+}
+
+/// Puts a command and its reply on one connection so many times, rows by cells or as events.
 ///
 /// The buffer is emptied before each time. The rows are in the reply's stream from one position to
 /// another. A prepare and its reply are put before, where there are any. Answers the bytes of one
@@ -251,13 +294,27 @@ pub extern "C" fn mysql_bench_put_rows(
     from: usize,
     to: usize,
     binary: bool,
+    by_event: bool,
     times: usize,
 ) -> usize {
-    let (before, _) = stream.split_at(from.min(stream.len()));
-    let (_, behind) = stream.split_at(to.min(stream.len()));
-    let reply = read_reply(alloc, kind_of(binary), CAPABILITIES, 1, LIMIT, &[stream]);
+    let (before, rest) = stream.split_at(from.min(stream.len()));
+    let (rows, behind) = rest.split_at(to.saturating_sub(from).min(rest.len()));
+    let parts = [prepare, prepared, command, before, behind];
     let mut connection = logged_in(alloc);
     let mut out = Vec::new(alloc);
-    let parts = [prepare, prepared, command, before, behind];
-    put_replies(&mut connection, parts, rows_of(&reply), times, &mut out)
+    if by_event {
+        let Ok(events) = events_of(alloc, parts, rows) else {
+            return 0;
+        };
+        return put_replies(&mut connection, parts, &[], &events, times, &mut out);
+    }
+    let reply = read_reply(alloc, kind_of(binary), CAPABILITIES, 1, LIMIT, &[stream]);
+    put_replies(
+        &mut connection,
+        parts,
+        rows_of(&reply),
+        &[],
+        times,
+        &mut out,
+    )
 }
