@@ -1019,8 +1019,11 @@ uint32_t mysql_session_connection_after_login(mysql_session_connection *connecti
 void mysql_session_connection_free(mysql_session_connection *connection);
 
 /* Takes a piece of a side's stream, whole, and reads nothing of it yet; behind a fault it is taken
- * too, and never read. Answers OK, or why nothing of it is taken: NO_SUCH_KIND (of a side, before any other), CONNECTION_CLOSED, CONNECTION_HELD,
- * MEMORY, EMPTY_HANDLE. At CONNECTION_HELD take events first, or feed the side whose turn it is. */
+ * too, and never read. It has at most as many bytes as the side has room for, which
+ * mysql_session_connection_standing tells: a long file is fed in pieces.
+ * Answers OK, or why nothing of it is taken: NO_SUCH_KIND (of a side, before any other),
+ * CONNECTION_CLOSED, CONNECTION_HELD (it is longer), MEMORY, EMPTY_HANDLE. At CONNECTION_HELD take
+ * events first, or feed the side whose turn it is. */
 uint32_t mysql_session_connection_feed(mysql_session_connection *connection, uint32_t side,
                                        const uint8_t *piece, size_t len);
 

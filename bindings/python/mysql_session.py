@@ -2281,11 +2281,11 @@ class Connection(_Object):
     def feed(self, side: Side, data: Union[bytes, bytearray, memoryview]) -> Iterator[Event]:
         """Takes a piece of a side's stream, and gives the events that are whole then.
 
-        The piece is taken at once, whole. Events are read as they are asked for, and those that
-        aren't asked for stay for the next call. Behind a fault bytes are taken too, and never read.
-        Raises MySQLSessionError with CONNECTION_HELD if more of the side would wait unread than its
-        longest payload takes, which `room` tells before. With CONNECTION_CLOSED it is raised after
-        `close`. Nothing of the piece is taken then. The iterator raises ConnectionFault.
+        The piece is taken at once, whole. It has at most `room` bytes: feed a long file in pieces.
+        Events are read as they are asked for, and those that aren't asked for stay for the next
+        call. Behind a fault bytes are taken too, and never read. Raises MySQLSessionError with
+        CONNECTION_HELD if the piece is longer than `room`. With CONNECTION_CLOSED it is raised
+        after `close`. Nothing of the piece is taken then. The iterator raises ConnectionFault.
         """
         native = self._native
         native.feed(side if type(side) is Side else Side(side), data)

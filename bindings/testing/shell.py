@@ -3,9 +3,8 @@
     python3 bindings/testing/shell.py PROGRAM
 
 PROGRAM is the executable mysql_session_program, proved or not. An example is an indented block. A line behind `$`
-begins a command, lines behind `>` go on with it, and the others are what it prints. Behind `cat > FILE` they are what
-is written into the file. Each block is run in a new folder, which goes afterwards, and in which `crates` is this
-repository's. The last line is `N passed, M failed`.
+begins a command, lines behind `>` go on with it, and the others are what it prints. Each block is run in a new folder,
+which goes afterwards, and in which `crates` is this repository's. The last line is `N passed, M failed`.
 """
 
 import os
@@ -51,12 +50,10 @@ def commands(lines):
 
 def run_command(command, behind, folder):
     """Runs a command, and compares what it prints with the lines behind it."""
-    text = "".join(f"{it}\n" for it in behind)
-    is_file = command.startswith("cat > ")
-    ran = subprocess.run(["bash", "-c", command], cwd=folder, input=text if is_file else "", stdout=subprocess.PIPE,
+    ran = subprocess.run(["bash", "-c", command], cwd=folder, input="", stdout=subprocess.PIPE,
                          stderr=subprocess.STDOUT, encoding="utf-8", timeout=SECONDS,
                          env={**os.environ, "PATH": f"{folder}/bin:{os.environ['PATH']}"})
-    compare(ran.stdout, "" if is_file else text, f"of `{command}`")
+    compare(ran.stdout, "".join(f"{it}\n" for it in behind), f"of `{command}`")
 
 
 def run_block(lines, program):
