@@ -40,12 +40,15 @@ fn set_or_refusal<T: ToValue>(
         (λ error. too_long 0 (map T.as_value objects.now) ≡ Some error)) }
     ensures why { IfOk result (λ made. IfErr made (λ error. is_want_of_memory error ≡ false)) }
 {
-    match objects.to_params(alloc) {
-        Ok(params) => Ok(Ok(params)),
-        Err(SetError::Memory) => Err(AllocError),
-        Err(SetError::TooLong(place)) => Ok(Err(SetError::TooLong(place))),
-        Err(SetError::Redefined(name)) => Ok(Err(SetError::Redefined(name))),
-        Err(SetError::Params(error)) => Ok(Err(SetError::Params(error))),
+    let error = match objects.to_params(alloc) {
+        Ok(params) => return Ok(Ok(params)),
+        Err(error) => error,
+    };
+    match error {
+        SetError::Memory => Err(AllocError),
+        SetError::TooLong(place) => Ok(Err(SetError::TooLong(place))),
+        SetError::Redefined(name) => Ok(Err(SetError::Redefined(name))),
+        SetError::Params(error) => Ok(Err(SetError::Params(error))),
     }
 }
 
