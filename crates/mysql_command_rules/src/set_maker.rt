@@ -40,8 +40,9 @@ pub fn made_set<S: SetMaker>(alloc: Global, sets: &S, number: usize) -> Result<P
         ⊎ ((error : SetErrorOf) × IsSetAt (S.given sets.now) number (Err error) ×
         (refusal ≡ refusals.Params number error))) }
 {
-    match sets.set(alloc, number)? {
-        Ok(params) => Ok(params),
-        Err(error) => Err(Refusal::Params(number, error)),
-    }
+    let error = match sets.set(alloc, number)? {
+        Ok(params) => return Ok(params),
+        Err(error) => error,
+    };
+    Err(Refusal::Params(number, error))
 }
