@@ -53,15 +53,15 @@ impl ToValue for Value {
     ghost as_value = { λ value. Some value };
 
     fn to_value(&self, alloc: Global) -> Result<Value, ToValueError> {
+        // Each is returned by itself: an answer that is one of several is moved once more.
         match self {
-            Value::NULL => Ok(Value::NULL),
-            Value::Bytes(bytes) => Ok(Value::Bytes(bytes.clone(alloc)?)),
-            Value::Int(number) => Ok(Value::Int(*number)),
-            Value::UInt(number) => Ok(Value::UInt(*number)),
-            Value::Float(_) | Value::Double(_) | Value::Date(..) | Value::Time(..) => copy_rare(
-                alloc, self,
-            ),
+            Value::NULL => return Ok(Value::NULL),
+            Value::Bytes(bytes) => return Ok(Value::Bytes(bytes.clone(alloc)?)),
+            Value::Int(number) => return Ok(Value::Int(*number)),
+            Value::UInt(number) => return Ok(Value::UInt(*number)),
+            Value::Float(_) | Value::Double(_) | Value::Date(..) | Value::Time(..) => {}
         }
+        copy_rare(alloc, self)
     }
 }
 
