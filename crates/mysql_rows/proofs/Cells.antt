@@ -1,7 +1,6 @@
 -- Cells that are read one after the other.
-use Rattle.std.proofs.Common.{◌≡◌, ℕ, suc, ◌-◌, ◌+◌, ◌≤◌, ◌<◌, Bool, List, [], ◌∷◌, ◌++◌, length, map, take, drop, get_or, Option, Some, Ok, Err, refl, sym, ap, ◌∙◌, append_assoc, append-nil, add-one, drop-cons, length-append, length-take, arith}
+use Rattle.std.proofs.Common.{◌≡◌, ℕ, suc, ◌-◌, ◌+◌, ◌≤◌, ◌<◌, Bool, List, [], ◌∷◌, ◌++◌, length, take, drop, get_or, Option, Some, Ok, Err, refl, sym, ap, ◌∙◌, append_assoc, append-nil, add-one, drop-cons, length-append, length-take, arith}
 use Rattle.std.proofs.lemmas.List.{drop_all}
-use Rattle.std.specs.List.{range_with_len}
 use Rattle.mysql_buf.specs.FirstBytes.{first-some}
 use Rattle.mysql_buf.specs.Reading.{bytes_at}
 use Rattle.mysql_fields.specs.declared.error.WireError.{WireError}
@@ -53,12 +52,6 @@ module _ (read_at : List ℕ → Reading Value) (front : List (Option Value)) (c
       let k : count - i ≡ 0 = omega arith in
       let one : with_front front (some_cells (elements_at read_at (count - i) bytes)) ≡ Ok (front, bytes) = rw k (ap (λ (ys : List (Option Value)). Ok (ys, bytes)) (append-nil front)) in
       sym so_far ∙ one
-
--- the bit of this place, and those of the places after it
-pub next_bit : (null_at : ℕ → Bool) (count i : ℕ) → i < count → map null_at (range_with_len i (count - i)) ≡ null_at i ∷ map null_at (range_with_len (i + 1) (count - (i + 1)))
-next_bit null_at count i lt =
-    let k : count - i ≡ suc (count - (i + 1)) = omega arith in
-    rw k refl
 
 -- the column at this place, and those after it
 pub next_column : (columns : List Column) (i : ℕ) (column : Column) → i < length columns → column ≡ get_or columns i column → drop i columns ≡ column ∷ drop (i + 1) columns

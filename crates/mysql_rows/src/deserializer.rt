@@ -1,16 +1,15 @@
 //! Rows read from their payloads.
 
-ghost use Rattle.std.specs.Prelude.{◌≡◌, ◌≤◌, ◌∷◌, Bool, IfOk, List, None, false, length, true};
+ghost use Rattle.std.specs.Prelude.{◌≡◌, ◌≤◌, IfOk, None, false, length, true};
 ghost use Rattle.mysql_fields.specs.Laws.{unsized};
 ghost use Rattle.mysql_wire.specs.Wire.{GivesPart};
-ghost use Rattle.mysql_field_lists.specs.NullBitmap.{bitmap_len, is_null_at};
+ghost use Rattle.mysql_field_lists.specs.NullBitmap.{bitmap_len};
 ghost use Rattle.mysql_columns.specs.Views.{column_view};
 ghost use Rattle.mysql_rows.specs.Rows.{Row as RowOf, as_row, binary_cell_at, binary_cells_at, binary_row_at};
 ghost use Rattle.mysql_rows.specs.Rows.{binary_row_body_at, some_cells, text_row_at};
 ghost use Rattle.mysql_wire.specs.Lists.{elements_at};
 ghost use Rattle.mysql_cells.specs.Cells.{column_cell_at, text_cell_at, value_at};
 ghost use Rattle.mysql_cells.specs.declared.cell_form.CellForm.TheVariants as cell_form;
-ghost use Rattle.mysql_field_lists.specs.NullBits.{bits_left};
 ghost use Rattle.mysql_rows.specs.Views.{column_views, row_view, shared_columns};
 
 use crate::binary_cell::has_no_sign;
@@ -20,7 +19,7 @@ use mysql_cells::cell_form::{CellForm, form_of_type};
 use mysql_cells::cell_values::whole8;
 use mysql_cells::{Value, read_cell, read_text_cell};
 use mysql_columns::Column;
-use mysql_field_lists::{NullBitmap, NullBits, SerializationSide};
+use mysql_field_lists::{NullBitmap, SerializationSide};
 use mysql_queries::ByteString;
 use mysql_wire::{Binary, MyDeserialize, ParseBuf, Readable, Text, WireError};
 use std::alloc::{AllocError, Global};
@@ -83,17 +82,6 @@ fn text_cells(
         cells.push_reserved(Some(value));
     }
     Ok(cells)
-}
-
-// Whether the next column is NULL.
-fn next_is_null(nulls: &mut NullBits) -> bool
-    ensures { (first : Bool) (others : List Bool) → bits_left nulls.old ≡ first ∷ others →
-        (result ≡ first) × (bits_left nulls.new ≡ others) }
-{
-    match nulls.next() {
-        Some(is_null) => is_null,
-        None => false,
-    }
 }
 
 // A cell of eight bytes.
@@ -172,11 +160,10 @@ fn binary_cells<S: SerializationSide>(
     ensures len { IfOk result (λ cells. length cells.items ≡ length columns.now) }
 {
     let bitmap = NullBitmap::<S, &[u8]>::from_bytes(bitmap);
-    let mut nulls = bitmap.iter(columns.len());
     let mut cells = Vec::with_capacity(alloc, columns.len())?;
     for column in columns {
-        let is_null = next_is_null(&mut nulls);
-        let value = binary_cell(alloc, is_null, column, rest)?;
+        let null = bitmap.is_null(cells.len());
+        let value = binary_cell(alloc, null, column, rest)?;
         cells.push_reserved(Some(value));
     }
     Ok(cells)
