@@ -20,7 +20,7 @@ use crate::row_bitmap::mark;
 use crate::text_writing::put_text;
 use bitflags::Flags;
 use mysql_cells::cell_form::{CellForm, form_of_type};
-use mysql_cells::typed_cell::{in_eight, in_four};
+use mysql_cells::typed_cell::in_four;
 use mysql_cells::{Cell, Value, cell_of as cell_by_type, put_cell};
 use mysql_columns::Column;
 use mysql_const::{ColumnFlags, ColumnType};
@@ -116,19 +116,6 @@ fn put_bytes(column: &Column, bytes: &[u8], out: &mut Vec<u8>) -> Result<(), Not
     }
 }
 
-/// Appends the eight bytes of a number that is in range.
-#[inline(always)]
-fn put_eight(number: Option<u64>, out: &mut Vec<u8>) -> Result<(), NotWritten>
-    ensures ok { OnOk result (IsSomeAnd (option_map (little_bytes 8) number)
-        (λ bytes. out.new.items ≡ out.old.items ++ bytes)) }
-    ensures kept { OnErr result (out.new.items ≡ out.old.items) }
-{
-    match number {
-        Some(number) => Ok(out.extend_from_slice(&number.to_le_bytes())?),
-        None => Err(NotWritten),
-    }
-}
-
 /// Appends the four bytes of a number that is in range.
 #[inline(always)]
 fn put_four(number: Option<u32>, out: &mut Vec<u8>) -> Result<(), NotWritten>
@@ -142,9 +129,8 @@ fn put_four(number: Option<u32>, out: &mut Vec<u8>) -> Result<(), NotWritten>
     }
 }
 
-/// Appends the eight bytes of a number with a sign, where it is in range.
-///
-/// The one kind that is out of range is refused first, so that nothing else is asked.
+/// Appends the eight bytes of a number with a sign. It is out of range only where it is negative
+/// and the column's numbers have no sign.
 #[inline(always)]
 fn put_long(unsigned: bool, number: i64, out: &mut Vec<u8>) -> Result<(), NotWritten>
     ensures ok { OnOk result (IsSomeAnd (number_cell 8 w64 unsigned number)
@@ -154,11 +140,11 @@ fn put_long(unsigned: bool, number: i64, out: &mut Vec<u8>) -> Result<(), NotWri
     if unsigned && number < 0 {
         return Err(NotWritten);
     }
-    put_eight(in_eight(unsigned, i128::from(number)), out)
+    Ok(out.extend_from_slice(&number.cast_unsigned().to_le_bytes())?)
 }
 
 /// Appends the cell of a number with a sign, which the value is. The types that most such numbers
-/// have are named here: the table of all types takes longer to ask.
+/// have are asked for one by one: the table of all types takes longer.
 #[inline(always)]
 fn put_int(column: &Column, value: &Value, number: i64, out: &mut Vec<u8>) -> Result<(), NotWritten>
     requires { value.now ≡ Int number }
@@ -167,13 +153,15 @@ fn put_int(column: &Column, value: &Value, number: i64, out: &mut Vec<u8>) -> Re
     ensures kept { OnErr result (out.new.items ≡ out.old.items) }
 {
     let unsigned = has_no_sign(column.flags());
-    match column.column_type() {
-        ColumnType::MYSQL_TYPE_LONGLONG => put_long(unsigned, number, out),
-        ColumnType::MYSQL_TYPE_LONG | ColumnType::MYSQL_TYPE_INT24 => put_four(
-            in_four(unsigned, i128::from(number)),
-            out,
-        ),
-        _ => put_any(column, value, out),
+    let column_type = column.column_type();
+    if column_type == ColumnType::MYSQL_TYPE_LONGLONG {
+        put_long(unsigned, number, out)
+    } else if column_type == ColumnType::MYSQL_TYPE_LONG
+        || column_type == ColumnType::MYSQL_TYPE_INT24
+    {
+        put_four(in_four(unsigned, i128::from(number)), out)
+    } else {
+        put_any(column, value, out)
     }
 }
 
