@@ -160,6 +160,12 @@ module _ (marks : List Bool) (i : ℕ) (inside : i < length marks) (off : get_or
               ∙ get_or-map-range_with_len (λ k. bits_number 8 (drop (8 * k) marks)) 0 ((length marks + 7) / 8) k k 0 (omega (arith, few, length-set marks i true)) (omega arith)
               ∙ sym (other_byte k other)
 
+-- the bitmap of up to six cells is one byte
+pub one_byte : (count : ℕ) → count ≤ 6 → replicate {A = ℕ} ((count + 9) / 8) 0 ≡ 0 ∷ []
+one_byte count few =
+    let one : (count + 9) / 8 ≡ 1 = omega (arith, few) in
+    ap (λ (n : ℕ). replicate {A = ℕ} n 0) one
+
 -- the bytes before any bit is set
 pub zeros_first : (cells : List (Option Value)) → replicate ((length cells + 9) / 8) 0 ≡ bits_bytes (row_marks 0 cells)
 unfolding bits_bytes marks_to

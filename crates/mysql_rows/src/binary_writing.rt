@@ -160,6 +160,7 @@ fn put_own_cells<C: Held>(
 /// Appends a zero and a bitmap of zeros for so many cells. Answers from where on that stands. After a
 /// refusal what stood before stands in front.
 #[inline(always)]
+#[tactic(auto, using(crate::proofs::NullBits::one_byte))]
 fn put_front(count: usize, out: &mut Vec<u8>) -> Result<usize, NotWritten>
     requires { count ≤ usize.MAX - 9 }
     ensures place { IfOk result (λ bitmap. bitmap ≡ length (out.old.items ++ 0 ∷ [])) }
@@ -168,6 +169,11 @@ fn put_front(count: usize, out: &mut Vec<u8>) -> Result<usize, NotWritten>
 {
     out.push(0)?;
     let bitmap = out.len();
+    // Most rows have so few cells that their bitmap is one byte.
+    if count <= 6 {
+        out.push(0)?;
+        return Ok(bitmap);
+    }
     put_zeros(NullBitmap::<ServerSide, &[u8]>::bitmap_len(count), out)?;
     Ok(bitmap)
 }
