@@ -1,6 +1,5 @@
 -- A byte and a text to the end are read again, and so is a request for another plugin or for one more.
-use Rattle.std.proofs.Common.{◌≡◌, ℕ, ◌<◌, List, [], ◌∷◌, ◌++◌, Ok, refl, ap, ◌∙◌, append-nil, append_assoc, lit<}
-use Rattle.byteorder.specs.Endian.{little_bytes}
+use Rattle.std.proofs.Common.{◌≡◌, ℕ, ◌<◌, List, [], ◌++◌, Ok, refl, append-nil, lit<}
 use Rattle.mysql_auth.specs.Packets.{SwitchFields, headed, headed_at, next_factor, next_factor_at, switch, switch_at}
 use Rattle.mysql_auth.specs.Packets.{switch_kept}
 use Rattle.mysql_fields.specs.TextLaws.{null_text_at-back}

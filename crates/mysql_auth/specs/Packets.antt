@@ -2,7 +2,7 @@
 -- (MySQL: Client/Server Protocol, "Protocol::AuthMoreData", "Protocol::AuthSwitchRequest" and
 -- "Protocol::AuthNextFactor".)
 -- A reading takes bytes from the front: x.0 is what was read and x.1 the bytes left; the first refusal counts.
-use Rattle.std.specs.Prelude.{ℕ, ◌∷◌, ◌++◌, [], List, Ok}
+use Rattle.std.specs.Prelude.{ℕ, ◌∷◌, [], List, Ok}
 use Rattle.std.specs.List.{before_first, concat}
 use Rattle.byteorder.specs.Endian.{little_bytes}
 use Rattle.mysql_buf.specs.Reading.{is_zero}

@@ -3,7 +3,7 @@
 //!     let plugin = AuthPlugin::from_bytes(b"caching_sha2_password");
 //!     let name = plugin.as_bytes();
 
-ghost use Rattle.std.specs.Prelude.{◌≡◌, ◌++◌, ◌∷◌, [], IfOk, MatchOption, None, Ok, Some, ℕ};
+ghost use Rattle.std.specs.Prelude.{◌≡◌, ◌++◌, ◌∷◌, [], IfOk, MatchOption, None, Ok, Some};
 ghost use Rattle.mysql_auth.specs.Plugins.{Keeps, Plugin, plugin_name, plugin_named, plugin_at, with_data};
 ghost use Rattle.mysql_auth.specs.Plugins.{without_zero};
 ghost use Rattle.mysql_auth.specs.Views.{plugin_view};

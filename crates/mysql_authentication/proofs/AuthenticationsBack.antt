@@ -1,5 +1,5 @@
 -- Payloads of an authentication that are put are read as their events.
-use Rattle.std.proofs.Common.{◌≡◌, ◌<◌, ◌==◌, ◌&&◌, ◌||◌, ℕ, Bool, true, false, not, List, [], ◌∷◌, ◌++◌, length, None, is_some, Ok}
+use Rattle.std.proofs.Common.{◌≡◌, ◌<◌, ◌==◌, ◌&&◌, ◌||◌, ℕ, true, not, List, [], ◌∷◌, ◌++◌, length, None, is_some, Ok}
 use Rattle.std.proofs.Common.{refl, ap, ◌∙◌, append-nil, length-append, arith}
 use Rattle.std.specs.List.{before_first}
 use Rattle.mysql_buf.specs.Reading.{is_zero}
@@ -7,7 +7,7 @@ use Rattle.mysql_fields.specs.Laws.{done}
 use Rattle.mysql_fields.specs.Texts.{null_text}
 use Rattle.mysql_auth.specs.PacketLaws.{next_factor_at-back, switch_at-back}
 use Rattle.mysql_auth.specs.Packets.{SwitchFields, headed, next_factor, next_factor_at, switch, switch_at, switch_kept}
-use Rattle.mysql_authentication.proofs.FirstCause.{both_passed, passed, three_passed}
+use Rattle.mysql_authentication.proofs.FirstCause.{both_passed, not-true, passed, three_passed}
 use Rattle.mysql_authentication.proofs.Packets.{both-hold, error-back, ok-back}
 use Rattle.mysql_authentication.proofs.Zeros.{front_whole}
 use Rattle.mysql_authentication.specs.Events.{Accepted, AuthMore, AuthSwitch, Denied, NextFactor, OldAuthSwitch, PluginData}
@@ -64,10 +64,6 @@ factor capabilities p agreed h =
 more : (capabilities : ℕ) (bytes : List ℕ) → authentication_at capabilities (headed 1 bytes) ≡ Ok (AuthMore bytes)
 unfolding authentication_at headed
 more capabilities bytes = rw (append-nil bytes) refl
-
-not-true : (test : Bool) → not test ≡ true → test ≡ false
-not-true true h = cc
-not-true false h = refl
 
 bare : (capabilities : ℕ) (bytes : List ℕ) → is_bare capabilities bytes ≡ true → authentication_at capabilities bytes ≡ Ok (PluginData bytes)
 unfolding authentication_at

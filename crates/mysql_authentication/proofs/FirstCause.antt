@@ -1,6 +1,6 @@
 -- Where there is no first cause, each test holds.
-use Rattle.std.proofs.Common.{◌≡◌, Bool, true, false, List, [], ◌∷◌, Option, None, Some, refl}
-use Rattle.mysql_authentication.specs.Written.{first_cause, unless}
+use Rattle.std.proofs.Common.{◌≡◌, Bool, true, false, List, [], ◌∷◌, Option, None, Some, refl, not}
+use Rattle.mysql_authentication.specs.Written.{first_cause, same, unless}
 use Rattle.mysql_authentication.specs.declared.refusal.LoginRefusal.{LoginRefusal}
 
 pub passed : (a : Bool) (A : LoginRefusal) → unless a A ≡ None → a ≡ true
@@ -60,3 +60,16 @@ fields_passed a c d e f g A C D E F G one h =
     let fourth = first_passed d D (unless e E ∷ unless f F ∷ unless g G ∷ []) third.1 in
     let rest = three_passed e f g E F G fourth.1 in
     (first.0, second.0, third.0, fourth.0, rest.0, rest.1, rest.2)
+
+-- what a test says of another that is known
+pub same-true : (test : Bool) → same test true ≡ true → test ≡ true
+same-true true h = refl
+same-true false h = h
+
+pub same-false : (test : Bool) → same test false ≡ true → test ≡ false
+same-false true h = cc
+same-false false h = refl
+
+pub not-true : (test : Bool) → not test ≡ true → test ≡ false
+not-true true h = cc
+not-true false h = refl

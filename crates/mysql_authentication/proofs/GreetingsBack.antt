@@ -2,7 +2,7 @@
 use Rattle.std.proofs.Common.{◌≡◌, ◌<◌, ◌-◌, ◌%◌, ◌==◌, ◌||◌, ℕ, max, Bool, true, false, not, List, [], ◌∷◌, ◌++◌, length, slice_index_or, Option, None, Some, is_some, Ok}
 use Rattle.std.proofs.Common.{refl, ap, append-nil, arith}
 use Rattle.std.proofs.lemmas.Bool.{eqb-true, le-ltb}
-use Rattle.mysql_authentication.proofs.FirstCause.{first_passed, passed, seven_passed}
+use Rattle.mysql_authentication.proofs.FirstCause.{first_passed, not-true, passed, seven_passed}
 use Rattle.mysql_authentication.proofs.HandshakesBack.{block-back, fixed-back}
 use Rattle.mysql_authentication.proofs.Packets.{error-back}
 use Rattle.mysql_authentication.proofs.Zeros.{front_whole, last_zero}
@@ -76,10 +76,6 @@ greeted p h none =
     let version = first_passed (p.protocol_version == 10) ReadsOtherwise _ none in
     let ten : p.protocol_version ≡ 10 = eqb-true p.protocol_version 10 version.0 in
     by_version (p.protocol_version % 256) _ p (omega arith) (handshake-back p h none)
-
-not-true : (test : Bool) → not test ≡ true → test ≡ false
-not-true true h = cc
-not-true false h = refl
 
 -- an error before any capabilities are known
 early : (code : ℕ) (state : Option (List ℕ)) (message : List ℕ) → (is_some state || not (slice_index_or message 0 0 == 35)) ≡ true →

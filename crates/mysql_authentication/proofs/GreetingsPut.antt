@@ -28,6 +28,7 @@ use Rattle.mysql_fields.specs.declared.error.WireError.TheVariants.{TooManyBytes
 use Rattle.mysql_handshake.specs.Capabilities.{plugin_auth, protocol_41, secure_connection}
 use Rattle.mysql_handshake.specs.Handshakes.{FixedFields, HandshakeFields, block_at, fixed_at, flags_at, handshake_at, name_at, scramble_at, scramble_fits}
 use Rattle.mysql_server_packets.specs.Packets.{ServerError, error_at, error_code_at, server_error_at}
+use Rattle.mysql_authentication.proofs.FirstCause.{same-false, same-true}
 
 -- n bytes were read
 pub length_own : (n : ℕ) (bytes : List ℕ) (x : List ℕ × List ℕ) → bytes_at n bytes ≡ Ok x → length x.0 ≡ n
@@ -192,14 +193,6 @@ handshake_own b bytes x is h =
       name_own fixed.0.0.capabilities scramble.0.1 name.0 name.1,
       fits.1,
     ) refl)
-
-same-true : (test : Bool) → same test true ≡ true → test ≡ true
-same-true true h = refl
-same-true false h = h
-
-same-false : (test : Bool) → same test false ≡ true → test ≡ false
-same-false true h = cc
-same-false false h = refl
 
 -- the text of an error without a state is all that stands behind the code
 message_own : (bytes : List ℕ) (x : ServerError × List ℕ) → error_at 0 bytes ≡ Ok x → x.0.error_message ≡ drop 3 bytes

@@ -8,7 +8,7 @@ use Rattle.std.specs.Int.RustNames.{bit_and}
 use Rattle.bitflags.proofs.OnLiterals.{bitflags_on_literals}
 use Rattle.byteorder.specs.Endian.{little_number}
 use Rattle.mysql_auth.specs.Plugins.{Plugin}
-use Rattle.mysql_authentication.proofs.FirstCause.{fields_passed, none_of_two, passed, three_passed}
+use Rattle.mysql_authentication.proofs.FirstCause.{fields_passed, none_of_two, passed, same-false, same-true, three_passed}
 use Rattle.mysql_handshake_response.proofs.AttributesBack.{attributes-back}
 use Rattle.mysql_authentication.proofs.PluginsBack.{plugin-back}
 use Rattle.mysql_authentication.proofs.Zeros.{front_whole}
@@ -165,14 +165,6 @@ cut-back : (server : ℕ) (r : SslRequestFields) → HoldsRequest r → are_name
     → login_of r (response_to_at server (ssl_request r ++ [])) ≡ CutOff r
 unfolding response_to_at fields_by_at
 cut-back server r h named = rw (ssl_request_at-back r [] (is_request r h named)) refl
-
-same-true : (test : Bool) → same test true ≡ true → test ≡ true
-same-true true h = refl
-same-true false h = h
-
-same-false : (test : Bool) → same test false ≡ true → test ≡ false
-same-false true h = cc
-same-false false h = refl
 
 -- what a request's causes say
 abbrev Agreed : ℕ → Bool → SslRequestFields → Type 0

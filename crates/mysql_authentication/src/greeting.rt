@@ -12,7 +12,6 @@ ghost use Rattle.mysql_authentication.specs.Views.{greeting_view};
 ghost use Rattle.mysql_authentication.specs.declared.fault.LoginFault.TheVariants.{BadError, BadGreeting};
 ghost use Rattle.mysql_fields.specs.Wire.{Tells};
 ghost use Rattle.mysql_handshake.specs.Handshakes.{handshake_at};
-ghost use Rattle.mysql_server_packets.specs.Packets.{error_at};
 ghost use Rattle.mysql_server_packets.specs.Views.{server_error_view};
 
 use crate::events::GreetingEvent;

@@ -13,11 +13,10 @@ ghost use Rattle.mysql_authentication.specs.Readings.{response_of};
 ghost use Rattle.mysql_authentication.specs.Views.{login_view, response_event_view};
 ghost use Rattle.mysql_field_constants.specs.Flags.{contains};
 ghost use Rattle.mysql_fields.specs.Forms.{fixed_number_at};
-ghost use Rattle.mysql_handshake.specs.Capabilities.{in_force, offered, ssl};
+ghost use Rattle.mysql_handshake.specs.Capabilities.{in_force, offered};
 ghost use Rattle.mysql_handshake.specs.HandshakeViews.{handshake_view};
 ghost use Rattle.mysql_handshake_response.specs.Responses.{response_to_at};
 ghost use Rattle.mysql_handshake_response.specs.SslRequestViews.{ssl_request_view};
-ghost use Rattle.mysql_handshake_response.specs.SslRequests.{ssl_request_at};
 
 use crate::events::{LoginResponse, ResponseEvent};
 use crate::fault::LoginFault;

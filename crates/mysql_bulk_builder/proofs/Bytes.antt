@@ -25,9 +25,6 @@ no_types_later types zero (c ∷ cut) pos = absurd (omega arith)
 no_types_later types (suc s) (c ∷ cut) pos = refl
 
 module _ (room types : ℕ) (rows : List Row) (small : room < max_payload_len) where
-  cost : ℕ × ℕ → ℕ
-  cost p = wire_len (size types rows p.0 p.1)
-
   bytes_from : (cut : List ℕ) (s : ℕ) → AllPositive cut → s + sum cut ≡ length rows → AllFit (length rows) (Room room types rows) s cut →
       sum_by (λ p. wire_len (size types rows p.0 p.1)) (parts_from s cut) ≡ 11 * length cut + first_types types s cut + sum_by row_size (drop s rows)
   unfolding first_types

@@ -1,6 +1,6 @@
 -- Filling a builder with the rows given.
 use Rattle.std.proofs.Common.{◌≡◌, ◌≢◌, ℕ, ◌+◌, List, [], ◌∷◌, ◌++◌, length, map, Option, Some, Result, Ok, refl, sym, ◌∙◌, ap, arith, ◌<◌, length-append}
-use Rattle.std.proofs.lemmas.List.{append_assoc, append-nil, map-append}
+use Rattle.std.proofs.lemmas.List.{append_assoc, map-append}
 use Rattle.mysql_values.specs.declared.params.ParamsError.{ParamsError}
 use Rattle.mysql_bulk_builder.specs.declared.error.BulkExecuteRequestBuilderError.{BulkExecuteRequestBuilderError}
 use Rattle.mysql_bulk_builder.specs.Builder.{Builder, with_row}
@@ -16,9 +16,6 @@ with_rows_push : (builder : Builder) (rows : List Row) (row : Row) → with_row 
 with_rows_push builder rows row =
     ap (λ (rs : List Row). let b : Builder = record builder { arity = Some (length row); rows = rs } in b) (append_assoc builder.rows rows (row ∷ [])) ∙
     ap (λ (a : Option ℕ). let b : Builder = record builder { arity = a; rows = builder.rows ++ (rows ++ row ∷ []) } in b) (sym (arity_push builder.arity rows row))
-
-pub took_none : (builder : Builder) (given : Giving) → Took builder given builder given
-took_none builder given = ([], refl, ap (λ (rs : List Row). let b : Builder = record builder { rows = rs } in b) (sym (append-nil builder.rows)))
 
 pub took_more : (first : Builder) (given : Giving) (old new : Builder) (row : Row) (rest : Giving) → Took first given old (Ok row ∷ rest) → new ≡ with_row old row → Took first given new rest
 took_more first given old new row rest t e = (

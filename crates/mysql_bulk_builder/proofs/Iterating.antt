@@ -13,9 +13,6 @@ use Rattle.mysql_bulk_builder.specs.IterationLaws.{rows_given, waiting, first_ty
 use Rattle.mysql_bulk_builder.proofs.Greedy.{sum-cons}
 use Rattle.mysql_bulk_builder.proofs.Tight.{tight_parts_come_first}
 
-as_given : Row → Result Row ParamsError
-as_given row = Ok row
-
 rows_given_append : (rows : List Row) (rest : Giving) → rows_given (map (λ row. Ok row) rows ++ rest) ≡ rows ++ rows_given rest
 rows_given_append [] rest = refl
 rows_given_append (row ∷ rows) rest = ap (λ (rs : List Row). row ∷ rs) (rows_given_append rows rest)

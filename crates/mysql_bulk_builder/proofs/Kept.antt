@@ -1,5 +1,5 @@
 -- Rows in one flat list, and what a builder keeps of them.
-use Rattle.std.proofs.Common.{◌≡◌, ◌≢◌, ℕ, zero, suc, ◌+◌, ◌*◌, ◌<◌, ◌≤◌, inr, List, [], ◌∷◌, ◌++◌, length, take, drop, Option, Some, None, refl, sym, suc-mul, Vec, ◌∙◌, ap, subst, map, Bool, true, false, arith, length-append, length-drop}
+use Rattle.std.proofs.Common.{◌≡◌, ◌≢◌, ℕ, zero, suc, ◌+◌, ◌*◌, ◌<◌, ◌≤◌, List, [], ◌∷◌, ◌++◌, length, take, drop, Option, Some, None, refl, sym, suc-mul, Vec, ◌∙◌, ap, subst, map, Bool, true, false, arith, length-append, length-drop}
 use Rattle.std.specs.Prelude.{sum_by, unwrap_or, MatchOption, if◌then◌else◌}
 use Rattle.std.specs.List.{AllByRecursion}
 use Rattle.std.proofs.lemmas.List.{take-append-le, take-append-drop, drop-append-le, length-take-le, map-append, take_all}
@@ -20,7 +20,7 @@ use Rattle.mysql_bulk_builder.specs.Cut.{Row, row_size}
 use Rattle.mysql_bulk_builder.specs.FlatRows.{rows_from}
 use Rattle.mysql_bulk_builder.specs.declared.builder.ComStmtBulkExecuteRequestBuilder.TheInside.{Inside}
 use Rattle.mysql_bulk_builder.specs.BuilderView.{builder_of, IsBuilder, values_in}
-use Rattle.mysql_bulk_builder.specs.Builder.{columns_of, request_of, Builder, HasArity, HasRoom, HasOneMore, LacksRoom, IsFilled, most_rows, request_size, rows_with, with_row}
+use Rattle.mysql_bulk_builder.specs.Builder.{columns_of, request_of, Builder, HasArity, HasRoom, HasOneMore, IsFilled, most_rows, request_size, rows_with, with_row}
 
 pub length_rows : (count arity : ℕ) (values : List Value) → length (rows_from count arity values) ≡ count
 length_rows zero arity values = refl
@@ -52,11 +52,6 @@ rows_more (suc count) arity values row len is =
 pub all_push : {X : Type 0} (P : X → Type 0) (xs : List X) (x : X) → AllByRecursion P xs → P x → AllByRecursion P (xs ++ x ∷ [])
 all_push P [] x h p = (p, tt)
 all_push P (y ∷ xs) x h p = (h.0, all_push P xs x h.1 p)
-
--- there is no room, or there is, by the bytes of the rows held
-pub lacks_beside : (builder : Builder) (row : Row) (held : ℕ) → held ≡ sum_by row_size builder.rows →
-    builder.room < 7 + (if builder.typed then 2 * length row else 0) + held + row_size row → LacksRoom builder row
-lacks_beside builder row held is lacks = inr (omega (arith, sum_by_push row_size builder.rows row, is, lacks))
 
 pub has_beside : (builder : Builder) (row : Row) (held count n : ℕ) → held ≡ sum_by row_size builder.rows → count ≡ length builder.rows → count < most_rows →
     n ≡ row_size row → 7 + (if builder.typed then 2 * length row else 0) + held + n ≤ builder.room → HasOneMore builder row (Some (held + n, count + 1))

@@ -16,6 +16,7 @@ use Rattle.mysql_bulk_builder.specs.TypedRequests.{view_part, view_parts}
 use Rattle.mysql_bulk_builder.specs.RowLists.{row_in, rows_in}
 use Rattle.mysql_bulk_builder.proofs.Sizes.{sum_within}
 use Rattle.mysql_bulk_builder.proofs.TypedTight.{part_fits_later, longest_by_one}
+use Rattle.mysql_bulk_builder.proofs.Kept.{all_push}
 
 -- what one test adds to a count
 abbrev one_if : Bool → ℕ
@@ -184,10 +185,6 @@ placed_push (first ∷ cut) s part =
     let e : (s + first.count) + sum_by (λ p. p.count) cut ≡ s + sum_by (λ p. p.count) (first ∷ cut) = omega (arith, sum_by-cons (λ p. p.count) first cut) in
     let rest = placed_push cut (s + first.count) part in
     ap (λ (ps : List (ℕ × Part)). (s, first) ∷ ps) (rest ∙ ap (λ (k : ℕ). placed_from (s + first.count) cut ++ (k, part) ∷ []) e)
-
-all_push : {X : Type 0} (P : X → Type 0) (xs : List X) (x : X) → AllByRecursion P xs → P x → AllByRecursion P (xs ++ x ∷ [])
-all_push P [] x h p = (p, tt)
-all_push P (y ∷ xs) x h p = (h.0, all_push P xs x h.1 p)
 
 -- a cut so far, with one more part
 pub record CutSoFar (room columns : ℕ) (rows : List Row) (start : ℕ) (cut : List Part) : Type 0 where

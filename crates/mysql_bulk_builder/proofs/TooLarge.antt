@@ -22,11 +22,6 @@ too_large_from_past room columns left n rows (Some k) e same found =
     (ap (λ b. cond b (Some k) None) (lt-ltb room (7 + 2 * columns + row_size (get_or rows k [])) (omega (arith, e, found.1))))
     (λ j less. ap (λ b. cond b (Some j) None) (le-ltb room (7 + 2 * columns + row_size (get_or rows j [])) (omega (arith, e, found.2 j less)))))
 
--- no rows
-pub none_of_none : (room columns : ℕ) (rows : List Row) → length rows ≡ 0 → None ≡ row_too_large room columns rows
-none_of_none room columns [] e = refl
-none_of_none room columns (row ∷ rows) e = absurd (omega (arith, e))
-
 -- types that leave no room
 pub first_of_some : (room columns : ℕ) (rows : List Row) → room < 7 + 2 * columns → 0 < length rows → Some 0 ≡ row_too_large room columns rows
 first_of_some room columns [] past some = absurd (omega arith)

@@ -1,5 +1,5 @@
 -- Rows by the room that each takes.
-use Rattle.std.specs.Prelude.{◌≡◌, ℕ, ◌<◌, ◌≤◌, List, [], length, slice_index_or}
+use Rattle.std.specs.Prelude.{ℕ, ◌<◌, ◌≤◌, List, [], length, slice_index_or}
 use Rattle.mysql_bulk_builder.specs.declared.search.BulkCutError.{BulkCutError}
 use Rattle.mysql_bulk_builder.specs.declared.search.BulkCutError.TheVariants.{RowTooLarge, Memory}
 use Rattle.mysql_bulk_builder.specs.Cut.{Row, row_size}

@@ -3,7 +3,7 @@
 //!     let request = ComStmtBulkExecuteRequest::new(alloc, stmt_id, flags, rows)?;
 //!     request.serialize(&mut payload)?;
 
-ghost use Rattle.std.specs.Prelude.{◌≡◌, ◌≢◌, ◌⊎◌, ◌*◌, IfErr, IfOk, None, OnErr, Some, [], length, map, if◌then◌else◌};
+ghost use Rattle.std.specs.Prelude.{◌≡◌, ◌⊎◌, ◌*◌, IfErr, IfOk, None, OnErr, Some, [], length, map, if◌then◌else◌};
 ghost use Rattle.std.specs.List.{flat_map};
 ghost use Rattle.mysql_fields.specs.Wire.{Appends};
 ghost use Rattle.mysql_bulk_builder.specs.Bulk.{all_values, bulk_cause, bulk_cause_with_types, bulk_execution};

@@ -2,7 +2,7 @@
 //!
 //!     let request: ComStmtBulkExecuteRequest = ParseBuf(payload).parse(alloc, columns)?;
 
-ghost use Rattle.std.specs.Prelude.{◌≡◌, IfOk, None, length, map, true};
+ghost use Rattle.std.specs.Prelude.{◌≡◌, IfOk, None, map, true};
 ghost use Rattle.mysql_fields.specs.Laws.{unsized};
 ghost use Rattle.mysql_fields.specs.Wire.{GivesPart, TellsPart};
 ghost use Rattle.mysql_field_lists.specs.Lists.{elements_at};

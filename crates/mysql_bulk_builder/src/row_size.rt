@@ -1,6 +1,6 @@
 //! What rows take in a bulk request.
 
-ghost use Rattle.std.specs.Prelude.{◌≡◌, ◌+◌, ◌<◌, ◌≤◌, MatchOption};
+ghost use Rattle.std.specs.Prelude.{◌≡◌, ◌<◌, ◌≤◌, MatchOption};
 ghost use Rattle.mysql_bulk_builder.specs.Cut.{row_size};
 ghost use Rattle.mysql_bulk_builder.specs.RowLists.{row_in};
 

@@ -2,7 +2,7 @@
 
 ghost use Rattle.std.specs.Prelude.{◌≡◌, ◌+◌, ◌≤◌};
 ghost use Rattle.std.specs.Int.{w8, w16, w32, w64};
-ghost use Rattle.mysql_cells.specs.Cells.{date_of, part, time_of, unsigned_value, whole_value};
+ghost use Rattle.mysql_cells.specs.Cells.{date_of, part, time_of, whole_value};
 ghost use Rattle.mysql_cells.specs.declared.value.Value.TheVariants.{Date, Int, Time};
 
 use crate::value::Value;

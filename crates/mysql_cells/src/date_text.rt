@@ -4,7 +4,7 @@
 ghost use Rattle.mysql_cells.specs.AsSql.{Puts, part_text, time_of_day_text};
 ghost use Rattle.mysql_cells.specs.Values.{clock_text, date_text, day_text, digits_in, in_quotes, is_zero_time};
 ghost use Rattle.mysql_cells.specs.Values.{micros_text, time_text};
-ghost use Rattle.std.specs.Prelude.{◌++◌, ◌<◌, ◌^◌, ◌≡◌};
+ghost use Rattle.std.specs.Prelude.{◌++◌, ◌<◌, ◌≡◌};
 
 use itoa::Buffer;
 use std::alloc::AllocError;

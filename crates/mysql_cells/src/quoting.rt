@@ -9,7 +9,7 @@ ghost use Rattle.mysql_queries.specs.Written.{has_pair as has_one, parted_byte, 
 ghost use Rattle.std.specs.List.{flat_map};
 ghost use Rattle.std.specs.Str.{is_utf8};
 ghost use Rattle.mysql_queries.specs.Tokens.{single_quote};
-ghost use Rattle.std.specs.Prelude.{◌<◌, ◌≡◌, ◌≢◌, ◌∷◌, ◌++◌, ◌||◌, [], Bool, IfNone, IfSome, false, true};
+ghost use Rattle.std.specs.Prelude.{◌<◌, ◌≡◌, ◌∷◌, ◌||◌, [], Bool, IfNone, IfSome, false, true};
 
 use mysql_queries::Spelling;
 use std::alloc::AllocError;

@@ -25,7 +25,7 @@ use Rattle.mysql_command_rules.specs.Cause.{first_of_sets, places_cause, set_cau
 use Rattle.mysql_command_rules.specs.Commands.{query_command}
 use Rattle.mysql_command_rules.specs.Laws.{HexadecimalInEachMode}
 use Rattle.mysql_command_rules.specs.Reading.{IsReadable}
-use Rattle.mysql_command_rules.specs.Sent.{last_of, query_text_of, whole_command}
+use Rattle.mysql_command_rules.specs.Sent.{last_of, whole_command}
 use Rattle.mysql_command_rules.proofs.Carried.{no_cause}
 use Rattle.mysql_command_rules.proofs.Contents.{good, neither}
 use Rattle.mysql_command_rules.proofs.Fillings.{each_alone}

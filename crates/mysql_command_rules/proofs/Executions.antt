@@ -24,7 +24,8 @@ use Rattle.mysql_receive.specs.Laws.{WrittenCellsAreHeld}
 use Rattle.mysql_receive.specs.Layout.{ExecuteHead, binding_at, execute_head, id_at, is_type, type_at, types_at}
 use Rattle.mysql_receive.specs.Query.{Statement, place_count}
 use Rattle.mysql_receive.specs.Reading.{PayloadReadsAs, content_at, execute_at, parameter_at, set_at, types_in_force}
-use Rattle.mysql_command_rules.proofs.FieldsRead.{bind_from, byte_front, bytes_front, id_front, number_front}
+use Rattle.mysql_command_rules.proofs.FieldsRead.{byte_front, bytes_front, id_front, number_front}
+use Rattle.mysql_command_rules.proofs.Binds.{bind_from}
 
 -- ---- types
 

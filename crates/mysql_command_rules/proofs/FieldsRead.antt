@@ -1,5 +1,5 @@
 -- Fields that were written are read at the front of bytes.
-use Rattle.std.proofs.Common.{◌≡◌, ℕ, ◌^◌, ◌<◌, ◌==◌, List, ◌∷◌, ◌++◌, length, Result, Ok, sym, ◌∙◌, ap, arith}
+use Rattle.std.proofs.Common.{◌≡◌, ℕ, ◌^◌, ◌<◌, ◌==◌, List, ◌∷◌, ◌++◌, length, Ok, sym, ◌∙◌, ap, arith}
 use Rattle.std.specs.Option.{ok_or}
 use Rattle.std.proofs.lemmas.Bool.{eq-eqb}
 use Rattle.byteorder.specs.Endian.{little_bytes, little_number}
@@ -11,10 +11,7 @@ use Rattle.mysql_receive.specs.declared.fault.StreamFault.TheVariants.{WrongId}
 use Rattle.mysql_receive.specs.Fields.{bytes_or, number_or, must}
 use Rattle.mysql_receive.specs.Layout.{id_at}
 use Rattle.mysql_receive.specs.Query.{Statement}
-
--- what is read goes into what is read next
-pub bind_from : {A B F : Type 0} (r : Result A F) (f : A → Result B F) (x : A) (y : Result B F) → r ≡ Ok x → f x ≡ y → (r >>= f) ≡ y
-bind_from r f x y e h = ap (λ q. q >>= f) e ∙ h
+use Rattle.mysql_command_rules.proofs.Binds.{bind_from}
 
 -- so many bytes stand first
 pub bytes_front : (f : StreamFault) (n : ℕ) (xs ys : List ℕ) → length xs ≡ n → bytes_or f n (xs ++ ys) ≡ Ok (xs, ys)

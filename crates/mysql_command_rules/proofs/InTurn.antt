@@ -1,33 +1,29 @@
 -- Sets that are sent one after another, each by packets of its own.
-use Rattle.std.proofs.Common.{◌≡◌, ◌⊎◌, ℕ, ◌+◌, ◌-◌, ◌<◌, ◌≤◌, List, [], ◌∷◌, ◌++◌, length, map, take, drop, get_or, suc, Option, Some, None, Result, Ok, Err, refl, sym, ◌∙◌, ap, subst, arith, inl, inr, append_assoc, add-one, drop-cons, length-take, take-append-drop}
+use Rattle.std.proofs.Common.{◌≡◌, ℕ, ◌+◌, ◌-◌, ◌<◌, ◌≤◌, List, [], ◌∷◌, ◌++◌, length, map, take, drop, get_or, suc, Option, Some, None, Ok, refl, sym, ◌∙◌, ap, subst, arith, inl, inr, append_assoc, add-one, drop-cons, length-take, take-append-drop}
 use Rattle.std.specs.Prelude.{slice_get}
-use Rattle.std.specs.List.{AllByRecursion, flat_map}
+use Rattle.std.specs.List.{flat_map}
 use Rattle.std.specs.Option.{option_map, option_or}
 use Rattle.std.proofs.lemmas.Grind.{flat_map-append}
-use Rattle.std.proofs.lemmas.List.{append-nil, length-map, map-append, take-take, take_all, take_at, take_more}
+use Rattle.std.proofs.lemmas.List.{append-nil, map-append, take-take, take_all, take_at, take_more}
 use Rattle.std.proofs.lemmas.Option.{get_or_from_slice_get, slice_get-map, slice_get_read, slice_get_within}
 use Rattle.mysql_wire.specs.Framing.{framing}
 use Rattle.mysql_wire.specs.Stream.{framings}
 use Rattle.mysql_wire.specs.Stream.Numbering.{EachFromZero}
 use Rattle.mysql_values.specs.Sql.{Sql}
-use Rattle.mysql_values.specs.declared.params.Params.{Params}
 use Rattle.mysql_values.specs.Laws.{OneTokens}
 use Rattle.mysql_values.specs.Parsed.{names_of}
-use Rattle.mysql_values.specs.Tokens.{HasTokens}
 use Rattle.mysql_values.specs.Value.{Value}
 use Rattle.mysql_receive.specs.Query.{Statement, place_count, statement_of}
 use Rattle.mysql_command_rules.specs.declared.refusal.Refusal.{Refusal}
-use Rattle.mysql_command_rules.specs.declared.refusal.Refusal.TheVariants as refusals
 use Rattle.mysql_command_rules.specs.declared.road.Road.{Road}
 use Rattle.mysql_command_rules.specs.declared.road.Road.TheVariants.{Text, Execute, Bulk}
 use Rattle.mysql_command_rules.specs.Cause.{cause_of, first_of_sets, query_cause, set_cause, sets_cause}
-use Rattle.mysql_command_rules.specs.InTurn.{AllAreSent, FrontsStay, ListsGive, MadeInTurn, OneMoreIsRefused, OneMoreIsSent, QueriesAreRefused, QueriesBegin, SentInTurn}
-use Rattle.mysql_command_rules.specs.MadeSets.{AllMade, IsSetAt, MadeUpTo}
+use Rattle.mysql_command_rules.specs.InTurn.{AllAreSent, FrontsStay, ListsGive, MadeInTurn, QueriesAreRefused, QueriesBegin, SentInTurn}
 use Rattle.mysql_command_rules.specs.OneSet.{AppendsOne, AppendsSet, GivesAt, IsApart, RefusesOne, cause_of_set, first_sets, front_of, one_set}
 use Rattle.mysql_command_rules.specs.Reading.{IsReadable, SentReadable}
 use Rattle.mysql_command_rules.specs.Sending.{RefusesGiven}
 use Rattle.mysql_command_rules.specs.Sent.{AreSent, SentPayload, as_execution, as_text, payloads_of, prepare_of, stream_of, whole_command}
-use Rattle.mysql_command_rules.specs.Sets.{GiveTheSame, Given, all_given, given_by, values_of}
+use Rattle.mysql_command_rules.specs.Sets.{GiveTheSame, Given, given_by, values_of}
 use Rattle.mysql_command_rules.proofs.Held.{all_append}
 
 -- ---- first causes

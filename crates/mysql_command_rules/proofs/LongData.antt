@@ -20,8 +20,9 @@ use Rattle.mysql_receive.specs.Reading.{PayloadReadsAs, long_data_at, prepared_d
 use Rattle.mysql_command_rules.specs.Commands.{pieces_from}
 use Rattle.mysql_command_rules.specs.Sent.{SentPayload, on_the_way, payloads_of}
 use Rattle.mysql_command_rules.proofs.Executions.{Wait}
-use Rattle.mysql_command_rules.proofs.FieldsRead.{bind_from, id_front, number_front}
+use Rattle.mysql_command_rules.proofs.FieldsRead.{id_front, number_front}
 use Rattle.mysql_command_rules.proofs.ReadEach.{ReadFrom}
+use Rattle.mysql_command_rules.proofs.Binds.{bind_from}
 
 -- ---- a piece
 

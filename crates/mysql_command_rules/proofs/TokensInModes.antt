@@ -1,8 +1,8 @@
 -- A text without a backslash has the same tokens in each mode.
-use Rattle.std.proofs.Common.{◌≡◌, ◌≢◌, ℕ, Bool, List, [], ◌∷◌, ◌++◌, flat_map, refl, sym, ap, subst, inl, inr}
+use Rattle.std.proofs.Common.{◌≢◌, ℕ, Bool, List, [], ◌∷◌, ◌++◌, flat_map, refl, sym, subst, inl, inr}
 use Rattle.std.specs.List.{AllByRecursion, concat}
 use Rattle.mysql_values.specs.Mode.{Mode}
-use Rattle.mysql_values.specs.Tokens.{AreTokens, Closes, HasShape, HasTokens, Inside, IsInside, IsQuoted, Kind, Byte, Escape, Doubled, backslash, has_escapes, inside_bytes, kind_of}
+use Rattle.mysql_values.specs.Tokens.{AreTokens, Closes, HasShape, Inside, IsInside, IsQuoted, Kind, Byte, Escape, Doubled, backslash, has_escapes, inside_bytes, kind_of}
 use Rattle.mysql_values.specs.Tokens.{Quoted, LineComment, BlockComment, Name, Mark, Plain}
 use Rattle.mysql_command_rules.specs.Laws.{TokensInEachMode}
 use Rattle.mysql_command_rules.proofs.Held.{all_parts}

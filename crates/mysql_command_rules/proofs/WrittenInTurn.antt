@@ -2,7 +2,7 @@
 -- the rest is buffered.
 use Rattle.std.proofs.Common.{◌≡◌, ◌⊎◌, ℕ, ◌+◌, ◌-◌, ◌<◌, ◌≤◌, List, [], ◌++◌, length, map, take, get_or, inl, inr, Option, Result, Ok, Err, refl, sym, ◌∙◌, ap, subst, arith, append_assoc}
 use Rattle.std.specs.Prelude.{IfErr, OnOk}
-use Rattle.std.specs.Io.KnownBytes.{Appends, Keeps}
+use Rattle.std.specs.Io.KnownBytes.{Appends}
 use Rattle.std.proofs.lemmas.Bool.{cases_lt}
 use Rattle.std.proofs.lemmas.List.{get_or-append-add, take-map, take_all}
 use Rattle.std.proofs.Math.ListN.{get_or-append}
@@ -15,13 +15,12 @@ use Rattle.mysql_command_rules.specs.declared.refusal.Refusal.{Refusal}
 use Rattle.mysql_command_rules.specs.declared.road.Road.{Road}
 use Rattle.mysql_command_rules.specs.declared.send_to_error.SendToError.{SendToError}
 use Rattle.mysql_command_rules.specs.declared.send_to_error.SendToError.TheVariants.{Refused, Io}
-use Rattle.mysql_command_rules.specs.Buffering.{Flushes, StopsAt, TakesFront, whole_sets}
+use Rattle.mysql_command_rules.specs.Buffering.{Flushes, StopsAt, TakesFront}
 use Rattle.mysql_command_rules.specs.InTurn.{SentInTurn}
-use Rattle.mysql_command_rules.specs.OneSet.{AppendsOne, AppendsSet, IsApart, RefusesOne, first_sets}
+use Rattle.mysql_command_rules.specs.OneSet.{AppendsOne, IsApart, RefusesOne, first_sets}
 use Rattle.mysql_command_rules.specs.Reading.{SentReadable}
-use Rattle.mysql_command_rules.specs.Sending.{RefusesGiven}
 use Rattle.mysql_command_rules.specs.Sets.{GiveTheSame, Given, all_given, given_by}
-use Rattle.mysql_command_rules.specs.Writing.{FailsAmong, Stops, StopsAtSet, Writes, WrittenSoFar}
+use Rattle.mysql_command_rules.specs.Writing.{FailsAmong, Stops, Writes, WrittenSoFar}
 use Rattle.mysql_command_rules.specs.WritingLaws.{WrittenInTurn}
 use Rattle.mysql_command_rules.proofs.InTurn.{over_same, refused_same, refused_with_any, sent_in_turn}
 

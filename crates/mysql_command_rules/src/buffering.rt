@@ -1,6 +1,6 @@
 //! Packets that are buffered, and written to a writer together.
 
-ghost use Rattle.std.specs.Prelude.{◌≡◌, ◌++◌, [], List, ℕ, IfErr, OnErr, OnOk, Ok, take, length, ◌≤◌};
+ghost use Rattle.std.specs.Prelude.{◌≡◌, [], IfErr, OnErr, OnOk, Ok};
 ghost use Rattle.std.specs.Io.KnownBytes.{Appends};
 ghost use Rattle.mysql_wire.specs.Bytes.{AreBytes};
 ghost use Rattle.mysql_command_rules.specs.Buffering.{Flushes, StopsAt, TakesFront};

@@ -28,7 +28,7 @@ use Rattle.mysql_replication.specs.PacketLaws.{binlog_dump_gtid_at-back}
 use Rattle.mysql_replication.specs.Packets as replica
 use Rattle.mysql_replication.specs.Packets.{IsBinlogDumpGtid, binlog_dump_gtid, binlog_dump_gtid_at}
 use Rattle.mysql_replication.specs.Packets.{binlog_dump_gtid_fields_at, binlog_dump_gtid_front_at}
-use Rattle.mysql_replication.specs.Packets.{binlog_dump_gtid_start_at, whole_binlog_dump_gtid}
+use Rattle.mysql_replication.specs.Packets.{binlog_dump_gtid_start_at}
 use Rattle.mysql_commands.specs.Commands.{BinlogDumpGtid, Other, all_of, command_at}
 use Rattle.mysql_command_writer.specs.Refusals.{ReadsBack}
 use Rattle.mysql_command_writer.specs.Written.{command_bytes}

@@ -4,7 +4,7 @@ use Rattle.std.specs.Option.{option_map}
 use Rattle.mysql_const.specs.declared.capabilities.Capabilities.{Capabilities}
 use Rattle.mysql_executions.specs.InForce.{InForce}
 use Rattle.mysql_login.specs.ChangedUsers.{ChangeUserFields, change_in_force, change_in_force_at}
-use Rattle.mysql_commands.specs.Commands.{ChangeUser, Command, Other, command_at, first_of, or_other}
+use Rattle.mysql_commands.specs.Commands.{ChangeUser, Command, command_at, first_of, or_other}
 use Rattle.mysql_command_writer.specs.Refusals.{ReadsBack}
 use Rattle.mysql_command_writer.specs.Written.{command_bytes}
 

@@ -1,5 +1,5 @@
 -- Each row of the table of commands: what is read by it may be put, and is read again as it is.
-use Rattle.std.proofs.Common.{◌≡◌, ◌<◌, ◌^◌, ℕ, List, [], ◌∷◌, Option, Some, refl, subst, ap}
+use Rattle.std.proofs.Common.{◌≡◌, ◌<◌, ◌^◌, ℕ, List, ◌∷◌, Option, Some, refl, subst, ap}
 use Rattle.std.specs.Option.{option_map}
 use Rattle.std.specs.List.{AllByRecursion}
 use Rattle.mysql_buf.specs.Bytes.{AreBytes}

@@ -205,9 +205,6 @@ untagged : (sids : List SidParts) → AllByRecursion (IsRead false) sids → any
 untagged [] all = refl
 untagged (sid ∷ sids) all = rw (all.0.1) (untagged sids all.1)
 
-tag_fewer : (tag : Option (List ℕ)) → length (tag_bytes false tag) ≤ length (tag_bytes true tag)
-tag_fewer tag = omega arith
-
 sid_fewer : (sid : SidParts) → length (sid_bytes false sid) ≤ length (sid_bytes true sid)
 unfolding sid_bytes
 sid_fewer sid =

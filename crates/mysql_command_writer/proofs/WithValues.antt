@@ -1,44 +1,22 @@
 -- Commands with values read as they were put, by the laws of their values.
-use Rattle.std.proofs.Common.{◌≡◌, ◌==◌, ℕ, List, [], ◌∷◌, length, Option, Some, true, false, refl}
-use Rattle.std.proofs.Common.{arith, Result, Ok, Err}
-use Rattle.std.proofs.lemmas.Bool.{eqb-true}
+use Rattle.std.proofs.Common.{◌≡◌, ◌==◌, ℕ, List, length, Option, true, false, refl}
+use Rattle.std.proofs.Common.{Result, Ok, Err}
 use Rattle.mysql_const.specs.declared.capabilities.Capabilities.{Capabilities}
 use Rattle.mysql_execution_writer.specs.Cells.{are_attributes}
-use Rattle.mysql_execution_writer.specs.Laws.{AttributesReadBack, ExecutionsReadBack}
-use Rattle.mysql_execution_writer.specs.Written.{can_be_put}
-use Rattle.mysql_executions.specs.Executions.{Execution}
+use Rattle.mysql_execution_writer.specs.Laws.{AttributesReadBack}
 use Rattle.mysql_executions.specs.InForce.{InForce}
 use Rattle.mysql_executions.specs.Types.{has_query_attributes}
 use Rattle.mysql_executions.specs.declared.types.Attribute.{Attribute}
-use Rattle.mysql_commands.specs.Commands.{Execute, Query}
+use Rattle.mysql_commands.specs.Commands.{Query}
 use Rattle.mysql_command_writer.specs.Plain.{PutsAttributed}
 use Rattle.mysql_command_writer.specs.Refusals.{Puts, Reads, can_have_attributes}
 use Rattle.mysql_command_writer.specs.declared.refusal.CommandRefusal.{CommandRefusal}
-
-pub executions_read : ExecutionsReadBack → (capabilities : Capabilities) (s : InForce) (e : Execution) →
-    can_be_put capabilities s e ≡ true → Reads capabilities (Some s) (Execute e)
-executions_read law capabilities s e can fits = rw (law capabilities s e fits can) refl
 
 pub attributed_reads : AttributesReadBack → (capabilities : Capabilities) (parameters : Option InForce)
     (attributes : List Attribute) (sql : List ℕ) → has_query_attributes capabilities ≡ true →
     are_attributes true attributes ≡ true → Reads capabilities parameters (Query attributes sql)
 attributed_reads law capabilities parameters attributes sql asks can fits =
     rw (asks, law attributes sql fits can) refl
-
-no_attributes : (attributes : List Attribute) → length attributes ≡ 0 → attributes ≡ []
-no_attributes [] h = refl
-no_attributes (a ∷ attributes) h = absurd (omega arith)
-
-none_reads : (capabilities : Capabilities) (parameters : Option InForce) (sql : List ℕ) →
-    has_query_attributes capabilities ≡ false → Reads capabilities parameters (Query [] sql)
-none_reads capabilities parameters sql asks fits = rw asks refl
-
-pub plain_reads : (capabilities : Capabilities) (parameters : Option InForce) (attributes : List Attribute)
-    (sql : List ℕ) → has_query_attributes capabilities ≡ false → (length attributes == 0) ≡ true →
-    Reads capabilities parameters (Query attributes sql)
-plain_reads capabilities parameters attributes sql asks none =
-    let same = no_attributes attributes (eqb-true (length attributes) 0 none) in
-    rw same (none_reads capabilities parameters sql asks)
 
 -- attributes that a query can't have
 pub not_agreed : (capabilities : Capabilities) (attributes : List Attribute) →

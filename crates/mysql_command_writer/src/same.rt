@@ -1,6 +1,6 @@
 //! Whether two changes of user say the same, and the parts of which a login has some too.
 
-ghost use Rattle.std.specs.Prelude.{◌≡◌, ◌↔◌, IsTrue, length, option_map, slice_get};
+ghost use Rattle.std.specs.Prelude.{◌≡◌, ◌↔◌, IsTrue, option_map, slice_get};
 ghost use Rattle.mysql_auth.specs.Views.{plugin_view};
 ghost use Rattle.mysql_handshake_response.specs.AttributeViews.{attributes_view};
 ghost use Rattle.mysql_login.specs.ChangedUserViews.{change_user_view, more_view};

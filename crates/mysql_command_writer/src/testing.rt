@@ -1,6 +1,6 @@
 //! Whether a command's payload reads as it.
 
-ghost use Rattle.std.specs.Prelude.{◌≡◌, ◌^◌, ◌↔◌, IfOk, IsTrue, Ok, Some, [], length, nat_lt};
+ghost use Rattle.std.specs.Prelude.{◌≡◌, ◌^◌, ◌↔◌, IfOk, IsTrue, Ok, Some, length, nat_lt};
 ghost use Rattle.std.specs.List.{position_or_len};
 ghost use Rattle.std.specs.Option.{option_copied};
 ghost use Rattle.mysql_buf.specs.Reading.{is_zero};
@@ -11,7 +11,6 @@ ghost use Rattle.mysql_login.specs.ChangedUserViews.{change_user_view};
 ghost use Rattle.mysql_login.specs.ChangedUsers.{change_in_force_at};
 ghost use Rattle.mysql_replication.specs.Views.{binlog_dump_gtid_view, binlog_dump_view, register_slave_view};
 ghost use Rattle.mysql_replication.specs.Views.{table_dump_view};
-ghost use Rattle.std.specs.Cow.{cow_slice_items};
 ghost use Rattle.mysql_commands.specs.Commands.{first_of};
 ghost use Rattle.mysql_commands.specs.Commands as said;
 ghost use Rattle.mysql_command_writer.specs.Plain.{IsPlain};

@@ -1,6 +1,5 @@
 //! Commands with values: queries with their attributes, and executions.
 
-ghost use Rattle.std.specs.Prelude.{◌≡◌};
 ghost use Rattle.std.specs.Option.{option_copied};
 ghost use Rattle.mysql_commands.specs.Commands as said;
 ghost use Rattle.mysql_executions.specs.Views.{bulk_of, execution_of};

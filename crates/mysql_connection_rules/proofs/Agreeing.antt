@@ -7,14 +7,15 @@ use Rattle.mysql_connection_rules.specs.declared.side.Side.{Side}
 use Rattle.mysql_connection_rules.specs.declared.side.Side.TheVariants.{Client, Server}
 use Rattle.mysql_connection_rules.specs.Events.{Event}
 use Rattle.mysql_connection_rules.specs.Laws.{EventsTakeBytes, FrontsReadOn, PiecesAreTheRun, PositionsStay, RunExists, unread_length}
-use Rattle.mysql_connection_rules.specs.Machines.{Had, IsOpen, fresh, comes, takes}
+use Rattle.mysql_connection_rules.specs.Machines.{Had, fresh, comes, takes}
 use Rattle.mysql_connection_rules.specs.Runs.{Runs, IsLast, IsRun, HasCome, HasComeOf}
-use Rattle.mysql_connection_rules.specs.Streams.{Beginning, Stream, Streams, Coming, Piece, End, World, Next, Waits, Says, Fails, come, grow, next, no_bytes, stream_of, with_stream}
+use Rattle.mysql_connection_rules.specs.Streams.{Beginning, Stream, Streams, Coming, Piece, End, World, come, grow, next, no_bytes, stream_of, with_stream}
 use Rattle.mysql_connection_rules.specs.PuttingMachines.{HadAs, fresh_as, comes_as, ends_as, takes_as, puts_as, HadOrPut, Puts}
 use Rattle.mysql_connection_rules.specs.PuttingMachines.HadOrPut.{fresh as fresh_too, comes as comes_too, takes as takes_too, puts as puts_too}
 use Rattle.mysql_connection_rules.specs.Puts.{is_of, same_side}
 use Rattle.mysql_connection_rules.specs.AgreementLaws.{AgreesOn, Member, PutsAreTheRun, ThreeAgree, sent_by}
 use Rattle.mysql_connection_rules.proofs.Quiet.{filter_in, filter_out, next_quiet, runs_quiet}
+use Rattle.mysql_connection_rules.proofs.Running.{HasRun, run_by, still_open}
 
 pub record RunLaws : Type 0 where
   pub exists : RunExists
@@ -50,17 +51,6 @@ had_of own other begun put streams events held (puts_as {put = earlier} {streams
     put_had begun before front old held event own bytes (had_of own other begun earlier before front old had) e
 
 -- ---- from any world there is a run
-
-HasRun : World → Type 0
-HasRun w = (events : List Event) × (last : World) × Runs w events last × IsLast (next last)
-
-run_by : (w : World) (n : Next) → next w ≡ n → ((event : Event) (mid : World) → next w ≡ Says event mid → HasRun mid) → HasRun w
-unfolding HasRun
-run_by w Waits e go = ([], w, refl, subst IsLast (sym e) tt)
-run_by w (Fails failure) e go = ([], w, refl, subst IsLast (sym e) tt)
-run_by w (Says event mid) e go =
-    let rest = go event mid e in
-    (event ∷ rest.0, rest.1, (mid, e, rest.2), rest.3)
 
 run_within : EventsTakeBytes → (n : ℕ) (w : World) → unread_length w < n → HasRun w
 run_within take zero w h = absurd (omega arith)
@@ -180,10 +170,6 @@ ended : (other : Side) (streams : Streams) (whole : Stream) (more : List ℕ) �
     → true ≡ whole.closed → grow other End (grow other (Piece more) streams) ≡ with_stream other whole streams
 ended Client streams whole more r b c = λ i. with_parts Client streams (r i) (b i) (c i)
 ended Server streams whole more r b c = λ i. with_parts Server streams (r i) (b i) (c i)
-
-still_open : (side : Side) (w : World) (piece : List ℕ) → IsOpen w side → IsOpen (come side (Piece piece) w) side
-still_open Client w piece h = h
-still_open Server w piece h = h
 
 all_came : PositionsStay → (own other : Side) (begun : Beginning) (whole : Stream) (streams : Streams) (events : List Event) (held : World) (closed whole_closed : Bool)
     → same_side own other ≡ false → (stream_of other streams).closed ≡ closed → whole.closed ≡ whole_closed

@@ -64,7 +64,7 @@ is_taken packets limit number bytes = taken_by bytes (first_packet limit number 
 read_since : (read : ℕ) (front rest bytes : List ℕ) → front ++ rest ≡ bytes → read + (length bytes - length rest) ≡ read + length front
 read_since read front rest bytes e = grind (arith, common_steps)
 
-same_read : (stream : Stream) → HasRead stream stream
+pub same_read : (stream : Stream) → HasRead stream stream
 same_read stream = record { since = []; bytes = refl; read = omega arith; closed = refl }
 
 behind_read : (stream : Stream) (rest : List ℕ) → TakenOff stream.bytes rest → HasRead stream (behind rest stream)

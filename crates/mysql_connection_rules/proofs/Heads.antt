@@ -3,17 +3,14 @@ use Rattle.std.proofs.Common.{◌≡◌, ℕ, ◌+◌, Bool, true, false, List, 
 use Rattle.std.proofs.Common.{refl, sym, ap, ◌∙◌, arith, add-one, take, drop}
 use Rattle.std.specs.Prelude.{nat_le, nat_lt, slice_index_or, ◌==◌, ◌&&◌, not, ◌/◌}
 use Rattle.std.proofs.lemmas.Bool.Decides.{nat_tests}
-use Rattle.std.proofs.lemmas.Grind.{common_steps}
 use Rattle.mysql_wire.specs.FirstPacket.{Found, Short, TooLarge, by_tests, announced, packet_by}
 use Rattle.mysql_wire.specs.FirstPacket.{first_packet, next_number}
 use Rattle.mysql_wire.specs.Framing.{max_payload_len}
 use Rattle.mysql_connection_rules.specs.Standing.{Standing}
 use Rattle.mysql_connection_rules.specs.Streams.{has_number, has_no_bytes, is_early}
+use Rattle.mysql_connection_rules.proofs.PutHeads.{and_no, reaches_five, reaches_four}
 
 -- ---- four bytes
-
-reaches_four : (a b c d : ℕ) (bytes : List ℕ) → nat_lt 3 (length (a ∷ b ∷ c ∷ d ∷ bytes)) ≡ true
-reaches_four a b c d bytes = grind (arith, nat_tests, common_steps)
 
 number_at : (number a b c d : ℕ) (bytes : List ℕ) → has_number number (a ∷ b ∷ c ∷ d ∷ bytes) ≡ (d == number)
 number_at number a b c d bytes = ap (λ (t : Bool). t && (d == number)) (reaches_four a b c d bytes)
@@ -29,9 +26,6 @@ number_stays number (a ∷ b ∷ c ∷ d ∷ bytes) piece h =
 
 -- ---- five bytes
 
-reaches_five : (a b c d e : ℕ) (bytes : List ℕ) → nat_lt 4 (length (a ∷ b ∷ c ∷ d ∷ e ∷ bytes)) ≡ true
-reaches_five a b c d e bytes = grind (arith, nat_tests, common_steps)
-
 -- by the test that there are five bytes
 abbrev early_by : Standing → (long : Bool) → (a b c d e : ℕ) → Bool
 early_by s long a b c d e =
@@ -41,10 +35,6 @@ early_at : (s : Standing) (a b c d e : ℕ) (bytes : List ℕ) → is_early s (a
 early_at s a b c d e bytes = ap (λ (t : Bool). early_by s t a b c d e) (reaches_five a b c d e bytes)
 
 -- ---- an error whose number is below the one that is due
-
-and_no : (b : Bool) → (b && false) ≡ false
-and_no true = refl
-and_no false = refl
 
 -- What more bytes change: nothing of whether an error stands first and of its number; or less than a packet stood there; or a payload past
 -- the limit does, whatever number is due.

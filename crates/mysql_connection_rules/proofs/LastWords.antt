@@ -23,6 +23,7 @@ use Rattle.mysql_connection_rules.specs.Laws.{LastWordsAreLast, UnaskedIsBehindT
 use Rattle.mysql_connection_rules.proofs.Heads.{header_at}
 use Rattle.mysql_connection_rules.proofs.OneStep.{by_room, by_error, by_number, by_early, by_end}
 use Rattle.mysql_connection_rules.proofs.Said.{SaidWell, step_well}
+use Rattle.mysql_connection_rules.proofs.Putting.{both}
 
 -- ---- where an error's header and its first byte stand, the payload begins an error
 
@@ -53,10 +54,6 @@ tests_begin false false due full n d e next bytes rest more h is = tt
 tests_begin false true false full n d e next bytes rest more h is = tt
 tests_begin false true true false n d e next bytes rest more h is = is_error_alone n e bytes h is
 tests_begin false true true true n d e next bytes rest more h is = chunk_begins n e bytes more h is
-
-both : (a b : Bool) → (a && b) ≡ true → (a ≡ true) × (b ≡ true)
-both true b h = (refl, h)
-both false b h = absurd (cc h)
 
 some_bytes : (a b c : ℕ) → not (has_no_bytes (a ∷ b ∷ c ∷ [])) ≡ true → 0 < announced a b c
 some_bytes a b c h = grind (arith, nat_tests)

@@ -33,7 +33,7 @@ number_framed payload number h =
 is_same : (n m : ℕ) → n ≡ m → (n == m) ≡ true
 is_same n m e = grind (arith, nat_tests)
 
-reaches_four : (a b c d : ℕ) (bytes : List ℕ) → nat_lt 3 (length (a ∷ b ∷ c ∷ d ∷ bytes)) ≡ true
+pub reaches_four : (a b c d : ℕ) (bytes : List ℕ) → nat_lt 3 (length (a ∷ b ∷ c ∷ d ∷ bytes)) ≡ true
 reaches_four a b c d bytes = grind (arith, nat_tests, common_steps)
 
 long_said : (number : ℕ) (bytes rest : List ℕ) → nat_lt 3 (length (chunk number bytes ++ rest)) ≡ true
@@ -67,7 +67,7 @@ not_early s payload h =
 some_bytes : (n : ℕ) → 0 < n → n ≤ max_payload_len → has_no_bytes (n % 256 ∷ n / 256 % 256 ∷ n / 65536 % 256 ∷ []) ≡ false
 some_bytes n h k = grind (arith, nat_tests)
 
-reaches_five : (a b c d e : ℕ) (bytes : List ℕ) → nat_lt 4 (length (a ∷ b ∷ c ∷ d ∷ e ∷ bytes)) ≡ true
+pub reaches_five : (a b c d e : ℕ) (bytes : List ℕ) → nat_lt 4 (length (a ∷ b ∷ c ∷ d ∷ e ∷ bytes)) ≡ true
 reaches_five a b c d e bytes = grind (arith, nat_tests, common_steps)
 
 carries : (number byte : ℕ) (bytes rest : List ℕ) → length (byte ∷ bytes) ≤ max_payload_len → (byte == 255) ≡ true → carries_error (chunk number (byte ∷ bytes) ++ rest) ≡ true

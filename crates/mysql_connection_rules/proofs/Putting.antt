@@ -20,12 +20,13 @@ use Rattle.mysql_connection_rules.specs.Events.Event.{Farewell}
 use Rattle.mysql_connection_rules.specs.Standing.{Standing, kept}
 use Rattle.mysql_connection_rules.specs.Steps.{Step, over, step, turn}
 use Rattle.mysql_connection_rules.specs.Streams.{Piece, World, Next, Waits, Says, come, next, stream_of}
-use Rattle.mysql_connection_rules.specs.Streams.{begins_error, client_by, fails, farewell, has_number, is_early, leads_on, limit_of, moved}
+use Rattle.mysql_connection_rules.specs.Streams.{begins_error, client_by, farewell, has_number, is_early, leads_on, limit_of, moved}
 use Rattle.mysql_connection_rules.specs.Streams.{next_by, numbered, room_to_keep, said_by, server_by, words, words_by}
 use Rattle.mysql_connection_rules.specs.PuttingMachines.{Puts}
 use Rattle.mysql_connection_rules.specs.Puts.{MayBePut, has_ended, is_free, is_none, is_turn, may_end, past, words_at, words_step}
 use Rattle.mysql_connection_rules.specs.AgreementLaws.{PutsAreRead}
 use Rattle.mysql_connection_rules.proofs.PutHeads.{has_its_number, is_early_framed, not_early, number_framed}
+use Rattle.mysql_connection_rules.proofs.OneStep.{by_early, by_error, by_number, by_room}
 
 -- ---- tests that hold
 
@@ -88,10 +89,6 @@ moved_is w Server number bytes after none = λ i. record {
   };
 }
 
--- by the test that what is kept is within its room
-abbrev by_room : Bool → World → Side → Event → World → Next
-by_room fits w side event new = if fits then Says event new else fails w side faults.Held
-
 leads : (w : World) (side : Side) (event : Event) (number : ℕ) (bytes : List ℕ) (after : Standing) → (stream_of side w.unread).bytes ≡ [] → kept after ≤ room_to_keep w.limits
     → leads_on (come side (Piece bytes) w) side event (moved (come side (Piece bytes) w) side number [] after) ≡ Says event (past w side number bytes after)
 leads w side event number bytes after none keeps =
@@ -105,9 +102,6 @@ past_none w Client number bytes after none = none
 past_none w Server number bytes after none = none
 
 -- ---- a payload of the side whose turn it is
-
-abbrev by_early : Bool → World → (found due : Found) → Next
-by_early early w found due = if early then words_by w found else server_by w due
 
 turn_read : FramingsAreFound → (w : World) (side : Side) (event : Event) (payload : List ℕ) (after : Standing) → w.standing.number < 256 → turn w.standing.phase ≡ Some side
     → (stream_of side w.unread).bytes ≡ [] → step w.standing payload ≡ Ok (event, after) → length payload ≤ limit_of side w.limits → kept after ≤ room_to_keep w.limits
@@ -161,16 +155,13 @@ farewell_says w number rest (Err x) error after e = absurd (cc e)
 abbrev step_by : Bool → Standing → Reading ServerError → Step
 step_by begins s read = if begins then words_at s read else Err faults.Unasked
 
-abbrev words_as : Bool → World → Fault → ℕ → List ℕ → Reading ServerError → Next
-words_as begins w fault number rest read = if begins then farewell w number rest read else fails w Server fault
-
 begins_so : (begins : Bool) (s : Standing) (read : Reading ServerError) (said : Event × Standing) → step_by begins s read ≡ Ok said → begins ≡ true
 begins_so true s read said e = refl
 begins_so false s read said e = absurd (cc e)
 
 words_say : (begins : Bool) (w : World) (fault : Fault) (number : ℕ) (rest : List ℕ) (read : Reading ServerError) (error : ServerError) (after : Standing)
     → step_by begins w.standing read ≡ Ok (Farewell error, after)
-    → words_as begins w fault number rest read ≡ leads_on w Server (Farewell error) (moved w Server number rest after)
+    → by_error begins w fault number rest read ≡ leads_on w Server (Farewell error) (moved w Server number rest after)
 words_say true w fault number rest read error after e = farewell_says w number rest read error after e
 words_say false w fault number rest read error after e = absurd (cc e)
 
@@ -205,9 +196,6 @@ early_read found w error payload after its answers later none says within keeps 
 
 abbrev by_end : Bool → World → Next
 by_end ended w = if ended then words w else Waits
-
-abbrev by_number : Bool → World → Found → Next
-by_number due w found = if due then words_by w found else Waits
 
 -- behind the end of the client's stream
 end_read : FramingsAreFound → (w : World) (error : ServerError) (payload : List ℕ) (after : Standing) → w.standing.number < 256 → turn w.standing.phase ≡ Some Client

@@ -67,10 +67,10 @@ run_is_one begun streams events others last end h k = run_is_one_from (start beg
 
 -- ---- there is a run
 
-HasRun : World → Type 0
+unfoldable pub HasRun : World → Type 0
 HasRun w = (events : List Event) × (last : World) × Runs w events last × IsLast (next last)
 
-run_by : (w : World) (n : Next) → next w ≡ n → ((event : Event) (mid : World) → next w ≡ Says event mid → HasRun mid) → HasRun w
+pub run_by : (w : World) (n : Next) → next w ≡ n → ((event : Event) (mid : World) → next w ≡ Says event mid → HasRun mid) → HasRun w
 unfolding HasRun
 run_by w Waits e go = ([], w, refl, subst IsLast (sym e) tt)
 run_by w (Fails failure) e go = ([], w, refl, subst IsLast (sym e) tt)
@@ -158,7 +158,7 @@ piece_came : (side : Side) (w : World) (whole : Stream) (more : List ℕ) → (s
 piece_came Client w whole more c r e = all_came Client w whole w.unread.client.read (w.unread.client.bytes ++ more) w.unread.client.closed r e c
 piece_came Server w whole more c r e = all_came Server w whole w.unread.server.read (w.unread.server.bytes ++ more) w.unread.server.closed r e c
 
-still_open : (side : Side) (w : World) (piece : List ℕ) → IsOpen w side → IsOpen (come side (Piece piece) w) side
+pub still_open : (side : Side) (w : World) (piece : List ℕ) → IsOpen w side → IsOpen (come side (Piece piece) w) side
 still_open Client w piece h = h
 still_open Server w piece h = h
 

@@ -1,5 +1,5 @@
 -- What is held stays within the limits.
-use Rattle.std.proofs.Common.{ℕ, ◌+◌, ◌-◌, ◌≤◌, List, [], ◌∷◌, ◌++◌, length, refl, sym, ap, subst, ◌∙◌, append_assoc, arith}
+use Rattle.std.proofs.Common.{ℕ, ◌+◌, ◌-◌, ◌≤◌, List, [], ◌∷◌, ◌++◌, length, sym, ap, subst, ◌∙◌, append_assoc, arith}
 use Rattle.std.proofs.lemmas.Grind.{common_steps}
 use Rattle.mysql_connection_rules.specs.declared.side.Side.TheVariants.{Client, Server}
 use Rattle.mysql_connection_rules.specs.Standing.{kept}
@@ -7,13 +7,10 @@ use Rattle.mysql_connection_rules.specs.Streams.{Stream, World, room, room_to_ke
 use Rattle.mysql_connection_rules.specs.Laws.{EventsStayWithinLimits, EventsTakeBytes, FaultsAreOfTheirBytes, FreshIsWithinLimits, HasRead, HeldStays}
 use Rattle.mysql_connection_rules.specs.Laws.{PiecesStayWithinLimits, PositionsStay, WithinLimits}
 use Rattle.mysql_connection_rules.proofs.Packets.{PacketLaws}
-use Rattle.mysql_connection_rules.proofs.Going.{Went, next_goes, next_goes-fails}
+use Rattle.mysql_connection_rules.proofs.Going.{next_goes, next_goes-fails, same_read, Went}
 
 pub events_take_bytes : PacketLaws → EventsTakeBytes
 events_take_bytes packets old new event e = (next_goes packets old event new e).takes
-
-one_read : (stream : Stream) → HasRead stream stream
-one_read stream = record { since = []; bytes = refl; read = omega arith; closed = refl }
 
 then_read : (a b c : Stream) → HasRead a b → HasRead b c → HasRead a c
 then_read a b c one two = record {
@@ -24,7 +21,7 @@ then_read a b c one two = record {
 }
 
 pub positions_stay : PacketLaws → PositionsStay
-positions_stay packets old new [] h side = subst (λ (v : World). HasRead (stream_of side old.unread) (stream_of side v.unread)) h (one_read (stream_of side old.unread))
+positions_stay packets old new [] h side = subst (λ (v : World). HasRead (stream_of side old.unread) (stream_of side v.unread)) h (same_read (stream_of side old.unread))
 positions_stay packets old new (event ∷ events) h side =
     then_read (stream_of side old.unread) (stream_of side h.0.unread) (stream_of side new.unread) ((next_goes packets old event h.0 h.1).streams side)
     (positions_stay packets h.0 new events h.2 side)

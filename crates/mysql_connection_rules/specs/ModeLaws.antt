@@ -2,7 +2,6 @@
 use Rattle.std.proofs.Common.{◌≡◌, ◌==◌, ◌||◌, ℕ, Bool, true, false, List, [], ◌∷◌, Option, Some, None, Result, Ok, Err}
 use Rattle.std.proofs.Common.{refl, subst}
 use Rattle.std.specs.Prelude.{if◌then◌else◌}
-use Rattle.std.specs.Option.{option_and_then}
 use Rattle.mysql_authentication.specs.Events.{Authentication as AuthenticationSaid}
 use Rattle.mysql_authentication.specs.Events.{Greeting as GreetingSaid}
 use Rattle.mysql_authentication.specs.Events.{Response as ResponseSaid}

@@ -1,9 +1,9 @@
 -- What a step says, it says by its phase; but for the mode all stands as that leaves it.
-use Rattle.std.proofs.Common.{◌≡◌, ℕ, List, Result, Ok, Err, refl, sym, ap, ◌∙◌}
+use Rattle.std.proofs.Common.{◌≡◌, ℕ, List, Ok, Err, sym, ap, ◌∙◌}
 use Rattle.mysql_connection_rules.specs.declared.fault.Fault.{Fault}
 use Rattle.mysql_connection_rules.specs.Events.{Event}
 use Rattle.mysql_connection_rules.specs.SessionModes.{mode_behind}
-use Rattle.mysql_connection_rules.specs.Standing.{Phase, Standing}
+use Rattle.mysql_connection_rules.specs.Standing.{Standing}
 use Rattle.mysql_connection_rules.specs.Steps.{Step, in_mode, in_turn, step, with_mode}
 
 -- An event was said by its phase, which leaves this; and with its mode it stands so.

@@ -1,7 +1,6 @@
 -- What stands behind an event that a payload says is what follows from the event.
 use Rattle.std.proofs.Common.{◌≡◌, ℕ, Bool, true, false, if◌then◌else◌, List, Result, Ok, Err, refl, subst}
 use Rattle.mysql_authentication.specs.Readings.{authentication_at, greeting_at, response_at}
-use Rattle.mysql_authentication.specs.declared.fault.LoginFault.{LoginFault}
 use Rattle.mysql_reply_events.specs.Events.{ReplySoFar}
 use Rattle.mysql_reply_events.specs.Table.{event_at, file_data_at}
 use Rattle.mysql_reply_events.specs.declared.fault.ReplyFault.{ReplyFault}
@@ -60,10 +59,6 @@ by_reading event behind (Ok x) P each said after h =
     let Q : Event × Standing → Type 0 = λ p. P p.0 p.1 in
     subst Q (ok_is h) (each x refl)
 by_reading event behind (Err fault) P each said after h = absurd cc
-
-of_login_is : {X : Type 0} (read : Result X LoginFault) (x : X) → of_login read ≡ Ok x → read ≡ Ok x
-of_login_is (Ok y) x h = cc
-of_login_is (Err fault) x h = absurd cc
 
 of_reply_is : {X : Type 0} (read : Result X ReplyFault) (x : X) → of_reply read ≡ Ok x → read ≡ Ok x
 of_reply_is (Ok y) x h = cc

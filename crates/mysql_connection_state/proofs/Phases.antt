@@ -20,7 +20,6 @@ use Rattle.mysql_connection_state.specs.Follows.{ReadsReply, exchange_due}
 use Rattle.mysql_connection_state.specs.Reads.{Gives}
 use Rattle.mysql_connection_state.specs.Views.{event_view, plain_phase}
 use Rattle.mysql_connection_state.specs.declared.event.Event.{Event as HeldEvent}
-use Rattle.mysql_connection_state.specs.declared.phase.Phase.{Phase as PlainPhase}
 use Rattle.mysql_connection_state.specs.declared.phase.Phase.TheVariants as plain
 use Rattle.mysql_connection_statements.specs.Statements.{counted}
 use Rattle.mysql_reply_events.specs.Events.{Awaited, ReplySoFar}
@@ -89,22 +88,6 @@ at_over (phases.Answer exchange) s payload reason h e = absurd (cc e)
 at_over phases.Command s payload reason h e = absurd (cc e)
 at_over (phases.Reply r) s payload reason h e = absurd (h.reply tt)
 at_over (phases.Over its) s payload reason h e = refl
-
--- what callers are told of an exchange or a reply
-abbrev pub IsOther : PlainPhase → Type 0
-IsOther plain.Authentication = Unit {0}
-IsOther plain.Reply = Unit {0}
-IsOther plain.FileData = Unit {0}
-IsOther phase = ⊥
-
-pub none_other : (phase : Phase) → IsPlain phase → IsOther (plain_phase phase) → ⊥
-none_other phases.Greeting h other = other
-none_other phases.Response h other = other
-none_other (phases.Authentication exchange) h other = absurd (cc h.exchange)
-none_other (phases.Answer exchange) h other = other
-none_other phases.Command h other = other
-none_other (phases.Reply r) h other = h.reply tt
-none_other (phases.Over reason) h other = other
 
 -- with its mode a step says the same
 mode_said : (s : Standing) (step : Step) → said_in (with_mode s step) ≡ said_in step

@@ -1,5 +1,5 @@
 -- What isn't a command has no unclear values.
-use Rattle.std.proofs.Common.{◌≡◌, ℕ, Bool, true, false, List, Option, None, Result, Ok, Err, refl, subst, if◌then◌else◌}
+use Rattle.std.proofs.Common.{◌≡◌, ℕ, Bool, true, false, List, None, Result, Ok, Err, refl, subst, if◌then◌else◌}
 use Rattle.std.specs.Prelude.{IfOk}
 use Rattle.mysql_authentication.specs.Readings.{authentication_at}
 use Rattle.mysql_connection_rules.specs.Events.{Event}

@@ -1,10 +1,8 @@
 //! The prepared statements of a connection by their ids.
 
-ghost use Rattle.std.specs.Prelude.{◌≡◌, ℕ, ◌+◌, ◌<◌, ◌≤◌, ◌^◌, List, Option, IfErr, IfOk, IfSome, OnErr, OnOk};
+ghost use Rattle.std.specs.Prelude.{◌≡◌, ◌<◌, ◌≤◌, ◌^◌, Option, IfOk, IfSome, OnErr, OnOk};
 ghost use Rattle.std.specs.Prelude.{if◌then◌else◌, Some, None, nat_lt};
 ghost use Rattle.std.specs.Option.{option_and_then, option_copied, option_map};
-ghost use Rattle.mysql_columns.specs.Columns.{ColumnDefinition};
-ghost use Rattle.mysql_executions.specs.declared.refused.Refused.{Refused as RefusedAs};
 ghost use Rattle.mysql_rows.specs.Views.{shared_columns};
 ghost use Rattle.mysql_connection_statements.specs.Settled.{IsSettledAt};
 ghost use Rattle.mysql_connection_statements.specs.Statements.{after_close, after_prepared};

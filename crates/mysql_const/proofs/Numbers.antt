@@ -8,22 +8,16 @@ use Rattle.std.proofs.lemmas.Option.{none-some, cond_some}
 use Rattle.mysql_const.specs.NamedLaws.{bulk_indicator-names_back, column_type-names_back, command-names_back, geometry-names_back, item_result-names_back, session_state-names_back}
 use Rattle.mysql_const.specs.Tables.{numbered, entry_of, IsTable}
 use Rattle.mysql_const.specs.Commands.{command_number, command_named}
-use Rattle.mysql_const.specs.declared.command.Command.{Command}
 use Rattle.mysql_const.specs.declared.command.Command.TheVariants.{COM_SLEEP, COM_QUIT, COM_INIT_DB, COM_QUERY, COM_FIELD_LIST, COM_CREATE_DB, COM_DROP_DB, COM_REFRESH, COM_DEPRECATED_1, COM_STATISTICS, COM_PROCESS_INFO, COM_CONNECT, COM_PROCESS_KILL, COM_DEBUG, COM_PING, COM_TIME, COM_DELAYED_INSERT, COM_CHANGE_USER, COM_BINLOG_DUMP, COM_TABLE_DUMP, COM_CONNECT_OUT, COM_REGISTER_SLAVE, COM_STMT_PREPARE, COM_STMT_EXECUTE, COM_STMT_SEND_LONG_DATA, COM_STMT_CLOSE, COM_STMT_RESET, COM_SET_OPTION, COM_STMT_FETCH, COM_DAEMON, COM_BINLOG_DUMP_GTID, COM_RESET_CONNECTION, COM_END, COM_STMT_BULK_EXECUTE}
 use Rattle.mysql_const.specs.ColumnTypes.{column_type_number, column_type_named}
-use Rattle.mysql_const.specs.declared.column_type.ColumnType.{ColumnType}
 use Rattle.mysql_const.specs.declared.column_type.ColumnType.TheVariants.{MYSQL_TYPE_DECIMAL, MYSQL_TYPE_TINY, MYSQL_TYPE_SHORT, MYSQL_TYPE_LONG, MYSQL_TYPE_FLOAT, MYSQL_TYPE_DOUBLE, MYSQL_TYPE_NULL, MYSQL_TYPE_TIMESTAMP, MYSQL_TYPE_LONGLONG, MYSQL_TYPE_INT24, MYSQL_TYPE_DATE, MYSQL_TYPE_TIME, MYSQL_TYPE_DATETIME, MYSQL_TYPE_YEAR, MYSQL_TYPE_NEWDATE, MYSQL_TYPE_VARCHAR, MYSQL_TYPE_BIT, MYSQL_TYPE_TIMESTAMP2, MYSQL_TYPE_DATETIME2, MYSQL_TYPE_TIME2, MYSQL_TYPE_TYPED_ARRAY, MYSQL_TYPE_VECTOR, MYSQL_TYPE_UNKNOWN, MYSQL_TYPE_JSON, MYSQL_TYPE_NEWDECIMAL, MYSQL_TYPE_ENUM, MYSQL_TYPE_SET, MYSQL_TYPE_TINY_BLOB, MYSQL_TYPE_MEDIUM_BLOB, MYSQL_TYPE_LONG_BLOB, MYSQL_TYPE_BLOB, MYSQL_TYPE_VAR_STRING, MYSQL_TYPE_STRING, MYSQL_TYPE_GEOMETRY}
 use Rattle.mysql_const.specs.BulkIndicators.{bulk_indicator_number, bulk_indicator_named}
-use Rattle.mysql_const.specs.declared.bulk.MariadbBulkIndicator.{MariadbBulkIndicator}
 use Rattle.mysql_const.specs.declared.bulk.MariadbBulkIndicator.TheVariants.{BULK_INDICATOR_NONE, BULK_INDICATOR_NULL, BULK_INDICATOR_DEFAULT, BULK_INDICATOR_IGNORE}
 use Rattle.mysql_const.specs.SessionStates.{session_state_number, session_state_named}
-use Rattle.mysql_const.specs.declared.session_state.SessionStateType.{SessionStateType}
 use Rattle.mysql_const.specs.declared.session_state.SessionStateType.TheVariants.{SESSION_TRACK_SYSTEM_VARIABLES, SESSION_TRACK_SCHEMA, SESSION_TRACK_STATE_CHANGE, SESSION_TRACK_GTIDS, SESSION_TRACK_TRANSACTION_CHARACTERISTICS, SESSION_TRACK_TRANSACTION_STATE}
 use Rattle.mysql_const.specs.Geometries.{geometry_number, geometry_named}
-use Rattle.mysql_const.specs.declared.geometry.GeometryType.{GeometryType}
 use Rattle.mysql_const.specs.declared.geometry.GeometryType.TheVariants.{GEOM_GEOMETRY, GEOM_POINT, GEOM_LINESTRING, GEOM_POLYGON, GEOM_MULTIPOINT, GEOM_MULTILINESTRING, GEOM_MULTIPOLYGON, GEOM_GEOMETRYCOLLECTION}
 use Rattle.mysql_const.specs.ItemResults.{item_result_number, item_result_named}
-use Rattle.mysql_const.specs.declared.item_result.ItemResult.{ItemResult}
 use Rattle.mysql_const.specs.declared.item_result.ItemResult.TheVariants.{INVALID_RESULT, STRING_RESULT, REAL_RESULT, INT_RESULT, ROW_RESULT, DECIMAL_RESULT}
 
 -- What is found stands in the first row, or in those behind it.

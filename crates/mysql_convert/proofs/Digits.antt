@@ -1,7 +1,6 @@
 -- Rows of digits, one byte after the other.
-use Rattle.std.proofs.Common.{◌≡◌, ℕ, ◌+◌, ◌-◌, ◌*◌, ◌≤◌, ◌<◌, true, false, List, [], ◌∷◌, length, drop, get_or, refl, sym, ap, ◌∙◌, arith, le_trans, Bool, Option, Some, None, IfSome, ◌^◌, suc, drop-cons, add-one, if◌then◌else◌}
-use Rattle.std.proofs.Math.Nat.{pow-le-pow_right, pow-suc}
-use Rattle.std.proofs.lemmas.Bool.Decides.{nat_tests}
+use Rattle.std.proofs.Common.{◌≡◌, ℕ, ◌+◌, ◌-◌, ◌*◌, ◌≤◌, ◌<◌, true, false, List, [], ◌∷◌, length, drop, get_or, refl, sym, ap, ◌∙◌, arith, le_trans, Bool, Option, Some, None, IfSome, ◌^◌, drop-cons, add-one, if◌then◌else◌}
+use Rattle.std.proofs.Math.Nat.{pow-le-pow_right}
 use Rattle.std.proofs.lemmas.List.{drop_all}
 use Rattle.mysql_queries.specs.Literals.{is_digit}
 use Rattle.mysql_convert.specs.Numbers.{digits_number}
@@ -22,9 +21,6 @@ begun (b ∷ xs) h = digits_number-after b xs
 pub one_more : (n : ℕ) (xs : List ℕ) (i : ℕ) → i < length xs → is_digit (get_or xs i 0) ≡ true → digits_after n (drop i xs) ≡ digits_after (n * 10 + (get_or xs i 0 - 0x30)) (drop (i + 1) xs)
 one_more n xs i h d = rw (add-one, drop-cons xs i 0, d) refl
 
-pub no_more : (n : ℕ) (xs : List ℕ) (i : ℕ) → i < length xs → is_digit (get_or xs i 0) ≡ false → digits_after n (drop i xs) ≡ None
-no_more n xs i h d = rw (drop-cons xs i 0, d) refl
-
 all_grow : (n k : ℕ) (xs : List ℕ) → k ≤ n → (o : Option ℕ) → digits_after n xs ≡ o → IfSome o (λ m. k ≤ m)
 all_grow n k xs h None e = tt
 all_grow n k xs h (Some m) e = le_trans h (grows n m xs e)
@@ -37,13 +33,6 @@ large n k xs i h d e l =
 -- all bytes are read
 pub ended : (n : ℕ) (xs : List ℕ) (i : ℕ) → length xs ≤ i → 0 < length xs → digits_after n (drop i xs) ≡ digits_after 0 xs → digits_number xs ≡ Some n
 ended n xs i l h e = begun xs h ∙ sym e ∙ ap (digits_after n) (drop_all i xs l)
-
--- one digit more: the number stays below the next power of ten
-pub stays_below : (n i d : ℕ) → n < 10 ^ i → is_digit d ≡ true → n * 10 + (d - 0x30) < 10 ^ (i + 1)
-stays_below n i d l h =
-    let p : 10 ^ suc i ≡ 10 ^ i * 10 = pow-suc 10 i in
-    let q : d - 0x30 ≤ 9 = grind (arith, nat_tests, h) in
-    rw (add-one, p) (omega (arith, l, q))
 
 -- a number of at most eighteen digits
 pub eighteen : (n i : ℕ) → n < 10 ^ i → i ≤ 18 → n < 10 ^ 18

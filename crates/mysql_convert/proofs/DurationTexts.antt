@@ -35,9 +35,6 @@ four true true false t e = absurd (cc)
 four true false s t e = absurd (cc)
 four false r s t e = absurd (cc)
 
-digit_low : (d : ℕ) → is_digit d ≡ true → 0x30 ≤ d
-digit_low d h = grind (arith, nat_tests, h)
-
 digit_high : (d : ℕ) → is_digit d ≡ true → d ≤ 0x39
 digit_high d h = grind (arith, nat_tests, h)
 

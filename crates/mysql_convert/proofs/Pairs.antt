@@ -1,9 +1,9 @@
 -- Pairs of a name and what is as_value, put into a map one after another.
-use Rattle.std.proofs.Common.{◌≡◌, ℕ, ◌+◌, ◌<◌, Bool, true, false, cond, ◌||◌, List, [], ◌∷◌, ◌++◌, map, length, Option, Some, None, is_some, is_none, unwrap_or, refl, sym, ap, ◌∙◌, arith, subst, nat_eq, if◌then◌else◌, Vec, take, drop, get_or, add-one, drop-cons, suc, ◌≤◌, length-take-le, take_all}
-use Rattle.std.proofs.lemmas.List.{drop_all, take_more, map-append, length-map}
+use Rattle.std.proofs.Common.{◌≡◌, ℕ, ◌+◌, ◌<◌, Bool, true, false, cond, ◌||◌, List, [], ◌∷◌, ◌++◌, map, length, Option, Some, None, is_some, is_none, unwrap_or, refl, sym, ap, ◌∙◌, arith, subst, nat_eq, if◌then◌else◌, Vec, take, drop, get_or, add-one, drop-cons, suc, length-take-le}
+use Rattle.std.proofs.lemmas.List.{take_more, map-append, length-map}
 use Rattle.mysql_convert.specs.Sets.{set_cause, too_long}
 use Rattle.mysql_convert.specs.Sets.Parts.{ByName}
-use Rattle.mysql_values.specs.declared.params.SetError.TheVariants.{Redefined, TooLong}
+use Rattle.mysql_values.specs.declared.params.SetError.TheVariants.{Redefined}
 use Rattle.std.specs.Option.{option_map, option_or}
 use Rattle.std.specs.List.{list_any, position_from}
 use Rattle.std.specs.Cmp.Lexicographic.{pointwise, nat_list_eq_equiv}
@@ -83,14 +83,6 @@ pub record Kept (done left all : List Pair) (entries : Entries) (long : Option �
   pub too_long : position_from is_none 0 (parts all) ≡ option_or long (position_from is_none (length done) (parts left))
   pub looked : (name : List ℕ) → value_named name entries ≡ part_named name (filled done)
   pub whole : long ≡ None → filled done ≡ done
-
-pub none_put : (all : List Pair) (entries : Entries) → entries ≡ [] → Kept [] all all entries None
-none_put all entries e = record {
-  redefined = refl;
-  too_long = refl;
-  looked = λ name. ap (value_named name) e;
-  whole = λ _. refl;
-}
 
 names_more : (done : List Pair) (pair : Pair) → names (done ++ pair ∷ []) ≡ names done ++ pair.0 ∷ []
 names_more [] pair = refl
@@ -174,24 +166,6 @@ again f xs i x old long value l e k h =
     let left : map f (drop i xs) ≡ f x ∷ map f (drop (i + 1) xs) = ap (map f) (item_next xs i x l e) in
     let before : Kept (map f (take i xs)) (f x ∷ map f (drop (i + 1) xs)) (map f xs) old long = subst (λ ys. Kept (map f (take i xs)) ys (map f xs) old long) left k in
     ap (λ o. option_or (option_map (λ name. Redefined name) o) (too_long 0 (parts (map f xs)))) (repeated_pair (map f (take i xs)) (map f (drop (i + 1) xs)) (map f xs) (f x) old long value before h)
-
-all_done : {T : Type 0} (f : T → Pair) (xs : List T) (i : ℕ) (entries : Entries) (long : Option ℕ) → length xs ≤ i → Kept (map f (take i xs)) (map f (drop i xs)) (map f xs) entries long → Kept (map f xs) [] (map f xs) entries long
-all_done f xs i entries long l k =
-    let t : take i xs ≡ xs = take_all i xs l in
-    let d : drop i xs ≡ [] = drop_all i xs l in
-    subst (λ ys. Kept (map f ys) [] (map f xs) entries long) t (subst (λ ys. Kept (map f (take i xs)) (map f ys) (map f xs) entries long) d k)
-
--- all are put, and one is too long
-pub ends_long : {T : Type 0} (f : T → Pair) (xs : List T) (i : ℕ) (entries : Entries) (place : ℕ) → length xs ≤ i → Kept (map f (take i xs)) (map f (drop i xs)) (map f xs) entries (Some place) → set_cause (ByName (map f xs)) ≡ Some (TooLong place)
-ends_long f xs i entries place l k =
-    let a : Kept (map f xs) [] (map f xs) entries (Some place) = all_done f xs i entries (Some place) l k in
-    ap (λ o. option_or (option_map (λ name. Redefined name) o) (too_long 0 (parts (map f xs)))) (sym a.redefined) ∙ ap (option_map (λ at. TooLong at)) a.too_long
-
--- all are put, and none is too long
-pub ends : {T : Type 0} (f : T → Pair) (xs : List T) (i : ℕ) (entries : Entries) → length xs ≤ i → Kept (map f (take i xs)) (map f (drop i xs)) (map f xs) entries None → (name : List ℕ) → value_named name entries ≡ part_named name (map f xs)
-ends f xs i entries l k name =
-    let a : Kept (map f xs) [] (map f xs) entries None = all_done f xs i entries None l k in
-    a.looked name ∙ ap (part_named name) (a.whole refl)
 
 pub is_absent : (o : Option Value) → is_some o ≡ false → o ≡ None
 is_absent None h = refl

@@ -5,7 +5,7 @@
 //!     let step: OptionIr2<u32> = get_intermediate::<Option<u32>>(other)?;
 //!     let other = step.rollback(alloc)?;
 
-ghost use Rattle.std.specs.Prelude.{◌≡◌, Option, Some, None};
+ghost use Rattle.std.specs.Prelude.{Option, Some, None};
 ghost use Rattle.std.specs.Option.{option_map};
 ghost use Rattle.mysql_cells.specs.declared.value.Value.{Value as ValueOf};
 ghost use Rattle.mysql_cells.specs.declared.value.Value.TheVariants.{NULL};

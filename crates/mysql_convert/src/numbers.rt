@@ -4,7 +4,7 @@
 //!     let narrowed = i8::narrow(number);
 
 ghost use Rattle.std.specs.Prelude.{◌≡◌, ◌^◌, ◌≤◌, IfErr, IfNone, IfOk, IfSome, IsSomeAnd, Option, Some, None, length};
-ghost use Rattle.std.specs.Prelude.{pos, unsigned_abs, ℕ, ℤ};
+ghost use Rattle.std.specs.Prelude.{pos, unsigned_abs, ℤ};
 ghost use Rattle.std.specs.Option.{option_and_then};
 ghost use Rattle.mysql_queries.specs.Literals.{is_digit as is_digit_byte};
 ghost use Rattle.mysql_convert.specs.Conversions.{ReadsAgain};

@@ -1,6 +1,6 @@
 //! The values of lists, and of elements of several types.
 
-ghost use Rattle.std.specs.Prelude.{◌≡◌, ◌++◌, ◌⊎◌, IfErr, IfOk, List, OnErr, OnOk, [], ◌∷◌, None, Option, Some, map};
+ghost use Rattle.std.specs.Prelude.{◌≡◌, ◌++◌, ◌⊎◌, IfErr, IfOk, List, OnOk, [], ◌∷◌, None, Option, Some, map};
 ghost use Rattle.std.specs.Prelude.{vec_len};
 ghost use Rattle.mysql_cells.specs.declared.value.Value.{Value as ValueOf};
 ghost use Rattle.mysql_convert.specs.Sets.{too_long};

@@ -3,7 +3,7 @@
 //!     let by_place = (number, "abc").into_params(alloc)?;
 //!     let by_name = pairs.into_params(alloc)?;
 
-ghost use Rattle.std.specs.Prelude.{◌≡◌, ◌++◌, ◌⊎◌, IfErr, IfOk, List, OnOk, [], ◌∷◌, None, Option, Some};
+ghost use Rattle.std.specs.Prelude.{◌≡◌, ◌++◌, ◌⊎◌, IfErr, IfOk, List, OnOk, [], None, Option, Some};
 ghost use Rattle.std.specs.Prelude.{if◌then◌else◌, is_none, is_some, map, nat_eq, ℕ};
 ghost use Rattle.std.specs.Cmp.Lexicographic.{pointwise};
 ghost use Rattle.std.specs.Option.{option_or};

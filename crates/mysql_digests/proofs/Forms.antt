@@ -1,19 +1,18 @@
 -- What stands in a text for a literal in a placeholder's place.
-use Rattle.std.proofs.Common.{if◌then◌else◌, ◌≡◌, ◌≢◌, ℕ, Bool, true, false, not, ◌&&◌, ◌||◌, ◌==◌, List, [], ◌∷◌, ◌++◌, map, refl, sym, ap, ◌∙◌, inl, inr, subst, append-nil, arith, codes}
-use Rattle.std.specs.List.{AllByRecursion, concat}
+use Rattle.std.proofs.Common.{if◌then◌else◌, ◌≡◌, ℕ, true, false, ◌&&◌, ◌==◌, List, [], ◌∷◌, ◌++◌, refl, sym, ap, ◌∙◌, inl, inr, subst, append-nil, codes}
+use Rattle.std.specs.List.{AllByRecursion}
 use Rattle.mysql_queries.specs.Laws.{OneTokens}
 use Rattle.mysql_queries.specs.Literals.{is_digit, AreDigits, IsString, IsIntroducer, IsLiteral, text_introducer, binary_introducer}
 use Rattle.mysql_queries.specs.Scanning.{is_plain}
-use Rattle.mysql_queries.specs.Tokens.{Kind, Quoted, Plain, kind_of, HasShape, IsToken, HasTokens, has_escapes, single_quote, dash, goes_on_as_dashes}
+use Rattle.mysql_queries.specs.Tokens.{Kind, Quoted, Plain, kind_of, HasShape, HasTokens, has_escapes, single_quote, dash, goes_on_as_dashes}
 use Rattle.mysql_queries.specs.declared.content.Content.{Content}
 use Rattle.mysql_queries.specs.declared.mode.Mode.{Mode}
 use Rattle.mysql_queries.specs.declared.spelling.Spelling.{Spelling}
-use Rattle.mysql_digests.specs.Digest.{Lexeme, Gap, Value, Word, Operator, Identifier, Byte, Piece, with_operator_byte, with_byte, with_bytes, with_token, with_value, with_word, lexemes_of, pieces_behind, is_left_out, is_string_prefix, awaits_exponent, value_follows, is_value, is_word_byte}
-use Rattle.mysql_digests.specs.declared.left_out.Before.{Before}
+use Rattle.mysql_digests.specs.Digest.{Lexeme, Gap, Value, Word, Operator, Byte, Piece, with_operator_byte, with_bytes, with_token, with_value, with_word, lexemes_of, pieces_behind, awaits_exponent, value_follows}
 use Rattle.mysql_digests.specs.declared.left_out.Before.TheVariants.{Apart, Joined, Exponent}
 use Rattle.mysql_digests.proofs.Lexing.{NoWord, all_plain, front, singles, singles_lexemes, singles_tokens, word_bytes}
-use Rattle.mysql_digests.proofs.LiteralForms.{IsValueWord, LiteralForm, string, word, negative, introduced, literal_form, digits_value_word}
-use Rattle.mysql_digests.proofs.TokenKinds.{apart_bytes, not_equal, plain_kind}
+use Rattle.mysql_digests.proofs.LiteralForms.{IsValueWord, string, word, negative, introduced, literal_form, digits_value_word}
+use Rattle.mysql_digests.proofs.TokenKinds.{apart_bytes, not_equal}
 
 -- what makes one value of the pieces, and joins no operator before it
 pub record IsForm (form : List Lexeme) : Type 0 where

@@ -1,11 +1,8 @@
 -- Pieces as the code holds them.
-use Rattle.std.proofs.Common.{◌≡◌, ◌≢◌, ℕ, ◌+◌, ◌-◌, ◌<◌, ◌≤◌, Bool, true, false, List, [], ◌∷◌, ◌++◌, length, take, get_or, refl, sym, ap, ◌∙◌, subst, append_assoc, length-append, arith, Option, Some, None}
-use Rattle.std.proofs.Math.Seq.{get_or-append_seam}
-use Rattle.mysql_digests.specs.Digest.{Piece, Text, Comma, Open, Close, Values, Row, Rows, text_of, with_spaces, with_value, with_row, with_close, without_last, space}
-use Rattle.mysql_digests.specs.Held.{Holds, kinds_of, mark_of, piece_kind, is_comma, is_open, values_of, rows_of, values_before, rows_before, values_opened}
+use Rattle.std.proofs.Common.{◌≡◌, ℕ, ◌+◌, Bool, true, false, List, [], ◌∷◌, ◌++◌, refl, sym, ap, ◌∙◌, append_assoc, Some, None}
+use Rattle.mysql_digests.specs.Digest.{Piece, Text, Comma, Open, Close, Values, Row, Rows, text_of, with_spaces, with_value, with_row, with_close, space}
+use Rattle.mysql_digests.specs.Held.{kinds_of, mark_of, piece_kind, values_of, values_before, rows_before, values_opened}
 use Rattle.mysql_digests.specs.declared.pieces.PieceKind.{PieceKind}
-use Rattle.mysql_digests.specs.declared.pieces.PieceKind.TheVariants as kinds
-use Rattle.mysql_digests.specs.declared.pieces.Pieces.{Pieces}
 
 -- a piece more: its kind, its text and a space
 pub more_bytes : (pieces : List Piece) (piece : Piece) (old text new : List ℕ) → old ≡ with_spaces pieces → text_of piece ≡ text → new ≡ (old ++ text) ++ (space ∷ []) → new ≡ with_spaces (piece ∷ pieces)

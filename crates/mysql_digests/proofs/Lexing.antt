@@ -1,5 +1,5 @@
 -- What stands at the front of a text, by its bytes and by its first token.
-use Rattle.std.proofs.Common.{if◌then◌else◌, not, ◌≡◌, ◌≢◌, ℕ, zero, suc, Bool, true, false, List, [], ◌∷◌, ◌++◌, map, take, drop, slice_index, refl, sym, ap, ◌∙◌, inl, inr, subst, take-append-drop, ◌<◌, length, arith}
+use Rattle.std.proofs.Common.{if◌then◌else◌, not, ◌≡◌, ℕ, zero, suc, Bool, true, false, List, [], ◌∷◌, ◌++◌, map, take, drop, slice_index, refl, sym, ap, ◌∙◌, inl, inr, subst, take-append-drop, ◌<◌, length, arith}
 use Rattle.std.specs.List.{AllByRecursion, concat}
 use Rattle.mysql_queries.specs.LiteralRuns.{EndsBefore}
 use Rattle.mysql_queries.specs.Literals.{is_digit}

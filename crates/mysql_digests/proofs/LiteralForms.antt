@@ -1,13 +1,12 @@
 -- What a literal's spelling is made of.
-use Rattle.std.proofs.Common.{◌≡◌, ◌≢◌, ℕ, ◌+◌, Bool, true, false, ◌&&◌, ◌||◌, ◌==◌, ◌⊎◌, List, [], ◌∷◌, ◌++◌, map, refl, sym, ap, ◌∙◌, inl, inr, subst, codes, ℤ, arith}
+use Rattle.std.proofs.Common.{◌≡◌, ◌≢◌, ℕ, ◌+◌, Bool, true, false, ◌&&◌, ◌||◌, ◌==◌, List, [], ◌∷◌, ◌++◌, map, refl, sym, ap, ◌∙◌, inl, inr, subst, codes, arith}
 use Rattle.std.specs.List.{AllByRecursion}
 use Rattle.std.proofs.lemmas.Bool.Decides.{nat_tests}
 use Rattle.std.specs.Char.{to_ascii_lowercase}
 use Rattle.std.specs.Str.{bytes_eq, str_eq_ignore_ascii_case, str_to_ascii_lowercase}
 use Rattle.mysql_queries.specs.Tokens.{has_escapes, is_within, single_quote, dash}
-use Rattle.mysql_queries.specs.Literals.{lower, is_digit, AreDigits, IsNumber, IsString, is_hex, SpellsInHex, IsHexLiteral, IsIntroduced, IsIntroducer, IsLiteral}
+use Rattle.mysql_queries.specs.Literals.{lower, is_digit, AreDigits, IsString, is_hex, SpellsInHex, IsHexLiteral, IsIntroducer, IsLiteral}
 use Rattle.mysql_queries.specs.Queries.{is_joining}
-use Rattle.mysql_queries.specs.Scanning.{is_plain}
 use Rattle.mysql_queries.specs.declared.content.Content.{Content}
 use Rattle.mysql_queries.specs.declared.content.Content.TheVariants.{Null, Number, Bytes}
 use Rattle.mysql_queries.specs.declared.mode.Mode.{Mode}

@@ -1,14 +1,14 @@
 -- The kind of a token by itself is its kind where it stands; bytes that are tokens by themselves.
 use Rattle.std.proofs.Common.{◌≡◌, ◌≢◌, ℕ, Bool, true, false, cond, not, ◌&&◌, ◌||◌, ◌==◌, ◌⊎◌, List, [], ◌∷◌, ◌++◌, refl, sym, ap, ◌∙◌, inl, inr, subst}
 use Rattle.std.proofs.lemmas.Bool.Decides.{eqb_tells}
-use Rattle.mysql_queries.specs.Tokens.{Kind, Quoted, LineComment, BlockComment, Name, Mark, Plain, kind_of, HasShape, IsToken, is_quote, hash, dash, slash, star, colon, question, line_feed, single_quote, double_quote, backtick}
-use Rattle.mysql_queries.specs.Tokens.{goes_on_as_dashes, goes_on_as_block, goes_on_as_name, is_name_byte, is_name_start, EndsBlock, IsBlockComment, IsName, AtNameEnd, AtLineEnd, inside_bytes}
+use Rattle.mysql_queries.specs.Tokens.{Kind, Quoted, LineComment, BlockComment, Name, Mark, Plain, kind_of, HasShape, IsToken, is_quote, hash, dash, slash, star, colon, question, single_quote, double_quote, backtick}
+use Rattle.mysql_queries.specs.Tokens.{goes_on_as_dashes, goes_on_as_block, goes_on_as_name, is_name_byte, is_name_start, AtNameEnd, AtLineEnd}
 use Rattle.mysql_queries.specs.Literals.{is_digit}
 use Rattle.mysql_queries.specs.Queries.{is_joining}
 use Rattle.mysql_queries.specs.Scanning.{is_plain}
 use Rattle.mysql_queries.specs.declared.mode.Mode.{Mode}
 use Rattle.mysql_digests.specs.Digest.{is_blank, is_word_byte, is_operator_byte}
-use Rattle.mysql_queries.proofs.FirstBytes.{bool_tells, and_true, same_number, HasQuote, kind_has_quote, Tells, kind_tells, name_second}
+use Rattle.mysql_queries.proofs.FirstBytes.{and_true, same_number, HasQuote, kind_has_quote, Tells, kind_tells, name_second}
 use Rattle.mysql_digests.proofs.FirstTokens.{not_empty}
 
 pub not_equal : (b c : ℕ) → b ≢ c → (b == c) ≡ false

@@ -183,9 +183,6 @@ types_kept s (Some own) types e none = absurd cc
 types_kept s None types e none = (must_then (length s.types == s.count) (Some s.types) types e).0
 
 module _ (written : ReadCellsAreWritten) (c : Capabilities) (s : InForce) (body : List ℕ) (e : Execution) (are : AreBytes body) where
-  named : Bool
-  named = has_query_attributes c
-
   end_by : ExecutionHead → Option (List BoundType) → List Value → List Attribute × List ℕ → Option Execution
   end_by head own parameters attributes = Some (execution_by c head.statement head.flags head.iterations own parameters attributes.0 attributes.1)
 

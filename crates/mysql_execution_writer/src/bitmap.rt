@@ -1,7 +1,6 @@
 //! The bitmap of parameters and attributes.
 
-ghost use Rattle.std.specs.Prelude.{◌≡◌, ◌++◌, ◌∷◌, ◌+◌, ◌*◌, ◌-◌, ◌/◌, ◌<◌, ◌≤◌, ◌^◌, drop, if◌then◌else◌};
-ghost use Rattle.std.specs.Prelude.{length};
+ghost use Rattle.std.specs.Prelude.{◌≡◌, ◌++◌, ◌+◌, ◌*◌, ◌-◌, ◌/◌, ◌<◌, ◌^◌, drop, if◌then◌else◌};
 ghost use Rattle.mysql_stmt.specs.Executions.{null_bitmap, null_bits};
 ghost use Rattle.mysql_fields.specs.Wire.{Appends};
 ghost use Rattle.mysql_execution_writer.specs.Written.{binding_bytes, null_at, values_of};

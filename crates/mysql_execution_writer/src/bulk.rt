@@ -1,6 +1,6 @@
 //! Bulk executions as they are written.
 
-ghost use Rattle.std.specs.Prelude.{◌≡◌, ◌++◌, ◌∷◌, ◌+◌, ◌<◌, ◌==◌, ◌&&◌, [], OnOk, is_some, length, map, true};
+ghost use Rattle.std.specs.Prelude.{◌≡◌, ◌++◌, ◌+◌, ◌<◌, ◌==◌, ◌&&◌, [], OnOk, is_some, true};
 ghost use Rattle.std.specs.Prelude.{unwrap_or};
 ghost use Rattle.std.specs.List.{flat_map, list_all};
 ghost use Rattle.mysql_executions.specs.Views.{bulk_of, rows_of, types_by, types_of};

@@ -1,8 +1,8 @@
 //! Types and values as they are written.
 
-ghost use Rattle.std.specs.Prelude.{◌≡◌, ◌++◌, ◌∷◌, ◌+◌, ◌<◌, ◌≤◌, ◌||◌, ◌==◌, [], IfNone, IfSome, OnOk, drop};
+ghost use Rattle.std.specs.Prelude.{◌≡◌, ◌∷◌, ◌+◌, ◌<◌, ◌||◌, ◌==◌, [], IfNone, IfSome, OnOk, drop};
 ghost use Rattle.std.specs.Prelude.{false, is_some};
-ghost use Rattle.std.specs.Prelude.{length, map, true, unwrap_or};
+ghost use Rattle.std.specs.Prelude.{map, true, unwrap_or};
 ghost use Rattle.std.specs.Prelude.{if◌then◌else◌};
 ghost use Rattle.mysql_cells.specs.TypedCells.{cell_bytes};
 ghost use Rattle.mysql_cells.specs.declared.value.Value.TheVariants.{Bytes, Int};

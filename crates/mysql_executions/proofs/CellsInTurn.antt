@@ -5,13 +5,11 @@ use Rattle.std.specs.List.{flat_map}
 use Rattle.std.specs.Global.{Vec}
 use Rattle.std.specs.Option.{option_and_then, option_map}
 use Rattle.std.proofs.lemmas.List.{drop-map, length-map}
-use Rattle.mysql_cells.specs.declared.value.Value.{Value}
 use Rattle.mysql_field_lists.specs.NullBitmap.{is_null_at}
 use Rattle.mysql_executions.specs.declared.bulk.BulkValue.{BulkValue}
 use Rattle.mysql_executions.specs.declared.types.BoundType.{BoundType}
 use Rattle.mysql_executions.specs.declared.types.ParameterType.{ParameterType}
 use Rattle.mysql_executions.specs.declared.unclear.Looked.{Looked}
-use Rattle.mysql_executions.specs.declared.unclear.Looked.TheVariants as looked
 use Rattle.mysql_executions.specs.Executions.{typed_value_at}
 use Rattle.mysql_executions.specs.InForce.{data_for}
 use Rattle.mysql_executions.specs.Types.{unnamed}
@@ -64,14 +62,6 @@ unfolding cells_in_row
 length_row_cells [] row = omega arith
 length_row_cells (x ∷ types) [] = omega arith
 length_row_cells (x ∷ types) (y ∷ row) = omega (arith, length_row_cells types row)
-
--- of two lists one behind the other
-pub here_in_front : {X : Type 0} (front back : List X) (place : ℕ) (x : X) → place < length front → Here front place x → Here (front ++ back) place x
-here_in_front [] back place x lt e = absurd (omega (arith, lt))
-here_in_front (y ∷ front) back zero x lt e =
-    let same : y ≡ x = cc in
-    ap (λ y. y ∷ (front ++ back)) same
-here_in_front (y ∷ front) back (suc place) x lt e = here_in_front front back place x (omega (arith, lt)) e
 
 pub here_behind : {X : Type 0} (front back : List X) (place : ℕ) (x : X) → length front ≤ place → Here back (place - length front) x → Here (front ++ back) place x
 here_behind {X = X} [] back place x le e =
@@ -153,11 +143,6 @@ GoesOn before cells bytes place left = (first : ℕ) (others : List (Option Para
     first_unclear before (first + 0) (cells ++ others) bytes ≡ first_unclear before (first + place) (drop place cells ++ others) left
 
 module _ (before place : ℕ) (cells : List (Option ParameterType)) (bytes left : List ℕ) (so_far : GoesOn before cells bytes place left) where
-  pub cells_found : (c : Option ParameterType) (found : Looked) → drop place cells ≡ c ∷ drop (place + 1) cells → IsFound before place (c ∷ []) left found
-      → (first : ℕ) (others : List (Option ParameterType)) → first_unclear before (first + 0) (cells ++ others) bytes ≡ found_by before first (place + 1) (drop (place + 1) cells ++ others) found
-  cells_found c found here is first others =
-      so_far first others ∙ ap (λ (l : List (Option ParameterType)). first_unclear before (first + place) (l ++ others) left) here ∙ is first (drop (place + 1) cells ++ others)
-
   pub cells_end : drop place cells ≡ [] → place ≡ length cells
       → (first : ℕ) (others : List (Option ParameterType)) → first_unclear before (first + 0) (cells ++ others) bytes ≡ first_unclear before (first + (0 + length cells)) others left
   cells_end none all first others =

@@ -1,5 +1,5 @@
 -- Loops that read one thing after another.
-use Rattle.std.proofs.Common.{◌≡◌, ◌==◌, ℕ, zero, suc, true, false, ◌-◌, ◌+◌, ◌≤◌, ◌<◌, Bool, List, [], ◌∷◌, ◌++◌, length, map, get_or, drop, Option, Some, None, refl, sym, ap, ◌∙◌, append_assoc, append-nil, add-one, drop-cons, arith}
+use Rattle.std.proofs.Common.{◌≡◌, ℕ, suc, true, false, ◌-◌, ◌+◌, ◌≤◌, ◌<◌, Bool, List, [], ◌∷◌, ◌++◌, length, map, get_or, drop, Option, Some, None, refl, sym, ap, ◌∙◌, append_assoc, append-nil, add-one, drop-cons, arith}
 use Rattle.std.specs.Prelude.{is_some}
 use Rattle.std.specs.Global.{Vec}
 use Rattle.std.specs.Option.{option_map}
@@ -77,10 +77,6 @@ module _ (named : Bool) (before : List BoundType) (count i : ℕ) (bytes : List 
 -- what was read before, and what is still read
 abbrev pub with_front : {A : Type 0} → List A → Option (List A × List ℕ) → Option (List A × List ℕ)
 with_front before read = read >>= λ x. Some (before ++ x.0, x.1)
-
-pub front_of_none : {A : Type 0} (read : Option (List A × List ℕ)) → with_front [] read ≡ read
-front_of_none (Some x) = refl
-front_of_none None = refl
 
 regroup : {A : Type 0} (before : List A) (n : A) (read : Option (List A × List ℕ)) → with_front before (read >>= λ x. Some (n ∷ x.0, x.1)) ≡ with_front (before ++ n ∷ []) read
 regroup {A = A} before n (Some x) = ap (λ (ns : List A). Some (ns, x.1)) (simp append_assoc)

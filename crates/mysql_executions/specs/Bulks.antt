@@ -2,7 +2,7 @@
 -- "COM_STMT_BULK_EXECUTE". A body is what stands behind the command's first byte; x.0 is what was
 -- read and x.1 the bytes left.
 use Rattle.std.specs.Prelude.{ℕ, zero, suc, ◌+◌, Bool, false, ◌==◌, ◌||◌, not, List, [], ◌∷◌, length, nat_lt, Option}
-use Rattle.std.specs.Prelude.{Some, None, unwrap_or}
+use Rattle.std.specs.Prelude.{Some, unwrap_or}
 use Rattle.std.specs.Option.{option_map}
 use Rattle.mysql_cells.specs.declared.value.Value.TheVariants.{NULL}
 use Rattle.mysql_const.specs.BulkIndicators.{bulk_indicator_named}

@@ -1,6 +1,6 @@
 //! Bulk executions as they are read.
 
-ghost use Rattle.std.specs.Prelude.{◌≡◌, ◌<◌, ◌≤◌, ◌+◌, ◌-◌, IfOk, IfSome, is_some, length, map};
+ghost use Rattle.std.specs.Prelude.{◌≡◌, ◌<◌, ◌+◌, ◌-◌, IfOk, IfSome, is_some, length};
 ghost use Rattle.std.specs.Option.{option_map};
 ghost use Rattle.mysql_const.specs.BulkIndicators.{bulk_indicator_named};
 ghost use Rattle.mysql_executions.specs.Bulks.{are_bulk_flags as are_flags, bulk_execution_at, bulk_head};

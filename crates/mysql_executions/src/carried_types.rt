@@ -3,7 +3,6 @@
 ghost use Rattle.std.specs.Prelude.{◌≡◌, IfOk};
 ghost use Rattle.mysql_executions.specs.After.{bulk_types, execution_types};
 ghost use Rattle.mysql_executions.specs.Types.{types_read};
-ghost use Rattle.mysql_executions.specs.Views.{types_read_of};
 
 use crate::bulk_reading::{carries_types, read_bulk_head};
 use crate::execution_reading::{has_query_attributes, read_execution_head};

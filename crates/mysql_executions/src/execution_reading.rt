@@ -1,8 +1,7 @@
 //! Executions as they are read.
 
-ghost use Rattle.std.specs.Prelude.{◌≡◌, ◌==◌, ◌||◌, ◌<◌, ◌≤◌, ◌+◌, ◌-◌, ◌/◌, ◌^◌, IfOk, IfSome, Some, length};
+ghost use Rattle.std.specs.Prelude.{◌≡◌, ◌==◌, ◌||◌, ◌<◌, ◌-◌, IfOk, IfSome, Some};
 ghost use Rattle.std.specs.Option.{option_map};
-ghost use Rattle.mysql_const.specs.FlagSets.{contains as has_flags};
 ghost use Rattle.mysql_executions.specs.Executions.{binding_at, count_at, execution_at};
 ghost use Rattle.mysql_executions.specs.Executions.{execution_head, gives_count, named_flags, readable_head};
 ghost use Rattle.mysql_executions.specs.InForce.{types_that_count};

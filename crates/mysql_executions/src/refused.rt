@@ -1,6 +1,6 @@
 //! What a refusal leaves of types.
 
-ghost use Rattle.std.specs.Prelude.{◌≡◌, length, take};
+ghost use Rattle.std.specs.Prelude.{◌≡◌, length};
 ghost use Rattle.mysql_executions.specs.After.{drops_data as has_dropped_data, is_disputed as is_disputed_type};
 ghost use Rattle.mysql_executions.specs.After.{refused_types, undisputed as undisputed_of};
 

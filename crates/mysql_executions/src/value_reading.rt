@@ -1,6 +1,6 @@
 //! Values as they are read.
 
-ghost use Rattle.std.specs.Prelude.{◌≡◌, ◌∷◌, ◌+◌, ◌<◌, ◌≤◌, drop, length};
+ghost use Rattle.std.specs.Prelude.{◌≡◌, ◌∷◌, ◌+◌, ◌<◌, drop, length};
 ghost use Rattle.mysql_field_lists.specs.NullBitmap.{is_null_at};
 ghost use Rattle.mysql_executions.specs.Executions.{attribute_at, attributes_at, parameter_at, parameters_at};
 ghost use Rattle.mysql_executions.specs.Executions.{typed_value_at, value_at};

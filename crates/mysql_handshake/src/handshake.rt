@@ -10,7 +10,6 @@ ghost use Rattle.std.specs.Option.{option_map};
 ghost use Rattle.mysql_fields.specs.Texts.{lossy_text};
 ghost use Rattle.mysql_auth.specs.Plugins.{plugin_named, without_zero};
 ghost use Rattle.mysql_auth.specs.Views.{plugin_view};
-ghost use Rattle.mysql_buf.specs.Writing.{front};
 ghost use Rattle.mysql_handshake.specs.Capabilities.{offered, plugin_auth, secure_connection};
 ghost use Rattle.mysql_handshake.specs.HandshakeViews.{fixed_view, handshake_view};
 ghost use Rattle.mysql_handshake.specs.Handshakes.{HandshakeFields, block_at, fixed, fixed_at, fixed_held};

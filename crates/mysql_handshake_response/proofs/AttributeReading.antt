@@ -10,6 +10,7 @@ use Rattle.mysql_fields.specs.declared.error.WireError.{WireError}
 use Rattle.mysql_fields.specs.declared.error.WireError.TheVariants.{Memory}
 use Rattle.mysql_fields.specs.Texts.{lenenc_text_at}
 use Rattle.mysql_handshake_response.specs.Attributes.{Attribute, all_attributes_at, at_most_at, attribute_at}
+use Rattle.mysql_handshake_response.proofs.AttributesHeld.{some_same}
 
 -- what the first bytes leave is no longer than all
 first-shorter : {X : Type 0} (n : ℕ) (value : List ℕ → X) (bytes : List ℕ) (p : X × List ℕ) → first n value bytes ≡ Some p → length p.1 ≤ length bytes
@@ -32,17 +33,13 @@ number-shorter : (bytes : List ℕ) (p : ℕ × List ℕ) → lenenc_int_at byte
 number-shorter [] p h = absurd cc
 number-shorter (b ∷ bs) p h = let e = tail-shorter (nat_lt b 251) (b == 252) (b == 253) (b == 254) b bs p h in omega arith
 
-stands : {X : Type 0} (o : Option X) (x : X) → or_end o ≡ Ok x → o ≡ Some x
-stands None x h = absurd cc
-stands (Some y) x h = cc
-
 text-shorter : (bytes : List ℕ) (p : List ℕ × List ℕ) → lenenc_text_at bytes ≡ Ok p → length p.1 < length bytes
 text-shorter bytes p h = go (lenenc_int_at bytes) refl h where
   go : (o : Option (ℕ × List ℕ)) → lenenc_int_at bytes ≡ o → or_end (then_at o bytes_at) ≡ Ok p → length p.1 < length bytes
   go None e h = absurd cc
   go (Some q) e h =
       let number = number-shorter bytes q e in
-      let text = first-shorter q.0 _ q.1 p (stands (bytes_at q.0 q.1) p h) in
+      let text = first-shorter q.0 _ q.1 p (some_same (bytes_at q.0 q.1) p h) in
       omega arith
 
 -- an attribute takes a byte at least

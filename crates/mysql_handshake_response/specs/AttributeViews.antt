@@ -1,6 +1,6 @@
 -- What attributes are, apart from where their bytes lie.
 -- (MySQL: Client/Server Protocol, "Protocol::HandshakeResponse41".)
-use Rattle.std.specs.Prelude.{List, String, map, ℕ}
+use Rattle.std.specs.Prelude.{List, String, map}
 use Rattle.std.specs.Cow.{cow_slice_items}
 use Rattle.std.specs.String.{string_bytes}
 use Rattle.mysql_fields.specs.Texts.{lossy_text}

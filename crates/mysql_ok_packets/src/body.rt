@@ -2,7 +2,6 @@
 
 ghost use Rattle.std.specs.Prelude.{◌≡◌};
 ghost use Rattle.mysql_fields.specs.Wire.{TellsPart};
-ghost use Rattle.mysql_fields.specs.Texts.{lenenc_text_at};
 ghost use Rattle.mysql_ok_packets.specs.OkPackets.{info_at, old_eof_body_at, session_state_changed, session_track};
 ghost use Rattle.mysql_ok_packets.specs.OkPackets.{status_and_info_at};
 ghost use Rattle.mysql_ok_packets.specs.Views.{body_view};

@@ -8,10 +8,10 @@ use Rattle.mysql_queries.specs.Comments.{begins_comment, begins_skipped, ends_co
 use Rattle.mysql_queries.specs.PlaceKinds.{is_place_kind}
 use Rattle.mysql_queries.specs.SkippedComments.{Counts}
 use Rattle.mysql_queries.specs.declared.skipped.Skipped.{Skipped}
-use Rattle.mysql_queries.proofs.Cuts.{drop_one, drop_two}
+use Rattle.mysql_queries.proofs.Cuts.{cut_at, drop_one, drop_two}
 use Rattle.mysql_queries.proofs.Filled.{place_begins}
 use Rattle.mysql_queries.proofs.FirstBytes.{and_true, bool_tells, same_number}
-use Rattle.mysql_queries.proofs.HexDigits.{cut_at, slice_is}
+use Rattle.mysql_queries.proofs.HexDigits.{slice_is}
 use Rattle.mysql_queries.proofs.Skipping.{BeginsLoose, IsLoose, open_cut, open_cut_end, open_more, open_none, open_nothing, some_open}
 
 -- a slice, cut at a place in it
@@ -136,10 +136,6 @@ counts_begun query skipped state start opened now o h e more most c = record {
       (c.same end (omega arith) within ∙ ap (λ k. not (k == 0)) (open_begun query state.open state.behind start end o h from ∙ ap (λ k. open_behind k (slice_range query (start + 3) end)) (sym e)))
       ∙ one_more_open opened now (slice_range query (start + 3) end) more);
 }
-
--- before a query none is counted
-pub counts_none : (query : List ℕ) → Counts query [] (record { «open» = 0; behind = 0 })
-counts_none query = record { in_range = omega arith; most = omega arith; same = λ end from within. ap (λ k. not (k == 0)) (sym (open_none (slice_range query 0 end))) }
 
 -- whether one is open where the count has come
 pub counted_here : (query skipped : List ℕ) (state : Skipped) (start : ℕ) → state.behind ≡ start → Counts query skipped state → in_comment query skipped start ≡ nat_lt 0 state.open

@@ -1,8 +1,8 @@
 -- Parts of a text by places.
-use Rattle.std.proofs.Common.{append-nil, length-drop, ◌≡◌, ◌≢◌, ℕ, ◌+◌, ◌≤◌, ◌<◌, Bool, true, false, List, [], ◌∷◌, ◌++◌, length, take, drop, get_or, refl, sym, ap, ◌∙◌, arith, add-one, drop-cons, take-append-drop, append_assoc, subst, drop_of_length-le, flat_map, inl, inr}
+use Rattle.std.proofs.Common.{append-nil, length-drop, ◌≡◌, ◌≢◌, ℕ, ◌+◌, ◌≤◌, ◌<◌, Bool, true, List, [], ◌∷◌, ◌++◌, length, take, drop, get_or, refl, sym, ap, ◌∙◌, arith, add-one, drop-cons, take-append-drop, append_assoc, subst, drop_of_length-le, flat_map, inl, inr, slice_range, ◌-◌, drop-drop}
 use Rattle.std.specs.List.{AllByRecursion}
-use Rattle.std.proofs.lemmas.List.{append_cancel_right, take_more}
-use Rattle.mysql_queries.specs.Tokens.{Inside, Byte, Escape, inside_bytes, IsInside, IsQuoted, Closes, backslash, AtLineEnd, IsName, AtNameEnd, is_name_byte, line_feed, colon, star, slash, IsBlockComment}
+use Rattle.std.proofs.lemmas.List.{append_cancel_right}
+use Rattle.mysql_queries.specs.Tokens.{Inside, Byte, Escape, inside_bytes, IsInside, IsQuoted, Closes, backslash, is_name_byte, colon, star, slash, IsBlockComment}
 use Rattle.mysql_queries.specs.Scanning.{PartAt, ClosesAt}
 use Rattle.mysql_queries.specs.Tokens.{EndsBlock, HasNoEnd}
 use Rattle.mysql_queries.proofs.SomeToken.{one_more}
@@ -19,6 +19,12 @@ drop_two t i h =
 -- what is before a rest, by its place
 pub front_is : (t front : List ℕ) (n : ℕ) → t ≡ front ++ drop n t → take n t ≡ front
 front_is t front n e = append_cancel_right (take n t) front (drop n t) (take-append-drop n t ∙ e)
+
+-- what is left from a place on, cut at a later one
+pub cut_at : (t : List ℕ) (from end : ℕ) → from ≤ end → drop from t ≡ slice_range t from end ++ drop end t
+cut_at t from end h =
+    let e : from + (end - from) ≡ end = omega arith in
+    sym (take-append-drop (end - from) (drop from t)) ∙ ap (λ y. take (end - from) (drop from t) ++ y) (drop-drop (end - from) from t ∙ ap (λ n. drop n t) e)
 
 pub drop_end : (t : List ℕ) (n : ℕ) → length t ≤ n → drop n t ≡ []
 drop_end t n h = drop_of_length-le t h
@@ -71,33 +77,11 @@ pub all_more : (P : ℕ → Type 0) (xs : List ℕ) (x : ℕ) → AllByRecursion
 all_more P [] x h k = (k, tt)
 all_more P (y ∷ xs) x h k = (h.0, all_more P xs x h.1 k)
 
-pub run_more : (P : ℕ → Type 0) (t : List ℕ) (i : ℕ) → i < length t → AllByRecursion P (take i t) → P (get_or t i 0) → AllByRecursion P (take (i + 1) t)
-run_more P t i l h k = subst (AllByRecursion P) (sym (take_more t i 0 l)) (all_more P (take i t) (get_or t i 0) h k)
-
-pub line_ends : (t : List ℕ) (i : ℕ) → length t ≤ i → AtLineEnd (drop i t)
-line_ends t i h = subst AtLineEnd (sym (drop_end t i h)) tt
-
-pub line_ends_at : (t : List ℕ) (i : ℕ) → i < length t → get_or t i 0 ≡ line_feed → AtLineEnd (drop i t)
-line_ends_at t i h e = subst AtLineEnd (sym (drop_one t i h)) e
-
 -- a colon and bytes of a name come before a place
 pub record NameTo (t : List ℕ) (i : ℕ) : Type 0 where
   pub name : List ℕ
   pub front : take i t ≡ colon ∷ name
   pub bytes : AllByRecursion (λ b. is_name_byte b ≡ true) name
-
-pub name_first : (t : List ℕ) → 0 < length t → get_or t 0 0 ≡ colon → NameTo t 1
-name_first [] h e = absurd (omega arith)
-name_first (b ∷ x) h e = record { name = []; front = ap (λ y. y ∷ []) e; bytes = tt }
-
-pub name_more : (t : List ℕ) (i : ℕ) → i < length t → NameTo t i → is_name_byte (get_or t i 0) ≡ true → NameTo t (i + 1)
-name_more t i l o k = record { name = o.name ++ get_or t i 0 ∷ []; front = take_more t i 0 l ∙ ap (λ y. y ++ get_or t i 0 ∷ []) o.front; bytes = all_more (λ b. is_name_byte b ≡ true) o.name (get_or t i 0) o.bytes k }
-
-pub name_to_end : (t : List ℕ) (i : ℕ) → length t ≤ i → NameTo t i → IsName (take i t) (drop i t)
-name_to_end t i h o = record { name = o.name; spelled = o.front; bytes = o.bytes; ends = subst AtNameEnd (sym (drop_end t i h)) tt }
-
-pub name_to_byte : (t : List ℕ) (i : ℕ) → i < length t → NameTo t i → is_name_byte (get_or t i 0) ≡ false → IsName (take i t) (drop i t)
-name_to_byte t i h o e = record { name = o.name; spelled = o.front; bytes = o.bytes; ends = subst AtNameEnd (sym (drop_one t i h)) e }
 
 -- what stands inside a comment and what ends it, up to a rest
 pub record BlockTo (text rest : List ℕ) : Type 0 where

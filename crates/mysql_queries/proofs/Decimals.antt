@@ -1,12 +1,12 @@
 -- Rows of digits.
-use Rattle.std.proofs.Common.{◌≡◌, ◌≢◌, ℕ, ◌+◌, ◌-◌, ◌*◌, ◌^◌, ◌≤◌, ◌<◌, true, false, List, [], ◌∷◌, ◌++◌, length, take, drop, get_or, slice_range, fold, refl, sym, ap, ◌∙◌, inl, inr, arith, subst, take-append-drop, drop-drop, le_trans, length-drop, length-take-le, zero, suc, pos, neg_ℤ, get_or-drop, add-sub_of_le, ℤ}
+use Rattle.std.proofs.Common.{◌≡◌, ◌≢◌, ℕ, ◌+◌, ◌-◌, ◌*◌, ◌^◌, ◌≤◌, ◌<◌, true, false, List, [], ◌∷◌, ◌++◌, length, take, drop, get_or, slice_range, fold, refl, sym, ap, ◌∙◌, inl, inr, arith, subst, take-append-drop, le_trans, length-drop, length-take-le, zero, suc, pos, neg_ℤ, get_or-drop, add-sub_of_le, ℤ}
 use Rattle.std.specs.List.{AllByRecursion}
 use Rattle.std.proofs.lemmas.List.{take_more}
 use Rattle.mysql_queries.specs.Tokens.{dash}
 use Rattle.mysql_queries.specs.Literals.{is_digit, digits_value, AreDigits, IsNumber}
 use Rattle.mysql_queries.specs.LiteralRuns.{EndsBefore, IsDigitRun, begins_hex}
 use Rattle.mysql_queries.proofs.Runs.{EndsRun, one_run}
-use Rattle.mysql_queries.proofs.Cuts.{all_more}
+use Rattle.mysql_queries.proofs.Cuts.{all_more, cut_at}
 
 abbrev step : ℕ → ℕ → ℕ
 step n d = n * 10 + (d - 0x30)
@@ -38,16 +38,11 @@ pub ends_run : (r : List ℕ) → EndsBefore is_digit r → EndsRun (λ b. is_di
 ends_run [] h = tt
 ends_run (b ∷ r) h = λ e. let f : true ≡ false = sym e ∙ h in cc
 
-parts : (t : List ℕ) (from end : ℕ) → from ≤ end → drop from t ≡ slice_range t from end ++ drop end t
-parts t from end h =
-    let e : from + (end - from) ≡ end = omega arith in
-    sym (take-append-drop (end - from) (drop from t)) ∙ ap (λ y. take (end - from) (drop from t) ++ y) (drop-drop (end - from) from t ∙ ap (λ n. drop n t) e)
-
 -- the digits of a number that begins the text are these
 same_digits : (t : List ℕ) (from end : ℕ) (digits rest : List ℕ) → from ≤ end → AllByRecursion (λ b. is_digit b ≡ true) (slice_range t from end) → EndsBefore is_digit (drop end t) → AllByRecursion (λ b. is_digit b ≡ true) digits → EndsBefore is_digit rest
     → drop from t ≡ digits ++ rest → digits ≡ slice_range t from end
 same_digits t from end digits rest l a e d f h =
-    (one_run (λ b. is_digit b ≡ true) digits (slice_range t from end) rest (drop end t) d a (ends_run rest f) (ends_run (drop end t) e) (sym h ∙ parts t from end l)).0
+    (one_run (λ b. is_digit b ≡ true) digits (slice_range t from end) rest (drop end t) d a (ends_run rest f) (ends_run (drop end t) e) (sym h ∙ cut_at t from end l)).0
 
 first_digit : (digits rest x : List ℕ) (b : ℕ) → AreDigits digits → b ∷ x ≡ digits ++ rest → b ≢ dash
 first_digit [] rest x b d h e = d.some refl

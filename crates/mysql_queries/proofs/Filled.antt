@@ -11,7 +11,7 @@ use Rattle.mysql_queries.specs.Queries.{is_name_kind, is_mark_kind, is_place, Re
 use Rattle.std.proofs.Common.{◌+◌, ◌-◌, length, get_or, slice_index, length-append}
 use Rattle.std.proofs.Math.Seq.{get_or-append_seam}
 use Rattle.std.proofs.lemmas.Bool.Decides.{nat_tests}
-use Rattle.mysql_queries.proofs.FirstBytes.{and_true, bool_tells, Tells, kind_tells}
+use Rattle.mysql_queries.proofs.FirstBytes.{and_true, bool_tells, kind_tells, or_cases, Tells}
 use Rattle.mysql_queries.proofs.OneToken.{not_empty}
 use Rattle.mysql_queries.proofs.Follow.{IsApart, Agrees, last_of, agree_front, IsNoName, token_same, or_first, not_equal, BeginsApart}
 use Rattle.mysql_queries.proofs.Spellings.{LiteralStart, literal_start, LiteralTokens, literal_tokens}
@@ -89,10 +89,6 @@ last_index b (c ∷ x) y = last_index c x y
 last_more : (last : ℕ) (x y : List ℕ) → last_of last (x ++ y) ≡ last_of (last_of last x) y
 last_more last [] y = refl
 last_more last (b ∷ x) y = last_more b x y
-
-or_cases : (p q : Bool) → (p || q) ≡ true → (p ≡ true) ⊎ (q ≡ true)
-or_cases true q h = inl refl
-or_cases false q h = inr h
 
 not_true : (p : Bool) → not p ≡ true → p ≡ false
 not_true true h = cc

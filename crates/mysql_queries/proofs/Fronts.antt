@@ -7,7 +7,7 @@ use Rattle.mysql_queries.specs.declared.content.Content.TheVariants.{Null, Numbe
 use Rattle.mysql_queries.specs.declared.mode.Mode.{Mode}
 use Rattle.mysql_queries.specs.LiteralRuns.{begins_hex, IsDigitRun, IsHexRun, IsIntroducedRun, IsLiteralRun}
 use Rattle.mysql_queries.specs.LiteralViews.{IsNoLiteral}
-use Rattle.mysql_queries.proofs.OneContent.{sort_of, second_sort, null_sort, string_sort, hex_sort, number_sort, digits_sort, dash_sort, introduced_sort}
+use Rattle.mysql_queries.proofs.OneContent.{dash_sort, digits_sort, hex_sort, introduced_is, introduced_sort, null_sort, number_sort, second_sort, sort_of, string_sort}
 use Rattle.mysql_queries.proofs.HexDigits.{IsNoHex}
 use Rattle.mysql_queries.proofs.StringParts.{IsNoString}
 use Rattle.mysql_queries.specs.declared.spelling.Spelling.{Spelling}
@@ -30,9 +30,6 @@ digit_run_sort run rest h = elim h.spelled [
 introduced_run_sort : (sp : Spelling) (run rest : List ℕ) → IsIntroducedRun sp run rest → sort_of run ≡ 4
 introduced_run_sort sp run rest h = subst (λ y. sort_of y ≡ 4) (sym h.spelled) (introduced_sort h.introducer h.literal h.is)
 
-introduced_literal_sort : (sp : Spelling) (run bytes : List ℕ) → IsIntroduced sp run bytes → sort_of run ≡ 4
-introduced_literal_sort sp run bytes h = subst (λ y. sort_of y ≡ 4) (sym h.spelled) (introduced_sort h.introducer h.literal h.is)
-
 -- a run and the literal that it is
 pub data Front (escapes : Bool) (sp : Spelling) : List ℕ → List ℕ → Type 0 where
   null : {run rest : List ℕ} → map lower run ≡ codes "null" → Front escapes sp run rest
@@ -53,16 +50,16 @@ front mode sp run rest (Number z) (inr (inr (inr (inl h)))) l = number z h l
 front mode sp run rest (Number z) (inr (inr (inr (inr h)))) l = apart 4 3 (introduced_run_sort sp run rest h) (number_sort run z l) (λ e. absurd (omega arith))
 front mode sp run rest (Bytes b) (inl h) (inl l) = apart 1 0 (null_sort run h) (string_sort (has_escapes mode single_quote) run b l) (λ e. absurd (omega arith))
 front mode sp run rest (Bytes b) (inl h) (inr (inl l)) = apart 1 2 (null_sort run h) (hex_sort run b l) (λ e. absurd (omega arith))
-front mode sp run rest (Bytes b) (inl h) (inr (inr l)) = apart 1 4 (null_sort run h) (introduced_literal_sort sp run b l) (λ e. absurd (omega arith))
+front mode sp run rest (Bytes b) (inl h) (inr (inr l)) = apart 1 4 (null_sort run h) (introduced_is sp run b l) (λ e. absurd (omega arith))
 front mode sp run rest (Bytes b) (inr (inl h)) (inl l) = string b h l
 front mode sp run rest (Bytes b) (inr (inl h)) (inr (inl l)) = apart 0 2 (quoted_sort (has_escapes mode single_quote) run rest h) (hex_sort run b l) (λ e. absurd (omega arith))
-front mode sp run rest (Bytes b) (inr (inl h)) (inr (inr l)) = apart 0 4 (quoted_sort (has_escapes mode single_quote) run rest h) (introduced_literal_sort sp run b l) (λ e. absurd (omega arith))
+front mode sp run rest (Bytes b) (inr (inl h)) (inr (inr l)) = apart 0 4 (quoted_sort (has_escapes mode single_quote) run rest h) (introduced_is sp run b l) (λ e. absurd (omega arith))
 front mode sp run rest (Bytes b) (inr (inr (inl h))) (inl l) = apart 2 0 (hex_run_sort run rest h) (string_sort (has_escapes mode single_quote) run b l) (λ e. absurd (omega arith))
 front mode sp run rest (Bytes b) (inr (inr (inl h))) (inr (inl l)) = hexadecimal b h l
-front mode sp run rest (Bytes b) (inr (inr (inl h))) (inr (inr l)) = apart 2 4 (hex_run_sort run rest h) (introduced_literal_sort sp run b l) (λ e. absurd (omega arith))
+front mode sp run rest (Bytes b) (inr (inr (inl h))) (inr (inr l)) = apart 2 4 (hex_run_sort run rest h) (introduced_is sp run b l) (λ e. absurd (omega arith))
 front mode sp run rest (Bytes b) (inr (inr (inr (inl h)))) (inl l) = apart 3 0 (digit_run_sort run rest h) (string_sort (has_escapes mode single_quote) run b l) (λ e. absurd (omega arith))
 front mode sp run rest (Bytes b) (inr (inr (inr (inl h)))) (inr (inl l)) = apart 3 2 (digit_run_sort run rest h) (hex_sort run b l) (λ e. absurd (omega arith))
-front mode sp run rest (Bytes b) (inr (inr (inr (inl h)))) (inr (inr l)) = apart 3 4 (digit_run_sort run rest h) (introduced_literal_sort sp run b l) (λ e. absurd (omega arith))
+front mode sp run rest (Bytes b) (inr (inr (inr (inl h)))) (inr (inr l)) = apart 3 4 (digit_run_sort run rest h) (introduced_is sp run b l) (λ e. absurd (omega arith))
 front mode sp run rest (Bytes b) (inr (inr (inr (inr h)))) (inl l) = apart 4 0 (introduced_run_sort sp run rest h) (string_sort (has_escapes mode single_quote) run b l) (λ e. absurd (omega arith))
 front mode sp run rest (Bytes b) (inr (inr (inr (inr h)))) (inr (inl l)) = apart 4 2 (introduced_run_sort sp run rest h) (hex_sort run b l) (λ e. absurd (omega arith))
 front mode sp run rest (Bytes b) (inr (inr (inr (inr h)))) (inr (inr l)) = introduced b h l

@@ -1,17 +1,11 @@
 -- Rows of hexadecimal digits.
-use Rattle.std.proofs.Common.{◌≡◌, ◌≢◌, ℕ, ◌+◌, ◌-◌, ◌*◌, ◌≤◌, ◌<◌, true, false, ◌==◌, List, [], ◌∷◌, ◌++◌, length, take, drop, get_or, slice_range, refl, sym, ap, ◌∙◌, arith, subst, take-append-drop, drop-drop, append_assoc, length-drop, length-take-le}
+use Rattle.std.proofs.Common.{◌≡◌, ◌≢◌, ℕ, ◌+◌, ◌-◌, ◌*◌, ◌≤◌, ◌<◌, true, false, ◌==◌, List, [], ◌∷◌, ◌++◌, length, take, drop, get_or, slice_range, refl, sym, ap, ◌∙◌, arith, subst, drop-drop, append_assoc, length-drop, length-take-le}
 use Rattle.mysql_queries.specs.Literals.{is_hex, hex_value, SpellsInHex, IsHexLiteral}
 use Rattle.mysql_queries.specs.LiteralRuns.{EndsBefore, IsHexRun, begins_hex}
 use Rattle.mysql_queries.proofs.FirstBytes.{and_true, same_number}
 use Rattle.mysql_queries.proofs.Runs.{EndsRun, one_run}
-use Rattle.mysql_queries.proofs.Cuts.{drop_one, drop_two, front_is, all_more}
+use Rattle.mysql_queries.proofs.Cuts.{all_more, cut_at, drop_one, drop_two, front_is}
 use Rattle.mysql_queries.proofs.LiteralsAreRuns.{all_hex}
-
--- what is left from a place on, cut at a later one
-pub cut_at : (t : List ℕ) (from end : ℕ) → from ≤ end → drop from t ≡ slice_range t from end ++ drop end t
-cut_at t from end h =
-    let e : from + (end - from) ≡ end = omega arith in
-    sym (take-append-drop (end - from) (drop from t)) ∙ ap (λ y. take (end - from) (drop from t) ++ y) (drop-drop (end - from) from t ∙ ap (λ n. drop n t) e)
 
 pub slice_is : (t front : List ℕ) (from end : ℕ) → from ≤ end → drop from t ≡ front ++ drop end t → slice_range t from end ≡ front
 slice_is t front from end l h =
@@ -68,10 +62,6 @@ some_bytes (x ∷ []) bs h n e = h
 some_bytes (x ∷ y ∷ ds) [] h n e = h
 some_bytes (x ∷ y ∷ ds) (b ∷ bs) h n e = cc
 
-no_bytes : (bs : List ℕ) → SpellsInHex [] bs → bs ≡ []
-no_bytes [] h = refl
-no_bytes (b ∷ bs) h = elim h [ ]
-
 odd_digits : (ds bs : List ℕ) (x : ℕ) (cs : List ℕ) → SpellsInHex ds bs → SpellsInHex (ds ++ x ∷ []) cs → ⊥
 odd_digits [] bs x cs h k = k
 odd_digits (a ∷ []) bs x cs h k = h
@@ -91,11 +81,6 @@ rest_of t run rest bytes b e k = same_tail (sym (hex_front t b).0 ∙ e ∙ ap (
   where
     same_tail : {x y : List ℕ} → 0x30 ∷ 0x78 ∷ x ≡ 0x30 ∷ 0x78 ∷ y → x ≡ y
     same_tail h = cc
-
-pub hex_empty : (t items : List ℕ) → begins_hex t ≡ true → EndsBefore is_hex (drop 2 t) → IsNoHex t
-hex_empty t items b e run rest bytes j r k =
-    let o : (k.digits ≡ []) × (rest ≡ drop 2 t) = one_run (λ c. is_hex c ≡ true) k.digits [] rest (drop 2 t) (all_hex k.digits bytes k.spells) tt (hex_ends rest r.ends) (hex_ends (drop 2 t) e) (sym (rest_of t run rest bytes b j k)) in
-    k.some (no_bytes bytes (subst (λ d. SpellsInHex d bytes) o.0 k.spells))
 
 pub hex_odd : (t items : List ℕ) (i : ℕ) → begins_hex t ≡ true → 2 ≤ i → i < length t → is_hex (get_or t i 0) ≡ true → EndsBefore is_hex (drop (i + 1) t) → SpellsInHex (slice_range t 2 i) items → IsNoHex t
 hex_odd t items i b f l x e h run rest bytes j r k =

@@ -4,7 +4,7 @@ use Rattle.std.specs.List.{AllByRecursion}
 use Rattle.std.specs.Cmp.Lexicographic.{pointwise, same_text, other_text}
 use Rattle.std.proofs.lemmas.Bool.Decides.{nat_tests, eqb_tells}
 use Rattle.mysql_queries.specs.Tokens.{has_escapes, inside_bytes, single_quote, backslash, dash}
-use Rattle.mysql_queries.specs.Literals.{lower, is_digit, is_hex, hex_value, digits_value, inside_content, AreDigits, IsNumber, IsHexLiteral, IsIntroducer, SpellsInHex, IsLiteral, text_introducer, binary_introducer}
+use Rattle.mysql_queries.specs.Literals.{lower, is_digit, is_hex, hex_value, digits_value, inside_content, IsNumber, IsHexLiteral, IsIntroducer, SpellsInHex, IsLiteral, text_introducer, binary_introducer}
 use Rattle.mysql_queries.specs.declared.mode.Mode.{Mode}
 use Rattle.mysql_queries.specs.LiteralRuns.{EndsBefore, begins_hex, IsDigitRun, IsHexRun, IsLiteralRun}
 use Rattle.mysql_queries.specs.LiteralViews.{IsNoLiteral}
@@ -18,7 +18,7 @@ use Rattle.mysql_queries.proofs.HexDigits.{hex_front, IsNoHex}
 use Rattle.mysql_queries.proofs.StringParts.{StringTo, IsNoString, no_string}
 use Rattle.mysql_queries.proofs.Fronts.{IsNoIntroduced, IsNoNull, no_introduced, no_quoted, no_hexadecimal, no_number}
 use Rattle.mysql_queries.proofs.Introduced.{none_behind, none_first, none_without}
-use Rattle.mysql_queries.proofs.OneRead.{one_hex_run}
+use Rattle.mysql_queries.proofs.OneRead.{dash_no_digit, one_hex_run}
 use Rattle.mysql_queries.proofs.QuerySlices.{drop_front, take_all_front}
 use Rattle.mysql_queries.specs.declared.spelling.Spelling.{Spelling}
 use Rattle.mysql_queries.specs.declared.spelling.Spelling.TheVariants.{Hexadecimal, Quoted}
@@ -133,17 +133,13 @@ IsNoNumber t = (run rest : List ℕ) (z : ℤ) → t ≡ run ++ rest → IsDigit
 same_digits : (digits rest others after : List ℕ) → AllByRecursion (λ b. is_digit b ≡ true) digits → EndsBefore is_digit rest → AllByRecursion (λ b. is_digit b ≡ true) others → EndsBefore is_digit after → digits ++ rest ≡ others ++ after → others ≡ digits
 same_digits digits rest others after h k i j e = sym (one_run (λ b. is_digit b ≡ true) digits others rest after h i (ends_run rest k) (ends_run after j) e).0
 
-no_dash_digit : (others after x : List ℕ) → AreDigits others → dash ∷ x ≡ others ++ after → ⊥
-no_dash_digit [] after x h e = h.some refl
-no_dash_digit (b ∷ others) after x h e = let f : b ≡ dash = cc in let g : true ≡ false = sym h.each.0 ∙ ap is_digit f in cc
-
 negative_tells : (mode : Mode) (sp : Spelling) (x : List ℕ) → begins_hex (dash ∷ x) ≡ false → LiteralAt mode sp (dash ∷ x) ⊎ IsNoNumber (dash ∷ x)
 negative_tells mode sp x b =
     let o : RunOf (λ c. is_digit c ≡ true) (λ c. is_digit c ≡ false) x = some_run _ _ (λ c. bool_tells (is_digit c)) x in
     let ends : EndsBefore is_digit o.rest = ends_before is_digit o.rest o.ends in
     let text : dash ∷ x ≡ (dash ∷ o.run) ++ o.rest = ap (λ y. dash ∷ y) o.joined in
     let only : (run rest : List ℕ) (z : ℤ) → dash ∷ x ≡ run ++ rest → IsDigitRun run rest → IsNumber run z → (o.run ≢ []) × (digits_value o.run ≤ 2 ^ 63) = λ run rest z e r h. elim h.value [
-      | inl v ↦ absurd (no_dash_digit h.digits rest x h.are (e ∙ ap (λ y. y ++ rest) v.0))
+      | inl v ↦ absurd (dash_no_digit h.digits rest x h.are (e ∙ ap (λ y. y ++ rest) v.0))
       | inr v ↦ (let f : dash ∷ (o.run ++ o.rest) ≡ dash ∷ (h.digits ++ rest) = sym text ∙ e ∙ ap (λ y. y ++ rest) v.0 in
           let g : o.run ++ o.rest ≡ h.digits ++ rest = cc in
           let s : h.digits ≡ o.run = same_digits o.run o.rest h.digits rest o.each ends h.are.each r.ends g in

@@ -210,7 +210,7 @@ one_hex_literal s b c h k =
 abbrev AreSpelled : (escapes : Bool) → Spelling → List ℕ → List ℕ → Type 0
 AreSpelled escapes sp s b = IsString escapes s b ⊎ (IsHexLiteral s b ⊎ IsIntroduced sp s b)
 
-introduced_is : (sp : Spelling) (s b : List ℕ) → IsIntroduced sp s b → sort_of s ≡ 4
+pub introduced_is : (sp : Spelling) (s b : List ℕ) → IsIntroduced sp s b → sort_of s ≡ 4
 introduced_is sp s b h = subst (λ y. sort_of y ≡ 4) (sym h.spelled) (introduced_sort h.introducer h.literal h.is)
 
 one_introduced_bytes : (sp : Spelling) (s b c : List ℕ) → IsIntroduced sp s b → IsIntroduced sp s c → b ≡ c

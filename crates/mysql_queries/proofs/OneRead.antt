@@ -37,7 +37,7 @@ one_hex_run r q s p e h k =
 one_digits : (r q s p : List ℕ) → r ++ q ≡ s ++ p → AllByRecursion (λ b. is_digit b ≡ true) r → AllByRecursion (λ b. is_digit b ≡ true) s → EndsBefore is_digit q → EndsBefore is_digit p → r ≡ s
 one_digits r q s p e h k f g = (one_run (λ b. is_digit b ≡ true) r s q p h k (ends_run q f) (ends_run p g) e).0
 
-dash_no_digit : (d q x : List ℕ) → AreDigits d → dash ∷ x ≡ d ++ q → ⊥
+pub dash_no_digit : (d q x : List ℕ) → AreDigits d → dash ∷ x ≡ d ++ q → ⊥
 dash_no_digit [] q x h e = h.some refl
 dash_no_digit (b ∷ d) q x h e = let f : b ≡ dash = cc in let g : true ≡ false = sym h.each.0 ∙ ap is_digit f in cc
 

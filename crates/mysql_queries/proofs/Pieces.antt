@@ -7,20 +7,13 @@ use Rattle.mysql_queries.specs.Queries.{is_place, before_first, pieces_of, Alter
 use Rattle.mysql_queries.proofs.FirstBytes.{bool_tells}
 use Rattle.mysql_queries.proofs.Filled.{Spells}
 use Rattle.mysql_queries.specs.declared.spelling.Spelling.{Spelling}
+use Rattle.mysql_queries.proofs.QueryWritten.{some_piece}
 
 pieces_at_place : (t : List ℕ) (ts : List (List ℕ)) → is_place t ≡ true → pieces_of (t ∷ ts) ≡ [] ∷ pieces_of ts
 pieces_at_place t ts h = rw h refl
 
 pieces_at_token : (t : List ℕ) (ts : List (List ℕ)) → is_place t ≡ false → pieces_of (t ∷ ts) ≡ before_first t (pieces_of ts)
 pieces_at_token t ts h = rw h refl
-
--- there is a first piece
-some_piece : (ts : List (List ℕ)) → (p : List ℕ) × (ps : List (List ℕ)) × (pieces_of ts ≡ p ∷ ps)
-some_piece [] = ([], [], refl)
-some_piece (t ∷ ts) = elim (bool_tells (is_place t)) [
-  | inl h ↦ ([], pieces_of ts, pieces_at_place t ts h)
-  | inr h ↦ (let o : (p : List ℕ) × (ps : List (List ℕ)) × (pieces_of ts ≡ p ∷ ps) = some_piece ts in (t ++ o.0, o.1, pieces_at_token t ts h ∙ ap (before_first t) o.2))
-]
 
 front_off : (m : Mode) (sp : Spelling) (t q : List ℕ) (qs : List (List ℕ)) (cs : List Content) (text : List ℕ) → Alternates m sp ((t ++ q) ∷ qs) cs text → (r : List ℕ) × (text ≡ t ++ r) × Alternates m sp (q ∷ qs) cs r
 front_off m sp t q [] [] text h = (q, h, refl)

@@ -1,5 +1,5 @@
 -- Writing a query with question marks and listing its names, placeholder by placeholder.
-use Rattle.std.proofs.Common.{◌≡◌, ℕ, ◌+◌, ◌<◌, true, false, ◌||◌, inl, inr, List, [], ◌∷◌, ◌++◌, length, drop, get_or, slice_range, refl, sym, ap, ◌∙◌, append_assoc, subst}
+use Rattle.std.proofs.Common.{◌≡◌, ℕ, ◌+◌, ◌<◌, true, false, ◌||◌, inl, inr, List, [], ◌∷◌, ◌++◌, length, drop, get_or, slice_range, refl, sym, ap, ◌∙◌, append_assoc, subst, arith}
 use Rattle.std.specs.List.{concat, join_with_byte}
 use Rattle.mysql_queries.specs.Tokens.{question, IsToken, AreTokens, HasShape, kind_of, Kind, Quoted, LineComment, BlockComment, Name, Mark, Plain}
 use Rattle.mysql_queries.specs.Queries.{is_name_kind, is_mark_kind, is_name, is_place, before_first, pieces_of, slices_between, HasPlaces, IsParsed}
@@ -40,7 +40,7 @@ name_more query places k h e = ap (names_at query) (next_place places k h) ∙ r
 pub name_skipped : (query : List ℕ) (places : List Place) (k : ℕ) → k < length places → (get_or places k no_place).name ≡ false → names_at query (drop k places) ≡ names_at query (drop (k + 1) places)
 name_skipped query places k h e = ap (names_at query) (next_place places k h) ∙ rw e refl
 
-some_piece : (ts : List (List ℕ)) → (first : List ℕ) × (later : List (List ℕ)) × (pieces_of ts ≡ first ∷ later)
+pub some_piece : (ts : List (List ℕ)) → (first : List ℕ) × (later : List (List ℕ)) × (pieces_of ts ≡ first ∷ later)
 some_piece [] = ([], [], refl)
 some_piece (t ∷ ts) = elim (bool_tells (is_place t)) [
   | inl p ↦ ([], pieces_of ts, rw p refl)
@@ -87,3 +87,7 @@ pub parsed_as_it_is : (query : Sql) (places : List Place) → HasPlaces query pl
 parsed_as_it_is query places h n =
     let k : names_of h.0 ≡ [] = names_are_slices query h.0 h.1 ∙ ap (names_at query.text) (sym h.2) ∙ n in
     (h.0, h.1, sym h.1.joined ∙ sym (marks_joined query.mode h.0 h.1.each k))
+
+pub none_left : {A : Type 0} → (xs : List A) → length xs ≡ 0 → xs ≡ []
+none_left [] h = refl
+none_left (x ∷ xs) h = absurd (omega (arith, h))

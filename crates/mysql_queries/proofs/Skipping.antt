@@ -5,7 +5,7 @@ use Rattle.mysql_queries.specs.Tokens.{slash, star}
 use Rattle.mysql_queries.specs.Comments.{begins_comment, ends_comment, is_open, open_behind}
 use Rattle.mysql_queries.specs.Laws.{OpenAllAlong}
 use Rattle.mysql_queries.proofs.FirstBytes.{bool_tells}
-use Rattle.mysql_queries.proofs.Follow.{not_equal}
+use Rattle.mysql_queries.proofs.Follow.{and_false, not_equal}
 
 -- neither a star nor a slash
 abbrev pub IsLoose : ℕ → Type 0
@@ -20,15 +20,11 @@ and_no : (p q : Bool) → q ≡ false → (p && q) ≡ false
 and_no true q h = h
 and_no false q h = refl
 
-no_and : (p q : Bool) → p ≡ false → (p && q) ≡ false
-no_and true q h = let f : true ≡ false = h in cc
-no_and false q h = refl
-
 pub loose_second : (a b : ℕ) → IsLoose b → (begins_comment a b ≡ false) × (ends_comment a b ≡ false)
 loose_second a b l = (and_no (a == slash) (b == star) (not_equal b star l.0), and_no (a == star) (b == slash) (not_equal b slash l.1))
 
 pub loose_first : (a b : ℕ) → IsLoose a → (begins_comment a b ≡ false) × (ends_comment a b ≡ false)
-loose_first a b l = (no_and (a == slash) (b == star) (not_equal a slash l.1), no_and (a == star) (b == slash) (not_equal a star l.0))
+loose_first a b l = (and_false (a == slash) (b == star) (not_equal a slash l.1), and_false (a == star) (b == slash) (not_equal a star l.0))
 
 pub open_none : (xs : List ℕ) → open_behind zero xs ≡ zero
 open_none [] = refl

@@ -1,5 +1,5 @@
 -- What stands in a text with literals for a stretch of the query: the whole, and the pairs of a comment.
-use Rattle.std.proofs.Common.{◌≡◌, ◌≢◌, ℕ, zero, suc, ◌+◌, ◌≤◌, ◌<◌, nat_le, nat_lt, Bool, true, false, ◌||◌, ◌⊎◌, List, [], ◌∷◌, ◌++◌, length, drop, get_or, slice_range, refl, sym, ap, ◌∙◌, inl, inr, append-nil, append_assoc, arith, subst, length-append}
+use Rattle.std.proofs.Common.{◌≡◌, ◌≢◌, ℕ, zero, suc, ◌+◌, ◌≤◌, ◌<◌, nat_le, nat_lt, true, false, ◌||◌, ◌⊎◌, List, [], ◌∷◌, ◌++◌, length, drop, get_or, slice_range, refl, sym, ap, ◌∙◌, inl, inr, append-nil, append_assoc, arith, subst, length-append}
 use Rattle.std.specs.List.{AllByRecursion, IsAmong, concat}
 use borrow.Author.Tests.{le-ltb, leb-false, lt-leb, ltb-false, ltb-true}
 use Rattle.mysql_queries.specs.Tokens.{AreTokens, BlockComment, HasShape, HasTokens, IsToken, Kind, LineComment, Mark, Name, Plain, Quoted, colon, is_name_byte, kind_of, question, slash, star}
@@ -20,6 +20,7 @@ use Rattle.mysql_queries.proofs.PlaceLists.{to_end}
 use Rattle.mysql_queries.proofs.QuerySlices.{behind, places_in_order, token_slice}
 use Rattle.mysql_queries.proofs.Readings.{one_tokens}
 use Rattle.mysql_queries.proofs.Skipping.{open_all_along}
+use Rattle.mysql_queries.proofs.Follow.{or_true}
 
 -- the whole of a query from a place on
 
@@ -79,14 +80,10 @@ abbrev HasBegun : ℕ → List ℕ → Type 0
 HasBegun from [] = ⊥
 HasBegun from (n ∷ sk) = (n ≡ from) ⊎ HasBegun from sk
 
-or_right : (p q : Bool) → q ≡ true → (p || q) ≡ true
-or_right true q h = refl
-or_right false q h = h
-
 begun_open : (q sk : List ℕ) (from at : ℕ) → HasBegun from sk → is_open (slice_range q from at) ≡ true → in_comment q sk at ≡ true
 begun_open q [] from at h o = absurd h
 begun_open q (n ∷ sk) from at (inl e) o = ap (λ y. is_open (slice_range q y at) || in_comment q sk at) e ∙ ap (λ y. y || in_comment q sk at) o
-begun_open q (n ∷ sk) from at (inr h) o = or_right (is_open (slice_range q n at)) (in_comment q sk at) (begun_open q sk from at h o)
+begun_open q (n ∷ sk) from at (inr h) o = or_true (is_open (slice_range q n at)) (in_comment q sk at) (begun_open q sk from at h o)
 
 still_begun : (q sk : List ℕ) (from at : ℕ) → HasBegun from sk → HasBegun from (with_skipped q at sk)
 still_begun q sk from at b = elim (bool_tells (begins_skipped (drop at q))) [ inl h ↦ (rw h (inr b)) | inr h ↦ (rw h b) ]

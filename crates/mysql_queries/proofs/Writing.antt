@@ -9,7 +9,7 @@ use Rattle.mysql_queries.specs.declared.content.Content.TheVariants.{Bytes}
 use Rattle.std.specs.Str.{is_utf8}
 use Rattle.mysql_queries.specs.Comments.{begins_comment, ends_comment}
 use Rattle.mysql_queries.specs.Written.{has_pair, in_hexadecimal, parted_byte, parted_bytes, quoted_in_comment, written_byte, quoted, hex_digit}
-use Rattle.mysql_queries.proofs.FirstBytes.{bool_tells}
+use Rattle.mysql_queries.proofs.FirstBytes.{bool_tells, or_cases, same_number}
 use Rattle.mysql_queries.specs.Laws.{PlainIsRead, WrittenIsRead}
 use Rattle.mysql_queries.specs.declared.spelling.Spelling.{Spelling}
 
@@ -131,22 +131,15 @@ and_second : (p q : Bool) → (p && q) ≡ true → q ≡ true
 and_second true q h = h
 and_second false q h = let f : false ≡ true = h in cc
 
-or_either : (p q : Bool) → (p || q) ≡ true → (p ≡ true) ⊎ (q ≡ true)
-or_either true q h = inl refl
-or_either false q h = inr h
-
-same_byte : (b c : ℕ) → (b == c) ≡ true → b ≡ c
-same_byte b c h = grind (arith, nat_tests)
-
 -- a star and a slash are what a backslash makes of them
 kept : (b : ℕ) → (b ≡ star) ⊎ (b ≡ slash) → b ∷ [] ≡ inside_content (Escape b)
 kept b (inl e) = subst (λ y. y ∷ [] ≡ inside_content (Escape y)) (sym e) refl
 kept b (inr e) = subst (λ y. y ∷ [] ≡ inside_content (Escape y)) (sym e) refl
 
 second_of_pair : (before b : ℕ) → (begins_comment before b || ends_comment before b) ≡ true → (b ≡ star) ⊎ (b ≡ slash)
-second_of_pair before b h = elim (or_either (begins_comment before b) (ends_comment before b) h) [
-  | inl k ↦ inl (same_byte b star (and_second (before == slash) (b == star) k))
-  | inr k ↦ inr (same_byte b slash (and_second (before == star) (b == slash) k))
+second_of_pair before b h = elim (or_cases (begins_comment before b) (ends_comment before b) h) [
+  | inl k ↦ inl (same_number b star (and_second (before == slash) (b == star) k))
+  | inr k ↦ inr (same_number b slash (and_second (before == star) (b == slash) k))
 ]
 
 parted_as : (before b : ℕ) → PartedAs before b

@@ -6,7 +6,6 @@ ghost use Rattle.mysql_queries.specs.declared.spelling.Spelling.TheVariants.{Hex
 ghost use Rattle.std.specs.Prelude.{
   OnErr,
   vec_capacity,
-  vec_len,
   ◌++◌,
   ◌<◌,
   ◌≡◌,

@@ -13,7 +13,6 @@ ghost use Rattle.std.specs.Prelude.{
   ◌<◌,
   OnErr,
   vec_capacity,
-  ◌++◌,
   ◌≡◌,
   ◌≤◌,
   ◌↔◌,
@@ -22,13 +21,11 @@ ghost use Rattle.std.specs.Prelude.{
   IfOk,
   IfSome,
   IsTrue,
-  List,
   codes,
   drop,
   length,
   map,
   take,
-  ℕ,
 };
 
 use crate::hexadecimal::{hex_first, read_hex, read_introduced};

@@ -11,7 +11,7 @@ use Rattle.mysql_receive.specs.Layout as layout
 use Rattle.mysql_receive.specs.InForce.{StatementState}
 use Rattle.mysql_receive.specs.Reading.{TextReadsAs, Set, execute_at, bulk_rows, BulkReadsAs, BulkFaulty, RowsAt, FaultyRow, long_data_at, statement_alone_at, CommandReadsAs, CommandFaulty, PayloadReadsAs, PayloadFaulty, ReadsAs, Faulty}
 use Rattle.mysql_receive.specs.Laws.{IsJudged}
-use Rattle.mysql_receive.proofs.Rows.{rows_or, rows_one, rows_not_both, fault_one as row_fault_one}
+use Rattle.mysql_receive.proofs.Rows.{fault_one as row_fault_one, one_or, rows_not_both, rows_one, rows_or}
 
 same_or_not : (xs ys : List ℕ) → (xs ≡ ys) ⊎ (xs ≢ ys)
 same_or_not [] [] = inl refl
@@ -23,10 +23,6 @@ same_or_not (x ∷ xs) (y ∷ ys) = both (cases_eq x y) (same_or_not xs ys)
     both (inl e) (inl f) = inl cc
     both (inl e) (inr n) = inr (λ h. n cc)
     both (inr n) h = inr (λ h. n cc)
-
-answer_of : {A F : Type 0} (r : Result A F) → ((x : A) × (r ≡ Ok x)) ⊎ ((f : F) × (r ≡ Err f))
-answer_of (Ok x) = inl (x, refl)
-answer_of (Err f) = inr (f, refl)
 
 no_answer_twice : {A F : Type 0} (r : Result A F) (x : A) (f : F) → r ≡ Ok x → r ≡ Err f → ⊥
 no_answer_twice r x f p q = cc
@@ -89,11 +85,11 @@ module _ (c : Statement) (s : StatementState) (readable : IsReadable c.query) wh
   command_or : (command : Command) (body : List ℕ) → ((sets : List Set) × CommandReadsAs c s command body sets) ⊎ ((f : StreamFault) × CommandFaulty c s command body f)
   command_or layout.Text body = text_or body (cases_Bool (is_all_alone c.query))
   command_or layout.Prepare body = prepare_or body (same_or_not body (c.query.parsed)) (cases_lt 65535 (place_count c.query))
-  command_or layout.LongData body = answer_of (long_data_at c s body)
-  command_or layout.Execute body = elim (answer_of (execute_at c s body)) [ inl h ↦ inl (h.0 ∷ [], (h.0, h.1, refl)) | inr h ↦ inr h ]
-  command_or layout.Bulk body = elim (answer_of (bulk_rows c s body)) [ inl h ↦ bulk_or body h.0 h.1 | inr h ↦ inr (h.0, inl h.1) ]
-  command_or layout.Reset body = answer_of (statement_alone_at c s body)
-  command_or layout.Close body = answer_of (statement_alone_at c s body)
+  command_or layout.LongData body = one_or (long_data_at c s body)
+  command_or layout.Execute body = elim (one_or (execute_at c s body)) [ inl h ↦ inl (h.0 ∷ [], (h.0, h.1, refl)) | inr h ↦ inr h ]
+  command_or layout.Bulk body = elim (one_or (bulk_rows c s body)) [ inl h ↦ bulk_or body h.0 h.1 | inr h ↦ inr (h.0, inl h.1) ]
+  command_or layout.Reset body = one_or (statement_alone_at c s body)
+  command_or layout.Close body = one_or (statement_alone_at c s body)
   command_or layout.Other body = inr (OtherCommand, refl)
 
   not_both : (command : Command) (body : List ℕ) (sets : List Set) (f : StreamFault) → CommandReadsAs c s command body sets → CommandFaulty c s command body f → ⊥

@@ -31,9 +31,6 @@ get_pushed (x ∷ xs) (suc k) = get_pushed xs k
 pub pushed_none : (xs : List (Option (Vec ℕ))) → data_waiting (xs ++ None ∷ []) ≡ data_waiting xs
 pushed_none xs = λ i k. get_pushed xs k i
 
-pub none_kept : data_waiting [] ≡ (λ place. None)
-none_kept = refl
-
 -- what a place has, seen by its bytes
 abbrev seen : Option (Option (Vec ℕ)) → Option (List ℕ)
 seen o = option_and_then (λ found. option_map (λ bytes. bytes.items) found) o

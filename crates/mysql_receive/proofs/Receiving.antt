@@ -3,10 +3,9 @@ use Rattle.std.proofs.Common.{◌≡◌, ℕ, zero, suc, ◌+◌, ◌<◌, map, 
 use Rattle.std.specs.Prelude.{◌==◌, not, if◌then◌else◌, IfSome, OnOk}
 use Rattle.std.specs.Global.{Vec}
 use Rattle.std.proofs.lemmas.Bool.{ne_eqb}
-use Rattle.std.specs.List.{concat, flat_map}
+use Rattle.std.specs.List.{concat}
 use Rattle.std.proofs.lemmas.List.{append-nil, map-append, take_more}
-use Rattle.std.proofs.lemmas.List.Concat.{concat_is}
-use Rattle.std.proofs.lemmas.List.Folds.{concat-append, flat_map-map}
+use Rattle.std.proofs.lemmas.List.Folds.{concat-append}
 use Rattle.mysql_wire.specs.Bytes.{AreBytes}
 use Rattle.mysql_wire.specs.Codec.{codec_at}
 use Rattle.mysql_wire.specs.Incoming.{Incoming, incoming_at}
@@ -220,9 +219,6 @@ finished wire r v begun ending view kept b is =
 
 pub pieces_more : {X : Type 0} (f : X → List ℕ) (xs : List X) (i : ℕ) (d : X) → i < length xs → map f (take (i + 1) xs) ≡ map f (take i xs) ++ f (get_or xs i d) ∷ []
 pieces_more f xs i d h = ap (map f) (take_more xs i d h) ∙ map-append f (take i xs) (get_or xs i d ∷ [])
-
-pub pieces_joined : {X : Type 0} (f : X → List ℕ) (xs : List X) → concat (map f xs) ≡ flat_map f xs
-pieces_joined f xs = concat_is (map f xs) ∙ flat_map-map (λ l. l) f xs
 
 pub pieces_on : (c : Statement) (limit : ℕ) (old mid new : ReceiverState) (front back : List ℕ) → AreBytes back → ReceiverGoesOn c limit old front mid → ReceiverGoesOn c limit mid back new → ReceiverGoesOn c limit old (front ++ back) new
 pieces_on c limit old mid new front back are p q z a more d =

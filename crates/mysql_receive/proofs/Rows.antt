@@ -174,7 +174,7 @@ behind_row : (types : Types) (bytes : List ℕ) (p : Set × List ℕ) → row_at
 behind_row types bytes p e (inl h) = inl (p.0 ∷ h.0, (p.1, e, h.1))
 behind_row types bytes p e (inr h) = inr (h.0, record { before = p.0 ∷ h.1.before; first = h.1.first; rest = h.1.rest; rows = (p.1, e, h.1.rows); fault = h.1.fault })
 
-one_or : {A F : Type 0} (r : Result A F) → ((x : A) × (r ≡ Ok x)) ⊎ ((f : F) × (r ≡ Err f))
+pub one_or : {A F : Type 0} (r : Result A F) → ((x : A) × (r ≡ Ok x)) ⊎ ((f : F) × (r ≡ Err f))
 one_or (Ok x) = inl (x, refl)
 one_or (Err f) = inr (f, refl)
 

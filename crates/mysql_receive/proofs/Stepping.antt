@@ -10,7 +10,7 @@ use Rattle.mysql_receive.specs.declared.fault.StreamFault.{StreamFault}
 use Rattle.mysql_receive.specs.Layout.{Command, Types, PlaceData, place_data_at, command_of}
 use Rattle.mysql_receive.specs.Layout as layout
 use Rattle.mysql_receive.specs.Query.{Statement}
-use Rattle.mysql_receive.specs.InForce.{StatementState, after, after_command, freshly_prepared, more_data, with_sent, with_data, execute_types, bulk_types}
+use Rattle.mysql_receive.specs.InForce.{StatementState, after, after_command, freshly_prepared, with_sent, execute_types, bulk_types}
 use Rattle.mysql_receive.specs.LookingBack.{said_by, speaks_of_prepared, speaks_of_types, speaks_of_place, ends_data, joined, looking_back}
 
 -- what waited is still what waits
@@ -91,7 +91,3 @@ pub behind_prepare : (c : Statement) (s : StatementState) (body : List ℕ) → 
 behind_prepare c s body is =
     let same : bytes_eq body c.query.parsed ≡ true = (bytes_eq-Decides body c.query.parsed).1 is in
     λ i. record { prepared = ap (λ b. b || s.prepared) same i; types = None; long_data = λ place. None }
-
--- behind data that were sent
-pub behind_long_data : (c : Statement) (s : StatementState) (body : List ℕ) (sent : PlaceData) → place_data_at c body ≡ Ok sent → after_command c s layout.LongData body ≡ with_data s (more_data s.long_data sent.place sent.bytes)
-behind_long_data c s body sent e = ap (with_sent s) e

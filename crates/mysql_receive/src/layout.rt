@@ -1,12 +1,10 @@
 //! What commands say by their own bytes.
 
-ghost use Rattle.std.specs.Prelude.{◌≡◌, ℕ, ◌+◌, ◌/◌, ◌<◌, ◌^◌, Option, Some, None, IfOk, IfSome, Ok, OnOk, map};
+ghost use Rattle.std.specs.Prelude.{◌≡◌, ◌+◌, ◌/◌, ◌<◌, Option, Some, None, IfSome, Ok};
 ghost use Rattle.std.specs.Prelude.{length};
-ghost use Rattle.std.specs.Option.{option_map};
 ghost use Rattle.mysql_receive.specs.Layout.{type_at, types_at, id_at, place_data_at, binding_at, execute_head};
 ghost use Rattle.mysql_receive.specs.Layout.{bulk_head};
 ghost use Rattle.mysql_receive.specs.Layout.{are_bulk_flags as are_flags};
-ghost use Rattle.mysql_receive.specs.Query.{place_count};
 ghost use Rattle.mysql_receive.specs.declared.fault.StreamFault.{StreamFault};
 ghost use Rattle.mysql_receive.specs.Views.{Gives, statement_view, execute_head_of, bulk_head_of, place_data_of};
 ghost use Rattle.mysql_receive.specs.Views.{types_carried, types_kept, some_types};

@@ -1,6 +1,6 @@
 //! What a receiver has read.
 
-ghost use Rattle.std.specs.Prelude.{◌≡◌, ◌+◌, ◌<◌, ◌^◌, OnErr};
+ghost use Rattle.std.specs.Prelude.{◌≡◌, ◌+◌, ◌<◌, OnErr};
 ghost use Rattle.mysql_receive.specs.Query.{IsQuery};
 ghost use Rattle.mysql_receive.specs.Views.{statement_view, sets_of};
 

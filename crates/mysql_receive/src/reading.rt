@@ -1,10 +1,8 @@
 //! What one payload reads as.
 
-ghost use Rattle.std.specs.Prelude.{◌≡◌, ℕ, ◌+◌, ◌*◌, ◌<◌, ◌≤◌, ◌^◌, List, [], Option, Some, None, Ok, IfOk, drop};
-ghost use Rattle.std.specs.Prelude.{false, get_or, length, map, is_some};
-ghost use Rattle.std.specs.Option.{option_map};
+ghost use Rattle.std.specs.Prelude.{◌≡◌, ◌*◌, ◌<◌, ◌≤◌, [], Some, None, Ok, IfOk, drop};
+ghost use Rattle.std.specs.Prelude.{false, get_or, length, is_some};
 ghost use Rattle.mysql_field_lists.specs.NullBits.{bits_left};
-ghost use Rattle.mysql_receive.specs.Query.{place_count};
 ghost use Rattle.mysql_receive.specs.InForce.{is_waiting, execute_types, bulk_types};
 ghost use Rattle.mysql_receive.specs.Reading.{types_in_force, parameter_at, set_at, execute_at, column_at, columns_at};
 ghost use Rattle.mysql_receive.specs.Reading.{row_at, RowsAt, FaultyRow, BulkReadsAs, BulkFaulty};

@@ -1,13 +1,12 @@
 //! One payload at a time.
 
-ghost use Rattle.std.specs.Prelude.{◌≡◌, ℕ, ◌+◌, ◌<◌, ◌^◌, List, [], ◌∷◌, Option, Some, None, Ok, IfOk, OnOk, OnErr};
-ghost use Rattle.std.specs.Prelude.{length, vec_len};
+ghost use Rattle.std.specs.Prelude.{◌≡◌, ◌<◌, ◌^◌, [], Option, Some, None, Ok, OnOk, OnErr};
+ghost use Rattle.std.specs.Prelude.{length};
 ghost use Rattle.std.specs.Option.{option_or};
 ghost use Rattle.mysql_receive.specs.Query.{IsQuery};
 ghost use Rattle.mysql_receive.specs.Layout.{Prepare, Text, Execute, Bulk, LongData, Reset, Close, command_of};
 ghost use Rattle.mysql_receive.specs.InForce.{StatementState as InForce, after, after_command, freshly_prepared};
 ghost use Rattle.mysql_receive.specs.InForce.{nothing_yet, more_data, with_data, with_types, without_data};
-ghost use Rattle.mysql_receive.specs.InForce.{bulk_types, execute_types};
 ghost use Rattle.mysql_receive.specs.Reading.{prepared_data, statement_alone_at};
 ghost use Rattle.mysql_receive.specs.Views.{Gives, place_data_of, Judged, PayloadJudged, types_carried, types_kept};
 ghost use Rattle.mysql_receive.specs.Views.{statement_view, state_of, data_waiting};

@@ -43,10 +43,6 @@ pub bytes_replicate : (n b : ℕ) → b < 256 → AreBytes (replicate n b)
 bytes_replicate zero b h = no_bytes
 bytes_replicate (suc n) b h = bytes_cons b (replicate n b) h (bytes_replicate n b h)
 
-pub bytes_flat_map : {X : Type 0} (f : X → List ℕ) (xs : List X) → AllByRecursion (λ x. AreBytes (f x)) xs → AreBytes (flat_map f xs)
-bytes_flat_map f [] h = no_bytes
-bytes_flat_map f (x ∷ xs) h = bytes_append (f x) (flat_map f xs) h.0 (bytes_flat_map f xs h.1)
-
 -- the parts of bytes are bytes
 pub parts_are_bytes : {X : Type 0} (f : X → List ℕ) (xs : List X) → AreBytes (flat_map f xs) → AllByRecursion (λ x. AreBytes (f x)) xs
 parts_are_bytes f [] h = tt

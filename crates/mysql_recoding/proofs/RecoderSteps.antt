@@ -1,5 +1,5 @@
 -- The steps of a recoder over one piece.
-use Rattle.std.proofs.Common.{◌≡◌, ◌⊎◌, inl, inr, ℕ, List, [], ◌∷◌, ◌++◌, Option, Some, None, refl, sym, ◌∙◌, ap, subst}
+use Rattle.std.proofs.Common.{◌≡◌, ◌⊎◌, inl, inr, ℕ, List, [], ◌++◌, Option, Some, None, refl, sym, ◌∙◌, ap, subst}
 use Rattle.std.specs.Option.{option_map, option_or}
 use Rattle.std.proofs.lemmas.List.{append-nil}
 use Rattle.mysql_wire.specs.Bytes.{AreBytes}
@@ -7,7 +7,7 @@ use Rattle.mysql_wire.specs.Laws.{HasOneSplit}
 use Rattle.mysql_receive.specs.declared.audit.End.TheVariants as ends
 use Rattle.mysql_receive.specs.declared.fault.StreamFault.{StreamFault}
 use Rattle.mysql_receive.specs.Audit.{Audit}
-use Rattle.mysql_receive.specs.GoingOn.{ReceiverDecidesBy, ReceiverState, TakesAll}
+use Rattle.mysql_receive.specs.GoingOn.{ReceiverDecidesBy}
 use Rattle.mysql_receive.specs.Laws.{ThereIsOneAudit}
 use Rattle.mysql_receive.specs.Query.{IsQuery, Statement}
 use Rattle.mysql_receive.specs.Reading.{Set}
@@ -18,8 +18,8 @@ use Rattle.mysql_command_rules.specs.declared.refusal.Refusal.{Refusal}
 use Rattle.mysql_recoding.specs.declared.errors.RecodeError.{RecodeError}
 use Rattle.mysql_recoding.specs.declared.errors.RecodeError.TheVariants as errors
 use Rattle.mysql_recoding.specs.Causes.{ending_cause, error_for}
-use Rattle.mysql_recoding.specs.AsItComes.{Decides, Recoded, RecodesPiece, RefusesEnd, RefusesPiece, Terms, appended_of, cause_from, executions, prepare_behind, recoder_state, sets_cause, with_taken}
-use Rattle.mysql_recoding.specs.Steps.{PutsSets, ReadsPiece}
+use Rattle.mysql_recoding.specs.AsItComes.{Decides, Recoded, RefusesEnd, RefusesPiece, Terms, cause_from, recoder_state, sets_cause}
+use Rattle.mysql_recoding.specs.Steps.{ReadsPiece}
 use Rattle.mysql_recoding.proofs.CausesAgree.{first_speaks}
 use Rattle.mysql_recoding.proofs.Deciding.{Decision, some_decision}
 use Rattle.mysql_recoding.proofs.MoreSets.{cause_joined}
@@ -37,36 +37,6 @@ module _ (old : Recoded) (to : Received) (piece : List ℕ) (sets : List Set) wh
   decided_before : (error : Option RecodeError) → ReadsPiece old.receiver piece sets error to → (z : List ℕ) (audit : Audit) → AreBytes z
       → Decides (recoder_state old).terms (receiver_state to) z audit → Decides (recoder_state old).terms (receiver_state old.receiver) (piece ++ z) (with_sets sets audit)
   decided_before error r z audit bytes decided = r.goes_on z audit bytes decided
-
-  -- the piece was recoded
-  pub recoded : ReadsPiece old.receiver piece sets None to → (between new : Recoded) (before behind : List ℕ) → between ≡ record old { receiver = to } → to.statement ≡ old.receiver.statement → to.limit ≡ old.receiver.limit
-      → PutsSets between sets before behind new → (appended : List ℕ) × (behind ≡ before ++ appended) × RecodesPiece (recoder_state old).terms (recoder_state old) piece appended (recoder_state new)
-  recoded r between new before behind is statement limit puts =
-      let p : PutsSets (record old { receiver = to }) sets before behind new = subst (λ (b : Recoded). PutsSets b sets before behind new) is puts in
-      let received : receiver_state new.receiver ≡ receiver_state to = ap (λ (n : Recoded). receiver_state n.receiver) p.held in
-      let terms : (recoder_state (record old { receiver = to })).terms ≡ (recoder_state old).terms = terms_same old to statement limit in (
-        appended_of (recoder_state old) sets,
-        p.appended ∙ ap (λ l. before ++ l) (appended_same statement sets),
-        record {
-          sets = sets;
-          takes = subst (λ (state : ReceiverState). TakesAll old.receiver.statement old.receiver.limit (receiver_state old.receiver) piece (with_taken state sets)) (sym received) r.ends.2;
-          goes_on = λ z audit bytes decided. decided_before None r z audit bytes (subst (λ (state : ReceiverState). Decides (recoder_state old).terms state z audit) received decided);
-          none = subst (λ (t : Terms). sets_cause t old.count sets ≡ None) terms p.none;
-          appended_is = refl;
-          prepare = ap (λ (n : Recoded). n.prepare) p.held ∙ left_is sets;
-          count = ap (λ (n : Recoded). n.count) p.held;
-          none_held = ap (λ (state : ReceiverState). state.sets) received ∙ r.none_held;
-          no_fault = ap (λ (state : ReceiverState). state.fault) received ∙ r.ends.0;
-        },
-      )
-    where
-      appended_same : to.statement ≡ old.receiver.statement → (l : List Set) → appended_of (recoder_state (record old { receiver = to })) l ≡ appended_of (recoder_state old) l
-      appended_same statement [] = refl
-      appended_same statement (set ∷ l) = ap (λ (c : Statement). old.prepare ++ executions c.id (set ∷ l)) statement
-
-      left_is : (l : List Set) → prepare_behind (recoder_state (record old { receiver = to })) l ≡ prepare_behind (recoder_state old) l
-      left_is [] = refl
-      left_is (set ∷ l) = refl
 
   -- behind a fault it is the fault
   at_fault : (error : RecodeError) → ReadsPiece old.receiver piece sets (Some error) to → (z : List ℕ) → (audit : Audit) × Decides (recoder_state old).terms (receiver_state to) z audit

@@ -1,5 +1,5 @@
 -- What is sent of a stream's contents is its recoding, and why nothing is.
-use Rattle.std.proofs.Common.{◌≡◌, ◌⊎◌, inl, inr, ℕ, zero, suc, ◌+◌, ◌-◌, ◌<◌, Bool, true, false, List, [], ◌∷◌, ◌++◌, length, map, take, get_or, Option, Some, None, Result, Ok, Err, refl, sym, ◌∙◌, ap, subst}
+use Rattle.std.proofs.Common.{◌≡◌, ◌⊎◌, inl, inr, ℕ, ◌+◌, ◌-◌, ◌<◌, Bool, true, false, List, [], ◌∷◌, ◌++◌, length, map, take, get_or, Option, Some, None, Result, Ok, Err, refl, sym, ◌∙◌, ap, subst}
 use Rattle.std.specs.Prelude.{IfErr, if◌then◌else◌}
 use Rattle.std.specs.List.{flat_map}
 use Rattle.std.specs.Result.{IsErrAnd}
@@ -36,12 +36,7 @@ use Rattle.mysql_recoding.specs.Causes.{ending_cause, error_for, recoding_cause,
 use Rattle.mysql_recoding.specs.Recoding.{IsRecodingCause, Recodes, RefusesRecoding}
 use Rattle.mysql_recoding.proofs.Causes.{no_cause, whole_cause}
 use Rattle.mysql_recoding.proofs.QueryCauses.{query_is}
-
--- bytes and bytes behind them are bytes
-pub bytes_append : (front back : List ℕ) → AreBytes front → AreBytes back → AreBytes (front ++ back)
-bytes_append [] back f b i = b i
-bytes_append (x ∷ front) back f b zero = f zero
-bytes_append (x ∷ front) back f b (suc i) = bytes_append front back (λ j. f (suc j)) b i
+use Rattle.mysql_recoding.proofs.ByteLists.{bytes_append}
 
 -- pieces one after another, and one more behind them, are bytes
 pub one_more_piece : {X : Type 0} (f : X → List ℕ) (pieces : List X) (i : ℕ) (d : X) → i < length pieces → AreBytes (flat_map f (take i pieces)) → AreBytes (f (get_or pieces i d))

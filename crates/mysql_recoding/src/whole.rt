@@ -1,6 +1,6 @@
 //! Whole streams of commands, and contents, as executions.
 
-ghost use Rattle.std.specs.Prelude.{◌≡◌, ◌≤◌, ◌⊎◌, IfErr, IfOk, OnErr, OnOk, Some, flat_map, map, ℕ};
+ghost use Rattle.std.specs.Prelude.{◌≡◌, ◌≤◌, IfErr, IfOk, OnErr, OnOk, Some, flat_map, map};
 ghost use Rattle.mysql_wire.specs.Bytes.{AreBytes};
 ghost use Rattle.mysql_values.specs.Contents.{content_value};
 ghost use Rattle.mysql_receive.specs.declared.audit.End.TheVariants as ends;

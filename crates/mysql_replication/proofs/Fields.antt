@@ -7,7 +7,7 @@ use Rattle.std.proofs.lemmas.List.Sums.{fails_before_first, prefix_len_stops, sp
 use Rattle.mysql_replication.specs.Tags.{is_digit, tag_fault}
 use Rattle.mysql_replication.specs.Sids.{begins_with_digit, fields_of, tag_and_intervals, tag_before}
 use Rattle.mysql_replication.specs.declared.tag.InvalidTag.{InvalidTag}
-use Rattle.mysql_replication.specs.declared.error.SidError.TheVariants.{BadTag, NoIntervals}
+use Rattle.mysql_replication.specs.declared.error.SidError.TheVariants.{BadTag}
 
 -- A text has a field.
 pub fields_some : (text : List ℕ) → 0 < length (fields_of text)
@@ -30,11 +30,6 @@ pub fields_after_digit : (text : List ℕ) → begins_with_digit text ≡ true �
 fields_after_digit [] h = absurd (true≢false (sym h))
 fields_after_digit (c ∷ text) h =
     rw (slice_split-cons_no (λ (b : ℕ). b == 58) c text (digit_is_no_colon c h)) (digit_ahead c (fields_of text) h)
-
--- Where it doesn't and has no colon, there are no intervals.
-pub fields_of_no_interval : (text : List ℕ) → 0 < length text → begins_with_digit text ≡ false → tag_and_intervals (text ∷ []) ≡ Err NoIntervals
-fields_of_no_interval [] some h = absurd (omega arith)
-fields_of_no_interval (c ∷ text) some h = rw h refl
 
 -- Where it doesn't and has one, a tag stands before it.
 pub fields_before_colon : (text front other : List ℕ) (fields : List (List ℕ)) → begins_with_digit text ≡ false → text ≡ front ++ 58 ∷ other

@@ -1,5 +1,5 @@
 -- Texts of intervals are read back.
-use Rattle.std.proofs.Common.{◌≡◌, ℕ, ◌+◌, ◌-◌, ◌<◌, ◌^◌, Bool, true, false, List, [], ◌∷◌, ◌++◌, Ok, refl, ◌∙◌, ap, arith, ◌==◌, ◌&&◌, nat_lt, nat_le}
+use Rattle.std.proofs.Common.{◌≡◌, ℕ, ◌+◌, ◌-◌, ◌<◌, ◌^◌, Bool, true, false, List, [], ◌∷◌, ◌++◌, Ok, refl, ◌∙◌, ap, arith, ◌==◌, nat_lt, nat_le}
 use Rattle.std.specs.Fmt.{decimal}
 use Rattle.std.specs.List.{list_all}
 use Rattle.std.specs.Str.Parse.{digits_value, without_leading_plus}
@@ -9,7 +9,7 @@ use Rattle.mysql_replication.specs.Tags.{is_digit}
 use Rattle.mysql_replication.specs.Intervals.{around_hyphen, ends_of, interval_of, interval_text, number_of}
 use Rattle.mysql_replication.specs.declared.interval.GnoInterval.{GnoInterval}
 use Rattle.mysql_replication.proofs.Lacking.{around_no_hyphen, around_one_hyphen, lacks_from}
-use Rattle.mysql_replication.proofs.Numbers.{digits_number, digits_pass}
+use Rattle.mysql_replication.proofs.Numbers.{and_left, digits_number, digits_pass}
 
 -- An interval that a text may write.
 pub record IsGood (interval : GnoInterval) : Type 0 where
@@ -23,13 +23,9 @@ digit_is_no_plus c h = grind (arith, nat_tests)
 digit_is_no_hyphen : (c : ℕ) → is_digit c ≡ true → (c == 45) ≡ false
 digit_is_no_hyphen c h = grind (arith, nat_tests)
 
-and_true : (a b : Bool) → (a && b) ≡ true → a ≡ true
-and_true true b h = refl
-and_true false b h = h
-
 no_plus : (ds : List ℕ) → list_all is_digit ds ≡ true → without_leading_plus ds ≡ ds
 no_plus [] h = refl
-no_plus (c ∷ ds) h = rw (digit_is_no_plus c (and_true (is_digit c) (list_all is_digit ds) h)) refl
+no_plus (c ∷ ds) h = rw (digit_is_no_plus c (and_left (is_digit c) (list_all is_digit ds) h)) refl
 
 pub decimal_digits : (n : ℕ) → n < 2 ^ 64 → list_all is_digit (decimal n) ≡ true
 decimal_digits n small = digits_pass (decimal n) (decimal_is_IsNumeral n small).0.1

@@ -14,7 +14,7 @@ digit_passes c h = grind (arith, nat_tests)
 passes_digit : (c : ℕ) → is_digit c ≡ true → digit_value c < 10
 passes_digit c h = grind (arith, nat_tests)
 
-and_left : (a b : Bool) → (a && b) ≡ true → a ≡ true
+pub and_left : (a b : Bool) → (a && b) ≡ true → a ≡ true
 and_left true b h = refl
 and_left false b h = h
 

@@ -13,10 +13,6 @@ abbrev pub behind : List GnoInterval → Result (List GnoInterval) SidError → 
 behind intervals (Ok others) = Ok (intervals ++ others)
 behind intervals (Err e) = Err e
 
-behind_none : (r : Result (List GnoInterval) SidError) → behind [] r ≡ r
-behind_none (Ok others) = refl
-behind_none (Err e) = refl
-
 behind_more : (intervals : List GnoInterval) (interval : GnoInterval) (r : Result (List GnoInterval) SidError)
     → behind intervals (behind (interval ∷ []) r) ≡ behind (intervals ++ interval ∷ []) r
 behind_more intervals interval (Ok others) = ap Ok (sym (append_assoc intervals (interval ∷ []) others))

@@ -85,9 +85,3 @@ tag_begins_with_no_digit text valid h =
     let p = short (length text == 0) (nat_lt 32 (length text)) text (fault_of_chars (chars text)) h in
     let e : begins_with_digit (chars text) ≡ false = no_digit_ahead (chars text) p.2 in
     ap begins_with_digit (chars_of_tag text valid h) ∙ e
-
-pub tag_is_some : (text : List ℕ) → tag_fault text ≡ None → 0 < length text
-tag_is_some text h =
-    let p = short (length text == 0) (nat_lt 32 (length text)) text (fault_of_chars (chars text)) h in
-    let e = p.0 in
-    grind (arith, nat_tests)

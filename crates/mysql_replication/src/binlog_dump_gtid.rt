@@ -3,7 +3,7 @@
 //!     let request = ComBinlogDumpGtid::new(server_id).with_sid(alloc, sid)?;
 //!     request.serialize(&mut payload)?;
 
-ghost use Rattle.std.specs.Prelude.{◌≡◌, ◌^◌, ◌-◌, ◌++◌, ◌∷◌, [], Bool, IfOk, None, map, true};
+ghost use Rattle.std.specs.Prelude.{◌≡◌, ◌^◌, ◌-◌, ◌++◌, ◌∷◌, [], IfOk, None, map, true};
 ghost use Rattle.std.specs.Cow.{cow_slice_items};
 ghost use Rattle.mysql_buf.specs.Writing.{front};
 ghost use Rattle.mysql_replication.specs.Sids.{sid_view};

@@ -1,7 +1,7 @@
 //! Sets as bytes: each alone, and in the block of a request for the binary log.
 
 ghost use Rattle.std.specs.Prelude.{◌≡◌, ◌^◌, ◌-◌, ◌<◌, ◌≤◌, List, None, Option, Some, [], false, length, map, min};
-ghost use Rattle.std.specs.Prelude.{unwrap_or, ℕ, true};
+ghost use Rattle.std.specs.Prelude.{unwrap_or, true};
 ghost use Rattle.std.specs.Cow.{cow_slice_items};
 ghost use Rattle.std.specs.List.{flat_map};
 ghost use Rattle.mysql_fields.specs.Forms.{bytes_at, fixed_number_at};

@@ -3,9 +3,8 @@
 //!     let sid = Sid::parse(alloc, "3e11fa47-71ca-11e1-9e33-c80aa9429562:1-5:7")?;
 //!     let intervals = sid.intervals();
 
-ghost use Rattle.std.specs.Prelude.{◌≡◌, ◌++◌, ◌∷◌, [], IfOk, IfErr, MatchOption, None, Some};
+ghost use Rattle.std.specs.Prelude.{◌≡◌, ◌++◌, ◌∷◌, [], IfOk, MatchOption, None, Some};
 ghost use Rattle.std.specs.List.{flat_map};
-ghost use Rattle.uuid.specs.Text.{hyphenated_text, lower};
 ghost use Rattle.mysql_replication.specs.Intervals.{interval_text, intervals_of};
 ghost use Rattle.mysql_replication.specs.Refusals.{Answers, Gives};
 ghost use Rattle.mysql_replication.specs.Sids.{begins_with_digit, fields_of, sid_of, sid_text, sid_view};

@@ -10,7 +10,7 @@ use Rattle.mysql_wire.specs.Framing.{framing}
 use Rattle.mysql_wire.specs.Bytes.{AreBytes}
 use Rattle.mysql_wire.specs.Laws.{HasOneSplit}
 use Rattle.mysql_wire.specs.Stream as stream
-use Rattle.mysql_wire.specs.Stream.{Numbering, Rest, IsRest, first_number, after, after_all, framings, with_payloads}
+use Rattle.mysql_wire.specs.Stream.{Numbering, IsRest, first_number, after, after_all, framings, with_payloads}
 use Rattle.mysql_wire.specs.Stream.Numbering.{OnFrom}
 use Rattle.mysql_wire.specs.Stream.Rest.{Empty}
 use Rattle.mysql_reply_events.specs.declared.context.Context.{Context}
@@ -21,7 +21,7 @@ use Rattle.mysql_replies.specs.Bytes.{numbered, after_numbered, NumberedPayloads
 use Rattle.mysql_replies.specs.Holding.{ReaderState, fresh_reader, ReaderDecides, ReaderDecidesFrom, ReaderGoesOn, TakesAll, RunsShort, fault_of, EachReaderDecides, ReadersAgree, FreshReaderDecides}
 use Rattle.mysql_replies.specs.Taking.{Feeds}
 use Rattle.mysql_replies.proofs.GoingOn.{fresh_decides, each_has_answer, answers_agree, each_decides, decisions_agree}
-use Rattle.mysql_replies.proofs.Receiving.{bytes_append, empty_rest}
+use Rattle.mysql_replies.proofs.Receiving.{bytes_append, empty_rest, on_from}
 
 framings-append : (ps qs : List Payload) (numbering : Numbering) → framings (ps ++ qs) numbering ≡ framings ps numbering ++ framings qs (after_all ps numbering)
 framings-append [] qs numbering = refl
@@ -35,10 +35,6 @@ after_all-append (p ∷ ps) qs numbering = after_all-append ps qs (after p numbe
 pub within-append : (limit : ℕ) (ps qs : List Payload) → AllByRecursion (λ payload. length payload ≤ limit) ps → AllByRecursion (λ payload. length payload ≤ limit) qs → AllByRecursion (λ payload. length payload ≤ limit) (ps ++ qs)
 within-append limit [] qs one two = two
 within-append limit (p ∷ ps) qs one two = (one.0, within-append limit ps qs one.1 two)
-
-pub on_from : (payloads : List Payload) (number : ℕ) → after_all payloads (OnFrom number) ≡ OnFrom (first_number (after_all payloads (OnFrom number)))
-on_from [] number = refl
-on_from (p ∷ ps) number = on_from ps _
 
 -- What is held decides what a fresh reader decides over the bytes fed and others.
 abbrev pub Decided : Context → ℕ → ℕ → List ℕ → ReaderState → Type 0

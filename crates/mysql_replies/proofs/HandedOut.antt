@@ -19,8 +19,8 @@ use Rattle.mysql_replies.specs.Bytes.{numbered, after_numbered, NumberedPayloads
 use Rattle.mysql_replies.specs.Holding.{ReaderState, fresh_reader, ReaderDecides, ReaderDecidesFrom, ReaderGoesOn, TakesAll, RunsShort, fault_of, count_of}
 use Rattle.mysql_replies.specs.Taking.{behind_part, joined, results_in, without_results, reports_in, without_reports, joined_answer, Feeds, Runs, begins, feeds, takes_results, takes_reports, TakenResultsAreTheReply}
 use Rattle.mysql_replies.proofs.GoingOn.{fresh_decides}
-use Rattle.mysql_replies.proofs.Receiving.{bytes_append, empty_rest}
-use Rattle.mysql_replies.proofs.Fed.{after_all-append, within-append, on_from, joined_more, joined_next, short_grows, fresh_reader_decides}
+use Rattle.mysql_replies.proofs.Receiving.{bytes_append, empty_rest, on_from}
+use Rattle.mysql_replies.proofs.Fed.{after_all-append, within-append, joined_more, joined_next, short_grows, fresh_reader_decides}
 use Rattle.mysql_replies.proofs.Joining.{Joins, handed, joined_later, joins_all, reports_all}
 use Rattle.mysql_replies.proofs.Ordered.{reply_joined}
 

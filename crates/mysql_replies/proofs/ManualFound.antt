@@ -32,10 +32,6 @@ by_reading : {A : Type 0} (P : Event → ReplySoFar → Type 0) (fault : ReplyFa
 by_reading P fault (Ok x) f each = each x.0 (x.1, refl)
 by_reading P fault (Err e) f each = tt
 
-whole_left : {A : Type 0} (P : Event → ReplySoFar → Type 0) (fault : ReplyFault) (a : A) (b : Bool) (f : A → Step) → (b ≡ true → OnStep P (f a)) → OnStep P ((if b then Ok a else Err fault) >>= f)
-whole_left P fault a true f each = each refl
-whole_left P fault a false f each = tt
-
 abbrev read_as : {A : Type 0} → A → List ℕ → Reading A
 read_as a left = Ok (a, left)
 

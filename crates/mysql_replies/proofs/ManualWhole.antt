@@ -24,6 +24,7 @@ use Rattle.mysql_replies.proofs.ManualLeads.{stands}
 use Rattle.mysql_replies.proofs.ManualOnly.{results_back}
 use Rattle.mysql_replies.proofs.ManualPrepared.{prepared_back}
 use Rattle.mysql_replies.proofs.ManualSome.{began, began_fits}
+use Rattle.mysql_replies.proofs.GoingOn.{answered_stays}
 
 abbrev came_of : OpenReply → Came
 came_of s = record { so_far = s.so_far; results = s.results; part = s.part }
@@ -43,10 +44,6 @@ open_or s (Answered answer) = s
 
 going_is : (s t : OpenReply) → GoingOn s ≡ GoingOn t → s ≡ t
 going_is s t is = ap (open_or s) is
-
-answered_stays : (answer : Answer) (payloads : List Payload) → after_all (Answered answer) payloads ≡ Answered answer
-answered_stays answer [] = refl
-answered_stays answer (payload ∷ payloads) = answered_stays answer payloads
 
 no_answer : (answer : Answer) (s : OpenReply) → Answered answer ≡ GoingOn s → ⊥
 no_answer answer s is = cc

@@ -1,6 +1,6 @@
 -- Payloads that come out of a codec one after another, and what is decided over the bytes still to come.
-use Rattle.std.proofs.Common.{◌≡◌, ℕ, zero, suc, ◌+◌, ◌<◌, ◌≤◌, List, [], ◌∷◌, ◌++◌, length, take, Bool, true, false, Option, Some, None, refl, ap, sym, subst, arith, ◌∙◌, append_assoc, add-one, length-append}
-use Rattle.std.specs.Prelude.{◌==◌, nat_le, if◌then◌else◌, Result, Ok, Err, OnOk, IfErr, is_err, ◌/◌}
+use Rattle.std.proofs.Common.{◌≡◌, ℕ, zero, suc, ◌+◌, ◌<◌, ◌≤◌, List, [], ◌∷◌, ◌++◌, length, take, Bool, true, false, Option, Some, None, refl, ap, sym, subst, arith, ◌∙◌, append_assoc, length-append}
+use Rattle.std.specs.Prelude.{◌==◌, nat_le, if◌then◌else◌, Result, Ok, Err, OnOk, IfErr, is_err}
 use Rattle.std.specs.List.{AllByRecursion}
 use Rattle.std.specs.Option.{IfSome}
 use Rattle.std.proofs.lemmas.List.{append-nil, nil_from_length}
@@ -43,7 +43,7 @@ frames_first law limit numbering (p ∷ ps) back split within s =
     subst (λ bytes. IsSplit limit numbering bytes (with_payloads (p ∷ ps) split)) (sym (append_assoc (framing p (first_number numbering)) (framings ps (after p numbering)) back))
     (law limit numbering p (framings ps (after p numbering) ++ back) (with_payloads ps split) within.0 (frames_first law limit (after p numbering) ps back split within.1 s))
 
-on_from : (payloads : List Payload) (number : ℕ) → after_all payloads (OnFrom number) ≡ OnFrom (first_number (after_all payloads (OnFrom number)))
+pub on_from : (payloads : List Payload) (number : ℕ) → after_all payloads (OnFrom number) ≡ OnFrom (first_number (after_all payloads (OnFrom number)))
 on_from [] number = refl
 on_from (p ∷ ps) number = on_from ps _
 
@@ -290,15 +290,6 @@ taking_next laws start s next first codec new from_src from_dst src dst src' dst
   nothing_begun = λ over. (h.between, handed_number codec new src dst src' payload h, empty);
 }
 
--- Less is held once a payload was handed out.
-framing_longer : (payload : List ℕ) (id : ℕ) (more : List ℕ) → length more < length (framing payload id ++ more)
-unfolding framing chunks
-framing_longer payload id more = let e : length payload / 16777215 + 1 ≡ suc (length payload / 16777215) = add-one (length payload / 16777215) in rw e (simp length-append (omega arith))
-
-pub taking_smaller : FramingLaws → (codec new : Codec) (src dst src' dst' payload : List ℕ) → HandsOut codec src dst new src' payload → dst' ≡ [] → length (held new src' dst') < length (held codec src dst)
-taking_smaller laws codec new src dst src' dst' payload h empty =
-    omega (arith, ap length (held_nothing laws new src' dst' h.between (handed_number codec new src dst src' payload h) empty), ap length h.framed, framing_longer payload (packet_number codec dst) src')
-
 -- After the last result nothing is held.
 pub paused_over : FramingLaws → (s : ReplyState) (codec : Codec) (src dst : List ℕ) → NothingBegun s codec dst → IsOver s → src ≡ [] → codec.refused ≡ None → CanGoOn codec dst → AreBytes (held codec src dst) → IsPaused s codec src dst
 paused_over laws s codec src dst nothing_begun over none refused can_go_on bytes =
@@ -486,14 +477,6 @@ decides_anywhere s fault here there more answer wrong one two h =
     let is : reply_so_far s ≡ known = ap (λ f. faulted (open_reply s) f) wrong in
     let answered : ReaderDecidesFrom known here more answer = subst (λ k. ReaderDecidesFrom k here more answer) (one ∙ is) h in
     subst (λ k. ReaderDecidesFrom k there more answer) (sym (two ∙ is)) answered
-
-faulted_piece : FramingLaws → (s after : ReplyState) (codec : Codec) (src src' dst piece : List ℕ) (fault : ReplyFault) (here there : ReaderState) → s.fault ≡ None → src' ≡ src ++ piece → after.fault ≡ Some fault → here.so_far ≡ reply_so_far after → there.so_far ≡ reply_so_far after → ReaderGoesOn (reader_state_of s codec src' dst) [] here → ReaderGoesOn (reader_state_of s codec src dst) piece there
-faulted_piece laws s after codec src src' dst piece fault here there going fed wrong one two goes more answer are h =
-    piece_decides laws s codec src src' dst piece more answer going fed (goes more answer are (decides_anywhere after fault there here more answer wrong two one h))
-
-pub faulted_goes_on : FramingLaws → (s after : ReplyState) (codec : Codec) (src src' dst piece : List ℕ) (fault : ReplyFault) (here there : ReaderState) → s.fault ≡ None → src' ≡ src ++ piece → after.fault ≡ Some fault → here.so_far ≡ reply_so_far after → there.so_far ≡ reply_so_far after → UnlessMemory {X = Unit {0}} (Err fault) (ReaderGoesOn (reader_state_of s codec src' dst) [] here) → UnlessMemory {X = Unit {0}} (Err fault) (ReaderGoesOn (reader_state_of s codec src dst) piece there)
-faulted_goes_on laws s after codec src src' dst piece faults.Memory here there going fed wrong one two goes = tt
-faulted_goes_on laws s after codec src src' dst piece fault here there going fed wrong one two goes = faulted_piece laws s after codec src src' dst piece fault here there going fed wrong one two goes
 
 -- What ran short over the bytes that are held ran short over the piece.
 pub piece_short : FramingLaws → (s : ReplyState) (codec : Codec) (src src' dst piece : List ℕ) (fault : ReplyFault) (here there : ReaderState) → src' ≡ src ++ piece → here.so_far ≡ there.so_far → OnMemory {X = Unit {0}} (Err fault) (StandsShort (reader_state_of s codec src' dst) (held codec src' dst) here) → OnMemory {X = Unit {0}} (Err fault) (StandsShort (reader_state_of s codec src dst) (held codec src dst ++ piece) there)

@@ -23,7 +23,7 @@ use Rattle.mysql_replies.specs.declared.part.Part.TheVariants as parts
 use Rattle.mysql_replies.specs.declared.results.ReplyResult.{ReplyResult}
 use Rattle.mysql_replies.specs.declared.state.ReplyState.{ReplyState}
 use Rattle.mysql_replies.specs.Together as together
-use Rattle.mysql_replies.specs.Together.{Outcome, Part, Put, RowsPart, listed, reported}
+use Rattle.mysql_replies.specs.Together.{Outcome, RowsPart, reported}
 use Rattle.mysql_replies.specs.Reply.{Answered, OpenReply, Payload, behind, faulted_at}
 use Rattle.mysql_replies.specs.Putting.{HasNoPlace, HasPut, HasRead, HasStopped, HasTakenRow, PutsEvent, listed_views}
 use Rattle.mysql_replies.specs.States.{Fits, HasRoom, IsReading, IsShortOf, OnMemory, StateGoesOn, UnlessMemory, open_reply}

@@ -5,7 +5,6 @@ ghost use Rattle.mysql_columns.specs.Views.{column_view, listed_view};
 ghost use Rattle.mysql_ok_packets.specs.Views.{ok_packet_view};
 ghost use Rattle.mysql_rows.specs.Views.{column_views, row_view, shared_columns};
 ghost use Rattle.mysql_server_packets.specs.Views.{prepare_ok_view, server_error_view};
-ghost use Rattle.mysql_reply_events.specs.Due.{bare};
 ghost use Rattle.mysql_reply_events.specs.Views.{due_view, event_view};
 ghost use Rattle.mysql_replies.specs.Together as together;
 ghost use Rattle.mysql_replies.specs.Together.{ErrorResult, NoPart, leaves_open, listed};

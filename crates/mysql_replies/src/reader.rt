@@ -1,7 +1,7 @@
 //! A reply, read from the bytes of a connection as they come.
 
-ghost use Rattle.std.specs.Prelude.{◌≡◌, ◌≢◌, ◌⊎◌, ◌∷◌, ◌+◌, ◌++◌, [], None, Some, Ok, Err, OnOk, IfErr, IfSome, false};
-ghost use Rattle.std.specs.Prelude.{flat_map, length, map, ◌<◌, ◌≤◌, ℕ, List};
+ghost use Rattle.std.specs.Prelude.{◌≡◌, ◌≢◌, ◌⊎◌, ◌+◌, ◌++◌, [], None, Some, Ok, Err, OnOk, IfErr, IfSome, false};
+ghost use Rattle.std.specs.Prelude.{flat_map, length, map, ◌<◌, ◌≤◌};
 ghost use Rattle.std.specs.Bool.{OnFalse, OnTrue};
 ghost use Rattle.mysql_wire.specs.Incoming.{ReadsOn, bytes_kept, codec_by};
 ghost use Rattle.mysql_replies.specs.declared.fault.ReplyFault.TheVariants.{Memory};
@@ -14,7 +14,6 @@ ghost use Rattle.mysql_replies.specs.Pieces.{IsWaiting, TakesPiece};
 ghost use Rattle.mysql_replies.specs.Taking.{ListsResults, ListsRows, results_in, without_results, reports_in};
 ghost use Rattle.mysql_replies.specs.Taking.{without_reports};
 ghost use Rattle.mysql_replies.specs.Views.{answer_view, outcome_views, report_views, row_views};
-ghost use Rattle.mysql_replies.specs.States as states;
 
 use crate::fault::ReplyFault;
 use crate::framing::framing_laws;

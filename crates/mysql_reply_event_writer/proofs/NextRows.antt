@@ -1,5 +1,5 @@
 -- A row behind another one is read as it, where its cells are read as themselves.
-use Rattle.std.proofs.Common.{◌≡◌, ◌<◌, ◌+◌, ◌&&◌, if◌then◌else◌, ℕ, suc, Bool, true, false, List, [], ◌∷◌, ◌++◌, length, map}
+use Rattle.std.proofs.Common.{◌≡◌, ◌<◌, ◌+◌, if◌then◌else◌, ℕ, suc, Bool, true, false, List, [], ◌∷◌, ◌++◌, length, map}
 use Rattle.std.proofs.Common.{Option, None, Some, Result, Ok, Err, refl, sym, ap, ◌∙◌, subst, arith, append-nil, slice_get}
 use Rattle.std.specs.Prelude.{is_none, zip}
 use Rattle.std.specs.declared.alloc.AllocError.{AllocError}
@@ -115,10 +115,6 @@ read_values laws false columns values same none own =
 -- a reply among rows of these columns
 abbrev among : List ColumnDefinition → ReplySoFar
 among columns = record { awaited = Rows true; columns = Some columns }
-
-never : (a : Bool) → a && false ≡ false
-never true = refl
-never false = refl
 
 row_step : (c : Context) (columns : List ColumnDefinition) (values : List Value) (payload : Payload) →
     begins_with 255 payload ≡ false → begins_terminator c payload ≡ false →

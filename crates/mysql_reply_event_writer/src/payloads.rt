@@ -1,15 +1,13 @@
 //! The payloads of events.
 
-ghost use Rattle.std.specs.Prelude.{◌≡◌, ◌∷◌, ◌++◌, if◌then◌else◌, length, Some, [], option_map};
+ghost use Rattle.std.specs.Prelude.{◌≡◌, ◌++◌, Some, []};
 ghost use Rattle.mysql_buf.specs.Writing.{lenenc_int};
-ghost use Rattle.mysql_columns.specs.Extended.{extended_column, listed_column};
-ghost use Rattle.mysql_columns.specs.Views.{extended_view, listed_view};
 ghost use Rattle.mysql_fields.specs.Wire.{Appends};
 ghost use Rattle.mysql_ok_packets.specs.Views.{ok_packet_view};
 ghost use Rattle.mysql_ok_packets.specs.Written.{eof_bytes, ok_packet_bytes};
 ghost use Rattle.mysql_rows.specs.Views.{row_view};
-ghost use Rattle.mysql_server_packets.specs.Packets.{Error, Progress, err_packet, local_infile, prepare_ok};
-ghost use Rattle.mysql_server_packets.specs.Views.{err_packet_view, local_infile_view, prepare_ok_view};
+ghost use Rattle.mysql_server_packets.specs.Packets.{Error, Progress, err_packet, prepare_ok};
+ghost use Rattle.mysql_server_packets.specs.Views.{err_packet_view, prepare_ok_view};
 ghost use Rattle.mysql_server_packets.specs.Views.{progress_report_view, server_error_view};
 ghost use Rattle.mysql_reply_events.specs.Readings as readings;
 ghost use Rattle.mysql_reply_events.specs.Views.{event_view};

@@ -1,6 +1,5 @@
 //! Counts of columns and statement packets, by what is agreed on.
 
-ghost use Rattle.std.specs.Prelude.{◌≡◌};
 ghost use Rattle.mysql_fields.specs.Forms.{lenenc_number_at};
 ghost use Rattle.mysql_fields.specs.Wire.{TellsPart};
 ghost use Rattle.mysql_server_packets.specs.Views.{prepare_ok_view};

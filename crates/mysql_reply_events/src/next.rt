@@ -3,8 +3,8 @@
 ghost use Rattle.std.specs.Prelude.{◌≡◌, false};
 ghost use Rattle.mysql_reply_events.specs.Due.{due_reply, told};
 ghost use Rattle.mysql_reply_events.specs.Readings.{has_report_form};
-ghost use Rattle.mysql_reply_events.specs.Table.{event_at, in_place};
-ghost use Rattle.mysql_reply_events.specs.Views.{Gives, due_view, event_view, group_view};
+ghost use Rattle.mysql_reply_events.specs.Table.{event_at};
+ghost use Rattle.mysql_reply_events.specs.Views.{Gives, due_view, event_view};
 ghost use Rattle.mysql_reply_events.specs.declared.awaited.Due.TheVariants as dues;
 
 use crate::awaited::{Awaited, ColumnGroup, Due};

@@ -1,6 +1,6 @@
 //! Rows of a result set, which own their cells.
 
-ghost use Rattle.std.specs.Prelude.{◌≡◌, Ok, if◌then◌else◌};
+ghost use Rattle.std.specs.Prelude.{Ok, if◌then◌else◌};
 ghost use Rattle.mysql_fields.specs.Wire.{GivesPart};
 ghost use Rattle.mysql_rows.specs.Rows.{as_row, binary_resultset_row_at, text_row_at};
 ghost use Rattle.mysql_rows.specs.Views.{row_view, shared_columns};

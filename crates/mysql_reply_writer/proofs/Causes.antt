@@ -20,7 +20,7 @@ pub both_true : (a b : Bool) → (a && b) ≡ true → (a ≡ true) × (b ≡ tr
 both_true true b h = (refl, h)
 both_true false b h = absurd cc
 
-fits_then : (b : Bool) (later : Option ReplyRefusal) (cause : ReplyRefusal) → (if b then later else Some cause) ≡ None → (b ≡ true) × (later ≡ None)
+pub fits_then : (b : Bool) (later : Option ReplyRefusal) (cause : ReplyRefusal) → (if b then later else Some cause) ≡ None → (b ≡ true) × (later ≡ None)
 fits_then true later cause h = (refl, h)
 fits_then false later cause h = absurd cc
 

@@ -1,5 +1,5 @@
 -- The end of a reply.
-use Rattle.std.proofs.Common.{◌≡◌, ℕ, List, Option, None, Result, Ok, Err, OnOk, IfErr, sym, ap, ◌∙◌}
+use Rattle.std.proofs.Common.{◌≡◌, ℕ, List, Option, Result, Ok, Err, OnOk, IfErr, sym, ap, ◌∙◌}
 use Rattle.mysql_reply_writer.specs.declared.refusal.ReplyRefusal.{ReplyRefusal}
 use Rattle.mysql_reply_writer.specs.Refusals.{Writing, after_steps, end_cause, or_cause, whole_cause}
 use Rattle.mysql_reply_writer.specs.Written.{Step}
@@ -22,11 +22,6 @@ pub end_refused : (old new : Writer) (steps : List Step) (before after : List �
     → cause_in result ≡ end_cause new.so_far → IfErr result (IsCause (whole_cause old.so_far steps))
 end_refused old new steps before after (Ok done) wrote h = tt
 end_refused old new steps before after (Err refusal) wrote h = λ other. whole_end old new steps before after wrote ∙ sym h
-
-pub end_allowed : (old new : Writer) (steps : List Step) (before after : List ℕ) (result : Result (Unit {0}) ReplyRefusal) → Wrote old steps new before after
-    → cause_in result ≡ end_cause new.so_far → OnOk result (whole_cause old.so_far steps ≡ None)
-end_allowed old new steps before after (Ok done) wrote h = whole_end old new steps before after wrote ∙ sym h
-end_allowed old new steps before after (Err refusal) wrote h = tt
 
 pub whatever : {P : Type 0} (result : Result (Unit {0}) ReplyRefusal) → P → OnOk result P
 whatever (Ok done) p = p

@@ -14,16 +14,10 @@ use Rattle.mysql_reply_events.specs.Readings.{deprecate_eof, has_report_form, op
 use Rattle.mysql_reply_writer.specs.Refusals.{reads_as_report}
 use Rattle.mysql_reply_writer.specs.Written.{count_payload, eof_due, group_payloads, nothing_said, tells_progress, terminator_payload}
 use Rattle.mysql_reply_writer.proofs.Causes.{all_both}
-
-abbrev pub NoForm : Context → List ℕ → Type 0
-NoForm c payload = has_report_form c payload ≡ false
+use Rattle.mysql_reply_writer.proofs.Groups.{and_false}
 
 abbrev pub NoForms : Context → List (List ℕ) → Type 0
 NoForms c payloads = AllByRecursion (λ payload. has_report_form c payload ≡ false) payloads
-
-and_false : (a : Bool) → (a && false) ≡ false
-and_false true = refl
-and_false false = refl
 
 -- a payload that begins with another byte than ff
 pub no_form : (c : Context) (payload : List ℕ) → begins_with 255 payload ≡ false → has_report_form c payload ≡ false

@@ -64,7 +64,7 @@ pub is_group : (c : Context) → mariadb c ≡ 0 → (columns : List ColumnDefin
     → IsColumnGroup c (length columns) (group_payloads c columns) columns (due_says c columns)
 is_group c plain columns h = group (map column columns) (eof_due c columns) (are_columns c plain columns h) (eof_is_due c columns)
 
-and_false : (a : Bool) → (a && false) ≡ false
+pub and_false : (a : Bool) → (a && false) ≡ false
 and_false true = refl
 and_false false = refl
 

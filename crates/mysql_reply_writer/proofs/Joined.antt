@@ -10,6 +10,7 @@ use Rattle.mysql_reply_writer.specs.Fits.{StepsFit}
 use Rattle.mysql_reply_writer.specs.Refusals.{Writing, after_step, after_steps, or_cause, step_cause, steps_cause, too_large}
 use Rattle.mysql_reply_writer.specs.Written.{Step}
 use Rattle.mysql_reply_writer.specs.Puts.{number_behind}
+use Rattle.mysql_reply_writer.proofs.Causes.{fits_then}
 
 pub number_joined : (xs ys : List (List ℕ)) (number : ℕ) → number_behind (xs ++ ys) number ≡ number_behind ys (number_behind xs number)
 number_joined [] ys number = refl
@@ -22,15 +23,11 @@ framings_joined (x ∷ xs) ys number =
     ap (λ l. framing x number ++ l) (framings_joined xs ys (number_after x number))
     ∙ sym (append_assoc (framing x number) (framings xs (OnFrom (number_after x number))) (framings ys (OnFrom (number_behind xs (number_after x number)))))
 
-then_large : (b : Bool) (later : Option ReplyRefusal) (cause : ReplyRefusal) → (if b then later else Some cause) ≡ None → (b ≡ true) × (later ≡ None)
-then_large true later cause h = (refl, h)
-then_large false later cause h = absurd cc
-
 -- what speaks against payloads behind others against which nothing does
 pub large_joined : (room n : ℕ) (xs ys : List (List ℕ)) → too_large room n xs ≡ None → too_large room n (xs ++ ys) ≡ too_large room (n + length xs) ys
 large_joined room n [] ys h = ap (λ (k : ℕ). too_large room k ys) (omega arith)
 large_joined room n (x ∷ xs) ys h =
-    let p = then_large (nat_le (length x) room && nat_lt n 18446744073709551615) (too_large room (n + 1) xs) (PacketTooLarge n) h in
+    let p = fits_then (nat_le (length x) room && nat_lt n 18446744073709551615) (too_large room (n + 1) xs) (PacketTooLarge n) h in
     rw p.0 (large_joined room (n + 1) xs ys p.1 ∙ ap (λ (k : ℕ). too_large room k ys) (omega arith))
 
 -- what speaks against the first of them speaks against all

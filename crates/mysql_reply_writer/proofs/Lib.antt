@@ -27,6 +27,5 @@ pub mod Answers
 pub mod OpenColumns
 pub mod More
 pub mod Ends
-pub mod Unwritten
 pub mod WholeReplies
 pub mod Replied

@@ -7,6 +7,7 @@ use Rattle.mysql_reply_writer.specs.declared.refusal.ReplyRefusal.{ReplyRefusal}
 use Rattle.mysql_reply_writer.specs.Refusals.{too_large}
 use Rattle.mysql_reply_writer.specs.Puts.{Place, Puts, RefusesPayloads, number_behind, place_behind}
 use Rattle.mysql_reply_writer.proofs.Joined.{framings_joined, kept_front, large_first, large_joined, number_joined}
+use Rattle.mysql_reply_writer.proofs.FramedInPlace.{place_of}
 
 place_joined : (xs ys : List (List ℕ)) (p : Place) → place_behind (xs ++ ys) p ≡ place_behind ys (place_behind xs p)
 place_joined xs ys p =
@@ -49,9 +50,6 @@ put_on room old payloads now these left new before mid after s puts =
       bytes = s.bytes ∙ x.2;
       kept = ap (λ l. take (length before) l) puts.appended ∙ kept_front before mid (framings these (OnFrom now.number)) s.kept;
     }
-
-abbrev place_of : ℕ → ℕ → Place
-place_of number payloads = record { number = number; payloads = payloads }
 
 -- all were put
 pub all_put : (room : ℕ) (old : Place) (payloads : List (List ℕ)) (now : Place) (before after : List ℕ) → PutSoFar room old payloads now [] before after → Puts room old payloads now before after

@@ -202,9 +202,6 @@ fit_apart (x ∷ xs) ys h = let p = fit_apart xs ys h.1 in ((h.0, p.0), p.1)
 
 -- ---- results one after another
 
-abbrev Whole : Writing → List Step → Type 0
-Whole w steps = (steps_cause w steps ≡ None) × (end_cause (after_steps w steps) ≡ None)
-
 unended : (w : Writing) (open_rows : OpenRows) (n : ℕ) → w.over ≡ false → end_cause (going w open_rows n) ≡ None → ⊥
 unended w open_rows n over h = go w.over over h where
   go : (b : Bool) → b ≡ false → (if b then None else if w.results == 0 && not true then Some refusals.NoResults else Some (refusals.NotEnded w.results)) ≡ None → ⊥

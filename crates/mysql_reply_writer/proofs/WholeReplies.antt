@@ -7,12 +7,10 @@ use Rattle.mysql_reply_events.specs.declared.context.Context.{Context}
 use Rattle.mysql_reply_events.specs.Readings.{mariadb}
 use Rattle.mysql_replies.specs.declared.results.ReplyResult.{ReplyResult}
 use Rattle.mysql_replies.specs.Views.{outcome_views}
-use Rattle.mysql_reply_writer.specs.declared.refusal.ReplyRefusal.{ReplyRefusal}
 use Rattle.mysql_reply_writer.specs.ReplyLaws.{WrittenRepliesAreFramed}
 use Rattle.mysql_reply_writer.specs.Refusals.{nothing_written, refusal_of, whole_cause}
 use Rattle.mysql_reply_writer.specs.Written.{reply_payloads, reply_steps, reports_read, results_read}
 use Rattle.mysql_reply_writer.specs.Laws.{WholeWritingsAreReplies}
-use Rattle.mysql_reply_writer.specs.Puts.{IsCause}
 use Rattle.mysql_reply_writer.specs.Writer.{AppendsReply, Writer, Wrote, fresh_writer}
 use Rattle.mysql_reply_writer.proofs.Ends.{whole_end}
 use Rattle.mysql_reply_writer.specs.Refusals.{end_cause}
@@ -25,10 +23,6 @@ refusal_is c limit (r ∷ rs) progress h = refl
 
 module _ (c : Context) (first_id limit : ℕ) (results : List ReplyResult) (progress : List ProgressReport) (some : (length results == 0) ≡ false) (old : Writer) (fresh : old ≡ fresh_writer c first_id limit) where
   -- a refusal of its steps or their end
-  pub reply_refused : (refusal : ReplyRefusal) → IsCause (whole_cause old.so_far (reply_steps (outcome_views results) progress)) refusal → IsCause (refusal_of c limit (outcome_views results) progress) refusal
-  reply_refused refusal h other =
-      refusal_is c limit results progress some ∙ ap (λ (w : Writer). whole_cause w.so_far (reply_steps (outcome_views results) progress)) (sym fresh) ∙ h other
-
   module _ (new : Writer) (before after : List ℕ) (wrote : Wrote old (reply_steps (outcome_views results) progress) new before after) (end : end_cause new.so_far ≡ None) where
     pub reply_allowed : refusal_of c limit (outcome_views results) progress ≡ None
     reply_allowed =

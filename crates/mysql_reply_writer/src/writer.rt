@@ -1,7 +1,6 @@
 //! A reply, written result by result.
 
-ghost use Rattle.std.specs.Prelude.{◌≡◌, ◌==◌, ◌∷◌, [], IfErr, OnErr, OnOk, is_some, length, not};
-ghost use Rattle.mysql_columns.specs.Columns.{ColumnDefinition};
+ghost use Rattle.std.specs.Prelude.{◌≡◌, ◌==◌, ◌∷◌, [], IfErr, OnErr, OnOk, is_some};
 ghost use Rattle.mysql_ok_packets.specs.Views.{ok_packet_view};
 ghost use Rattle.mysql_server_packets.specs.Views.{local_infile_view, prepare_ok_view, progress_report_view};
 ghost use Rattle.mysql_server_packets.specs.Views.{server_error_view};

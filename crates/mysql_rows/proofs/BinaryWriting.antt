@@ -1,6 +1,6 @@
 -- Cells of a binary row that are appended one after another.
-use Rattle.std.proofs.Common.{◌≡◌, ℕ, ◌+◌, ◌<◌, false, List, [], ◌∷◌, ◌++◌, length, map, drop, get_or, sym, ap, subst, ◌∙◌, cond, Option, Some, None, Result, Ok, Err, true, refl}
-use Rattle.std.specs.Prelude.{IsSomeAnd, OnOk, is_none, is_ok, flat_map, unwrap_or, zip}
+use Rattle.std.proofs.Common.{◌≡◌, ℕ, ◌+◌, ◌<◌, false, List, [], ◌∷◌, ◌++◌, length, map, drop, get_or, sym, ap, subst, ◌∙◌, cond, Option, Some, None, Result, Ok, Err, true}
+use Rattle.std.specs.Prelude.{OnOk, is_none, is_ok, flat_map, unwrap_or, zip}
 use Rattle.std.specs.List.{position_from}
 use Rattle.std.specs.Option.{option_and_then}
 use Rattle.std.proofs.lemmas.List.{drop_more}
@@ -11,16 +11,6 @@ use Rattle.mysql_columns.specs.declared.column.Column.{Column}
 use Rattle.mysql_rows.specs.CellsWritten.{AreOwn, IsOwn, cells_in}
 use Rattle.mysql_rows.specs.Views.{column_views}
 use Rattle.mysql_rows.specs.Written.{as_binary, cell_in, values_of}
-
--- what was appended, where there was something
-pub appended : (cell : Option (List ℕ)) (old new : List ℕ) → IsSomeAnd cell (λ bytes. new ≡ old ++ bytes) → new ≡ old ++ unwrap_or cell []
-appended None old new h = absurd h
-appended (Some bytes) old new h = h
-
--- there was something
-pub has_form : (cell : Option (List ℕ)) (old new : List ℕ) → IsSomeAnd cell (λ bytes. new ≡ old ++ bytes) → is_none cell ≡ false
-has_form None old new h = absurd h
-has_form (Some bytes) old new h = refl
 
 -- what holds where a call was done
 pub where_ok : {E P : Type 0} (result : Result (Unit {0}) E) → is_ok result ≡ true → OnOk result P → P

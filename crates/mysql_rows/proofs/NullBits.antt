@@ -2,7 +2,7 @@
 use Rattle.std.proofs.Common.{◌≡◌, ◌≢◌, ℕ, zero, suc, ◌+◌, ◌-◌, ◌*◌, ◌/◌, ◌%◌, ◌^◌, ◌<◌, ◌≤◌, Bool, true, false, List, [], ◌∷◌, ◌++◌, length, map, drop, take, get_or, set, Option, None, refl, sym, ◌∙◌, ap, arith, append_assoc, append-nil, if◌then◌else◌, ◌⊎◌, inl, inr}
 use Rattle.std.specs.Prelude.{replicate}
 use Rattle.std.proofs.lemmas.Bool.{cases_eq, cases_lt}
-use Rattle.std.proofs.lemmas.List.{drop-set-add, drop-set-lt, get_or-append-add, get_or-drop, get_or-replicate, get_or-set_other, get_or-set_same, get_or_append_left, length-append, length-drop, length-map, length-replicate, length-set, set-append_left, set-append_right, set-get_or, take-append-drop, take_at}
+use Rattle.std.proofs.lemmas.List.{drop-set-add, drop-set-lt, get_or-append-add, get_or-drop, get_or-replicate, get_or-set_other, get_or-set_same, get_or_append_left, length-append, length-drop, length-map, length-replicate, length-set, set-append_left, set-append_right, set-get_or, take-append-drop}
 use Rattle.std.proofs.lemmas.List.FromFn.{fill_by_all, get_or-map-range_with_len, length-map-range_with_len}
 use Rattle.std.proofs.lemmas.Nat.{pow_pos}
 use Rattle.std.proofs.Math.Nat.{pow-succ'}
@@ -294,7 +294,3 @@ pub row_passed : (front out whole left : List ℕ) (cells : List (Option Value))
 row_passed front out whole left cells place all none so_far =
     so_far.stands ∙ ap (λ (l : List Bool). front ++ (bits_bytes (false ∷ false ∷ l) ++ so_far.done)) (all_passed place cells all)
     ∙ ap (λ l. front ++ (bits_bytes (false ∷ false ∷ map holds_null cells) ++ l)) (sym (append-nil so_far.done) ∙ ap (λ l. so_far.done ++ l) (sym none) ∙ so_far.lefts)
-
--- what stood in front stands there
-pub front_kept : (front left whole out : List ℕ) (marks : List Bool) → RowSoFar front marks left whole out → take (length front) out ≡ front
-front_kept front left whole out marks so_far = ap (take (length front)) so_far.stands ∙ take_at front (bits_bytes marks ++ so_far.done) (length front) refl

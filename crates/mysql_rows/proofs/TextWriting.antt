@@ -126,7 +126,3 @@ all_held {X = X} held f cells old out i all so_far =
 pub small_count : (old text put : List ℕ) (start end : ℕ) → length text < 251 → put ≡ old ++ in_quotes text → start ≡ length old → end ≡ length put → end - 1 - start - 1 < 256
 small_count old text put start end short is from to =
     omega (arith, short, to, from, ap length is, length-append old (in_quotes text), length-append text (single_quote ∷ []))
-
--- what stood before stands in front
-pub kept_before : (old out more : List ℕ) → out ≡ old ++ more → take (length old) out ≡ old
-kept_before old out more is = ap (take (length old)) is ∙ take_at old more (length old) refl

@@ -62,10 +62,6 @@ pub values_of_some : (values : List Value) → values_of (map Some values) ≡ v
 values_of_some [] = refl
 values_of_some (value ∷ values) = ap (λ (later : List Value). value ∷ later) (values_of_some values)
 
-pub held_by_itself : (cells : List (Option Value)) → map (λ cell. cell) cells ≡ cells
-held_by_itself [] = refl
-held_by_itself (cell ∷ cells) = ap (λ (later : List (Option Value)). cell ∷ later) (held_by_itself cells)
-
 -- what holds where a call wasn't refused
 pub where_done : {E P : Type 0} (result : Result (Unit {0}) E) → is_err result ≡ false → OnOk result P → P
 where_done (Ok done) ok holds = holds

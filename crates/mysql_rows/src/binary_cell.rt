@@ -3,7 +3,7 @@
 ghost use Rattle.std.specs.Prelude.{◌≡◌, ◌++◌, ◌+◌, ◌-◌, ◌/◌, ◌%◌, ◌^◌, ◌<◌, ◌≤◌, IsSomeAnd, IsTrue, OnErr, OnOk};
 ghost use Rattle.std.specs.Prelude.{length, ⊤};
 ghost use Rattle.std.proofs.Common.{get_or};
-ghost use Rattle.std.specs.Int.{w32, w64};
+ghost use Rattle.std.specs.Int.{w64};
 ghost use Rattle.std.specs.Option.{option_map};
 ghost use Rattle.byteorder.specs.Endian.{little_bytes};
 ghost use Rattle.mysql_buf.specs.Writing.{lenenc_str};

@@ -1,16 +1,13 @@
 -- Sets whose rows one bulk request holds.
-use Rattle.std.proofs.Common.{◌≡◌, ℕ, ◌+◌, ◌*◌, ◌<◌, ◌≤◌, ◌==◌, Bool, true, false, List, [], ◌∷◌, ◌++◌, length, map, take, drop, Option, Some, None, Result, Ok, Err, refl, sym, ◌∙◌, ap, arith, append_assoc, Bor, length-append, length-take}
+use Rattle.std.proofs.Common.{◌≡◌, ℕ, ◌+◌, ◌*◌, ◌<◌, ◌≤◌, Bool, true, false, List, [], ◌∷◌, ◌++◌, length, map, take, drop, Option, Some, None, Result, Ok, Err, refl, sym, ◌∙◌, ap, arith, append_assoc, Bor, length-append, length-take}
 use Rattle.std.specs.Prelude.{IfOk, is_some}
 use Rattle.std.specs.List.{flat_map}
 use Rattle.std.specs.Option.{option_map}
-use Rattle.std.proofs.lemmas.Bool.{eqb-false}
 use Rattle.std.proofs.lemmas.Grind.{flat_map-append}
 use Rattle.std.proofs.lemmas.List.{append-nil, drop_at, length-take-le, take-append-le, take-take, take_all, take_at}
 use Rattle.byteorder.specs.Endian.{little_bytes}
 use Rattle.byteorder.specs.Numbers.{length-bytes_low_first}
 use Rattle.mysql_wire.specs.Framing.{framing}
-use Rattle.mysql_wire.specs.Stream.{framings}
-use Rattle.mysql_wire.specs.Stream.Numbering.{EachFromZero}
 use Rattle.mysql_values.specs.declared.params.Params.{Params}
 use Rattle.mysql_values.specs.Value.{Value}
 use Rattle.mysql_bulk_builder.specs.Bulk.{bulk_command, param_type_bytes}
@@ -26,12 +23,12 @@ use Rattle.mysql_command_rules.specs.declared.refusal.Refusal.TheVariants as ref
 use Rattle.mysql_command_rules.specs.Commands.{bulk_request}
 use Rattle.mysql_command_rules.specs.Laws.{RequestsHaveTheirSize}
 use Rattle.mysql_command_rules.specs.Sets.{Given, given_by, given_up_to}
-use Rattle.mysql_send.specs.BulkSets.{AppendsAll, AppendsRow, AppendsRows, GivesRow, front_bytes, request_flags, request_types, requests_from, row_bytes, types_by}
-use Rattle.mysql_send.proofs.RequestBytes.{command_is, stays_before}
+use Rattle.mysql_send.specs.BulkSets.{AppendsAll, AppendsRow, AppendsRows, GivesRow, front_bytes, request_flags, request_types, row_bytes, types_by}
+use Rattle.mysql_send.proofs.RequestBytes.{command_is}
 use Rattle.mysql_send.proofs.SentRequests.{types_are}
 use Rattle.mysql_send.proofs.SetRows.{RowsSoFar, all_rows, no_rows, row_more}
 use Rattle.mysql_send.specs.Executions.{Limits}
-use Rattle.mysql_send.proofs.BulkLists.{one_framed}
+use Rattle.mysql_send.proofs.Lists.{one_framed}
 
 -- what holds where both answers are yes
 pub both_yes : {E P Q R : Type 0} (answer : Result Bool E) → (P → Q → R) → IfOk answer (λ yes. yes ≡ true → P) → IfOk answer (λ yes. yes ≡ true → Q) → IfOk answer (λ yes. yes ≡ true → R)
@@ -125,11 +122,6 @@ some_rows names [] rows gives some = absurd (omega arith)
 some_rows names (params ∷ sets) [] gives some = absurd cc
 some_rows names (params ∷ sets) (row ∷ rows) gives some = omega arith
 
--- sets that are there
-pub some_sets : {X : Type 0} (xs : List X) (empty : Bool) → empty ≡ (length xs == 0) → empty ≡ false → 0 < length xs
-some_sets [] empty is some = absurd (eqb-false 0 0 (sym is ∙ some) refl)
-some_sets (x ∷ xs) empty is some = omega arith
-
 -- nothing that is there
 pub nothing : {X : Type 0} (o : Option X) (there : Bool) → there ≡ is_some o → there ≡ false → o ≡ None
 nothing None there is not_there = refl
@@ -152,10 +144,6 @@ all_appended sizes tight none_large id limits names sets firsts mid out old new 
         appended = one_framed old new (bulk_request id limits.places a.rows 0 Typed (length a.rows)) (put ∙ ap (λ l. old ++ framing l 0) is);
       };
     }
-
--- what stood before the request stands in front of it
-pub all_kept : (id : ℕ) (limits : Limits) (given : List Given) (old new : List ℕ) → AppendsAll id limits given old new → take (length old) new ≡ old
-all_kept id limits given old new a = stays_before old (framings (requests_from id limits.places a.rows 0 a.sent.cut) EachFromZero) new a.sent.appended
 
 -- ---- what is written last
 

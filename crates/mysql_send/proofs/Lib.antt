@@ -5,7 +5,6 @@ pub mod PlainSizes
 pub mod Statements
 pub mod MoreSets
 pub mod FurtherSets
-pub mod BulkLists
 pub mod RequestBytes
 pub mod SetRows
 pub mod SentRequests

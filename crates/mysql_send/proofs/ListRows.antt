@@ -24,7 +24,7 @@ use Rattle.mysql_command_rules.specs.declared.refusal.Refusal.{Refusal}
 use Rattle.mysql_command_rules.specs.declared.refusal.Refusal.TheVariants as refusals
 use Rattle.mysql_command_rules.specs.Sets.{given_by}
 use Rattle.mysql_send.specs.Executions.{Limits}
-use Rattle.mysql_send.proofs.BulkLists.{next_set}
+use Rattle.mysql_send.proofs.Lists.{next_set}
 use Rattle.mysql_send.specs.BulkSets.{AppendsRow, JoinsColumn, PutsRow, row_bytes}
 use Rattle.mysql_send.proofs.SetRows.{Fit, all_push, gives_row}
 
@@ -60,16 +60,6 @@ pub record ListSoFar (was now : List (Bor Value)) (row : Row) (i : ℕ) (old out
   pub float : position_from (λ value. is_none (content_of value)) i (drop i row) ≡ first_float row
   pub fit : Fit (take i row)
   pub bytes : out ≡ old ++ row_bytes (take i row)
-
--- before the first value
-pub no_values : (firsts : List (Bor Value)) (row : Row) (old : List ℕ) → ListSoFar firsts firsts row 0 old old
-no_values firsts row old = record {
-  filled = record { put = λ column lt. absurd (omega (arith, lt)); rest = λ column le. refl };
-  alike = λ k lt. absurd (omega (arith, lt));
-  float = refl;
-  fit = tt;
-  bytes = sym (append-nil old);
-}
 
 module _ (was now new : List (Bor Value)) (row : Row) (i : ℕ) (value : Value) (old out new_out : List ℕ) (s : ListSoFar was now row i old out) (lt : i < length row) (is : value ≡ get_or row i value)
     (j : JoinsColumn (row_in now) (row_in new) i value) where

@@ -1,13 +1,20 @@
--- Lists, answers and first causes.
+-- Lists, answers and first causes, and what values over a query's names give.
 use Rattle.std.proofs.Common.{◌≡◌, ℕ, suc, ◌+◌, ◌<◌, ◌≤◌, List, [], ◌∷◌, ◌++◌, length, take, drop, get_or, Option, Some, Result, Ok, Err, refl, sym, ◌∙◌, ap, subst, arith, append_assoc, add-one, drop-cons, length-take}
 use Rattle.std.specs.Prelude.{IfErr, OnOk}
 use Rattle.std.specs.Option.{option_or}
-use Rattle.std.proofs.lemmas.List.{take-take, take_at}
+use Rattle.std.specs.Result.{result_map_both}
+use Rattle.std.proofs.lemmas.List.{append-nil, take-take, take_at}
 use Rattle.mysql_fields.specs.Wire.{Appends}
 use Rattle.mysql_wire.specs.Framing.{framing}
 use Rattle.mysql_wire.specs.Stream.{framings}
 use Rattle.mysql_wire.specs.Stream.Numbering.{EachFromZero}
+use Rattle.mysql_values.specs.Params.{values_over}
+use Rattle.mysql_values.specs.Value.{Value}
+use Rattle.mysql_values.specs.declared.params.Params.{Params}
+use Rattle.mysql_values.specs.declared.params.ParamsError.{ParamsError}
+use Rattle.mysql_values.specs.declared.params.SetError.TheVariants as set_error
 use Rattle.mysql_command_rules.specs.declared.refusal.Refusal.{Refusal}
+use Rattle.mysql_command_rules.specs.Sets.{given_by}
 
 -- framings that are each numbered from 0 stand apart
 pub framings-append : (ps qs : List (List ℕ)) → framings (ps ++ qs) EachFromZero ≡ framings ps EachFromZero ++ framings qs EachFromZero
@@ -53,3 +60,11 @@ kept_behind old piece mid new put stays = kept_on old mid new (ap (λ l. take (l
 -- the element at an index comes before those behind it
 pub next_set : {X : Type 0} (sets : List X) (i : ℕ) (params : X) → i < length sets → params ≡ get_or sets i params → drop i sets ≡ params ∷ drop (i + 1) sets
 next_set sets i params inside is = drop-cons sets i params inside ∙ ap (λ first. first ∷ drop (suc i) sets) (sym is) ∙ ap (λ n. params ∷ drop n sets) (sym (add-one i))
+
+-- the framing of one payload behind others
+pub one_framed : (old new payload : List ℕ) → new ≡ old ++ framing payload 0 → new ≡ old ++ framings (payload ∷ []) EachFromZero
+one_framed old new payload put = put ∙ ap (λ l. old ++ l) (sym (append-nil (framing payload 0)))
+
+-- values over a query's names are given
+pub gives_values : (names : List (List ℕ)) (params : Params) (values : List Value) → values_over names params ≡ Ok values → given_by names params ≡ Ok values
+gives_values names params values over = ap (λ (o : Result (List Value) ParamsError). result_map_both (λ values. values) (λ error. set_error.Params error) o) over

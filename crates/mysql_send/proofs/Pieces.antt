@@ -19,10 +19,6 @@ pub record PiecesSent {T : Type 0} (id : ℕ) (lent : T → Value) (values : Lis
   pub bytes : out ++ framings (pieces_from id i (map lent (drop i values))) EachFromZero ≡ old ++ framings (pieces_from id 0 (map lent values)) EachFromZero
   pub kept : take (length old) out ≡ old
 
--- before the first value none was sent
-pub no_pieces : (id : ℕ) {T : Type 0} (lent : T → Value) (values : List T) (old : List ℕ) → PiecesSent id lent values old old 0
-no_pieces id lent values old = record { bytes = refl; kept = take_all (length old) old (omega arith) }
-
 -- the piece at a place comes before those behind it
 from_piece : (id i : ℕ) (value : Value) (values : List Value) → framings (pieces_from id i (value ∷ values)) EachFromZero ≡ framings (piece_of id i value) EachFromZero ++ framings (pieces_from id (i + 1) values) EachFromZero
 unfolding pieces_from

@@ -37,7 +37,7 @@ use Rattle.mysql_command_rules.specs.Reading.{SentReadable}
 use Rattle.mysql_send.specs.Executions.{limits_of}
 use Rattle.mysql_send.specs.Statement.{AppendsPrepare, IsStatement, RefusesPrepare}
 use Rattle.mysql_send.specs.BulkSets.{RefusesSets}
-use Rattle.mysql_send.proofs.BulkLists.{first_is}
+use Rattle.mysql_send.proofs.Lists.{first_is}
 use Rattle.mysql_send.specs.BulkSets.{AppendsRequests, GivesRows, RefusesAll, RefusesRows, no_command, request_flags, request_types, requests_from, types_by}
 
 -- ---- one part

@@ -1,8 +1,7 @@
 -- Sets as rows, one after another.
-use Rattle.std.proofs.Common.{◌≡◌, ℕ, ◌+◌, ◌-◌, ◌<◌, ◌≤◌, take, subst, Bor, ◌==◌, ◌⊎◌, inl, inr, Bool, true, false, List, [], ◌∷◌, ◌++◌, length, map, drop, Option, Some, None, Result, Ok, Err, refl, sym, ◌∙◌, ap, arith, append_assoc}
+use Rattle.std.proofs.Common.{◌≡◌, ℕ, ◌+◌, ◌-◌, ◌<◌, ◌≤◌, take, subst, Bor, ◌==◌, inl, inr, Bool, true, false, List, [], ◌∷◌, ◌++◌, length, map, drop, Option, Some, None, Ok, Err, refl, sym, ◌∙◌, ap, arith, append_assoc}
 use Rattle.std.specs.Prelude.{if◌then◌else◌, nat_lt}
 use Rattle.std.specs.List.{AllByRecursion}
-use Rattle.std.specs.Result.{result_map_both}
 use Rattle.std.specs.Option.{option_or, option_map}
 use Rattle.std.proofs.lemmas.Bool.{eqb-true, le-ltb}
 use Rattle.std.proofs.lemmas.List.{append-nil, drop-drop, drop-map, drop_all, drop_at, length-append, length-drop, length-map, map-append, take-map, take_at}
@@ -14,10 +13,7 @@ use Rattle.mysql_values.specs.AsSql.{FitsFields}
 use Rattle.mysql_values.specs.Binding.{values_cause}
 use Rattle.mysql_cells.specs.Values.{first_float}
 use Rattle.mysql_values.specs.declared.params.Params.{Params}
-use Rattle.mysql_values.specs.declared.params.ParamsError.{ParamsError}
-use Rattle.mysql_values.specs.declared.params.ParamsError.TheVariants as params_error
 use Rattle.mysql_values.specs.declared.params.SetError.{SetError}
-use Rattle.mysql_values.specs.declared.params.SetError.TheVariants as set_error
 use Rattle.mysql_values.specs.Params.{values_over}
 use Rattle.mysql_values.specs.Value.{Value}
 use Rattle.mysql_bulk_builder.specs.Cut.{Row}
@@ -26,11 +22,10 @@ use Rattle.mysql_command_rules.specs.declared.refusal.Refusal.{Refusal}
 use Rattle.mysql_command_rules.specs.declared.refusal.Refusal.TheVariants as refusals
 use Rattle.mysql_command_rules.specs.Sets.{Given, given_by, given_up_to}
 use Rattle.mysql_command_rules.specs.Cause.{cause_if, first_of_sets, set_cause}
-use Rattle.mysql_send.specs.Executions.{Limits, refusal_of}
+use Rattle.mysql_send.specs.Executions.{Limits}
 use Rattle.mysql_send.specs.BulkSets.{RefusesSet, RefusesSets}
-use Rattle.mysql_send.proofs.BulkLists.{behind}
 use Rattle.mysql_send.specs.BulkSets.{AreRows, GivesRow, GivesRows, no_command}
-use Rattle.mysql_send.proofs.BulkLists.{gives_values, given_is}
+use Rattle.mysql_send.proofs.Lists.{first_is, gives_values}
 
 -- the numbers of the values fit their fields
 abbrev pub Fit : Row → Type 0
@@ -71,24 +66,18 @@ module _ (names : List (List ℕ)) (params : Params) (limits : Limits) (set : �
       RefusesSet limits set (given_by names params) refusal
   refuses_values values refusal over cause =
       inr (ap (λ g. set_cause no_command limits.places limits.bytes set g) (gives_values names params values over) ∙ first_is (values_cause (refusals.WrongCount set) (λ place. refusals.Float set place) limits.places values) _ refusal cause)
-    where
-      first_is : (first rest : Option Refusal) (this : Refusal) → first ≡ Some this → option_or first rest ≡ Some this
-      first_is first rest this some = rw some refl
-
-  -- the set gives no values
-  pub refuses_set : (refusal : Refusal) → (refusal ≡ refusals.Memory) ⊎ ((e : ParamsError) × (values_over names params ≡ Err e) × (refusal ≡ refusal_of set e)) → RefusesSet limits set (given_by names params) refusal
-  refuses_set refusal (inl memory) = inl memory
-  refuses_set refusal (inr why) = by why.0 why.1 why.2
-    where
-      given : (e : ParamsError) → values_over names params ≡ Err e → given_by names params ≡ Err (set_error.Params e)
-      given e over = ap (λ (o : Result (List Value) ParamsError). result_map_both (λ values. values) (λ error. set_error.Params error) o) over
-
-      by : (e : ParamsError) → values_over names params ≡ Err e → refusal ≡ refusal_of set e → RefusesSet limits set (given_by names params) refusal
-      by params_error.Memory over is = inl is
-      by (params_error.Missing name) over is = inr (ap (λ g. set_cause no_command limits.places limits.bytes set g) (given (params_error.Missing name) over) ∙ ap (λ r. Some r) (sym is))
-      by (params_error.Confusion confusion) over is = inr (ap (λ g. set_cause no_command limits.places limits.bytes set g) (given (params_error.Confusion confusion) over) ∙ ap (λ r. Some r) (sym is))
 
 -- ---- sets one after another
+
+-- what stands behind the parameter sets: one that gives nothing for this reason, where there is one
+abbrev pub behind : Option SetError → List Given
+behind None = []
+behind (Some error) = Err error ∷ []
+
+-- what parameter sets give, and the set behind them
+pub given_is : (sets : List Params) (stop : Option SetError) (names : List (List ℕ)) → given_up_to sets stop names ≡ map (given_by names) sets ++ behind stop
+given_is sets None names = sym (append-nil (map (given_by names) sets))
+given_is sets (Some error) names = refl
 
 -- so many sets gave rows, each with no cause
 pub record RowsSoFar (names : List (List ℕ)) (limits : Limits) (sets : List Params) (rows : List Row) (i : ℕ) : Type 0 where

@@ -42,7 +42,7 @@ use Rattle.mysql_send.specs.Laws.{FurtherSetsAreSent}
 use Rattle.mysql_send.specs.Making.{IsNotMade}
 use Rattle.mysql_send.specs.Statement.{AppendsPrepare, IsStatement, RefusesPrepare}
 use Rattle.mysql_send.proofs.FurtherSets.{behind_pieces}
-use Rattle.mysql_send.proofs.Lists.{first_is, on_err, on_ok}
+use Rattle.mysql_send.proofs.Lists.{first_is, gives_values, on_err, on_ok}
 
 -- ---- none is made
 
@@ -146,10 +146,6 @@ pub begins : SentInTurn → (query : Sql) (sets : List (List ℕ) → List Given
 begins law query sets id limit old new p = law.begin Execute tt query sets id limit old new p.0 p.1 p.2 p.3
 
 -- ---- one set
-
--- values over a query's names are given
-gives_values : (names : List (List ℕ)) (params : Params) (values : List Value) → values_over names params ≡ Ok values → given_by names params ≡ Ok values
-gives_values names params values over = ap (λ (o : Result (List Value) ParamsError). result_map_both (λ values. values) (λ error. set_error.Params error) o) over
 
 -- what is said over a number and a count is said over equal ones
 pub said_over : (P : ℕ → ℕ → Type 0) (number id count places : ℕ) → number ≡ id → count ≡ places → P number count → P id places

@@ -1,14 +1,12 @@
 -- From a text that is bound to the query that is sent, and from why none is bound to the refusal.
-use Rattle.std.proofs.Common.{◌≡◌, ◌⊎◌, ℕ, ◌+◌, ◌-◌, ◌<◌, ◌≤◌, ◌==◌, Bool, true, false, nat_lt, List, [], ◌∷◌, ◌++◌, length, map, take, drop, Option, Some, None, Result, Ok, Err, refl, sym, ◌∙◌, ap, subst, inl, inr, if◌then◌else◌, unwrap_or, append_assoc, arith, length-drop, length-take}
+use Rattle.std.proofs.Common.{◌≡◌, ◌⊎◌, ℕ, ◌+◌, ◌-◌, ◌<◌, ◌≤◌, ◌==◌, Bool, true, false, nat_lt, List, [], ◌∷◌, ◌++◌, length, map, take, drop, Option, Some, None, Result, Ok, Err, refl, sym, ◌∙◌, ap, subst, inl, inr, if◌then◌else◌, unwrap_or, append_assoc, arith, length-drop}
 use Rattle.std.specs.Prelude.{IfErr, OnOk}
 use Rattle.std.proofs.lemmas.Bool.{le-ltb, lt-ltb}
-use Rattle.std.proofs.lemmas.List.{append-nil, take-take, take_at}
+use Rattle.std.proofs.lemmas.List.{take_at}
 use Rattle.std.proofs.Math.Seq.{drop-append-add}
 use Rattle.std.specs.Option.{option_map, option_or}
 use Rattle.std.specs.Result.{result_map_both}
 use Rattle.mysql_wire.specs.Framing.{framing}
-use Rattle.mysql_wire.specs.Stream.{framings}
-use Rattle.mysql_wire.specs.Stream.Numbering.{EachFromZero}
 use Rattle.mysql_values.specs.Sql.{Sql}
 use Rattle.mysql_values.specs.Value.{Value}
 use Rattle.mysql_values.specs.Values.{content_of, first_float}
@@ -40,6 +38,7 @@ use Rattle.mysql_command_rules.specs.Sending.{RefusesGiven}
 use Rattle.mysql_command_rules.specs.Sent.{query_text_of, whole_command}
 use Rattle.mysql_command_rules.specs.Sets.{Given, given_by}
 use Rattle.mysql_send.specs.Refusing.{refusal_by}
+use Rattle.mysql_send.proofs.Lists.{first_is, gives_values, one_framed}
 
 -- ---- what a call answers
 
@@ -52,10 +51,6 @@ pub where_err : {E X : Type 0} (P : E → X → Type 0) (answer : Result (Unit {
 where_err P (Ok done) x holds = tt
 where_err P (Err error) x holds = holds x
 
--- what holds where a set was put
-pub where_put : {E P : Type 0} (answer : Result (Unit {0}) E) → answer ≡ Ok tt → OnOk answer P → P
-where_put {P = P} answer was holds = subst (λ (r : Result (Unit {0}) _). OnOk r P) was holds
-
 -- ---- a set that is not made
 
 -- why no set is made is a refusal of all
@@ -66,11 +61,6 @@ not_made law query sets id limit number old out s refusal (inr why) =
     (law.refused_more Text tt query sets id limit number old out (λ names. Err why.0) why.1 s refusal (inr (s.sends.tokens, s.sends.has, ap Some (sym why.2)))).0
 
 -- ---- placeholders
-
--- placeholders of both kinds are the first cause
-pub mixed_cause : (query : Sql) (places : List Place) → HasPlaces query places → is_mixed places ≡ true
-    → (tokens : List (List ℕ)) × HasTokens query.mode query.text tokens × (places_cause (places_from query.text 0 tokens) ≡ Some refusals.Mixed)
-mixed_cause query places has mixed = (has.0, has.1, ap (λ p. places_cause p) (sym has.2) ∙ rw mixed refl)
 
 -- then one that doesn't stand alone
 pub not_alone_cause : (query : Sql) (places : List Place) (place : ℕ) → HasPlaces query places → is_mixed places ≡ false → first_not_alone places ≡ Some place
@@ -84,10 +74,6 @@ no_cause query places has one alone = (has.0, has.1, ap (λ p. places_cause p) (
 
 -- ---- one set
 
--- values over a query's names are given
-gives_values : (names : List (List ℕ)) (params : Params) (values : List Value) → values_over names params ≡ Ok values → given_by names params ≡ Ok values
-gives_values names params values over = ap (λ (o : Result (List Value) ParamsError). result_map_both (λ values. values) (λ error. set_error.Params error) o) over
-
 -- an answer has one value
 one_value : {X E : Type 0} (answer : Result X E) (x y : X) → answer ≡ Ok x → answer ≡ Ok y → x ≡ y
 one_value (Ok z) x y first second =
@@ -95,10 +81,6 @@ one_value (Ok z) x y first second =
     let other : z ≡ y = cc in
     sym one ∙ other
 one_value (Err error) x y first second = cc
-
--- the first of causes is one
-first_is : (first rest : Option Refusal) (refusal : Refusal) → first ≡ Some refusal → option_or first rest ≡ Some refusal
-first_is first rest refusal some = rw some refl
 
 -- literals that are all there have these texts
 literal_texts : (found : List (Option (List ℕ))) (literals : List (List ℕ)) → found ≡ map Some literals → map (λ literal. unwrap_or literal []) found ≡ literals
@@ -134,17 +116,6 @@ set_refusal command count room set (Ok values) error is =
 -- the size is the cause, or none is
 by_size : (first : Option Refusal) (long : Bool) (refusal : Refusal) → first ≡ None → option_or first (cause_if long refusal) ≡ cause_if long refusal
 by_size first long refusal none = rw none refl
-
--- the framing of one payload behind others
-one_framed : (old new payload : List ℕ) → new ≡ old ++ framing payload 0 → new ≡ old ++ framings (payload ∷ []) EachFromZero
-one_framed old new payload put = put ∙ ap (λ l. old ++ l) (sym (append-nil (framing payload 0)))
-
--- what stood before a piece that is appended to what is kept
-pub kept_on : (old piece mid new : List ℕ) → mid ≡ old ++ piece → take (length mid) new ≡ mid → take (length old) new ≡ old
-kept_on old piece mid new put stays =
-    let before : take (length old) mid ≡ old = ap (λ l. take (length old) l) put ∙ take_at old piece (length old) refl in
-    let shorter : length old ≤ length mid = omega (arith, length-take (length old) mid, ap length before) in
-    sym (take-take (length old) (length mid) new shorter) ∙ ap (λ l. take (length old) l) stays ∙ before
 
 -- room for a header, and the command's byte
 abbrev pub room_and_command : List ℕ

@@ -27,20 +27,10 @@ use Rattle.mysql_command_rules.specs.Sets.{Given, all_given}
 use Rattle.mysql_command_rules.proofs.Held.{one_contents}
 use Rattle.mysql_command_rules.proofs.Statements.{query_is}
 use Rattle.mysql_command_rules.specs.declared.send_to_error.SendToError.TheVariants.{Io}
-use Rattle.mysql_command_rules.specs.Writing.{FailsAmong, FailsWithin, Writes}
+use Rattle.mysql_command_rules.specs.Writing.{FailsAmong, FailsWithin}
 use Rattle.mysql_session.specs.Delivery.{Delivers}
-use Rattle.mysql_session.specs.WritingTo.{DeliversTo, FailedWritersAreRead, FrontReads, StopsSending, TakesReadable}
+use Rattle.mysql_session.specs.WritingTo.{FailedWritersAreRead, FrontReads, StopsSending, TakesReadable}
 use Rattle.mysql_session.specs.Laws.{ReadableSetsAreDelivered}
-
-pub delivers_to : ReadableSetsAreDelivered → (road : Road) (query : Sql) (sets : List (List ℕ) → List Given) (id limit : ℕ) (old new : Option (List ℕ)) → id < 2 ^ 32 → 4 ≤ limit → Writes road query sets id limit old new
-    → DeliversTo road query sets id limit old new
-delivers_to law road query sets id limit old new small room w = record {
-  stream = w.stream;
-  bytes = w.bytes;
-  taken = w.taken;
-  carries = w.carries;
-  delivers = λ short. law road query sets id limit [] w.stream small room short w.bytes w.carries;
-}
 
 -- ---- a front that was taken
 

@@ -1,6 +1,6 @@
 //! A query that is kept for calls that each send or read sets of it.
 
-ghost use Rattle.std.specs.Prelude.{◌≡◌, ◌≢◌, ◌⊎◌, ◌≤◌, ◌++◌, ℕ, IfErr, IfOk, List, OnErr, OnOk, false, length, true};
+ghost use Rattle.std.specs.Prelude.{◌≡◌, ◌≢◌, ◌≤◌, ◌++◌, ℕ, IfErr, IfOk, List, OnErr, OnOk, false, length};
 ghost use Rattle.std.specs.Prelude.{◌+◌, ◌<◌, ◌^◌, map};
 ghost use Rattle.mysql_values.specs.Binding.{Binds, RefusesBinding};
 ghost use Rattle.mysql_values.specs.Parsed.{names_of};

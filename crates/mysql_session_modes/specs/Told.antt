@@ -1,7 +1,7 @@
 -- What an OK packet tells of the variable sql_mode, and so of its session's SQL mode.
 -- MySQL: Client/Server Protocol, "OK_Packet", 'Session State Information' (SESSION_TRACK_SYSTEM_VARIABLES); MySQL
 -- Reference Manual, "Server SQL Modes", "Server Tracking of Client Session State".
-use Rattle.std.specs.Prelude.{ℕ, not, if◌then◌else◌, codes, List, Option, Some, None, Ok, Err}
+use Rattle.std.specs.Prelude.{ℕ, if◌then◌else◌, codes, List, Ok, Err}
 use Rattle.std.specs.List.{fold}
 use Rattle.std.specs.Str.{bytes_eq}
 use Rattle.mysql_const.specs.FlagSets.{contains}
@@ -12,7 +12,7 @@ use Rattle.mysql_ok_packets.specs.OkPackets.{OkPacket, all_states_at}
 use Rattle.mysql_session_modes.specs.SessionModes.{agrees, fresh_mode, tracked_mode, unknown_mode}
 use Rattle.mysql_session_modes.specs.declared.session_mode.SessionMode.{SessionMode}
 use Rattle.mysql_session_modes.specs.declared.session_mode.Tracking.{Tracking}
-use Rattle.mysql_session_modes.specs.declared.session_mode.Tracking.TheVariants.{Doubted, Tracked, Untracked}
+use Rattle.mysql_session_modes.specs.declared.session_mode.Tracking.TheVariants.{Doubted, Tracked}
 use Rattle.mysql_ok_packets.specs.Reading.{to_end_at}
 use Rattle.mysql_ok_packets.specs.SessionStates.{State, Variable, variable_at}
 

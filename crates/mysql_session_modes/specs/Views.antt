@@ -1,5 +1,4 @@
 -- What values of the crate's types stand for.
-use Rattle.std.specs.Prelude.{List, ℕ}
 use Rattle.mysql_session_modes.specs.Told.{Told}
 use Rattle.mysql_session_modes.specs.Told.Told.{Nothing, Unreadable, Value}
 use Rattle.mysql_session_modes.specs.declared.told.Told.{Told as Held}

@@ -8,7 +8,7 @@ ghost use Rattle.mysql_fields.specs.Wire.{Tells};
 ghost use Rattle.mysql_ok_packets.specs.Views.{ok_packet_view};
 ghost use Rattle.mysql_ok_packets.specs.SessionStates.{state_at, states_at, variable_at};
 ghost use Rattle.mysql_session_modes.specs.Told.{mode_begun as begun, mode_behind_ok as behind};
-ghost use Rattle.mysql_session_modes.specs.Told.{mode_told, mode_undoubted, mode_untold};
+ghost use Rattle.mysql_session_modes.specs.Told.{mode_told, mode_untold};
 ghost use Rattle.mysql_session_modes.specs.Told.Told.{Nothing, Unreadable};
 ghost use Rattle.mysql_session_modes.specs.Told.{told_by_state, told_by_variable};
 ghost use Rattle.mysql_session_modes.specs.Told.{told_by, told_by_variables, walked};

@@ -2,7 +2,7 @@
 use Rattle.std.proofs.Common.{◌≡◌, ℕ, zero, suc, ◌+◌, ◌-◌, ◌*◌, ◌/◌, ◌^◌, ◌<◌, ◌≤◌, ◌⊎◌, Bool, true, false, List, [], ◌∷◌, ◌++◌, length, min, get_or, take, drop, map, refl, sym, ◌∙◌, ap, inl, inr, arith, append_assoc, if◌then◌else◌}
 use Rattle.std.specs.List.{range_with_len}
 use Rattle.std.proofs.lemmas.Bool.{cases_lt}
-use Rattle.std.proofs.lemmas.List.{drop-map, drop_all, drop_more, length-map, take_at, take_rest}
+use Rattle.std.proofs.lemmas.List.{drop-map, drop_all, drop_more, length-map, take_rest}
 use Rattle.std.proofs.lemmas.List.FromFn.{map-range_with_len_more}
 use Rattle.std.proofs.lemmas.Nat.{pow_pos}
 use Rattle.std.proofs.Math.Nat.{pow-succ'}
@@ -15,10 +15,6 @@ use Rattle.mysql_stmt.specs.NullBits.{null_bits_below}
 pub record Bits {T : Type 0} (lent : T → Value) (values : List T) (place byte bit : ℕ) : Type 0 where
   pub whole : byte + bit * null_bits (8 - place) (map lent (drop place values)) ≡ null_bits 8 (map lent values)
   pub weight : bit * 2 ^ (8 - place) ≡ 256
-
--- before the first value
-pub no_bits : {T : Type 0} (lent : T → Value) (values : List T) → Bits lent values 0 0 1
-no_bits lent values = record { whole = omega arith; weight = refl }
 
 -- the bit of one more
 one_bit : (value : Value) (values : List Value) (n m : ℕ) → n ≡ suc m → null_bits n (value ∷ values) ≡ (if is_null value then 1 else 0) + 2 * null_bits m values
@@ -103,10 +99,6 @@ one_more_byte {T} lent values old out new k byte so_far is put =
     let here : byte ≡ null_bits 8 (drop (8 * k) all) =
     is ∙ ap (λ (l : List T). null_bits 8 (map lent l)) (take_rest values (8 * k)) ∙ ap (λ l. null_bits 8 l) (sym (drop-map lent (8 * k) values)) in
     put ∙ ap (λ b. out ++ b ∷ []) here ∙ ap (λ l. l ++ null_bits 8 (drop (8 * k) all) ∷ []) so_far ∙ append_assoc old (first_bytes all k) (null_bits 8 (drop (8 * k) all) ∷ []) ∙ ap (λ l. old ++ l) (sym bytes)
-
--- what stood before them stands in front
-pub kept_before : {T : Type 0} (lent : T → Value) (values : List T) (old out : List ℕ) (k : ℕ) → out ≡ old ++ first_bytes (map lent values) k → take (length old) out ≡ old
-kept_before lent values old out k so_far = ap (λ l. take (length old) l) so_far ∙ take_at old (first_bytes (map lent values) k) (length old) refl
 
 pub all_bytes : {T : Type 0} (lent : T → Value) (values : List T) (old out : List ℕ) (k : ℕ) → out ≡ old ++ first_bytes (map lent values) k → k ≡ (length values + 7) / 8 → out ≡ old ++ null_bitmap (map lent values)
 unfolding null_bitmap

@@ -1,6 +1,5 @@
 -- Eight bytes at a time behind a front.
-use Rattle.std.proofs.Common.{◌≡◌, ℕ, List, [], ◌∷◌, ◌++◌, length, get_or, take, drop, refl, ap, ◌∙◌, arith, append_assoc}
-use Rattle.std.proofs.lemmas.List.{take-append-drop}
+use Rattle.std.proofs.Common.{◌≡◌, ℕ, List, [], ◌∷◌, ◌++◌, length, get_or, refl, ap, ◌∙◌, arith, append_assoc}
 
 -- eight bytes are those at their places
 all_eight : (bytes : List ℕ) → length bytes ≡ 8 → get_or bytes 0 0 ∷ get_or bytes 1 0 ∷ get_or bytes 2 0 ∷ get_or bytes 3 0 ∷ get_or bytes 4 0 ∷ get_or bytes 5 0 ∷ get_or bytes 6 0 ∷ get_or bytes 7 0 ∷ [] ≡ bytes
@@ -36,10 +35,3 @@ eight_pushed bytes old first second third fourth fifth sixth seventh new eight o
     (behind first _ second (get_or bytes 1 0) two one))))))
     ∙ together (get_or bytes 0 0) (get_or bytes 1 0) (get_or bytes 2 0) (get_or bytes 3 0) (get_or bytes 4 0) (get_or bytes 5 0) (get_or bytes 6 0) (get_or bytes 7 0) old
     ∙ ap (λ (l : List ℕ). old ++ l) (all_eight bytes eight)
-
--- the first eight of what is left
-pub eight_more : (out new bytes rest after whole : List ℕ) → new ≡ out ++ bytes → bytes ≡ take 8 rest → after ≡ drop 8 rest → out ++ rest ≡ whole → new ++ after ≡ whole
-eight_more out new bytes rest after whole put is behind so_far =
-    ap (λ (l : List ℕ). l ++ after) put ∙ append_assoc out bytes after
-    ∙ ap (λ (l : List ℕ). out ++ (l ++ after)) is ∙ ap (λ (l : List ℕ). out ++ (take 8 rest ++ l)) behind
-    ∙ ap (λ (l : List ℕ). out ++ l) (take-append-drop 8 rest) ∙ so_far

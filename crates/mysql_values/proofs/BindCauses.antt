@@ -1,5 +1,5 @@
 -- What binding a text gives, and why it is refused.
-use Rattle.std.proofs.Common.{◌≡◌, ◌≢◌, ◌⊎◌, ℕ, ◌+◌, Bool, true, false, not, ◌==◌, if◌then◌else◌, List, [], ◌∷◌, ◌++◌, length, filter, refl, sym, ap, ◌∙◌, inl, inr, arith, subst, Option, Some, None, Result, Ok, Err, IsSomeAnd}
+use Rattle.std.proofs.Common.{◌≡◌, ◌≢◌, ◌⊎◌, ℕ, ◌+◌, Bool, true, false, not, ◌==◌, if◌then◌else◌, List, [], ◌∷◌, ◌++◌, length, filter, refl, sym, ap, ◌∙◌, inl, inr, arith, subst, Option, Some, None, Result, Ok, Err}
 use Rattle.std.specs.List.{AllByRecursion, position_from}
 use Rattle.std.specs.Option.{option_map}
 use Rattle.std.proofs.lemmas.Bool.{cases_Bool}
@@ -28,10 +28,6 @@ mode_of no_backslash_escapes ansi_quotes = record { no_backslash_escapes = no_ba
 -- a mode that has neither setting is the default
 pub is_default : (mode : Mode) → (mode.no_backslash_escapes ≡ false) × (mode.ansi_quotes ≡ false) → mode ≡ default_mode
 is_default mode h = ap (λ x. mode_of x mode.ansi_quotes) h.0 ∙ ap (mode_of false) h.1
-
-pub some_and : {A : Type 0} → (P : A → Type 0) (o : Option A) → IsSomeAnd o P → (x : A) × (o ≡ Some x) × P x
-some_and P None h = absurd h
-some_and P (Some x) h = (x, refl, h)
 
 names_are : NamesAreSlices → (query : Sql) (places : List Place) → (h : HasPlaces query places) → names_at query.text places ≡ names_of h.0
 names_are law query places h = ap (names_at query.text) h.2 ∙ sym (law query h.0 h.1)

@@ -119,13 +119,6 @@ written_end query places values at k before after next w h l n =
       },
     )
 
--- what stood before still stands in front
-pub written_front : {query : Sql} {places : List Place} {values : List Value} {at : ℕ} {left : List Place} {k : ℕ} {before after : List ℕ} → WrittenTo query places values at left k before after → (piece next : List ℕ) → next ≡ after ++ piece → take (length before) next ≡ before
-written_front {before} w piece next n = ap (take (length before)) (n ∙ ap (λ y. y ++ piece) w.appended ∙ append_assoc before w.written piece) ∙ take_at before (w.written ++ piece) (length before) refl
-
-pub written_still : {query : Sql} {places : List Place} {values : List Value} {at : ℕ} {left : List Place} {k : ℕ} {before after : List ℕ} → WrittenTo query places values at left k before after → (next : List ℕ) → next ≡ after → take (length before) next ≡ before
-written_still {after} w next n = written_front w [] next (n ∙ sym (append-nil after))
-
 -- the same where a refusal left a part behind
 pub written_kept : {query : Sql} {places : List Place} {values : List Value} {at : ℕ} {left : List Place} {k : ℕ} {before after : List ℕ} → WrittenTo query places values at left k before after → (piece mid next : List ℕ) → mid ≡ after ++ piece
     → take (length mid) next ≡ mid → take (length before) next ≡ before

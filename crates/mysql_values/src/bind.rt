@@ -15,8 +15,6 @@ ghost use Rattle.std.specs.Prelude.{
   ◌≡◌,
   Err,
   IfErr,
-  IfOk,
-  IsSomeAnd,
   List,
   None,
   Ok,
@@ -28,8 +26,6 @@ ghost use Rattle.std.specs.Prelude.{
   length,
   map,
   take,
-  true,
-  ℕ,
 };
 ghost use Rattle.mysql_values.specs.declared.bind.BindError.TheVariants as bind_error;
 

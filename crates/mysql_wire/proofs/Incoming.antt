@@ -141,9 +141,6 @@ same_number : (codec : Codec) (dst : List ℕ) (number : ℕ) → packet_number 
 same_number codec dst number e = omega (arith, e)
 
 module _ (codec : Codec) (header dst piece : List ℕ) (number : ℕ) (bytes : List ℕ) (s : Stands codec header dst number bytes) where
-  old : Codec
-  old = at codec number
-
   all_held : held codec (header ++ piece) dst ≡ bytes ++ piece
   all_held = held_more codec header dst piece ∙ ap (λ k. k ++ piece) s.held_is
 

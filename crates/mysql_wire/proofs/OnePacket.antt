@@ -85,10 +85,6 @@ pub record Reading (limit n0 : ℕ) (b0 : Option BegunChunk) (src0 dst0 : List �
   pub stands : held (codec_of number limit begun) src dst ≡ held (codec_of n0 limit b0) src0 dst0
   pub first : first_of number dst ≡ first_of n0 dst0
 
--- between chunks all of dst is whole chunks
-none_fits : (limit : ℕ) (begun : Option BegunChunk) (dst : List ℕ) → begun ≡ None → IsOfPacket limit (begun_of begun) dst → (length dst ≤ limit) × (length dst % 16777215 ≡ 0)
-none_fits limit begun dst none h = subst (λ b. IsOfPacket limit (begun_of b) dst) none h
-
 -- the front of a chunk is seen in its header
 pub announced_begun : (n number : ℕ) (part src : List ℕ) → n ≤ 16777215 → announced ((little_bytes 3 n ++ (number % 256 ∷ part)) ++ src) ≡ n
 announced_begun n number part src h = little_number-reads_back 3 n ((number % 256 ∷ part) ++ src) (omega arith)

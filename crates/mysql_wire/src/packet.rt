@@ -6,7 +6,7 @@
 //!         FirstPacket::TooLarge | FirstPacket::OutOfSync(_) => ..,
 //!     }
 
-ghost use Rattle.std.specs.Prelude.{◌≡◌, ℕ, ◌+◌, ◌<◌, ◌≤◌, IfOk, MatchOption, OnErr, length};
+ghost use Rattle.std.specs.Prelude.{◌≡◌, ◌+◌, ◌<◌, ◌≤◌, IfOk, MatchOption, OnErr, length};
 ghost use Rattle.mysql_wire.specs.Chunks.{header_behind, payload_of};
 ghost use Rattle.mysql_wire.specs.FirstPacket.{first_packet, framed, is_short};
 ghost use Rattle.mysql_wire.specs.Views.{HasManyChunks, IsLentFrom, StandsWithin};

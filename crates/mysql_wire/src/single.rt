@@ -1,6 +1,6 @@
 //! The first packet of a stream, where it has one chunk, as most have.
 
-ghost use Rattle.std.specs.Prelude.{◌≡◌, MatchOption};
+ghost use Rattle.std.specs.Prelude.{MatchOption};
 ghost use Rattle.mysql_wire.specs.FirstPacket.{first_packet};
 ghost use Rattle.mysql_wire.specs.OneChunk.{HasOtherChunks, IsOneChunk};
 

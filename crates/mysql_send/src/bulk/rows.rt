@@ -10,7 +10,7 @@ ghost use Rattle.mysql_bulk_builder.specs.Cut.{Row};
 ghost use Rattle.mysql_bulk_builder.specs.RowLists.{row_in, rows_in};
 ghost use Rattle.mysql_command_rules.specs.Sets.{given_by, given_up_to};
 ghost use Rattle.mysql_command_rules.specs.declared.refusal.Refusal.TheVariants as refusals;
-ghost use Rattle.mysql_send.specs.BulkSets.{AreRows, GivesRow, GivesRows, RefusesSet, RefusesSets, no_command};
+ghost use Rattle.mysql_send.specs.BulkSets.{AreRows, GivesRow, GivesRows, RefusesSet, RefusesSets};
 ghost use Rattle.mysql_send.specs.Executions.{refusal_of};
 
 use crate::bulk::target::Target;

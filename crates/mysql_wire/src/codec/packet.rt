@@ -1,8 +1,7 @@
 //! One packet read from a buffer: its payload bytes go on to where they are wanted as they come.
 
 ghost use Rattle.std.specs.Bool.{OnFalse, OnTrue};
-ghost use Rattle.std.specs.Prelude.{◌≡◌, ◌≢◌, ◌⊎◌, ◌%◌, ◌+◌, ◌^◌, [], None, false, ◌<◌, ◌≤◌, ◌++◌, IfErr, IfOk, Ok};
-ghost use Rattle.std.specs.Prelude.{OnErr};
+ghost use Rattle.std.specs.Prelude.{◌≡◌, ◌≢◌, ◌⊎◌, ◌%◌, ◌+◌, [], None, false, ◌<◌, ◌≤◌, ◌++◌, IfErr, IfOk, Ok};
 ghost use Rattle.std.specs.Prelude.{OnOk, drop, length, take};
 ghost use Rattle.mysql_wire.specs.Codec.{Decodes, IsDue, IsOfPacket};
 ghost use Rattle.mysql_wire.specs.Framing.{max_payload_len};

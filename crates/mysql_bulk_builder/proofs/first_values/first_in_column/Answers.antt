@@ -1,8 +1,7 @@
-use Rattle.std.proofs.Common.{◌≡◌, ◌<◌, [], length, get_or, sym, ◌∙◌, ap, arith, Bor, List}
+use Rattle.std.proofs.Common.{◌<◌, [], length, get_or, sym, ◌∙◌, ap, arith, Bor, List}
 use Rattle.std.proofs.lemmas.List.{length-map}
 use Rattle.std.proofs.lemmas.List.Elements.{All-get_or}
 use Rattle.mysql_cells.specs.declared.value.Value.{Value}
-use Rattle.mysql_cells.specs.declared.value.Value.TheVariants.{NULL}
 use Rattle.mysql_bulk_builder.specs.RowLists.{row_in, rows_in}
 use Rattle.mysql_bulk_builder.specs.ValueTypes.{is_null}
 use Rattle.mysql_bulk_builder.proofs.FirstValues.{first_found, first_passes}

@@ -1,4 +1,4 @@
-use Rattle.std.proofs.Common.{◌≡◌, length, ◌-◌, ◌<◌, ◌≤◌, ◌+◌, drop}
+use Rattle.std.proofs.Common.{◌≡◌, length, ◌-◌, ◌≤◌, drop}
 use Rattle.mysql_digests.specs.Digest.{ends_in_e}
 use Rattle.mysql_digests.proofs.left_out.e_last.Given as goal
 

@@ -1,5 +1,4 @@
-use Rattle.std.proofs.Common.{◌≡◌, true, false, slice_index, sym}
-use Rattle.mysql_digests.specs.Digest.{is_blank, is_operator_byte, is_word_byte}
+use Rattle.std.proofs.Common.{sym}
 use Rattle.mysql_digests.proofs.Lexing.{blank_begins, operator_begins, word_begins}
 use Rattle.mysql_digests.proofs.lexemes.lexeme_at.Goals as goal
 

@@ -1,12 +1,8 @@
 use Rattle.std.proofs.Common.{get_or, take, length, false, ap, ◌∙◌, Ok}
 use Rattle.std.proofs.lemmas.List.{take_more, take_all}
-use Rattle.mysql_receive.specs.declared.param_type.ParamType.{ParamType}
 use Rattle.mysql_receive.specs.Layout.{Types, types_at}
-use Rattle.mysql_receive.proofs.Loops.{types_go_on, types_done}
+use Rattle.mysql_receive.proofs.Loops.{types_done, types_go_on, zero_type}
 use Rattle.mysql_receive.proofs.layout.skip_kept_types.Goals as goal
-
-abbrev zero_type : ParamType
-zero_type = record { number = 0; unsigned = false }
 
 pub loop-kind-preserved : goal.loop-kind-preserved
 loop-kind-preserved c =

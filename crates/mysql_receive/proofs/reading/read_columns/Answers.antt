@@ -1,12 +1,8 @@
 use Rattle.std.proofs.Common.{◌≡◌, ◌++◌, ◌∷◌, [], get_or, false, arith}
 use Rattle.std.proofs.lemmas.Result.{err_from_is_err_and}
-use Rattle.mysql_receive.specs.declared.param_type.ParamType.{ParamType}
 use Rattle.mysql_receive.specs.Reading.{columns_at}
-use Rattle.mysql_receive.proofs.Loops.{columns_go_on, columns_end, columns_done, at_place}
+use Rattle.mysql_receive.proofs.Loops.{at_place, columns_done, columns_end, columns_go_on, zero_type}
 use Rattle.mysql_receive.proofs.reading.read_columns.Goals as goal
-
-abbrev zero_type : ParamType
-zero_type = record { number = 0; unsigned = false }
 
 pub returns-in_err-next : goal.returns-in_err-next
 returns-in_err-next c =

@@ -1,16 +1,12 @@
 use Rattle.std.proofs.Common.{◌≡◌, ◌++◌, ◌∷◌, [], get_or, false, length, arith, ap, ◌∙◌}
 use Rattle.std.proofs.lemmas.Result.{err_from_is_err_and}
-use Rattle.mysql_receive.specs.declared.param_type.ParamType.{ParamType}
 use Rattle.mysql_receive.specs.Reading.{set_at}
 use Rattle.mysql_receive.specs.Views.{data_waiting}
-use Rattle.mysql_receive.proofs.Loops.{set_goes_on, set_ends, set_done, set_left, at_place, behind_nothing}
+use Rattle.mysql_receive.proofs.Loops.{at_place, behind_nothing, set_done, set_ends, set_goes_on, set_left, zero_type}
 use Rattle.mysql_receive.proofs.Nulls.{say_all, say_others, says_of}
 use Rattle.mysql_field_lists.specs.NullBitmap.{nulls_of}
 use Rattle.mysql_field_lists.specs.NullBits.{bits_left}
 use Rattle.mysql_receive.proofs.reading.read_set.Goals as goal
-
-abbrev zero_type : ParamType
-zero_type = record { number = 0; unsigned = false }
 
 pub returns-in_err-next : goal.returns-in_err-next
 returns-in_err-next c =

@@ -1,4 +1,4 @@
-use Rattle.std.proofs.Common.{◌≡◌, ◌∙◌, ap, length, refl, sym}
+use Rattle.std.proofs.Common.{◌∙◌, ap, length, refl, sym}
 use Rattle.mysql_ok_packets.specs.Reading.{to_end_at}
 use Rattle.mysql_ok_packets.specs.SessionStates.{variable_at}
 use Rattle.mysql_ok_packets.specs.StateLaws.{variable_at-eats}

@@ -1,4 +1,4 @@
-use Rattle.std.proofs.Common.{◌≡◌, ℕ, List, length}
+use Rattle.std.proofs.Common.{◌≡◌, length}
 use Rattle.mysql_ok_packets.specs.Reading.{to_end_at}
 use Rattle.mysql_ok_packets.specs.SessionStates.{variable_at}
 use Rattle.mysql_session_modes.specs.Told.{told_by_variable, walked}

@@ -1,5 +1,4 @@
 use Rattle.std.proofs.Common.{◌∙◌, ◌+◌, ◌-◌, ◌%◌, drop, length, slice_index, sym, refl, arith, length-drop}
-use Rattle.mysql_session_modes.specs.SessionModes as texts
 use Rattle.mysql_session_modes.proofs.Skipping.{at_rest, found, goes_on, one_on, too_short, within_at}
 use Rattle.mysql_session_modes.proofs.words.has_word.Goals as goal
 

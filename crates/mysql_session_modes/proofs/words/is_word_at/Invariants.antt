@@ -1,4 +1,4 @@
-use Rattle.std.proofs.Common.{◌≡◌, ℕ, length}
+use Rattle.std.proofs.Common.{◌≡◌, length}
 use Rattle.mysql_session_modes.specs.SessionModes as texts
 use Rattle.mysql_session_modes.proofs.words.is_word_at.Given as goal
 

@@ -1,4 +1,3 @@
-use Rattle.std.proofs.Common.{ap, ◌∙◌}
 use Rattle.mysql_connection_state.proofs.InModes.{follows_err, follows_ok}
 use Rattle.mysql_connection_state.specs.Views.{event_view}
 use Rattle.mysql_connection_state.proofs.state.State.follow.Goals as goal

@@ -1,4 +1,4 @@
-use Rattle.std.proofs.Common.{◌≡◌, ◌∷◌, ℕ, List, subst, sym}
+use Rattle.std.proofs.Common.{ℕ, List, subst, sym}
 use Rattle.mysql_connection_rules.specs.Standing.{Standing}
 use Rattle.mysql_connection_rules.specs.Steps.{execution_of, id_in_question, statement_in_question}
 use Rattle.mysql_connection_state.specs.Follows.{Goes, after_said}

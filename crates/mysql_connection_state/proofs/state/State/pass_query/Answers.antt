@@ -1,4 +1,4 @@
-use Rattle.std.proofs.Common.{◌≡◌, ◌∙◌, ◌∷◌, List, ℕ, false, subst, sym}
+use Rattle.std.proofs.Common.{◌≡◌, ◌∙◌, List, ℕ, false, subst, sym}
 use Rattle.mysql_executions.specs.Types.{has_query_attributes}
 use Rattle.mysql_connection_rules.specs.Standing.{Standing}
 use Rattle.mysql_connection_state.specs.Follows.{Goes, after_said}

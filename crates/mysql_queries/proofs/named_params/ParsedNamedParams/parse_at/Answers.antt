@@ -1,17 +1,13 @@
-use Rattle.std.proofs.Common.{◌≡◌, List, [], map, refl, sym, ap, ◌∙◌, subst, length, arith, ◌∷◌, inl, inr}
+use Rattle.std.proofs.Common.{map, refl, sym, ap, ◌∙◌, subst, inl, inr}
 use Rattle.std.specs.Cow.{cow_slice_items}
 use Rattle.std.proofs.lemmas.Result.{err_from_is_err_and}
 use Rattle.mysql_queries.specs.Queries.{IsParsed}
 use Rattle.mysql_queries.specs.Sql.{read_by_default}
 use Rattle.mysql_queries.proofs.FirstBytes.{same_number}
 use Rattle.mysql_queries.proofs.QuerySlices.{places_in_order}
-use Rattle.mysql_queries.proofs.QueryWritten.{parsed_marked, parsed_as_it_is, has_names}
+use Rattle.mysql_queries.proofs.QueryWritten.{has_names, none_left, parsed_as_it_is, parsed_marked}
 use Rattle.mysql_queries.proofs.named_params.ParsedNamedParams.parse_at.Goals as goal
 use Rattle.mysql_queries.proofs.named_params.ParsedNamedParams.parse_at.Goals.{then-is_empty, else-is_empty+in_ok-with_marks}
-
-none_left : {A : Type 0} → (xs : List A) → length xs ≡ 0 → xs ≡ []
-none_left [] h = refl
-none_left (x ∷ xs) h = absurd (omega (arith, h))
 
 pub returns-clause-names : goal.returns-clause-names
 returns-clause-names c = has_names (read_by_default c.args.query.now) (map cow_slice_items c.in_ok-params.params.items) c.args.places.now c.requires c.in_ok-params.ensures

@@ -1,16 +1,12 @@
-use Rattle.std.proofs.Common.{◌≡◌, List, ◌∷◌, [], map, refl, sym, ap, ◌∙◌, length, arith, subst}
+use Rattle.std.proofs.Common.{map, sym, ap, ◌∙◌, subst}
 use Rattle.std.specs.Cow.{cow_slice_items}
 use Rattle.mysql_queries.specs.Queries.{InOrder, IsParsed}
 use Rattle.mysql_queries.specs.ParsedQuery.{sql_of_inside}
 use Rattle.mysql_queries.specs.Query.{Query}
 use Rattle.mysql_queries.proofs.FirstBytes.{same_number}
 use Rattle.mysql_queries.proofs.QuerySlices.{places_in_order}
-use Rattle.mysql_queries.proofs.QueryWritten.{marked, parsed_as_it_is, parsed_marked}
+use Rattle.mysql_queries.proofs.QueryWritten.{marked, none_left, parsed_as_it_is, parsed_marked}
 use Rattle.mysql_queries.proofs.parsed_query.ParsedQuery.with_marks.Goals as goal
-
-none_left : {A : Type 0} → (xs : List A) → length xs ≡ 0 → xs ≡ []
-none_left [] h = refl
-none_left (x ∷ xs) h = absurd (omega (arith, h))
 
 pub returns-in-Borrowed : goal.returns-in-Borrowed
 returns-in-Borrowed c =

@@ -1,13 +1,12 @@
 use Rattle.std.specs.Cow.{cow_slice_items}
 use Rattle.std.proofs.Common.{map, arith}
 use Rattle.std.specs.List.{flat_map}
-use Rattle.mysql_send.proofs.BulkLists.{kept_behind}
+use Rattle.mysql_send.proofs.Lists.{kept_behind, next_set}
 use Rattle.mysql_send.specs.BulkSets.{row_bytes}
 use Rattle.mysql_send.proofs.RequestBytes.{stays_before}
 use Rattle.mysql_bulk_builder.specs.RowLists.{row_in}
 use Rattle.mysql_send.proofs.AtOnce.{all_of_them, none_yet, one_more}
 use Rattle.mysql_send.proofs.SetRows.{width_is}
-use Rattle.mysql_send.proofs.BulkLists.{next_set}
 use Rattle.mysql_send.specs.Executions.{Limits}
 use Rattle.mysql_send.proofs.bulk.at_once.put_rows_of_sets.Goals as goal
 

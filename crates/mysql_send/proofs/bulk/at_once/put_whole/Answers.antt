@@ -5,7 +5,7 @@ use Rattle.std.proofs.lemmas.List.{length-map, length-replicate, take_at}
 use Rattle.mysql_values.specs.Value.{Value}
 use Rattle.mysql_bulk_builder.specs.RowLists.{row_in}
 use Rattle.mysql_command_rules.specs.Sets.{given_up_to}
-use Rattle.mysql_send.proofs.BulkLists.{kept_behind}
+use Rattle.mysql_send.proofs.Lists.{kept_behind}
 use Rattle.mysql_send.specs.Executions.{Limits}
 use Rattle.mysql_send.specs.BulkSets.{AppendsRows, front_bytes, row_bytes}
 use Rattle.mysql_send.proofs.AtOnce.{all_appended, both_yes, finished, front_length, length_behind, room_inside, stays}

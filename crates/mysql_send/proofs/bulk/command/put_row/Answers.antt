@@ -1,6 +1,6 @@
 use Rattle.std.specs.List.{flat_map}
 use Rattle.std.proofs.Common.{take}
-use Rattle.mysql_send.proofs.BulkLists.{kept_behind}
+use Rattle.mysql_send.proofs.Lists.{kept_behind}
 use Rattle.mysql_bulk_builder.specs.Bulk.{param_value_bytes, param_value_of}
 use Rattle.mysql_send.proofs.RequestBytes.{over_refs, passed, stays_before}
 use Rattle.mysql_send.proofs.bulk.command.put_row.Goals as goal

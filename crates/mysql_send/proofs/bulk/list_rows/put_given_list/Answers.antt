@@ -1,5 +1,5 @@
 use Rattle.std.proofs.Common.{take, arith}
-use Rattle.mysql_send.proofs.BulkLists.{kept_behind}
+use Rattle.mysql_send.proofs.Lists.{kept_behind}
 use Rattle.mysql_send.specs.BulkSets.{row_bytes}
 use Rattle.mysql_send.proofs.ListRows.{all_values_put, one_value}
 use Rattle.mysql_send.proofs.bulk.list_rows.put_given_list.Goals as goal

@@ -7,7 +7,7 @@ use Rattle.mysql_bulk_builder.specs.Cut.{Row}
 use Rattle.mysql_bulk_builder.specs.RowLists.{row_in, rows_in}
 use Rattle.mysql_command_rules.specs.Sets.{given_up_to}
 use Rattle.mysql_send.specs.BulkSets.{AreRows, GivesRows}
-use Rattle.mysql_send.proofs.BulkLists.{on_err, on_ok}
+use Rattle.mysql_send.proofs.Lists.{on_err, on_ok}
 use Rattle.mysql_send.proofs.bulk.requests.put_checked_sets.Goals as goal
 
 pub returns-in_err-values-clause-err : goal.returns-in_err-values-clause-err

@@ -3,7 +3,7 @@ use Rattle.std.specs.Cow.{cow_slice_items}
 use Rattle.std.proofs.lemmas.Result.{err_from_is_err_and}
 use Rattle.mysql_command_rules.specs.Sets.{given_up_to}
 use Rattle.mysql_send.specs.BulkSets.{AppendsAll, RefusesAll}
-use Rattle.mysql_send.proofs.BulkLists.{kept_on, on_err, on_ok}
+use Rattle.mysql_send.proofs.Lists.{kept_on, on_err, on_ok}
 use Rattle.mysql_send.proofs.SentRequests.{all_requested, refused_all, refused_no_places, refused_prepare, said_over}
 use Rattle.mysql_send.proofs.bulk.requests.put_requests.Goals as goal
 

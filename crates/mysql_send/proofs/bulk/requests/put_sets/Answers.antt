@@ -2,7 +2,7 @@ use Rattle.std.specs.Cow.{cow_slice_items}
 use Rattle.std.proofs.Common.{map, ◌≡◌, ℕ, List, length, take, subst}
 use Rattle.mysql_command_rules.specs.Sets.{given_up_to}
 use Rattle.mysql_send.specs.BulkSets.{AppendsAll}
-use Rattle.mysql_send.proofs.BulkLists.{on_ok}
+use Rattle.mysql_send.proofs.Lists.{on_ok}
 use Rattle.mysql_send.proofs.bulk.requests.put_sets.Goals as goal
 
 pub returns-clause-ok : goal.returns-clause-ok

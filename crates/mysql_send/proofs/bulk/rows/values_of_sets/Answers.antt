@@ -3,7 +3,7 @@ use Rattle.std.proofs.Common.{map, arith, refl, ◌≡◌, sym, ◌∙◌, ◌++
 use Rattle.std.proofs.lemmas.Result.{err_from_is_err_and}
 use Rattle.mysql_bulk_builder.specs.RowLists.{row_in}
 use Rattle.mysql_send.proofs.SetRows.{all_rows, no_rows, refused_at, row_behind, row_more, stopped_behind}
-use Rattle.mysql_send.proofs.BulkLists.{next_set}
+use Rattle.mysql_send.proofs.Lists.{next_set}
 use Rattle.mysql_send.specs.Executions.{Limits}
 use Rattle.mysql_send.proofs.bulk.rows.values_of_sets.Goals as goal
 

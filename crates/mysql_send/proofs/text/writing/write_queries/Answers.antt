@@ -3,7 +3,8 @@ use Rattle.std.proofs.KnownBytes.{Keeps-refl}
 use Rattle.std.proofs.lemmas.Result.{err_from_is_err_and}
 use Rattle.mysql_command_rules.specs.declared.road.Road.TheVariants.{Text}
 use Rattle.mysql_command_rules.specs.Sets.{all_given}
-use Rattle.mysql_send.proofs.Texts.{where_err, where_ok, where_put}
+use Rattle.mysql_send.proofs.Lists.{where_put}
+use Rattle.mysql_send.proofs.Texts.{where_err, where_ok}
 use Rattle.mysql_send.proofs.text.writing.write_queries.Goals as goal
 
 pub returns-in-Err-clause-err : goal.returns-in-Err-clause-err
