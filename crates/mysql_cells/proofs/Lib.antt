@@ -6,3 +6,4 @@ pub mod ShortForms
 pub mod TypedBack
 pub mod TypedRead
 pub mod Parted
+pub mod Forms

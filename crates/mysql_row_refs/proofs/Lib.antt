@@ -1,5 +1,4 @@
 pub mod CellTails
-pub mod Forms
 pub mod PlacedCells
 pub mod RowSteps
 pub mod KeptRows

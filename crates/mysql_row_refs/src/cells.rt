@@ -120,7 +120,7 @@ fn without_sign(flags: ColumnFlags) -> bool
 
 /// The binary cell that stands first, by its column's type and flags. What is left after a refusal isn't said.
 #[inline(always)]
-#[tactic(auto, unfolding(mysql_cells::specs::Cells::cell_at), using(crate::proofs::Forms::form_by_number))]
+#[tactic(auto, unfolding(mysql_cells::specs::Cells::cell_at), using(mysql_cells::proofs::Forms::form_by_number))]
 pub fn binary_place(
     payload: &[u8],
     column: &Column,

@@ -2,7 +2,6 @@ pub mod BinaryBack
 pub mod BinaryRead
 pub mod BinaryWriting
 pub mod Cells
-pub mod Forms
 pub mod NullBits
 pub mod TextBack
 pub mod TextWriting

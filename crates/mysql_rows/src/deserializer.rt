@@ -120,7 +120,7 @@ fn any_cell(alloc: Global, column: &Column, rest: &mut ParseBuf) -> Result<Value
 
 // A cell that is null, or stands first. The forms that most columns have come first.
 #[inline(always)]
-#[tactic(auto, unfolding(mysql_cells::specs::Cells::cell_at), using(crate::proofs::Forms::form_by_number))]
+#[tactic(auto, unfolding(mysql_cells::specs::Cells::cell_at), using(mysql_cells::proofs::Forms::form_by_number))]
 fn binary_cell(
     alloc: Global,
     is_null: bool,

@@ -6,7 +6,7 @@ use Rattle.std.specs.List.{list_all}
 abbrev pub are_within : List ℕ → List ℕ → Bool
 are_within steps word = list_all (λ step. nat_le step (length word)) steps
 
--- From each letter the step of its low five bits stays within the word.
+-- From a letter a step goes at most as far as the letters behind it.
 abbrev pub are_short : List ℕ → List ℕ → Bool
 are_short steps [] = true
 are_short steps (letter ∷ word) = nat_le (slice_index steps (letter % 32)) (length word) && are_short steps word
