@@ -1,12 +1,11 @@
 -- Filling a builder with the rows given.
-use Rattle.std.proofs.Common.{◌≡◌, ◌≢◌, ℕ, ◌+◌, List, [], ◌∷◌, ◌++◌, length, map, Option, Some, Result, Ok, refl, sym, ◌∙◌, ap, arith, ◌<◌, length-append}
+use Rattle.std.proofs.Common.{◌≡◌, ℕ, ◌+◌, List, [], ◌∷◌, ◌++◌, length, map, Option, Some, Result, Ok, refl, sym, ◌∙◌, ap}
 use Rattle.std.proofs.lemmas.List.{append_assoc, map-append}
 use Rattle.mysql_values.specs.declared.params.ParamsError.{ParamsError}
-use Rattle.mysql_bulk_builder.specs.declared.error.BulkExecuteRequestBuilderError.{BulkExecuteRequestBuilderError}
 use Rattle.mysql_bulk_builder.specs.Builder.{Builder, with_row}
 use Rattle.mysql_bulk_builder.specs.Cut.{Row}
 use Rattle.mysql_bulk_builder.specs.Given.{Giving}
-use Rattle.mysql_bulk_builder.specs.Iteration.{arity_after, with_rows, Took, IsCause, one_if_some}
+use Rattle.mysql_bulk_builder.specs.Iteration.{arity_after, with_rows, Took}
 
 arity_push : (arity : Option ℕ) (rows : List Row) (row : Row) → arity_after arity (rows ++ row ∷ []) ≡ Some (length row)
 arity_push arity [] row = refl
@@ -23,13 +22,3 @@ took_more first given old new row rest t e = (
   t.1 ∙ sym (ap (λ (g : Giving). g ++ rest) (map-append (λ (r : Row). let o : Result Row ParamsError = Ok r in o) t.0 (row ∷ [])) ∙ append_assoc (map (λ (r : Row). let o : Result Row ParamsError = Ok r in o) t.0) (Ok row ∷ []) rest),
   e ∙ ap (λ (b : Builder). with_row b row) t.2 ∙ with_rows_push first t.0 row,
 )
-
--- there was something to come
-pub some_left : (old new : Builder) (given at : Giving) (error : BulkExecuteRequestBuilderError) → Took old given new at → IsCause new at error → 0 < length given + one_if_some old.rows
-some_left old new given (first ∷ at) error t cause = omega (arith, ap length t.1, length-append (map (λ (r : Row). let o : Result Row ParamsError = Ok r in o) t.0) (first ∷ at))
-some_left old new given [] error t cause = by old.rows t.0 (λ none. cause.0 (ap (λ (b : Builder). b.rows) t.2 ∙ none)) t.1
-  where
-    by : (held rows : List Row) → held ++ rows ≢ [] → given ≡ map (λ (r : Row). let o : Result Row ParamsError = Ok r in o) rows ++ [] → 0 < length given + one_if_some held
-    by (row ∷ held) rows ne e = omega arith
-    by [] [] ne e = absurd (ne refl)
-    by [] (row ∷ rows) ne e = omega (arith, ap length e)

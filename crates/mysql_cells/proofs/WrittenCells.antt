@@ -13,7 +13,7 @@ use Rattle.mysql_buf.specs.Reading.{u8_str_at}
 use Rattle.mysql_buf.specs.TextLaws.{lenenc_str-reads_back}
 use Rattle.mysql_fields.specs.Laws.{fixed_number_at-back}
 use Rattle.mysql_fields.specs.Wire.{Reading, ◌>>=◌, or_end}
-use Rattle.mysql_cells.specs.CellLaws.{CellLength, CellsReadBack, ReadBackMeansTheSame}
+use Rattle.mysql_cells.specs.CellLaws.{CellsReadBack, ReadBackMeansTheSame}
 use Rattle.mysql_cells.specs.Cells.{cell_at, date_of, date_size, time_of, time_size, unsigned_value}
 use Rattle.mysql_cells.specs.Values.{content_of, is_zero_time, plain_content}
 use Rattle.mysql_cells.specs.declared.value.Value.{Value}
@@ -47,17 +47,6 @@ time_length sign days hours minutes seconds micros = by (nat_lt 0 micros) (nat_l
     by true b = refl
     by false true = refl
     by false false = refl
-
-pub cell_length : CellLength
-unfolding date_fields time_fields
-cell_length NULL = refl
-cell_length (Bytes bytes) = refl
-cell_length (Int z) = refl
-cell_length (UInt n) = refl
-cell_length (Float bits) = refl
-cell_length (Double bits) = refl
-cell_length (Date year month day hour minute second micros) = let e = date_length year month day hour minute second micros in omega (arith, e)
-cell_length (Time negative days hours minutes seconds micros) = let e = time_length (cond negative 1 0) days hours minutes seconds micros in omega (arith, e)
 
 -- NUMBERS
 

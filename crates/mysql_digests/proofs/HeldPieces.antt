@@ -1,15 +1,7 @@
 -- Pieces as the code holds them.
-use Rattle.std.proofs.Common.{◌≡◌, ℕ, ◌+◌, Bool, true, false, List, [], ◌∷◌, ◌++◌, refl, sym, ap, ◌∙◌, append_assoc, Some, None}
-use Rattle.mysql_digests.specs.Digest.{Piece, Text, Comma, Open, Close, Values, Row, Rows, text_of, with_spaces, with_value, with_row, with_close, space}
-use Rattle.mysql_digests.specs.Held.{kinds_of, mark_of, piece_kind, values_of, values_before, rows_before, values_opened}
-use Rattle.mysql_digests.specs.declared.pieces.PieceKind.{PieceKind}
-
--- a piece more: its kind, its text and a space
-pub more_bytes : (pieces : List Piece) (piece : Piece) (old text new : List ℕ) → old ≡ with_spaces pieces → text_of piece ≡ text → new ≡ (old ++ text) ++ (space ∷ []) → new ≡ with_spaces (piece ∷ pieces)
-more_bytes pieces piece old text new e f g = g ∙ append_assoc old text (space ∷ []) ∙ ap (λ y. y ++ (text ++ space ∷ [])) e ∙ ap (λ y. with_spaces pieces ++ (y ++ space ∷ [])) (sym f)
-
-pub more_kinds : (pieces : List Piece) (piece : Piece) (kind : PieceKind) (old new : List PieceKind) → old ≡ kinds_of pieces → piece_kind piece ≡ kind → new ≡ old ++ (kind ∷ []) → new ≡ kinds_of (piece ∷ pieces)
-more_kinds pieces piece kind old new e f g = g ∙ ap (λ y. y ++ (kind ∷ [])) e ∙ ap (λ k. kinds_of pieces ++ (k ∷ [])) (sym f)
+use Rattle.std.proofs.Common.{◌≡◌, Bool, true, false, List, [], ◌∷◌, refl, ap, Some, None}
+use Rattle.mysql_digests.specs.Digest.{Piece, Text, Comma, Open, Close, Values, Row, Rows, text_of, with_value, with_row, with_close}
+use Rattle.mysql_digests.specs.Held.{mark_of, piece_kind, values_before, rows_before, values_opened}
 
 -- a value where no values stand before a comma
 pub value_plain : (pieces : List Piece) → values_before pieces ≡ None → with_value pieces ≡ Values false ∷ pieces
@@ -62,15 +54,6 @@ close_plain (Values many ∷ Close ∷ pieces) h = refl
 close_plain (Values many ∷ Values b ∷ pieces) h = refl
 close_plain (Values many ∷ Row b ∷ pieces) h = refl
 close_plain (Values many ∷ Rows b ∷ pieces) h = refl
-
-values_piece : (p : Piece) (many : Bool) → values_of (piece_kind p) ≡ Some many → p ≡ Values many
-values_piece (Text b) many h = cc
-values_piece Comma many h = cc
-values_piece Open many h = cc
-values_piece Close many h = cc
-values_piece (Values b) many h = let e : b ≡ many = cc in ap Values e
-values_piece (Row b) many h = cc
-values_piece (Rows b) many h = cc
 
 -- what stands before a comma at the end, and what a value or a row makes of it
 pub record Folds (pieces folded : List Piece) (mark : Piece) : Type 0 where
@@ -134,25 +117,3 @@ pub record Opened (pieces : List Piece) (many : Bool) : Type 0 where
   pub stands : pieces ≡ Values many ∷ Open ∷ rest
   pub text : text_of (Values many) ≡ mark_of (piece_kind (Values many))
   pub closes : with_close pieces ≡ with_row many rest
-
-pub opened : (pieces : List Piece) (many : Bool) → values_opened pieces ≡ Some many → Opened pieces many
-opened [] many h = cc
-opened (p ∷ []) many h = one p h
-  where
-    one : (p : Piece) → values_opened (p ∷ []) ≡ Some many → Opened (p ∷ []) many
-    one (Text b) h = cc
-    one Comma h = cc
-    one Open h = cc
-    one Close h = cc
-    one (Values b) h = cc
-    one (Row b) h = cc
-    one (Rows b) h = cc
-opened (p ∷ Text b ∷ pieces) many h = cc
-opened (p ∷ Comma ∷ pieces) many h = cc
-opened (p ∷ Open ∷ pieces) many h =
-    let e : p ≡ Values many = values_piece p many h in
-    record { rest = pieces; stands = ap (λ y. y ∷ Open ∷ pieces) e; text = values_text many; closes = ap (λ y. with_close (y ∷ Open ∷ pieces)) e }
-opened (p ∷ Close ∷ pieces) many h = cc
-opened (p ∷ Values b ∷ pieces) many h = cc
-opened (p ∷ Row b ∷ pieces) many h = cc
-opened (p ∷ Rows b ∷ pieces) many h = cc

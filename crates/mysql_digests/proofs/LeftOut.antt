@@ -1,15 +1,13 @@
 -- What is left out beside a value, by the first bytes behind it.
 use Rattle.std.proofs.Common.{if◌then◌else◌, ◌≡◌, ℕ, Bool, true, false, ◌&&◌, ◌||◌, ◌==◌, List, sym, ap, ◌∙◌}
-use Rattle.mysql_queries.specs.Queries.{is_joining}
 use Rattle.mysql_queries.specs.Tokens.{HasTokens, dash}
 use Rattle.mysql_queries.specs.declared.mode.Mode.{Mode}
-use Rattle.mysql_digests.specs.Digest.{Lexeme, Byte, before_next, digit_follows, is_exponent, is_left_out, is_power, is_string_prefix, lexemes_of, may_sign, value_follows}
+use Rattle.mysql_digests.specs.Digest.{Lexeme, Byte, digit_follows, is_left_out, is_power, is_string_prefix, lexemes_of, may_sign, value_follows}
 use Rattle.mysql_digests.specs.Lexemes.{first_is_digit, lexeme_view}
 use Rattle.mysql_digests.specs.declared.left_out.Before.{Before}
-use Rattle.mysql_digests.specs.declared.left_out.Before.TheVariants.{Apart, Joined, Power}
+use Rattle.mysql_digests.specs.declared.left_out.Before.TheVariants.{Apart, Power}
 use Rattle.mysql_digests.specs.declared.lexemes.Found.{Found}
 use Rattle.mysql_digests.specs.declared.lexemes.Found.TheVariants as found
-use Rattle.mysql_queries.proofs.FirstBytes.{and_true, same_number}
 use Rattle.mysql_digests.proofs.Lexing.{digit_tokens}
 
 pub word_left : (before : Before) (what : Found) (bytes : List ℕ) (ls : List Lexeme) (value : Bool) → what ≡ found.Word → false ≡ is_power before → true ≡ is_string_prefix bytes → value ≡ value_follows ls → value ≡ is_left_out before (lexeme_view what bytes) ls
@@ -22,8 +20,3 @@ byte_left before what b bytes ls digit f s d = d ∙ ap (λ x. x && digit_follow
 -- behind the sign of an exponent
 pub sign_behind : (m : Mode) (r : List ℕ) (tokens : List (List ℕ)) (digit : Bool) → HasTokens m r tokens → digit ≡ first_is_digit r → (if digit then Power else Apart) ≡ (if digit_follows (lexemes_of m tokens) then Power else Apart)
 sign_behind m r tokens digit h e = ap (λ x. if x then Power else Apart) (e ∙ sym (digit_tokens m r tokens h))
-
-pub dash_behind : (before : Before) (b : ℕ) (ls : List Lexeme) (next : Before) → true ≡ is_exponent before && (b == dash) → next ≡ (if digit_follows ls then Power else Apart) → next ≡ before_next before (Byte b) ls
-dash_behind before b ls next s e =
-    let d : b ≡ dash = same_number b dash (and_true (is_exponent before) (b == dash) (sym s)).1 in
-    e ∙ sym (ap (λ y. if digit_follows ls then Power else (if is_joining y then Joined else Apart)) d) ∙ ap (λ x. if x && digit_follows ls then Power else (if is_joining b then Joined else Apart)) s

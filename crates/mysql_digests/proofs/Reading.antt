@@ -1,5 +1,5 @@
 -- How far a digest has come.
-use Rattle.std.proofs.Common.{if◌then◌else◌, ◌≡◌, ℕ, ◌+◌, ◌≤◌, Bool, List, [], ◌∷◌, length, take, drop, refl, sym, ap, ◌∙◌, subst, drop-drop, drop_of_length-le}
+use Rattle.std.proofs.Common.{if◌then◌else◌, ◌≡◌, ℕ, ◌+◌, ◌≤◌, Bool, List, [], ◌∷◌, length, take, drop, sym, ap, ◌∙◌, subst, drop-drop, drop_of_length-le}
 use Rattle.mysql_queries.specs.Tokens.{HasTokens}
 use Rattle.mysql_queries.specs.declared.mode.Mode.{Mode}
 use Rattle.mysql_digests.specs.Digest.{Lexeme, Piece, lexemes_of, pieces_behind, is_left_out, before_next, with_lexeme, without_last, with_spaces, IsDigest}
@@ -16,9 +16,6 @@ pub record Come (mode : Mode) (text : List ℕ) (at : ℕ) (before : Before) (he
   pub holds : Holds pieces held
   pub so_far : (tokens : List (List ℕ)) → HasTokens mode (drop at text) tokens →
       (all : List (List ℕ)) × HasTokens mode text all × (pieces_behind Apart [] (lexemes_of mode all) ≡ pieces_behind before pieces (lexemes_of mode tokens))
-
-pub come_first : (mode : Mode) (text : List ℕ) (held : Pieces) → Holds [] held → Come mode text 0 Apart held
-come_first mode text held h = record { pieces = []; holds = h; so_far = λ tokens t. (tokens, t, refl) }
 
 pub come_more : (mode : Mode) (text : List ℕ) (at n : ℕ) (before next : Before) (left : Bool) (l : Lexeme) (held later : Pieces) → (c : Come mode text at before held) → BeginsWith mode (drop at text) l (drop n (drop at text))
     → ((tokens : List (List ℕ)) → HasTokens mode (drop n (drop at text)) tokens → left ≡ is_left_out before l (lexemes_of mode tokens))

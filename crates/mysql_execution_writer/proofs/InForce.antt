@@ -15,9 +15,6 @@ pub own_goes_on : (P : Type 0) (value : Value) (later all : List Value) → all 
     (map as_read all ≡ all → P) → map as_read later ≡ later → P
 own_goes_on P value later all is own so_far rest = so_far (rw is (λ i. own i ∷ rest i))
 
-pub own_done : (P : Type 0) (all : List Value) → all ≡ [] → (map as_read all ≡ all → P) → P
-own_done P all none so_far = so_far (rw none refl)
-
 same : (n m : ℕ) → n ≡ m → (n == m) ≡ true
 same n m e = search arith
 

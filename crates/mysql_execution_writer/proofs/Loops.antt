@@ -25,11 +25,6 @@ unnamed_at xs place d lt =
 -- ---- one after another
 
 module _ {X : Type 0} (f : X → List ℕ) (xs : List X) (i : ℕ) (out total : List ℕ) (so_far : out ++ flat_map f (drop i xs) ≡ total) where
-  pub flat_goes_on : (x : X) (new : List ℕ) → i < length xs → x ≡ get_or xs i x → new ≡ out ++ f x → new ++ flat_map f (drop (i + 1) xs) ≡ total
-  flat_goes_on x new lt is put =
-      ap (λ (l : List ℕ). l ++ flat_map f (drop (i + 1) xs)) put ∙ append_assoc out (f x) (flat_map f (drop (i + 1) xs))
-      ∙ sym (ap (λ (l : List X). out ++ flat_map f l) (at_place xs i x lt is)) ∙ so_far
-
   pub flat_done : length xs ≤ i → out ≡ total
   flat_done le = sym (append-nil out) ∙ sym (ap (λ (l : List X). out ++ flat_map f l) (drop_all i xs le)) ∙ so_far
 

@@ -1,9 +1,7 @@
 -- Loops over the rows of a bulk.
-use Rattle.std.proofs.Common.{◌≡◌, ℕ, ◌+◌, ◌<◌, ◌≤◌, Bool, true, false, List, [], ◌∷◌, ◌++◌, length, get_or, drop, Option, Some, None, refl, sym, ap, ◌∙◌, append_assoc, append-nil}
+use Rattle.std.proofs.Common.{◌≡◌, ℕ, ◌+◌, ◌<◌, Bool, true, false, List, [], ◌∷◌, ◌++◌, length, get_or, drop, Option, Some, None, refl, sym, ap, ◌∙◌, append_assoc, append-nil}
 use Rattle.std.specs.Prelude.{◌&&◌, IfNone, IfSome, is_some, not, unwrap_or}
 use Rattle.std.specs.Global.{Vec}
-use Rattle.std.specs.List.{list_all}
-use Rattle.std.proofs.lemmas.List.{drop_all}
 use Rattle.mysql_executions.specs.declared.bulk.BulkValue.{BulkValue}
 use Rattle.mysql_executions.specs.declared.types.ParameterType.{ParameterType}
 use Rattle.mysql_executions.specs.Views.{rows_of}
@@ -71,16 +69,3 @@ module _ (types : List ParameterType) (values : List BulkValue) where
 module _ (types : List ParameterType) (rows : List (Vec BulkValue)) (i : ℕ) (row : Vec BulkValue) (lt : i < length rows) (is : row ≡ get_or rows i row) where
   here : rows_of (drop i rows) ≡ row.items ∷ rows_of (drop (i + 1) rows)
   here = ap rows_of (at_place rows i row lt is)
-
-  pub rows_fit_on : (total : Bool) → is_row types row.items ≡ true → list_all (is_row types) (rows_of (drop i rows)) ≡ total → list_all (is_row types) (rows_of (drop (i + 1) rows)) ≡ total
-  rows_fit_on total fits so_far =
-      let one : list_all (is_row types) (rows_of (drop i rows)) ≡ list_all (is_row types) (rows_of (drop (i + 1) rows)) = rw here (ap (λ b. b && list_all (is_row types) (rows_of (drop (i + 1) rows))) fits) in
-      sym one ∙ so_far
-
-  pub rows_fail : (total : Bool) → is_row types row.items ≡ false → list_all (is_row types) (rows_of (drop i rows)) ≡ total → false ≡ total
-  rows_fail total fails so_far =
-      let one : list_all (is_row types) (rows_of (drop i rows)) ≡ false = rw here (ap (λ b. b && list_all (is_row types) (rows_of (drop (i + 1) rows))) fails) in
-      sym one ∙ so_far
-
-pub rows_all_fit : (types : List ParameterType) (rows : List (Vec BulkValue)) (i : ℕ) (total : Bool) → length rows ≤ i → list_all (is_row types) (rows_of (drop i rows)) ≡ total → true ≡ total
-rows_all_fit types rows i total le so_far = sym (ap (λ (l : List (Vec BulkValue)). list_all (is_row types) (rows_of l)) (drop_all i rows le)) ∙ so_far

@@ -1,6 +1,6 @@
 -- Cells that are looked at one after another.
 use Rattle.std.proofs.Common.{◌≡◌, ℕ, zero, suc, ◌+◌, ◌-◌, ◌<◌, ◌≤◌, Bool, true, false, List, [], ◌∷◌, ◌++◌, length, get_or, drop, Option, Some, None, refl, sym, subst, ap, ◌∙◌, append-nil, arith, drop-cons, length-append}
-use Rattle.std.specs.Prelude.{◌&&◌, ◌||◌, if◌then◌else◌, ◌==◌, is_some, min, not, map}
+use Rattle.std.specs.Prelude.{◌&&◌, ◌||◌, if◌then◌else◌, is_some, min, not, map}
 use Rattle.std.specs.List.{flat_map}
 use Rattle.std.specs.Global.{Vec}
 use Rattle.std.specs.Option.{option_and_then, option_map}
@@ -13,9 +13,8 @@ use Rattle.mysql_executions.specs.declared.unclear.Looked.{Looked}
 use Rattle.mysql_executions.specs.Executions.{typed_value_at}
 use Rattle.mysql_executions.specs.InForce.{data_for}
 use Rattle.mysql_executions.specs.Types.{unnamed}
-use Rattle.mysql_executions.specs.Unclear.{bulk_cell, cells_from, cells_in_row, first_unclear, is_same_type, is_unclear_cell, marks_from, unclear_data}
+use Rattle.mysql_executions.specs.Unclear.{bulk_cell, cells_from, cells_in_row, first_unclear, is_same_type, is_unclear_cell, marks_from}
 use Rattle.mysql_executions.specs.Views.{IsFound, found_by, rows_of}
-use Rattle.mysql_executions.proofs.Kept.{not_zero}
 
 -- ---- the cell at a place
 
@@ -187,15 +186,6 @@ module _ (waiting : List (ℕ × List ℕ)) where
   length_marks k [] types = omega arith
   length_marks k (x ∷ earlier) [] = omega arith
   length_marks k (x ∷ earlier) (y ∷ types) = omega (arith, length_marks (k + 1) earlier types)
-
--- where long data waits, the marks are those of all places
-pub marks_where_some : (waiting : List (ℕ × List ℕ)) (earlier types : List ParameterType) → not (length waiting == 0) ≡ true → marks_from waiting 0 earlier types ≡ unclear_data waiting earlier types
-marks_where_some [] earlier types some = absurd cc
-marks_where_some (sent ∷ waiting) earlier types some = refl
-
-pub no_marks : (waiting : List (ℕ × List ℕ)) (earlier types : List ParameterType) → not (length waiting == 0) ≡ false → [] ≡ unclear_data waiting earlier types
-no_marks [] earlier types none = refl
-no_marks (sent ∷ waiting) earlier types none = absurd (let no : true ≡ false = sym (ap not (not_zero (length waiting))) ∙ none in cc)
 
 -- ---- rows one after another
 

@@ -1,46 +1,17 @@
 -- What is kept of a statement's parameters: types in front, and long data.
-use Rattle.std.proofs.Common.{◌≡◌, ℕ, zero, suc, ◌+◌, ◌<◌, ◌≤◌, Bool, true, false, cond, List, [], ◌∷◌, ◌++◌, length, get_or, drop, Option, Some, None, refl, sym, ap, ◌∙◌, add-one, drop-cons, arith}
-use Rattle.std.specs.Prelude.{◌==◌, ◌↔◌, IsTrue, OnErr, OnOk, Result, Ok, Err, nat_eq, not, unwrap_or}
+use Rattle.std.proofs.Common.{◌≡◌, ℕ, ◌+◌, cond, List, [], ◌∷◌, ◌++◌, Option, Some, None, refl, sym, ap, ◌∙◌, arith}
+use Rattle.std.specs.Prelude.{OnErr, OnOk, Result, Ok, Err, nat_eq, unwrap_or}
 use Rattle.std.specs.BTreeMap.{insert_entry, is_at}
 use Rattle.std.specs.Cmp.{unsigned_tied}
-use Rattle.std.specs.List.{prefix_len}
 use Rattle.std.specs.List.Sorted.{IsStrictlySortedBy}
 use Rattle.std.specs.Map.{keys_of, lookup, set_value}
 use Rattle.std.specs.Ordering.{is_eq, match_ordering, nat_cmp}
 use Rattle.std.specs.declared.cmp.Ordering.{Ordering}
 use Rattle.std.specs.declared.cmp.Ordering.TheVariants.{Equal, Greater, Less}
-use Rattle.std.proofs.lemmas.Bool.Decides.{nat_tests}
 use Rattle.std.proofs.lemmas.Cmp.{nat_cmp_total}
-use Rattle.std.proofs.lemmas.List.{drop_all}
 use Rattle.std.proofs.lemmas.Map.Entries.{lookup_at_gap}
 use Rattle.std.proofs.lemmas.Map.Steps.{set_value_same}
 use Rattle.mysql_executions.specs.After.{more_data}
-
-module _ {X : Type 0} (p : X → Bool) (xs : List X) (i : ℕ) (d : X) (lt : i < length xs) where
-  by : (b : Bool) → p (get_or xs i d) ≡ b → prefix_len p (drop i xs) ≡ cond b (1 + prefix_len p (drop (i + 1) xs)) 0
-  by b is =
-      let here : drop i xs ≡ get_or xs i d ∷ drop (i + 1) xs = rw add-one (drop-cons xs i d lt) in
-      ap (prefix_len p) here ∙ ap (λ b. cond b (1 + prefix_len p (drop (i + 1) xs)) 0) is
-
-  -- the element at this place passes
-  pub passes : p (get_or xs i d) ≡ true → i + prefix_len p (drop i xs) ≡ prefix_len p xs → i + 1 + prefix_len p (drop (i + 1) xs) ≡ prefix_len p xs
-  passes pass so_far = omega (arith, by true pass, so_far)
-
-  -- it doesn't
-  pub fails : p (get_or xs i d) ≡ false → i + prefix_len p (drop i xs) ≡ prefix_len p xs → i ≡ prefix_len p xs
-  fails fail so_far = omega (arith, by false fail, so_far)
-
--- each passes
-pub all_pass : {X : Type 0} (p : X → Bool) (xs : List X) (i : ℕ) → length xs ≤ i → i ≤ length xs → i + prefix_len p (drop i xs) ≡ prefix_len p xs → length xs ≡ prefix_len p xs
-all_pass p xs i le ge so_far = omega (arith, so_far, ap (prefix_len p) (drop_all i xs le))
-
-pub not_true : (b : Bool) → b ≡ true → not b ≡ false
-not_true true e = refl
-not_true false e = absurd cc
-
-pub not_false : (b : Bool) → b ≡ false → not b ≡ true
-not_false true e = absurd cc
-not_false false e = refl
 
 -- ---- long data
 
@@ -76,24 +47,9 @@ more_behind es place old bytes new sorted known grew =
     put_is_insert es place old new sorted known
     ∙ ap (λ (b : List ℕ). insert_entry nat_cmp es place b) (grew ∙ ap (λ (o : Option (List ℕ)). unwrap_or o [] ++ bytes) (known ∙ found_same place es))
 
--- data for which nothing waits
-pub more_alone : (es : List (ℕ × List ℕ)) (place : ℕ) (bytes new : List ℕ) → None ≡ lookup (is_at (nat_cmp place)) es → new ≡ bytes → insert_entry nat_cmp es place new ≡ more_data es place bytes
-more_alone es place bytes new none same =
-    ap (λ (b : List ℕ). insert_entry nat_cmp es place b) (same ∙ ap (λ (o : Option (List ℕ)). unwrap_or o [] ++ bytes) (none ∙ found_same place es))
-
 -- of data that can't grow what waits stays
 pub stays_behind : (es : List (ℕ × List ℕ)) (place : ℕ) (old new : List ℕ) → Some old ≡ lookup (is_at (nat_cmp place)) es → new ≡ old → set_value (is_at (nat_cmp place)) es new ≡ es
 stays_behind es place old new known same = ap (λ (b : List ℕ). set_value (is_at (nat_cmp place)) es b) same ∙ set_value_same (is_at (nat_cmp place)) es old (sym known)
-
-pub not_zero : (n : ℕ) → (suc n == 0) ≡ false
-not_zero n = grind (arith, nat_tests)
-
--- whether none waits, by how many there are
-pub none_by : (none : Bool) (n : ℕ) → (IsTrue none ↔ (n ≡ 0)) → none ≡ (n == 0)
-none_by true zero is = refl
-none_by true (suc n) is = absurd (let e : suc n ≡ 0 = is.0 refl in omega (arith, e))
-none_by false zero is = absurd (let e : false ≡ true = is.1 refl in cc)
-none_by false (suc n) is = sym (not_zero n)
 
 -- what holds where a call succeeded follows from what it says there
 pub on_ok : {T E P Q : Type 0} (r : Result T E) → (P → Q) → OnOk r P → OnOk r Q

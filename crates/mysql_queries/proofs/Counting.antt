@@ -3,13 +3,11 @@ use Rattle.std.proofs.Common.{◌≡◌, ◌≢◌, ℕ, zero, suc, ◌+◌, ◌
 use Rattle.std.proofs.lemmas.Bool.Decides.{eqb_tells}
 use borrow.Author.Tests.{lt-ltb}
 use Rattle.mysql_queries.specs.Scanning.{is_plain}
-use Rattle.mysql_queries.specs.Tokens.{kind_of, slash, star}
+use Rattle.mysql_queries.specs.Tokens.{slash, star}
 use Rattle.mysql_queries.specs.Comments.{begins_comment, begins_skipped, ends_comment, in_comment, is_open, open_behind, with_skipped}
-use Rattle.mysql_queries.specs.PlaceKinds.{is_place_kind}
 use Rattle.mysql_queries.specs.SkippedComments.{Counts}
 use Rattle.mysql_queries.specs.declared.skipped.Skipped.{Skipped}
 use Rattle.mysql_queries.proofs.Cuts.{cut_at, drop_one, drop_two}
-use Rattle.mysql_queries.proofs.Filled.{place_begins}
 use Rattle.mysql_queries.proofs.FirstBytes.{and_true, bool_tells, same_number}
 use Rattle.mysql_queries.proofs.HexDigits.{slice_is}
 use Rattle.mysql_queries.proofs.Skipping.{BeginsLoose, IsLoose, open_cut, open_cut_end, open_more, open_none, open_nothing, some_open}
@@ -147,17 +145,6 @@ counted_here query skipped state start e c =
     above : (n : ℕ) → not (n == 0) ≡ nat_lt 0 n
     above zero = refl
     above (suc n) = ap not (some_open n) ∙ sym (lt-ltb 0 (suc n) (omega arith))
-
--- a placeholder begins with neither a star nor a slash
-pub place_loose : (query : List ℕ) (start : ℕ) → start < length query → is_place_kind (kind_of (drop start query)) ≡ true → IsLoose (get_or query start 0)
-place_loose query start h p =
-    by (get_or query start 0) (drop (start + 1) query) (ap (λ y. is_place_kind (kind_of y)) (sym (drop_one query start h)) ∙ p)
-  where
-    by : (b : ℕ) (x : List ℕ) → is_place_kind (kind_of (b ∷ x)) ≡ true → IsLoose b
-    by b x p = elim (place_begins b x p) [
-      | inl e ↦ ((λ f. absurd (omega arith)), (λ f. absurd (omega arith)))
-      | inr e ↦ ((λ f. absurd (omega arith)), (λ f. absurd (omega arith)))
-    ]
 
 -- the steps of the count
 

@@ -1,10 +1,10 @@
 -- Rows of digits.
-use Rattle.std.proofs.Common.{◌≡◌, ◌≢◌, ℕ, ◌+◌, ◌-◌, ◌*◌, ◌^◌, ◌≤◌, ◌<◌, true, false, List, [], ◌∷◌, ◌++◌, length, take, drop, get_or, slice_range, fold, refl, sym, ap, ◌∙◌, inl, inr, arith, subst, take-append-drop, le_trans, length-drop, length-take-le, zero, suc, pos, neg_ℤ, get_or-drop, add-sub_of_le, ℤ}
+use Rattle.std.proofs.Common.{◌≡◌, ◌≢◌, ℕ, ◌+◌, ◌-◌, ◌*◌, ◌^◌, ◌≤◌, ◌<◌, true, false, List, [], ◌∷◌, ◌++◌, length, take, drop, get_or, slice_range, fold, refl, sym, ap, ◌∙◌, inl, inr, arith, subst, take-append-drop, le_trans, length-drop, get_or-drop, add-sub_of_le, ℤ}
 use Rattle.std.specs.List.{AllByRecursion}
 use Rattle.std.proofs.lemmas.List.{take_more}
 use Rattle.mysql_queries.specs.Tokens.{dash}
 use Rattle.mysql_queries.specs.Literals.{is_digit, digits_value, AreDigits, IsNumber}
-use Rattle.mysql_queries.specs.LiteralRuns.{EndsBefore, IsDigitRun, begins_hex}
+use Rattle.mysql_queries.specs.LiteralRuns.{EndsBefore, IsDigitRun}
 use Rattle.mysql_queries.proofs.Runs.{EndsRun, one_run}
 use Rattle.mysql_queries.proofs.Cuts.{all_more, cut_at}
 
@@ -69,29 +69,3 @@ positive_number t end b a e run rest z j r k = elim k.value [
     no_dash : (t : List ℕ) → (0 < length t → get_or t 0 0 ≢ dash) → (x : List ℕ) → t ≡ dash ∷ x → ⊥
     no_dash [] b x h = cc
     no_dash (c ∷ t) b x h = b (omega arith) (cc)
-
-from_start : (t : List ℕ) (end : ℕ) → take end t ≡ slice_range t 0 end
-from_start t end = let e : end ≡ end - 0 = omega arith in ap (λ n. take n t) e
-
-behind_dash : (t : List ℕ) (end : ℕ) → 0 < length t → get_or t 0 0 ≡ dash → 1 ≤ end → take end t ≡ dash ∷ slice_range t 1 end
-behind_dash [] end h b l = absurd (omega arith)
-behind_dash (c ∷ x) zero h b l = absurd (omega arith)
-behind_dash (c ∷ x) (suc n) h b l = let e : n ≡ suc n - 1 = omega arith in ap (λ d. d ∷ take n x) b ∙ ap (λ k. dash ∷ take k x) e
-
-some_digits : (t : List ℕ) (from end : ℕ) → from < end → end ≤ length t → slice_range t from end ≢ []
-some_digits t from end l h e = absurd (omega (arith, ap length e, length-take-le (end - from) (drop from t) (omega (arith, length-drop from t)), length-drop from t))
-
-pub positive_run : (t : List ℕ) (end : ℕ) → begins_hex t ≡ false → AllByRecursion (λ b. is_digit b ≡ true) (slice_range t 0 end) → EndsBefore is_digit (drop end t) → IsDigitRun (take end t) (drop end t)
-positive_run t end h a e = record { digits = slice_range t 0 end; each = a; spelled = inl (from_start t end); ends = e; other = ap begins_hex (take-append-drop end t) ∙ h }
-
-pub negative_run : (t : List ℕ) (end : ℕ) → 0 < length t → get_or t 0 0 ≡ dash → 1 ≤ end → begins_hex t ≡ false → AllByRecursion (λ b. is_digit b ≡ true) (slice_range t 1 end) → EndsBefore is_digit (drop end t) → IsDigitRun (take end t) (drop end t)
-negative_run t end s b l h a e = record { digits = slice_range t 1 end; each = a; spelled = inr (behind_dash t end s b l); ends = e; other = ap begins_hex (take-append-drop end t) ∙ h }
-
-pub positive_is : (t : List ℕ) (end n : ℕ) (z : ℤ) → 0 < end → end ≤ length t → AllByRecursion (λ b. is_digit b ≡ true) (slice_range t 0 end) → n ≡ digits_value (take end t) → n < 2 ^ 64 → z ≡ pos n → IsNumber (take end t) z
-positive_is t end n z l i a v m e =
-    let w : n ≡ digits_value (slice_range t 0 end) = v ∙ ap digits_value (from_start t end) in
-    record { digits = slice_range t 0 end; are = record { each = a; some = some_digits t 0 end l i }; value = inl (from_start t end, e ∙ ap pos w, subst (λ k. k < 2 ^ 64) w m) }
-
-pub negative_is : (t : List ℕ) (end n : ℕ) (z : ℤ) → 0 < length t → get_or t 0 0 ≡ dash → 1 < end → end ≤ length t → AllByRecursion (λ b. is_digit b ≡ true) (slice_range t 1 end) → n ≡ digits_value (slice_range t 1 end) → n ≤ 2 ^ 63 → z ≡ neg_ℤ (pos n) → IsNumber (take end t) z
-negative_is t end n z s b l i a w m e =
-    record { digits = slice_range t 1 end; are = record { each = a; some = some_digits t 1 end l i }; value = inr (behind_dash t end s b (omega arith), e ∙ ap (λ k. neg_ℤ (pos k)) w, subst (λ k. k ≤ 2 ^ 63) w m) }

@@ -1,8 +1,8 @@
 -- What a text's kind says of its front, and what makes its first bytes a token.
-use Rattle.std.proofs.Common.{◌≡◌, ℕ, zero, suc, ◌<◌, ◌≤◌, List, [], ◌∷◌, length, take, drop, slice_index, refl, sym, ap, arith, subst, take-append-drop}
-use Rattle.mysql_queries.specs.Tokens.{Kind, Quoted, BlockComment, Name, Mark, kind_of, HasShape, IsToken, slash, star, colon, question}
+use Rattle.std.proofs.Common.{◌≡◌, ℕ, zero, suc, ◌<◌, List, [], ◌∷◌, length, take, drop, slice_index, refl, sym, arith, subst, take-append-drop}
+use Rattle.mysql_queries.specs.Tokens.{Kind, Quoted, kind_of, HasShape, IsToken}
 use Rattle.mysql_queries.specs.declared.mode.Mode.{Mode}
-use Rattle.mysql_queries.proofs.FirstBytes.{Tells, kind_tells, block_second}
+use Rattle.mysql_queries.proofs.FirstBytes.{Tells, kind_tells}
 use Rattle.mysql_queries.proofs.OneToken.{not_empty}
 
 -- bytes of the shape that the text's kind asks for are a token
@@ -20,21 +20,6 @@ tells b x kind e = subst (Tells b x) (sym e) (kind_tells b x)
 pub quote_first : (text : List ℕ) (quote : ℕ) → 0 < length text → Quoted quote ≡ kind_of text → slice_index text 0 ≡ quote
 quote_first [] quote some e = absurd (omega arith)
 quote_first (b ∷ x) quote some e = sym (tells b x (Quoted quote) e).0
-
-pub colon_first : (text : List ℕ) → 0 < length text → Name ≡ kind_of text → slice_index text 0 ≡ colon
-colon_first [] some e = absurd (omega arith)
-colon_first (b ∷ x) some e = (tells b x Name e).0
-
-pub block_front : (text : List ℕ) → 0 < length text → BlockComment ≡ kind_of text → (2 ≤ length text) × (slice_index text 0 ≡ slash) × (slice_index text 1 ≡ star)
-block_front [] some e = absurd (omega arith)
-block_front (b ∷ x) some e =
-    let t : Tells b x BlockComment = tells b x BlockComment e in
-    let s = block_second x t.1 in
-    (rw s.1 (omega arith), t.0, rw s.1 refl)
-
-pub mark_alone : (text : List ℕ) → 0 < length text → Mark ≡ kind_of text → take 1 text ≡ question ∷ []
-mark_alone [] some e = absurd (omega arith)
-mark_alone (b ∷ x) some e = ap (λ c. c ∷ []) (tells b x Mark e)
 
 pub one_byte : (text : List ℕ) → 0 < length text → (b : ℕ) × (take 1 text ≡ b ∷ [])
 one_byte [] some = absurd (omega arith)

@@ -31,13 +31,6 @@ pub none_by : (sp : Spelling) (t : List ℕ) → (sp ≡ Hexadecimal → IsNoInt
 none_by Quoted t h = no_introduced t
 none_by Hexadecimal t h = h refl
 
--- what is read by Hexadecimal is read by a spelling that is it
-pub run_by : (sp : Spelling) (run rest : List ℕ) → sp ≡ Hexadecimal → IsIntroducedRun Hexadecimal run rest → IsIntroducedRun sp run rest
-run_by sp run rest e h = subst (λ s. IsIntroducedRun s run rest) (sym e) h
-
-pub read_by : (sp : Spelling) (run bytes : List ℕ) → sp ≡ Hexadecimal → IsIntroduced Hexadecimal run bytes → IsIntroduced sp run bytes
-read_by sp run bytes e h = subst (λ s. IsIntroduced s run bytes) (sym e) h
-
 -- a text that doesn't begin with `0x` begins with no literal in hexadecimal
 pub none_first : (t : List ℕ) → begins_hex t ≡ false → IsNoHex t
 none_first t b run after bytes j r h = let f : true ≡ false = sym (ap begins_hex (j ∙ ap (λ y. y ++ after) r.spelled)) ∙ b in cc

@@ -68,18 +68,6 @@ string_on escapes t at items new n o l m r e =
     let fits : at + n ≤ length t = omega (arith, some, l, length-drop at t) in
     (fits, subst (StringTo escapes t (at + n)) (sym (e ∙ ap (λ y. items ++ take n y) s)) (string_further escapes t at items n o fits (subst (λ y. IsRun escapes (take n y)) s r)))
 
-closed_front : (escapes : Bool) (t : List ℕ) (i : ℕ) (items : List ℕ) (o : StringTo escapes t i items) → i < length t → get_or t i 0 ≡ single_quote → take (i + 1) t ≡ single_quote ∷ (flat_map (inside_bytes single_quote) o.parts ++ single_quote ∷ [])
-closed_front escapes t i items o l e =
-    let body : List ℕ = flat_map (inside_bytes single_quote) o.parts in
-    front_is t (single_quote ∷ (body ++ single_quote ∷ [])) (i + 1)
-    (whole escapes t i items o ∙ ap (λ y. (single_quote ∷ body) ++ y) (drop_one t i l) ∙ ap (λ b. (single_quote ∷ body) ++ b ∷ drop (i + 1) t) e ∙ ap (λ y. single_quote ∷ y) (sym (append_assoc body (single_quote ∷ []) (drop (i + 1) t))))
-
-pub string_read : (escapes : Bool) (t : List ℕ) (i : ℕ) (items : List ℕ) → StringTo escapes t i items → i < length t → get_or t i 0 ≡ single_quote → IsString escapes (take (i + 1) t) items
-string_read escapes t i items o l e = record { parts = o.parts; inside = o.inside; spelled = closed_front escapes t i items o l e; read = o.read }
-
-pub string_run : (escapes : Bool) (t : List ℕ) (i : ℕ) (items : List ℕ) → StringTo escapes t i items → i < length t → get_or t i 0 ≡ single_quote → ClosesAt escapes single_quote t i → IsQuoted escapes single_quote (take (i + 1) t) (drop (i + 1) t)
-string_run escapes t i items o l e k = record { parts = o.parts; closing = single_quote ∷ []; inside = o.inside; spelled = closed_front escapes t i items o l e; closes = subst (λ b. Closes escapes single_quote (b ∷ []) (drop (i + 1) t)) e k }
-
 -- nothing closes the literal
 abbrev pub IsNoString : Bool → List ℕ → Type 0
 IsNoString escapes t = (run rest bytes : List ℕ) → t ≡ run ++ rest → IsQuoted escapes single_quote run rest → IsString escapes run bytes → ⊥

@@ -49,9 +49,6 @@ module _ (r : Inside) (v : Received) (n : ℕ) (view : received_of r ≡ v) (kep
       by None e = tt
       by (Some f) e = is ∙ ap (λ (l : List ℕ). bytes_kept (length l)) e
 
-  pub kept_stopped : IfSome v.fault (λ _. n ≡ 0)
-  kept_stopped = subst (λ (x : Received). IfSome x.fault (λ _. n ≡ 0)) view none_stopped
-
   pub kept_within : n ≤ most_kept v.limit
   kept_within = subst (λ (x : Received). n ≤ most_kept x.limit) view (by r.fault refl none_stopped)
     where

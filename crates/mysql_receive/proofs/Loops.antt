@@ -137,12 +137,6 @@ any_goes_on p i n total lt fails so_far =
     let one : list_any p (range_with_len i (n - i)) ≡ list_any p (range_with_len (i + 1) (n - (i + 1))) = ap (λ (m : ℕ). list_any p (range_with_len i m)) k ∙ ap (λ b. b || list_any p (range_with_len (i + 1) (n - (i + 1)))) (sym fails) in
     sym one ∙ so_far
 
-pub any_here : (p : ℕ → Bool) (i n : ℕ) (total : Bool) → i < n → true ≡ p i → list_any p (range_with_len i (n - i)) ≡ total → true ≡ total
-any_here p i n total lt holds so_far =
-    let k : n - i ≡ suc (n - (i + 1)) = omega arith in
-    let one : list_any p (range_with_len i (n - i)) ≡ true = ap (λ (m : ℕ). list_any p (range_with_len i m)) k ∙ ap (λ b. b || list_any p (range_with_len (i + 1) (n - (i + 1)))) (sym holds) in
-    sym one ∙ so_far
-
 -- a type where there is none
 abbrev pub zero_type : ParamType
 zero_type = record { number = 0; unsigned = false }

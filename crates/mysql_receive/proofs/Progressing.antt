@@ -1,5 +1,5 @@
 -- A run over the payloads that a codec hands out.
-use Rattle.std.proofs.Common.{◌≡◌, ℕ, ◌+◌, ◌-◌, ◌^◌, ◌<◌, true, false, List, [], ◌∷◌, ◌++◌, length, Some, None, Err, refl, sym, ap, subst, ◌∙◌, arith, inr, append_assoc}
+use Rattle.std.proofs.Common.{◌≡◌, ℕ, ◌+◌, ◌-◌, true, false, List, [], ◌∷◌, ◌++◌, length, Some, None, Err, refl, sym, ap, subst, ◌∙◌, arith, append_assoc}
 use Rattle.std.specs.List.{flat_map}
 use Rattle.std.proofs.lemmas.List.{append-nil, length-append}
 use Rattle.std.proofs.lemmas.List.Concat.{flat_map-append}
@@ -22,7 +22,7 @@ use Rattle.mysql_receive.specs.Query.{Statement}
 use Rattle.mysql_receive.specs.InForce.{StatementState, after as behind_one, state_after}
 use Rattle.mysql_receive.specs.Reading.{Set, ReadsAs, Faulty}
 use Rattle.mysql_receive.specs.Audit.{Reads, nothing}
-use Rattle.mysql_receive.specs.Views.{state_of, sets_of, PayloadJudged}
+use Rattle.mysql_receive.specs.Views.{state_of, sets_of}
 use Rattle.mysql_receive.specs.GoingOn.{ReceiverState, Fed, fault_of_rest}
 use Rattle.mysql_receive.specs.GoingOn as going
 use Rattle.mysql_receive.specs.Steps.{ReadOne, OneBy}
@@ -30,10 +30,6 @@ use Rattle.mysql_receive.specs.Parts.{state_of_parts, fault_by, read_error_by, I
 use Rattle.mysql_receive.proofs.Looking.{state_after_append}
 use Rattle.mysql_receive.proofs.Auditing.{reads_length, reads_append, one_read, all_reads}
 use Rattle.mysql_receive.proofs.Splits.{some_split, bytes_behind, each_stays}
-
-pub fails_first : (c : Statement) (old new : Progress) (payload : List ℕ) (r : ReadError) → old.count < 2 ^ 64 - 1 → PayloadJudged c (state_of old.state) payload (Err r) → OneBy c old payload new (Err r)
-fails_first c old new payload read_error.Memory few h = tt
-fails_first c old new payload (read_error.Fault f) few h = inr (few, h)
 
 -- so many payloads of the bytes were handed out, and they were read
 pub record Behind (c : Statement) (limit : ℕ) (old : Progress) (bytes : List ℕ) (codec : Codec) (src packet : List ℕ) (now : Progress) : Type 0 where

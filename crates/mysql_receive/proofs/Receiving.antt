@@ -7,13 +7,10 @@ use Rattle.std.specs.List.{concat}
 use Rattle.std.proofs.lemmas.List.{append-nil, map-append, take_more}
 use Rattle.std.proofs.lemmas.List.Folds.{concat-append}
 use Rattle.mysql_wire.specs.Bytes.{AreBytes}
-use Rattle.mysql_wire.specs.Codec.{codec_at}
-use Rattle.mysql_wire.specs.Incoming.{Incoming, incoming_at}
 use Rattle.mysql_wire.specs.Stream.{Rest, Split, IsSplit, IsRest, IsFault}
 use Rattle.mysql_wire.specs.Stream.Rest.{Empty as EmptyRest, TooLarge as TooLargeRest, OutOfSync as OutOfSyncRest, Open as OpenRest}
 use Rattle.mysql_wire.specs.Stream.Numbering.{EachFromZero}
 use Rattle.mysql_wire.specs.GoingOn.{ReaderLaws}
-use Rattle.mysql_values.specs.Content.{Content}
 use Rattle.mysql_receive.specs.declared.fault.StreamFault.{StreamFault}
 use Rattle.mysql_receive.specs.declared.fault.StreamFault.TheVariants.{Memory}
 use Rattle.mysql_receive.specs.declared.audit.End.{End}
@@ -60,26 +57,6 @@ no_bytes : AreBytes []
 no_bytes zero = omega arith
 no_bytes (suc i) = omega arith
 
-pub start_open : ReaderLaws → (r : Incoming) (limit : ℕ) → r ≡ incoming_at 0 limit → IsOpen r
-start_open wire r limit e = subst IsOpen (sym e) (record {
-  reading = record { joined = sym (wire.between (codec_at 0 limit) [] (refl, refl) (omega arith)).0; within = tt; number = refl; limit_same = refl; refused = refl; goes_on = λ _. (omega arith, refl) };
-  number = refl;
-  bytes = no_bytes;
-  rest = EmptyRest;
-  no_fault = λ f. f;
-  is_rest = (wire.rests limit 0).0;
-})
-
-pub holds_start : (waiting : Vec (Option (Vec ℕ))) (sets : Vec (Vec Content)) (partial : List ℕ) → waiting.items ≡ [] → sets.items ≡ [] → partial ≡ []
-    → state_of_parts (record { state = record { prepared = false; types = None; long_data = waiting }; sets = sets; count = 0 }) partial None ≡ fresh_receiver
-holds_start waiting sets partial p s h = λ i. record {
-  count = 0;
-  state = record { prepared = false; types = None; long_data = data_waiting (p i) };
-  partial = h i;
-  sets = sets_of (s i);
-  fault = None;
-}
-
 -- memory ran out over a piece
 pub short_by : (c : Statement) (limit : ℕ) (old : ReceiverState) (piece : List ℕ) (new : ReceiverState) → new.fault ≡ Some Memory → Fed c limit old piece new → RunsShort c limit old piece new
 short_by c limit old piece new memory fed = record { split = fed.split; is_split = fed.is_split; reads = fed.reads; each = fed.each; sets = fed.sets; count = fed.count; fault = memory }
@@ -95,12 +72,6 @@ unless_by o h never = h (λ e. never (ap answer_by e))
 
 pub on_by : {P : Type 0} (o : Option StreamFault) → (o ≡ Some Memory → P) → answer_by o ≡ Err Memory → P
 on_by o h e = h (memory_is o e)
-
--- a fault that is held stays
-pub stays_on : (v : Received) (piece : List ℕ) (f : StreamFault) → v.fault ≡ Some f → ReceiverGoesOn v.statement v.limit (receiver_state v) piece (receiver_state v)
-stays_on v piece f e z a more d =
-    subst (λ (o : Option StreamFault). ReceiverDecidesBy v.statement v.limit (receiver_state v) o (piece ++ z) a) (sym e)
-    (subst (λ (o : Option StreamFault). ReceiverDecidesBy v.statement v.limit (receiver_state v) o z a) e d)
 
 -- ---- a piece, by what is held before and after it
 

@@ -1,21 +1,15 @@
 -- Sets that are taken of a receiver: once they are put back, it holds what it would hold had none been taken.
 use Rattle.std.proofs.Common.{◌≡◌, ℕ, List, [], ◌++◌, Option, Some, None, refl, sym, ap, subst, ◌∙◌, append_assoc}
-use Rattle.std.specs.Global.{Vec}
 use Rattle.std.specs.List.{concat, flat_map}
 use Rattle.std.proofs.lemmas.List.{append-nil}
 use Rattle.mysql_wire.specs.GoingOn.{ReaderLaws}
-use Rattle.mysql_values.specs.Content.{Content}
 use Rattle.mysql_receive.specs.declared.fault.StreamFault.{StreamFault}
-use Rattle.mysql_receive.specs.declared.receiver.Receiver.TheInside.{Inside}
 use Rattle.mysql_receive.specs.Query.{Statement}
 use Rattle.mysql_receive.specs.Reading.{Set}
 use Rattle.mysql_receive.specs.Audit.{Audit, Audited, OutOfMemory}
 use Rattle.mysql_receive.specs.GoingOn.{ReceiverState, ReceiverDecidesBy, ReceiverDecides, ReceiverGoesOn, TakesAll, RunsShort}
-use Rattle.mysql_receive.specs.Taking.{with_sets, HandsOut, TakesSets, Feeds, Run, fresh, feeds, takes}
+use Rattle.mysql_receive.specs.Taking.{with_sets, TakesSets, Feeds, Run, fresh, feeds, takes}
 use Rattle.mysql_receive.specs.Laws.{TakenSetsAreTheAudit}
-use Rattle.mysql_receive.specs.Views.{sets_of}
-use Rattle.mysql_receive.specs.Received.{Received, receiver_state}
-use Rattle.mysql_receive.specs.Inside.{received_of}
 use Rattle.mysql_receive.proofs.About.{of_tokens}
 use Rattle.mysql_receive.proofs.Receiving.{SoFar, so_far_nothing, so_far_next, audit_so_far, memory_so_far}
 
@@ -90,22 +84,6 @@ all_back s taken = λ i. record s { sets = append-nil (taken ++ s.sets) i }
 taken_back : (old new : ReceiverState) (taken more : List Set) → TakesSets old more new → put_back taken old ≡ put_back (taken ++ more) new
 taken_back old new taken more t =
     sym (ap (λ (l : List Set). put_back (taken ++ l) new) t.0 ∙ ap (put_back (taken ++ old.sets)) t.1 ∙ all_back old taken)
-
--- what is decided after a take was decided before it, with the taken sets first
-pub hand_out : (c : Statement) (limit : ℕ) (old new : ReceiverState) (taken : List Set) → TakesSets old taken new → HandsOut c limit old taken new
-hand_out c limit old new taken t z a d =
-    subst (λ (s : ReceiverState). ReceiverDecides c limit s z (with_sets taken a)) (sym (taken_back old new [] taken t)) (decides_more c limit taken new new.fault z a d)
-
--- a receiver's fields after a take
-pub takes_of : (r : Inside) (v : Received) (result none : Vec (Vec Content)) → received_of r ≡ v → result ≡ r.progress.sets → none.items ≡ []
-    → (sets_of result.items ≡ v.sets) × (received_of (record r { progress = record r.progress { sets = none } }) ≡ record v { sets = [] })
-takes_of r v result none view e empty = (
-  ap (λ (x : Vec (Vec Content)). sets_of x.items) e ∙ ap (λ (x : Received). x.sets) view,
-  (λ i. record (received_of r) { sets = sets_of (empty i) }) ∙ ap (λ (x : Received). record x { sets = [] }) view,
-)
-
-pub hand_out_of : (old new : Received) (taken : List Set) → taken ≡ old.sets → new ≡ record old { sets = [] } → HandsOut old.statement old.limit (receiver_state old) taken (receiver_state new)
-hand_out_of old new taken e left = hand_out old.statement old.limit (receiver_state old) (receiver_state new) taken (e, ap receiver_state left)
 
 -- ---- feeds and takes
 

@@ -1,16 +1,15 @@
 -- Sets as bytes: what a text names, and how long sets are.
-use Rattle.std.proofs.Common.{◌≡◌, ℕ, ◌+◌, ◌-◌, ◌*◌, ◌^◌, ◌≤◌, ◌<◌, ◌==◌, ◌&&◌, Bool, true, false, true≢false, cond, nat_lt, List, [], ◌∷◌, ◌++◌, length, drop, get_or, map, take, min, Ok, Err, Option, Some, None, is_none, refl, sym, ap, ◌∙◌, inl, inr, arith, length-append}
+use Rattle.std.proofs.Common.{◌≡◌, ℕ, ◌+◌, ◌-◌, ◌*◌, ◌^◌, ◌≤◌, ◌==◌, ◌&&◌, Bool, true, false, true≢false, cond, nat_lt, List, [], ◌∷◌, ◌++◌, length, drop, map, take, min, Ok, Err, Option, Some, None, is_none, refl, sym, ap, ◌∙◌, inl, inr, arith, length-append}
 use Rattle.std.proofs.lemmas.Bool.{cases_lt}
 use Rattle.std.proofs.lemmas.Bool.Decides.{nat_tests}
-use Rattle.std.proofs.lemmas.List.{flat_map_more, length-take-le, take_all, take_more}
+use Rattle.std.proofs.lemmas.List.{length-take-le, take_all}
 use Rattle.std.proofs.lemmas.List.Folds.{flat_map-map}
-use Rattle.std.proofs.Math.Seq.{take-append_seam}
 use Rattle.std.specs.List.{flat_map}
 use Rattle.std.specs.Str.{IsUtf8, chars, is_utf8}
 use Rattle.std.proofs.lemmas.Str.{IsUtf8-from_is_utf8, is_utf8-from_IsUtf8}
 use Rattle.byteorder.specs.Endian.{little_bytes}
 use Rattle.mysql_buf.specs.FirstBytes.{first-enough, first-short}
-use Rattle.mysql_buf.specs.Varlen.{varlen, varlen_size}
+use Rattle.mysql_buf.specs.Varlen.{varlen}
 use Rattle.mysql_buf.specs.Writing.{front}
 use Rattle.mysql_fields.specs.Forms.{bytes_at}
 use Rattle.mysql_fields.specs.Laws.{ok_same}
@@ -105,32 +104,6 @@ sid_bytes_len tagged sid =
     let counted = little_bytes 8 (length sid.intervals) ++ intervals in
     let tag = tag_bytes tagged sid.tag in
     omega (arith, intervals_len sid.intervals, length-append sid.uuid (tag ++ counted), length-append tag counted)
-
--- the length of a short tag takes one byte
-pub short_varlen_size : (n : ℕ) → n ≤ 32 → varlen_size n ≡ 1
-short_varlen_size n h = grind (arith, nat_tests)
-
--- one element more was written
-pub one_more : {X : Type 0} (written : X → List ℕ) (all : List X) (i : ℕ) (x : X) (old now new : List ℕ) → i < length all → x ≡ get_or all i x
-    → now ≡ old ++ flat_map written (take i all) → new ≡ now ++ written x → new ≡ old ++ flat_map written (take (i + 1) all)
-one_more written all i x old now new inside here before put =
-    put
-    ∙ ap (λ (bytes : List ℕ). bytes ++ written x) before
-    ∙ flat_map_more written old (take i all) x
-    ∙ ap (λ bytes. old ++ flat_map written bytes) (ap (λ y. take i all ++ y ∷ []) here ∙ sym (take_more all i x inside))
-
--- all elements, as a loop goes over them
-pub all_elements : {X : Type 0} (written : X → List ℕ) (all : List X) (i : ℕ) (old now : List ℕ) → length all ≤ i → now ≡ old ++ flat_map written (take i all)
-    → now ≡ old ++ flat_map written all
-all_elements {X} written all i old now h before = before ∙ ap (λ (xs : List X). old ++ flat_map written xs) (take_all i all h)
-
--- what was put is cut off again
-pub cut_back : (old now new cut more : List ℕ) (n : ℕ) → n ≡ length old → now ≡ old ++ more → new ≡ now → cut ≡ take n new → cut ≡ old
-cut_back old now new cut more n len before same taken =
-    taken
-    ∙ ap (take n) (same ∙ before)
-    ∙ ap (λ (k : ℕ). take k (old ++ more)) len
-    ∙ take-append_seam old more
 
 -- all sets, as a loop goes over them
 pub all_sids : (written : SidParts → List ℕ) (sids : List Sid) (i : ℕ) → length sids ≤ i → flat_map (λ sid. written (sid_view sid)) (take i sids) ≡ flat_map written (map sid_view sids)

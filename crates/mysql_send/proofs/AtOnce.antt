@@ -1,20 +1,17 @@
 -- Sets whose rows one bulk request holds.
-use Rattle.std.proofs.Common.{◌≡◌, ℕ, ◌+◌, ◌*◌, ◌<◌, ◌≤◌, Bool, true, false, List, [], ◌∷◌, ◌++◌, length, map, take, drop, Option, Some, None, Result, Ok, Err, refl, sym, ◌∙◌, ap, arith, append_assoc, Bor, length-append, length-take}
-use Rattle.std.specs.Prelude.{IfOk, is_some}
+use Rattle.std.proofs.Common.{◌≡◌, ℕ, ◌+◌, ◌*◌, ◌<◌, ◌≤◌, Bool, true, List, [], ◌∷◌, ◌++◌, length, map, take, drop, Option, None, Result, Ok, Err, refl, sym, ◌∙◌, ap, arith, append_assoc, length-append}
+use Rattle.std.specs.Prelude.{IfOk}
 use Rattle.std.specs.List.{flat_map}
 use Rattle.std.specs.Option.{option_map}
-use Rattle.std.proofs.lemmas.Grind.{flat_map-append}
-use Rattle.std.proofs.lemmas.List.{append-nil, drop_at, length-take-le, take-append-le, take-take, take_all, take_at}
+use Rattle.std.proofs.lemmas.List.{drop_at, take_all, take_at}
 use Rattle.byteorder.specs.Endian.{little_bytes}
 use Rattle.byteorder.specs.Numbers.{length-bytes_low_first}
 use Rattle.mysql_wire.specs.Framing.{framing}
 use Rattle.mysql_values.specs.declared.params.Params.{Params}
-use Rattle.mysql_values.specs.Value.{Value}
 use Rattle.mysql_bulk_builder.specs.Bulk.{bulk_command, param_type_bytes}
-use Rattle.mysql_bulk_builder.specs.Causes.{first_some, is_of_other_kind, mixed_kinds, place_where, row_too_large}
+use Rattle.mysql_bulk_builder.specs.Causes.{first_some, mixed_kinds, row_too_large}
 use Rattle.mysql_bulk_builder.specs.Cut.{Row, rows_size}
-use Rattle.mysql_bulk_builder.specs.KindLaws.{OneMoreMixesNone, WholeHasNoneTooLarge}
-use Rattle.mysql_bulk_builder.specs.RowLists.{row_in}
+use Rattle.mysql_bulk_builder.specs.KindLaws.{WholeHasNoneTooLarge}
 use Rattle.mysql_bulk_builder.specs.TypedCut.{Part, Typed}
 use Rattle.mysql_bulk_builder.specs.TypedRequests.{typing_of}
 use Rattle.mysql_bulk_builder.specs.TypedCutLaws.{WholeIsTight}
@@ -22,11 +19,11 @@ use Rattle.mysql_bulk_builder.specs.ValueTypes.{first_values}
 use Rattle.mysql_command_rules.specs.declared.refusal.Refusal.TheVariants as refusals
 use Rattle.mysql_command_rules.specs.Commands.{bulk_request}
 use Rattle.mysql_command_rules.specs.Laws.{RequestsHaveTheirSize}
-use Rattle.mysql_command_rules.specs.Sets.{Given, given_by, given_up_to}
-use Rattle.mysql_send.specs.BulkSets.{AppendsAll, AppendsRow, AppendsRows, GivesRow, front_bytes, request_flags, request_types, row_bytes, types_by}
+use Rattle.mysql_command_rules.specs.Sets.{given_by, given_up_to}
+use Rattle.mysql_send.specs.BulkSets.{AppendsAll, AppendsRows, front_bytes, request_flags, request_types, row_bytes, types_by}
 use Rattle.mysql_send.proofs.RequestBytes.{command_is}
 use Rattle.mysql_send.proofs.SentRequests.{types_are}
-use Rattle.mysql_send.proofs.SetRows.{RowsSoFar, all_rows, no_rows, row_more}
+use Rattle.mysql_send.proofs.SetRows.{RowsSoFar}
 use Rattle.mysql_send.specs.Executions.{Limits}
 use Rattle.mysql_send.proofs.Lists.{one_framed}
 
@@ -34,21 +31,6 @@ use Rattle.mysql_send.proofs.Lists.{one_framed}
 pub both_yes : {E P Q R : Type 0} (answer : Result Bool E) → (P → Q → R) → IfOk answer (λ yes. yes ≡ true → P) → IfOk answer (λ yes. yes ≡ true → Q) → IfOk answer (λ yes. yes ≡ true → R)
 both_yes (Ok b) step one two = λ yes. step (one yes) (two yes)
 both_yes (Err e) step one two = tt
-
--- ---- one row
-
--- what its steps said of a row
-pub row_appended : (limits : Limits) (set : ℕ) (given : Given) (values firsts new_firsts : List (Bor Value)) (old new : List ℕ) → length firsts ≡ limits.places → GivesRow limits set given (row_in values) →
-    ((before : List Row) → row_in firsts ≡ first_values (length firsts) before → place_where (is_of_other_kind before) (row_in values) ≡ None) →
-    ((before : List Row) → row_in firsts ≡ first_values (length firsts) before → row_in new_firsts ≡ first_values (length firsts) (before ++ row_in values ∷ [])) →
-    new ≡ old ++ row_bytes (row_in values) → AppendsRow limits set given (row_in firsts) (row_in new_firsts) old new
-row_appended limits set given values firsts new_firsts old new wide gives one_kind firsts_are put = record {
-  row = row_in values;
-  gives = gives;
-  one_kind = λ before is. one_kind before (is ∙ ap (λ n. first_values n before) (sym wide));
-  firsts_are = λ before is. firsts_are before (is ∙ ap (λ n. first_values n before) (sym wide)) ∙ ap (λ n. first_values n (before ++ row_in values ∷ [])) wide;
-  appended = put;
-}
 
 -- ---- row by row
 
@@ -59,41 +41,6 @@ pub record AtOnce (names : List (List ℕ)) (limits : Limits) (sets : List Param
   pub one_kind : mixed_kinds rows ≡ None
   pub firsts_are : firsts ≡ first_values limits.places rows
   pub bytes : new ≡ old ++ flat_map row_bytes rows
-
--- before the first set
-pub none_yet : (names : List (List ℕ)) (limits : Limits) (sets : List Params) (firsts : Row) (old : List ℕ) → firsts ≡ first_values limits.places [] → AtOnce names limits sets 0 firsts old old
-none_yet names limits sets firsts old is = record {
-  rows = [];
-  given = no_rows names limits sets;
-  one_kind = refl;
-  firsts_are = is;
-  bytes = sym (append-nil old);
-}
-
--- the bytes of rows and one more
-bytes_more : (rows : List Row) (row : Row) → flat_map row_bytes rows ++ row_bytes row ≡ flat_map row_bytes (rows ++ row ∷ [])
-bytes_more rows row = ap (λ l. flat_map row_bytes rows ++ l) (sym (append-nil (row_bytes row))) ∙ sym (flat_map-append row_bytes rows (row ∷ []))
-
--- one more set
-pub one_more : OneMoreMixesNone → (names : List (List ℕ)) (limits : Limits) (sets : List Params) (i : ℕ) (firsts new_firsts : Row) (old mid new : List ℕ) → AtOnce names limits sets i firsts old mid →
-    (params : Params) → drop i sets ≡ params ∷ drop (i + 1) sets → AppendsRow limits i (given_by names params) firsts new_firsts mid new → AtOnce names limits sets (i + 1) new_firsts old new
-one_more law names limits sets i firsts new_firsts old mid new s params here a = record {
-  rows = s.rows ++ a.row ∷ [];
-  given = row_more names limits sets s.rows i s.given params here a.row a.gives;
-  one_kind = law s.rows a.row s.one_kind (a.one_kind s.rows s.firsts_are);
-  firsts_are = a.firsts_are s.rows s.firsts_are;
-  bytes = a.appended ∙ ap (λ l. l ++ row_bytes a.row) s.bytes ∙ append_assoc old (flat_map row_bytes s.rows) (row_bytes a.row) ∙ ap (λ l. old ++ l) (bytes_more s.rows a.row);
-}
-
--- all sets
-pub all_of_them : (names : List (List ℕ)) (limits : Limits) (sets : List Params) (i : ℕ) (firsts : Row) (old new : List ℕ) → AtOnce names limits sets i firsts old new → length sets ≤ i → AppendsRows limits (given_up_to sets None names) firsts old new
-all_of_them names limits sets i firsts old new s end = record {
-  rows = s.rows;
-  gives = all_rows names limits sets s.rows i s.given end None refl;
-  one_kind = s.one_kind;
-  firsts_are = s.firsts_are;
-  appended = s.bytes;
-}
 
 -- ---- one request
 
@@ -121,11 +68,6 @@ some_rows : (names : List (List ℕ)) (sets : List Params) (rows : List Row) →
 some_rows names [] rows gives some = absurd (omega arith)
 some_rows names (params ∷ sets) [] gives some = absurd cc
 some_rows names (params ∷ sets) (row ∷ rows) gives some = omega arith
-
--- nothing that is there
-pub nothing : {X : Type 0} (o : Option X) (there : Bool) → there ≡ is_some o → there ≡ false → o ≡ None
-nothing None there is not_there = refl
-nothing (Some x) there is not_there = absurd cc
 
 -- the request of all sets was appended
 pub all_appended : RequestsHaveTheirSize → WholeIsTight → WholeHasNoneTooLarge → (id : ℕ) (limits : Limits) (names : List (List ℕ)) (sets : List Params) (firsts : Row) (mid out old new : List ℕ) → 0 < length sets →
@@ -158,45 +100,12 @@ front_length id firsts =
     let types = flat_map param_type_bytes (types_by true firsts) in
     omega (arith, length-append (little_bytes 4 id) (little_bytes 2 (request_flags (typing_of true)) ++ types), length-append (little_bytes 2 (request_flags (typing_of true))) types, length-bytes_low_first 0 4 id, length-bytes_low_first 0 2 0x80, types_length firsts)
 
--- what stands before a place stays where something is put from it on, and where nothing is left from it on
-pub front_stays : (start : ℕ) (out new piece : List ℕ) → start ≤ length out → new ≡ take start out ++ piece → take start new ≡ take start out
-front_stays start out new piece inside put = ap (λ l. take start l) put ∙ take_at (take start out) piece start (omega (arith, inside, length-take start out))
-
-pub front_left : (start : ℕ) (out new : List ℕ) → new ≡ take start out → take start new ≡ take start out
-front_left start out new put = ap (λ l. take start l) put ∙ take-take start start out (omega arith)
-
 -- the front is written over as many bytes
 pub front_written : (start n : ℕ) (bytes front out new : List ℕ) → bytes ≡ front → length front ≡ n → new ≡ take start out ++ (bytes ++ drop (start + length bytes) out) → new ≡ take start out ++ (front ++ drop (start + n) out)
 front_written start n bytes front out new is len put =
     put ∙ ap (λ l. take start out ++ (l ++ drop (start + length l) out)) is ∙ ap (λ k. take start out ++ (front ++ drop (start + k) out)) len
 
-module _ (start n : ℕ) (front out third : List ℕ) (inside : start + (4 + n) ≤ length out) (third_is : third ≡ take (start + 4) out ++ (front ++ drop (start + 4 + n) out)) where
-  -- what stands before the front
-  head : length (take (start + 4) out) ≡ start + 4
-  head = length-take-le (start + 4) out (omega (arith, inside))
-
-  -- four bytes stand before it
-  pub behind_header : start + 4 ≤ length third
-  behind_header = omega (arith, head, ap length third_is, length-append (take (start + 4) out) (front ++ drop (start + 4 + n) out))
-
-  -- what stands before the request stays
-  pub before_request : take start third ≡ take start out
-  before_request =
-      ap (λ l. take start l) third_is ∙ take-append-le start (take (start + 4) out) (front ++ drop (start + 4 + n) out) (omega (arith, head)) ∙ take-take start (start + 4) out (omega arith)
-
-  -- the payload is framed
-  pub filled_in : (room : ℕ) (new : List ℕ) → room ≡ 4 + n → new ≡ take start third ++ framing (drop (start + 4) third) 0 → new ≡ take start out ++ framing (front ++ drop (start + room) out) 0
-  filled_in room new is new_is =
-      let places : start + 4 + n ≡ start + room = omega (arith, is) in
-      let payload : drop (start + 4) third ≡ front ++ drop (start + room) out =
-      ap (λ l. drop (start + 4) l) third_is ∙ drop_at (take (start + 4) out) (front ++ drop (start + 4 + n) out) (start + 4) head ∙ ap (λ k. front ++ drop k out) places in
-      new_is ∙ ap (λ l. l ++ framing (drop (start + 4) third) 0) before_request ∙ ap (λ l. take start out ++ framing l 0) payload
-
 module _ (start n : ℕ) (old blank rows out : List ℕ) (is_start : start ≡ length old) (room : length blank ≡ n) (are : out ≡ (old ++ blank) ++ rows) where
-  -- the room left is within what was appended
-  pub room_inside : start + n ≤ length out
-  room_inside = omega (arith, is_start, room, ap length are, length-append (old ++ blank) rows, length-append old blank)
-
   -- how long it is
   pub length_behind : length out ≡ start + n + length rows
   length_behind = omega (arith, is_start, room, ap length are, length-append (old ++ blank) rows, length-append old blank)
@@ -212,7 +121,3 @@ module _ (start n : ℕ) (old blank rows out : List ℕ) (is_start : start ≡ l
   -- the request is finished
   pub finished : (new front : List ℕ) → new ≡ take start out ++ framing (front ++ drop (start + n) out) 0 → new ≡ old ++ framing (front ++ rows) 0
   finished new front put = put ∙ ap (λ l. l ++ framing (front ++ drop (start + n) out) 0) before_room ∙ ap (λ l. old ++ framing (front ++ l) 0) behind_room
-
-  -- what stood before stays
-  pub stays : (new : List ℕ) → take start new ≡ take start out → take (length old) new ≡ old
-  stays new kept = ap (λ k. take k new) (sym is_start) ∙ kept ∙ before_room

@@ -1,16 +1,13 @@
 -- Rows of values that stand in the query's order.
-use Rattle.std.proofs.Common.{◌≡◌, ℕ, ◌+◌, ◌<◌, ◌≤◌, ◌==◌, Bool, true, false, not, cond, if◌then◌else◌, List, [], ◌∷◌, ◌++◌, length, take, drop, get_or, Option, Some, None, Ok, refl, sym, ◌∙◌, ap, arith, append_assoc, Bor, below_more, set}
+use Rattle.std.proofs.Common.{◌≡◌, ℕ, ◌+◌, ◌<◌, ◌≤◌, Bool, true, false, not, cond, List, [], ◌∷◌, ◌++◌, length, take, drop, get_or, Some, None, refl, sym, ◌∙◌, ap, arith, append_assoc, Bor, below_more, set}
 use Rattle.std.specs.Prelude.{◌||◌, is_none}
 use Rattle.std.specs.List.{position_from}
-use Rattle.std.specs.Option.{option_map}
-use Rattle.std.proofs.lemmas.Bool.{cond-false, cond-true, eq-eqb}
+use Rattle.std.proofs.lemmas.Bool.{cond-false, cond-true}
 use Rattle.std.proofs.lemmas.Grind.{flat_map-append}
 use Rattle.std.proofs.lemmas.List.{append-nil, drop_all, get_or-set_other, get_or-set_same, get_or_default, length-map, map-set, take_all, take_more}
 use Rattle.mysql_cells.specs.declared.value.Value.TheVariants.{NULL}
 use Rattle.mysql_values.specs.AsSql.{FitsFields}
-use Rattle.mysql_values.specs.Params.{values_over}
 use Rattle.mysql_values.specs.Values.{content_of, first_float}
-use Rattle.mysql_values.specs.declared.params.Params.{Params}
 use Rattle.mysql_values.specs.Value.{Value}
 use Rattle.mysql_bulk_builder.specs.Bulk.{param_value_bytes, param_value_of}
 use Rattle.mysql_bulk_builder.specs.Causes.{is_of_other_kind, place_where}
@@ -20,13 +17,10 @@ use Rattle.mysql_bulk_builder.specs.ValueTypes.{first_in_column, first_values, i
 use Rattle.mysql_bulk_builder.proofs.FirstAt.{first_at_none}
 use Rattle.mysql_bulk_builder.proofs.Rows.{value_at}
 use Rattle.mysql_bulk_builder.proofs.FirstValues.{Filled, filled, first_here, first_values_more, is_other}
-use Rattle.mysql_command_rules.specs.declared.refusal.Refusal.{Refusal}
 use Rattle.mysql_command_rules.specs.declared.refusal.Refusal.TheVariants as refusals
-use Rattle.mysql_command_rules.specs.Sets.{given_by}
-use Rattle.mysql_send.specs.Executions.{Limits}
 use Rattle.mysql_send.proofs.Lists.{next_set}
-use Rattle.mysql_send.specs.BulkSets.{AppendsRow, JoinsColumn, PutsRow, row_bytes}
-use Rattle.mysql_send.proofs.SetRows.{Fit, all_push, gives_row}
+use Rattle.mysql_send.specs.BulkSets.{JoinsColumn, PutsRow, row_bytes}
+use Rattle.mysql_send.proofs.SetRows.{Fit, all_push}
 
 -- the bytes of a value
 abbrev pub value_bytes : Value → List ℕ
@@ -137,19 +131,3 @@ all_values_put firsts now row i old out s wide len end =
   where
     fits : take i row ≡ row → Fit (take i row) → Fit row
     fits whole all = rw (sym whole) all
-
--- nothing speaks against values that are as many as the places, none a float
-no_cause : (wrong : Refusal) (float : ℕ → Refusal) (same : Bool) (first : Option ℕ) → same ≡ true → first ≡ None → (if same then option_map (λ place. float place) first else Some wrong) ≡ None
-no_cause wrong float same first is none = rw (is, none) refl
-
--- the row of a list of values was appended
-pub list_appended : (names : List (List ℕ)) (limits : Limits) (set : ℕ) (params : Params) (list firsts new_firsts : Row) (old new : List ℕ) → values_over names params ≡ Ok list → length firsts ≡ limits.places →
-    PutsRow firsts new_firsts list old new → AppendsRow limits set (given_by names params) firsts new_firsts old new
-list_appended names limits set params list firsts new_firsts old new over wide p = record {
-  row = list;
-  gives = gives_row names params limits set list over
-      (no_cause (refusals.WrongCount set) (λ place. refusals.Float set place) (length list == limits.places) (first_float list) (eq-eqb (length list) limits.places (p.wide ∙ wide)) p.no_float) p.fit;
-  one_kind = λ before is. p.one_kind before (is ∙ ap (λ n. first_values n before) (sym wide));
-  firsts_are = λ before is. p.firsts_are before (is ∙ ap (λ n. first_values n before) (sym wide)) ∙ ap (λ n. first_values n (before ++ list ∷ [])) wide;
-  appended = p.appended;
-}

@@ -1,8 +1,8 @@
 -- The steps of sending sets of values one after another, of which the first has any number.
-use Rattle.std.proofs.Common.{◌≡◌, ℕ, ◌+◌, ◌≤◌, List, [], ◌∷◌, ◌++◌, length, map, take, drop, Option, Ok, refl, sym, ◌∙◌, ap, subst, arith, inl, inr, append_assoc, Global, Vec}
+use Rattle.std.proofs.Common.{◌≡◌, ℕ, ◌+◌, List, ◌∷◌, ◌++◌, length, map, take, drop, Option, Ok, sym, ◌∙◌, ap, subst, arith, inl, inr, append_assoc, Global, Vec}
 use Rattle.std.specs.List.{AllByRecursion, flat_map}
 use Rattle.std.specs.Option.{option_or}
-use Rattle.std.proofs.lemmas.List.{append-nil, drop-map, drop_all, take-append-le, take_all}
+use Rattle.std.proofs.lemmas.List.{drop-map, take-append-le}
 use Rattle.mysql_wire.specs.Stream.{framings}
 use Rattle.mysql_wire.specs.Stream.Numbering.{EachFromZero}
 use Rattle.mysql_values.specs.AsSql.{FitsFields}
@@ -10,7 +10,7 @@ use Rattle.mysql_values.specs.Value.{Value}
 use Rattle.mysql_command_rules.specs.declared.refusal.Refusal.{Refusal}
 use Rattle.mysql_command_rules.specs.Cause.{first_of_sets, set_cause}
 use Rattle.mysql_command_rules.specs.Sets.{Given}
-use Rattle.mysql_send.specs.Executions.{AppendsExecution, AppendsMore, Limits, RefusesExecution, RefusesMore, execution_payloads, whole_execution}
+use Rattle.mysql_send.specs.Executions.{AppendsExecution, Limits, RefusesExecution, RefusesMore, execution_payloads, whole_execution}
 use Rattle.mysql_send.proofs.Lists.{first_is, framings-append, front_length}
 
 -- the values' numbers fit their fields
@@ -35,15 +35,6 @@ pub record MoreSent (id : ℕ) (limits : Limits) (first : ℕ) (sets : List (Lis
   pub fit : AllByRecursion Fit (drop i sets) → AllByRecursion Fit sets
   pub bytes : out ++ framed id (drop i sets) ≡ old ++ framed id sets
   pub kept : take (length old) out ≡ old
-
--- before the first set none was sent
-pub none_sent : (id : ℕ) (limits : Limits) (first : ℕ) (sets : List (List Value)) (old : List ℕ) → MoreSent id limits first sets old old 0
-none_sent id limits first sets old = record {
-  causes = ap (λ (number : ℕ). causes_from id limits number sets) (omega arith);
-  fit = λ each. each;
-  bytes = refl;
-  kept = take_all (length old) old (omega arith);
-}
 
 -- the lists of values of sets, from one of them on
 pub values_here : (sets : List (Vec Value Global)) (i : ℕ) (set : Vec Value Global) → drop i sets ≡ set ∷ drop (i + 1) sets
@@ -79,13 +70,3 @@ module _ (id : ℕ) (limits : Limits) (first : ℕ) (sets : List (List Value)) (
     pub refused_at : (refusal : Refusal) → RefusesExecution id limits (first + i) set refusal → RefusesMore id limits first sets refusal
     refused_at refusal (inl memory) = inl memory
     refused_at refusal (inr this) = inr (from_here ∙ first_is _ (causes_from id limits (first + (i + 1)) (drop (i + 1) sets)) refusal this)
-
-  -- all sets were sent
-  pub all_sent : length sets ≤ i → AppendsMore id limits first sets old out
-  all_sent passed =
-      let left : drop i sets ≡ [] = drop_all i sets passed in
-      record {
-        none = sym s.causes ∙ ap (λ l. causes_from id limits (first + i) l) left;
-        fit = s.fit (subst (λ (l : List (List Value)). AllByRecursion Fit l) (sym left) tt);
-        appended = sym (append-nil out) ∙ ap (λ l. out ++ framed id l) (sym left) ∙ s.bytes;
-      }

@@ -2,7 +2,7 @@
 use Rattle.std.proofs.Common.{◌≡◌, ℕ, ◌≤◌, Bool, true, false, List, [], ◌∷◌, ◌++◌, length, map, take, Result, Ok, Err, refl, sym, ◌∙◌, ap, append_assoc, Bor}
 use Rattle.std.specs.Prelude.{OnOk}
 use Rattle.std.specs.List.{flat_map}
-use Rattle.std.proofs.lemmas.List.{append-nil, map-append, take_all, take_at}
+use Rattle.std.proofs.lemmas.List.{append-nil, map-append, take_all}
 use Rattle.std.proofs.lemmas.List.Folds.{flat_map-map}
 use Rattle.std.proofs.lemmas.Grind.{flat_map-append}
 use Rattle.byteorder.specs.Endian.{little_bytes}
@@ -16,10 +16,6 @@ use Rattle.mysql_send.specs.BulkSets.{front_bytes, request_flags, row_bytes, typ
 -- all elements are passed
 pub passed : {X : Type 0} (f : X → List ℕ) (xs : List X) (i : ℕ) (old new : List ℕ) → length xs ≤ i → new ≡ old ++ flat_map f (take i xs) → new ≡ old ++ flat_map f xs
 passed f xs i old new le put = put ∙ ap (λ l. old ++ flat_map f l) (take_all i xs le)
-
--- what stood before what is appended stays
-pub stays_before : (old more new : List ℕ) → new ≡ old ++ more → take (length old) new ≡ old
-stays_before old more new put = ap (λ l. take (length old) l) put ∙ take_at old more (length old) refl
 
 -- bytes of the values behind references
 pub over_refs : (f : Value → List ℕ) (values : List (Bor Value)) (old new : List ℕ) → new ≡ old ++ flat_map (λ value. f value.now) values → new ≡ old ++ flat_map f (row_in values)
@@ -59,15 +55,6 @@ command_is id typed firsts rows =
     ∙ ap (λ l. (250 ∷ []) ++ l) (append_assoc (little_bytes 4 id) (flags ++ types) values
     ∙ ap (λ l. little_bytes 4 id ++ l) (append_assoc flags types values ∙ ap (λ l. flags ++ (types ++ l)) (sym (all_bytes rows) ∙ sym (append-nil (flat_map param_value_bytes (map param_value_of (all_values rows)))))))
     ∙ sym (command_parts id typed firsts rows)
-
--- what stands before the rows was appended part by part
-pub put_before : {E : Type 0} (answer : Result (Unit {0}) E) (id : ℕ) (typed : Bool) (firsts : List Value) (old one two new : List ℕ) →
-    one ≡ old ++ 250 ∷ [] → two ≡ one ++ little_bytes 4 id → OnOk answer (new ≡ two ++ (little_bytes 2 (request_flags (typing_of typed)) ++ flat_map param_type_bytes (types_by typed firsts))) →
-    OnOk answer (new ≡ old ++ front_bytes id typed firsts)
-put_before (Err e) id typed firsts old one two new is_one is_two put = tt
-put_before (Ok done) id typed firsts old one two new is_one is_two put =
-    let rest = little_bytes 2 (request_flags (typing_of typed)) ++ flat_map param_type_bytes (types_by typed firsts) in
-    put ∙ ap (λ l. l ++ rest) is_two ∙ append_assoc one (little_bytes 4 id) rest ∙ ap (λ l. l ++ (little_bytes 4 id ++ rest)) is_one ∙ append_assoc old (250 ∷ []) (little_bytes 4 id ++ rest)
 
 -- a request whose rows were appended behind what stands before them
 pub put_whole : {E : Type 0} (answer : Result (Unit {0}) E) (id : ℕ) (typed : Bool) (firsts : List Value) (rows : List Row) (old front new : List ℕ) →

@@ -85,10 +85,6 @@ pub record RowsSoFar (names : List (List ℕ)) (limits : Limits) (sets : List Pa
   pub causes : (others : List Given) → first_of_sets (set_cause no_command limits.places limits.bytes) 0 (map (given_by names) sets ++ others) ≡ first_of_sets (set_cause no_command limits.places limits.bytes) i (map (given_by names) (drop i sets) ++ others)
   pub fit : AllByRecursion Fit rows
 
--- before the first set
-pub no_rows : (names : List (List ℕ)) (limits : Limits) (sets : List Params) → RowsSoFar names limits sets [] 0
-no_rows names limits sets = record { gives = refl; causes = λ others. refl; fit = tt }
-
 module _ (names : List (List ℕ)) (limits : Limits) (sets : List Params) (rows : List Row) (i : ℕ) (s : RowsSoFar names limits sets rows i) where
   module _ (params : Params) (here : drop i sets ≡ params ∷ drop (i + 1) sets) where
     -- the first cause from this set on

@@ -3,7 +3,6 @@ use Rattle.std.proofs.Common.{◌≡◌, ◌==◌, ◌⊎◌, ℕ, ◌+◌, ◌-
 use Rattle.std.specs.Prelude.{IfErr, OnOk, Vec}
 use Rattle.std.specs.declared.alloc.Global.{Global}
 use Rattle.std.specs.Option.{option_or}
-use Rattle.std.specs.Result.{result_map_both}
 use Rattle.std.proofs.lemmas.Bool.{eqb-true, le-ltb, lt-ltb}
 use Rattle.std.proofs.lemmas.List.{append-nil, map-id, take_at}
 use Rattle.std.proofs.Math.Seq.{drop-append-add}
@@ -14,21 +13,19 @@ use Rattle.mysql_values.specs.Sql.{Sql}
 use Rattle.mysql_values.specs.Laws.{OneTokens}
 use Rattle.mysql_values.specs.Params.{values_over}
 use Rattle.mysql_values.specs.Parsed.{Parsed, names_of}
-use Rattle.mysql_values.specs.Queries.{HasMixed, is_mixed, places_from}
+use Rattle.mysql_values.specs.Queries.{is_mixed, places_from}
 use Rattle.mysql_values.specs.Tokens.{HasTokens}
 use Rattle.mysql_values.specs.Value.{Value}
 use Rattle.mysql_values.specs.declared.params.Params.{Params}
 use Rattle.mysql_values.specs.declared.params.Params.TheVariants.{Positional}
-use Rattle.mysql_values.specs.declared.params.ParamsError.{ParamsError}
 use Rattle.mysql_values.specs.declared.params.ParamsError.TheVariants as params_error
 use Rattle.mysql_values.specs.declared.params.SetError.{SetError}
 use Rattle.mysql_values.specs.declared.params.SetError.TheVariants as set_error
 use Rattle.mysql_receive.specs.Query.{Statement, statement_of}
 use Rattle.mysql_command_rules.specs.declared.refusal.Refusal.{Refusal}
 use Rattle.mysql_command_rules.specs.declared.refusal.Refusal.TheVariants as refusals
-use Rattle.mysql_command_rules.specs.declared.road.Road.{Road}
-use Rattle.mysql_command_rules.specs.declared.road.Road.TheVariants.{Text, Execute, Bulk}
-use Rattle.mysql_command_rules.specs.Cause.{cause_if, first_of_sets, max_places, prepare_cause, query_cause, set_cause}
+use Rattle.mysql_command_rules.specs.declared.road.Road.TheVariants.{Execute}
+use Rattle.mysql_command_rules.specs.Cause.{cause_if, first_of_sets, max_places, prepare_cause, set_cause}
 use Rattle.mysql_command_rules.specs.Commands.{prepare_command}
 use Rattle.mysql_command_rules.specs.InTurn.{SentInTurn}
 use Rattle.mysql_command_rules.specs.MadeSets.{IsSetAt}
@@ -37,35 +34,11 @@ use Rattle.mysql_command_rules.specs.Reading.{SentReadable}
 use Rattle.mysql_command_rules.specs.Sending.{RefusesGiven}
 use Rattle.mysql_command_rules.specs.Sent.{as_execution, payloads_of}
 use Rattle.mysql_command_rules.specs.Sets.{Given, all_given_in_places, given_by}
-use Rattle.mysql_send.specs.Executions.{AppendsExecution, AppendsMore, RefusesExecution, RefusesMore, execution_payloads, refusal_of, whole_execution}
+use Rattle.mysql_send.specs.Executions.{AppendsExecution, AppendsMore, RefusesExecution, RefusesMore, execution_payloads, whole_execution}
 use Rattle.mysql_send.specs.Laws.{FurtherSetsAreSent}
-use Rattle.mysql_send.specs.Making.{IsNotMade}
 use Rattle.mysql_send.specs.Statement.{AppendsPrepare, IsStatement, RefusesPrepare}
 use Rattle.mysql_send.proofs.FurtherSets.{behind_pieces}
-use Rattle.mysql_send.proofs.Lists.{first_is, gives_values, on_err, on_ok}
-
--- ---- none is made
-
-mixed_first : (mixed : Bool) (rest : Option Refusal) → mixed ≡ true → option_or (cause_if mixed refusals.Mixed) rest ≡ Some refusals.Mixed
-mixed_first mixed rest both = rw both refl
-
--- both kinds of placeholder are the first cause by each road
-mixed_cause : (road : Road) (query : Sql) (tokens : List (List ℕ)) (id room : ℕ) → is_mixed (places_from query.text 0 tokens) ≡ true → query_cause road (statement_of query tokens id) room ≡ Some refusals.Mixed
-mixed_cause Text query tokens id room both = mixed_first (is_mixed (places_from query.text 0 tokens)) _ both
-mixed_cause Execute query tokens id room both = mixed_first (is_mixed (places_from query.text 0 tokens)) _ both
-mixed_cause Bulk query tokens id room both =
-    first_is (prepare_cause (statement_of query tokens id).query room) _ refusals.Mixed (mixed_first (is_mixed (places_from query.text 0 tokens)) _ both)
-
--- where both occur none is made
-pub both_kinds : SentInTurn → (query : Sql) (id : ℕ) → HasMixed query true → IsNotMade query id refusals.Mixed
-both_kinds law query id mixed =
-    let tokens : List (List ℕ) = mixed.1.0 in
-    let both : is_mixed (places_from query.text 0 tokens) ≡ true = sym (mixed.2 ∙ ap is_mixed mixed.1.2) in
-    record {
-      mixed = inr (refl, mixed);
-      prepare = λ room. inr (tokens, mixed.1.1, mixed_cause Execute query tokens id room both);
-      refused = λ road sets limit. law.refused road query sets id limit refusals.Mixed tokens mixed.1.1 (mixed_cause road query tokens id (limit - 4) both);
-    }
+use Rattle.mysql_send.proofs.Lists.{gives_values, on_err, on_ok}
 
 -- ---- its prepare
 
@@ -73,11 +46,6 @@ both_kinds law query id mixed =
 prepare_none : (mixed many long : Bool) → mixed ≡ false → many ≡ false → long ≡ false →
     option_or (cause_if mixed refusals.Mixed) (option_or (cause_if many refusals.TooManyPlaces) (option_or (cause_if long refusals.PrepareTooLarge) None)) ≡ None
 prepare_none mixed many long one few short = rw (one, few, short) refl
-
--- too many placeholders are the first cause where all are of one kind
-too_many_cause : (mixed many : Bool) (rest : Option Refusal) → mixed ≡ false → many ≡ true →
-    option_or (cause_if mixed refusals.Mixed) (option_or (cause_if many refusals.TooManyPlaces) rest) ≡ Some refusals.TooManyPlaces
-too_many_cause mixed many rest one full = rw (one, full) refl
 
 -- the length of the prepare is, where they are few enough
 too_long_cause : (mixed many long : Bool) (rest : Option Refusal) → mixed ≡ false → many ≡ false → long ≡ true →
@@ -100,16 +68,6 @@ framed_prepare parsed old mid more new start at room put framed =
 module _ (query : Sql) (parsed : Parsed) (places : ℕ) (s : IsStatement query parsed places) (id room : ℕ) where
   abbrev statement : Statement
   statement = statement_of query s.tokens id
-
-  -- more placeholders than a statement can have
-  pub too_many : max_places < places → RefusesPrepare query id room refusals.TooManyPlaces
-  too_many over =
-      inr (
-        s.tokens,
-        s.has,
-        too_many_cause (is_mixed (places_from query.text 0 s.tokens)) (nat_lt max_places (length (places_from query.text 0 s.tokens))) _ s.one_kind
-            (subst (λ (n : ℕ). nat_lt max_places n ≡ true) s.count (lt-ltb max_places places over)),
-      )
 
   module _ (few : places ≤ max_places) where
     few_enough : nat_lt max_places (length (places_from query.text 0 s.tokens)) ≡ false
@@ -135,11 +93,6 @@ module _ (query : Sql) (parsed : Parsed) (places : ℕ) (s : IsStatement query p
           (subst (λ (l : List ℕ). nat_lt room (length (prepare_command l)) ≡ false) s.query_is (le-ltb room (length (prepare_command parsed.query)) (omega (arith, short)))),
       framed_prepare parsed.query old mid more new start at front put framed ∙ ap (λ l. old ++ framing (prepare_command l) 0) s.query_is ∙ ap (λ l. old ++ l) (sym (append-nil _)),
     )
-
--- why it isn't appended is why no sets are sent
-pub prepare_refused : SentInTurn → (query : Sql) (sets : List (List ℕ) → List Given) (id limit : ℕ) (refusal : Refusal) → RefusesPrepare query id (limit - 4) refusal → RefusesGiven Execute query sets id limit refusal
-prepare_refused law query sets id limit refusal (inl memory) = inl memory
-prepare_refused law query sets id limit refusal (inr why) = law.refused Execute query sets id limit refusal why.0 why.1 why.2
 
 -- it begins the stream of its sets
 pub begins : SentInTurn → (query : Sql) (sets : List (List ℕ) → List Given) (id limit : ℕ) (old new : List ℕ) → AppendsPrepare query id (limit - 4) old new → SentReadable Execute query (first_sets 0 sets) id limit old new
@@ -201,21 +154,6 @@ module _ (query : Sql) (parsed : Parsed) (places : ℕ) (s : IsStatement query p
         → IfErr answer (RefusesOne Execute query id limit set given)
     one_not_put answer number count one many why =
         on_err answer (λ refusal this. one_refused refusal (said_over (λ n count. RefusesExecution n (record { places = count; bytes = limit - 4 }) set values refusal) number id count places one many this)) why
-
-  -- a set that gives none
-  pub none_given : (error : ParamsError) → (error ≡ params_error.Memory) ⊎ (values_over parsed.names params ≡ Err error) → RefusesOne Execute query id limit set given (refusal_of set error)
-  none_given error (inl memory) = inl (ap (λ e. refusal_of set e) memory)
-  none_given error (inr over) = by error refl
-    where
-      refused_by : (e : ParamsError) → error ≡ e → set_cause (whole_execution id) (length (places_from query.text 0 s.tokens)) (limit - 4) set (given (names_of s.tokens)) ≡ Some (refusals.Params set (set_error.Params e))
-      refused_by e is =
-          let names : values_over (names_of s.tokens) params ≡ Err e = ap (λ names. values_over names params) (sym s.names_are) ∙ over ∙ ap (λ (x : ParamsError). Err x) is in
-          ap (λ (o : Result (List Value) ParamsError). set_cause (whole_execution id) (length (places_from query.text 0 s.tokens)) (limit - 4) set (result_map_both (λ values. values) (λ error. set_error.Params error) o)) names
-
-      by : (e : ParamsError) → error ≡ e → RefusesOne Execute query id limit set given (refusal_of set e)
-      by params_error.Memory is = inl refl
-      by (params_error.Missing name) is = inr (s.tokens, s.has, refused_by (params_error.Missing name) is)
-      by (params_error.Confusion confusion) is = inr (s.tokens, s.has, refused_by (params_error.Confusion confusion) is)
 
 -- ---- a set that is not made
 

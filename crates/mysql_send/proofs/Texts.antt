@@ -62,11 +62,6 @@ not_made law query sets id limit number old out s refusal (inr why) =
 
 -- ---- placeholders
 
--- then one that doesn't stand alone
-pub not_alone_cause : (query : Sql) (places : List Place) (place : ℕ) → HasPlaces query places → is_mixed places ≡ false → first_not_alone places ≡ Some place
-    → (tokens : List (List ℕ)) × HasTokens query.mode query.text tokens × (places_cause (places_from query.text 0 tokens) ≡ Some (refusals.NotAlone place))
-not_alone_cause query places place has one apart = (has.0, has.1, ap (λ p. places_cause p) (sym has.2) ∙ rw (one, apart) refl)
-
 -- and else there is none
 pub no_cause : (query : Sql) (places : List Place) → HasPlaces query places → is_mixed places ≡ false → first_not_alone places ≡ None
     → (tokens : List (List ℕ)) × HasTokens query.mode query.text tokens × (places_cause (places_from query.text 0 tokens) ≡ None)

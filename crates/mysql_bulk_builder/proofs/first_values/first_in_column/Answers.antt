@@ -1,17 +1,11 @@
-use Rattle.std.proofs.Common.{◌<◌, [], length, get_or, sym, ◌∙◌, ap, arith, Bor, List}
+use Rattle.std.proofs.Common.{◌<◌, [], length, sym, ◌∙◌, ap, arith, Bor, List}
 use Rattle.std.proofs.lemmas.List.{length-map}
-use Rattle.std.proofs.lemmas.List.Elements.{All-get_or}
 use Rattle.mysql_cells.specs.declared.value.Value.{Value}
 use Rattle.mysql_bulk_builder.specs.RowLists.{row_in, rows_in}
 use Rattle.mysql_bulk_builder.specs.ValueTypes.{is_null}
 use Rattle.mysql_bulk_builder.proofs.FirstValues.{first_found, first_passes}
 use Rattle.mysql_bulk_builder.proofs.Rows.{row_at}
 use Rattle.mysql_bulk_builder.proofs.first_values.first_in_column.Goals as goal
-
-pub value_in-value-requires : goal.value_in-value-requires
-value_in-value-requires c =
-    let wide = All-get_or (λ (row : Bor (List (Bor Value))). c.args.column < length row.now) c.args.rows.now c.loop-row.row-index c.row-item.result c.loop-row-test.true c.requires.within in
-    omega (arith, wide, ap (λ (row : Bor (List (Bor Value))). length row.now) c.row-item.is)
 
 pub returns-then-not-is_null : goal.returns-then-not-is_null
 returns-then-not-is_null c =

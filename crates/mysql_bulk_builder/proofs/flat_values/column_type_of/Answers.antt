@@ -1,9 +1,5 @@
-use Rattle.std.proofs.Common.{◌∙◌}
-use Rattle.mysql_bulk_builder.proofs.Columns.{inside, no_rows, one_more_row}
+use Rattle.mysql_bulk_builder.proofs.Columns.{inside, one_more_row}
 use Rattle.mysql_bulk_builder.proofs.flat_values.column_type_of.Goals as goal
-
-pub loop-row-init : goal.loop-row-init
-loop-row-init c = c.from_value-found.ensures ∙ no_rows
 
 pub loop-row-preserved : goal.loop-row-preserved
 loop-row-preserved c =

@@ -1,12 +1,9 @@
 use Rattle.std.proofs.Common.{true, false, ◌-◌, length, length-drop, take, drop, ap, arith}
 use Rattle.std.proofs.lemmas.Grind.{common_steps}
 use Rattle.std.proofs.lemmas.List.{take_rest}
-use Rattle.mysql_digests.proofs.Reading.{come_all, come_first, come_on}
+use Rattle.mysql_digests.proofs.Reading.{come_all, come_on}
 use Rattle.mysql_digests.proofs.digests.digest.Goals as goal
 use Rattle.mysql_digests.proofs.digests.digest.Goals.{then-not-leaves_out+in_ok-add, else-not-leaves_out}
-
-pub loop-at-init : goal.loop-at-init
-loop-at-init c = record { in_range = omega arith; come = come_first c.args.mode c.args.text.now c.new-pieces.result c.new-pieces.ensures }
 
 pub loop-at-preserved : goal.loop-at-preserved
 loop-at-preserved c =

@@ -2,11 +2,8 @@ use Rattle.std.proofs.Common.{◌++◌, List, ℕ, ap, ◌∙◌}
 use Rattle.std.specs.List.{flat_map}
 use Rattle.mysql_executions.specs.Views.{types_by, types_of}
 use Rattle.mysql_execution_writer.specs.Bulks.{row_bytes}
-use Rattle.mysql_execution_writer.proofs.Loops.{flat_done, flat_goes_on, flat_of_map}
+use Rattle.mysql_execution_writer.proofs.Loops.{flat_done, flat_of_map}
 use Rattle.mysql_execution_writer.proofs.bulk.put_rows.Goals as goal
-
-pub loop-row-preserved : goal.loop-row-preserved
-loop-row-preserved c = flat_goes_on (λ row. row_bytes (types_by (types_of c.args.own.now) c.args.s.now.types) row.items) c.args.rows.now c.loop-row.row-index c.loop-row.out.items (c.args.out.now.items ++ flat_map (λ row. row_bytes (types_by (types_of c.args.own.now) c.args.s.now.types) row.items) c.args.rows.now) c.loop-row.invariant c.row-item.result c.put_row.new.out.items c.loop-row-test.true c.row-item.is (c.in_ok-put_row.ensures ∙ ap (λ l. c.loop-row.out.items ++ row_bytes (types_by (types_of c.args.own.now) c.args.s.now.types) l) c.deref.ensures.value)
 
 pub returns : goal.returns
 returns c = flat_done (λ row. row_bytes (types_by (types_of c.args.own.now) c.args.s.now.types) row.items) c.args.rows.now c.loop-row.row-index c.loop-row.out.items (c.args.out.now.items ++ flat_map (λ row. row_bytes (types_by (types_of c.args.own.now) c.args.s.now.types) row.items) c.args.rows.now) c.loop-row.invariant c.loop-row-test.false ∙ ap (λ (l : List ℕ). c.args.out.now.items ++ l) (flat_of_map (row_bytes (types_by (types_of c.args.own.now) c.args.s.now.types)) (λ row. row.items) c.args.rows.now)

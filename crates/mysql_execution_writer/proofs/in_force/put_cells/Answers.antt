@@ -2,7 +2,7 @@ use Rattle.std.proofs.Common.{◌≡◌, ◌≤◌, ◌+◌, ◌++◌, [], ◌�
 use Rattle.std.proofs.lemmas.List.{drop_all}
 use Rattle.mysql_execution_writer.specs.Cells.{are_parameters, as_read, parameters_bytes}
 use Rattle.mysql_execution_writer.proofs.Begins.{begins_more}
-use Rattle.mysql_execution_writer.proofs.InForce.{own_done, own_goes_on}
+use Rattle.mysql_execution_writer.proofs.InForce.{own_goes_on}
 use Rattle.mysql_execution_writer.proofs.Loops.{at_place, fit_ends, fit_goes_on, parameters_done, parameters_go_on}
 use Rattle.mysql_execution_writer.proofs.in_force.put_cells.Goals as goal
 
@@ -33,11 +33,6 @@ returns-clause-fits c =
     sym (fit_ends [] c.loop-place.place types values (are_parameters [] 0 c.args.types.now c.args.values.now)
     (drop_all c.loop-place.place c.args.types.now all) (drop_all c.loop-place.place c.args.values.now c.loop-place-test.false)
     c.loop-place.invariant.fit)
-
-pub returns-clause-own : goal.returns-clause-own
-returns-clause-own c =
-    own_done (map as_read c.args.values.now ≡ c.args.values.now) (drop c.loop-place.place c.args.values.now)
-    (drop_all c.loop-place.place c.args.values.now c.loop-place-test.false) c.loop-place.invariant.own
 
 pub returns-clause-ok : goal.returns-clause-ok
 returns-clause-ok c =

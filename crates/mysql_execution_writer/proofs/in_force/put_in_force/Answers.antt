@@ -1,18 +1,6 @@
-use Rattle.std.proofs.Common.{◌≡◌, length, ap, sym, ◌∙◌, arith, Vec, ℕ, Global}
+use Rattle.std.proofs.Common.{◌≡◌, ap, sym, ◌∙◌, Vec, ℕ, Global}
 use Rattle.mysql_execution_writer.proofs.InForce.{bytes, can, own}
 use Rattle.mysql_execution_writer.proofs.in_force.put_in_force.Goals as goal
-
-pub put_parts-put-requires-clause-few : goal.put_parts-put-requires-clause-few
-put_parts-put-requires-clause-few c =
-    let fits = c.fits_types.ensures c.if-not-fits_types.false in
-    let same : length c.args.values.now ≡ c.count-count.result = fits.3 ∙ sym c.count-count.ensures in
-    let small = c.count-count.type_inv in
-    omega arith
-
-pub put_parts-put-requires-clause-same : goal.put_parts-put-requires-clause-same
-put_parts-put-requires-clause-same c =
-    let fits = c.fits_types.ensures c.if-not-fits_types.false in
-    rw (c.types.ensures) (fits.2 ∙ sym fits.3)
 
 pub returns-in-Ok : goal.returns-in-Ok
 returns-in-Ok c =

@@ -1,17 +1,10 @@
-use Rattle.std.proofs.Common.{◌≡◌, ◌≤◌, ◌+◌, Bool, List, [], ◌∷◌, ◌++◌, length, drop, sym, ap, ◌∙◌, append_assoc, append-nil, arith}
+use Rattle.std.proofs.Common.{◌≤◌, ◌+◌, Bool, List, ◌++◌, length, sym, ap, ◌∙◌, append-nil, arith}
 use Rattle.std.proofs.lemmas.List.{drop_all}
 use Rattle.mysql_executions.specs.Unclear.{marks_from}
 use Rattle.mysql_executions.specs.Views.{types_by, types_of}
 use Rattle.mysql_executions.specs.declared.types.ParameterType.{ParameterType}
 use Rattle.mysql_executions.proofs.CellsInTurn.{length_marks}
 use Rattle.mysql_executions.proofs.unclear.read_marks.Goals as goal
-
-pub loop-place-preserved : goal.loop-place-preserved
-loop-place-preserved c =
-    let all = marks_from c.args.s.now.long_data 0 c.args.s.now.types (types_by (types_of c.args.own.now) c.args.s.now.types) in
-    let marks = c.loop-place.marks.items in
-    let e : c.push.new.self.items ≡ marks ++ c.is_unclear_data.result ∷ [] = c.in_ok-push.ensures.items in
-    rw e (c.loop-place.invariant ∙ ap (λ (later : List Bool). marks ++ later) c.is_unclear_data.ensures ∙ sym (append_assoc marks (c.is_unclear_data.result ∷ []) (drop (c.loop-place.place + 1) all)))
 
 pub returns : goal.returns
 returns c =

@@ -1,7 +1,5 @@
-use Rattle.std.proofs.Common.{ℕ, List, ap, ◌∙◌}
-use Rattle.std.specs.BTreeMap.{BTreeMap, insert_entry}
-use Rattle.std.specs.Ordering.{nat_cmp}
-use Rattle.mysql_executions.proofs.Kept.{more_alone, more_behind, on_err, on_ok, stays_behind}
+use Rattle.std.proofs.Common.{◌∙◌}
+use Rattle.mysql_executions.proofs.Kept.{more_behind, on_err, on_ok, stays_behind}
 use Rattle.mysql_executions.proofs.waiting.add_data.Goals as goal
 
 pub returns-in-Some-clause-ok : goal.returns-in-Some-clause-ok
@@ -13,9 +11,3 @@ pub returns-in-Some-clause-err : goal.returns-in-Some-clause-err
 returns-in-Some-clause-err c =
     on_err c.append.result (λ stays. (c.get_mut.follows.holds c.append.new.held).0
     ∙ stays_behind c.args.waiting.now.entries c.args.place c.in-Some.held.now c.append.new.held c.in-Some.ensures.value stays) c.append.ensures.err
-
-pub returns-in_ok-insert-in-None-clause-ok : goal.returns-in_ok-insert-in-None-clause-ok
-returns-in_ok-insert-in-None-clause-ok c =
-    c.in_ok-insert-in-None.ensures.entries
-    ∙ ap (λ (m : BTreeMap ℕ (List ℕ)). insert_entry nat_cmp m.entries c.args.place c.in_ok-copied-in-None.copied) c.get_mut.follows.holds-at-none
-    ∙ more_alone c.args.waiting.now.entries c.args.place c.args.bytes.now c.in_ok-copied-in-None.copied c.in-None.ensures.value c.in_ok-copied-in-None.ensures

@@ -1,8 +1,8 @@
-use Rattle.std.proofs.Common.{◌≡◌, ◌∙◌, ◌≢◌, ◌<◌, true, false, length, get_or, arith, sym, refl, inl, inr}
+use Rattle.std.proofs.Common.{◌≡◌, ◌∙◌, ◌≢◌, ◌<◌, true, false, length, get_or, arith, sym}
 use Rattle.std.proofs.lemmas.Bool.Decides.{nat_tests}
 use Rattle.mysql_queries.specs.Tokens.{single_quote}
-use Rattle.mysql_queries.proofs.Fronts.{no_hexadecimal, no_number, IsNoIntroduced, IsNoNull}
-use Rattle.mysql_queries.proofs.Introduced.{none_by, read_by, run_by}
+use Rattle.mysql_queries.proofs.Fronts.{no_number, IsNoIntroduced, IsNoNull}
+use Rattle.mysql_queries.proofs.Introduced.{none_by}
 use Rattle.mysql_queries.proofs.literals.literal_len.Goals as goal
 use Rattle.mysql_queries.proofs.literals.literal_len.Goals.{else-not-is_empty-via-then-not-is_empty+else-text-eq39, else-not-is_empty-via-else-not-is_empty, then-matches+in_ok-len-3+in_default-2, else-matches, in-Hexadecimal, in_default}
 
@@ -21,30 +21,3 @@ returns-in-None-read_number-clause-none c =
       ]
     ]) in
     no_number c.args.mode c.args.spelling c.args.text.now no_null no_quote (sym c.if-hex_first.ensures) c.in-None-read_number.ensures.none none
-
-pub returns-then-null_first-clause-run : goal.returns-then-null_first-clause-run
-returns-then-null_first-clause-run c = inl (c.if-null_first.ensures.0 refl).1
-
-pub returns-then-null_first-clause-content : goal.returns-then-null_first-clause-content
-returns-then-null_first-clause-content c = (c.if-null_first.ensures.0 refl).1
-
-pub returns-in-Some-2-clause-run : goal.returns-in-Some-2-clause-run
-returns-in-Some-2-clause-run c = inr (inr (inl (rw c.in-Some-2.is at c.in_ok-len-2.ensures.run)))
-
-pub returns-in-Some-2-clause-content : goal.returns-in-Some-2-clause-content
-returns-in-Some-2-clause-content c = inr (inl (rw c.in-Some-2.is at c.in_ok-len-2.ensures.content))
-
-pub returns-in-None-2-clause-none : goal.returns-in-None-2-clause-none
-returns-in-None-2-clause-none c =
-    let no_null : IsNoNull c.args.text.now = λ p. let f : false ≡ true = c.if-null_first.ensures.1 p in cc in
-    let no_quote : 0 < length c.args.text.now → get_or c.args.text.now 0 0 ≢ single_quote = λ some e. elim c.else-not-is_empty.branch [
-      | else-not-is_empty-via-then-not-is_empty+else-text-eq39 w ↦ w.if-text-eq39.false e
-      | else-not-is_empty-via-else-not-is_empty w ↦ absurd (grind (arith, nat_tests, w.if-not-is_empty.false, c.is_empty.ensures))
-    ] in
-    no_hexadecimal c.args.mode c.args.spelling c.args.text.now no_null no_quote (sym c.if-hex_first.ensures) (rw c.in-None-2.is at c.in_ok-len-2.ensures.none)
-
-pub returns-in-Some-3-clause-run : goal.returns-in-Some-3-clause-run
-returns-in-Some-3-clause-run c = inr (inr (inr (inr (run_by c.args.spelling _ _ (elim c.match-matches.branch [ in-Hexadecimal w ↦ w.in-Hexadecimal.is | in_default w ↦ absurd (let f : true ≡ false = sym c.if-matches.true ∙ w.matches-is in cc) ]) (rw c.in-Some-3.is at c.in_ok-len-3.ensures.run)))))
-
-pub returns-in-Some-3-clause-content : goal.returns-in-Some-3-clause-content
-returns-in-Some-3-clause-content c = inr (inr (read_by c.args.spelling _ _ (elim c.match-matches.branch [ in-Hexadecimal w ↦ w.in-Hexadecimal.is | in_default w ↦ absurd (let f : true ≡ false = sym c.if-matches.true ∙ w.matches-is in cc) ]) (rw c.in-Some-3.is at c.in_ok-len-3.ensures.content)))

@@ -8,12 +8,6 @@ use Rattle.mysql_queries.proofs.QueryWritten.{name_more, name_skipped}
 use Rattle.mysql_queries.proofs.named_params.names_among.Goals as goal
 use Rattle.mysql_queries.proofs.named_params.names_among.Goals.{then-place+in_ok-push, else-place}
 
-pub loop-place-init : goal.loop-place-init
-loop-place-init c = record {
-  order = (0, c.requires);
-  listed = ap (λ y. map cow_slice_items y ++ names_at c.args.query.now c.args.places.now) (sym c.new-names.ensures.items);
-}
-
 pub loop-place-preserved : goal.loop-place-preserved
 loop-place-preserved c =
     let query = c.args.query.now in

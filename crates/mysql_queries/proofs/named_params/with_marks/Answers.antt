@@ -1,15 +1,8 @@
-use Rattle.std.proofs.Common.{◌+◌, ◌++◌, [], ◌∷◌, drop, get_or, slice_range, arith, sym, ap, ◌∙◌, append_assoc}
+use Rattle.std.proofs.Common.{◌+◌, ◌++◌, [], ◌∷◌, drop, get_or, slice_range, sym, ap, ◌∙◌, append_assoc}
 use Rattle.mysql_queries.specs.Tokens.{question}
 use Rattle.mysql_queries.proofs.QuerySlices.{Next, next_in_order, no_place}
 use Rattle.mysql_queries.proofs.QueryWritten.{marked, marked_more}
 use Rattle.mysql_queries.proofs.named_params.with_marks.Goals as goal
-
-pub loop-place-init : goal.loop-place-init
-loop-place-init c = record {
-  order = c.requires;
-  in_range = omega arith;
-  written = ap (λ y. y ++ marked c.args.query.now 0 c.args.places.now) (sym c.in_ok-parsed.ensures.items);
-}
 
 pub loop-place-preserved : goal.loop-place-preserved
 loop-place-preserved c =

@@ -1,9 +1,8 @@
 use Rattle.std.proofs.Common.{◌≡◌, ◌≢◌, ◌≤◌, ◌<◌, ◌^◌, [], arith, slice_range, length, refl, get_or, subst, sym, take, ◌-◌}
 use Rattle.std.proofs.lemmas.Bool.Decides.{nat_tests}
-use Rattle.std.proofs.lemmas.Int.{ints}
 use Rattle.mysql_queries.specs.Literals.{digits_value}
 use Rattle.mysql_queries.specs.Tokens.{dash}
-use Rattle.mysql_queries.proofs.Decimals.{negative_number, positive_number, negative_run, positive_run, negative_is, positive_is}
+use Rattle.mysql_queries.proofs.Decimals.{negative_number, positive_number}
 use Rattle.mysql_queries.proofs.numbers.read_number.Goals as goal
 use Rattle.mysql_queries.proofs.numbers.read_number.Goals.{else-not-is_empty-via-then-not-is_empty+else-text-eq45, else-not-is_empty-via-else-not-is_empty}
 
@@ -41,17 +40,3 @@ returns-in_default-number_of-clause-none c run rest z j r k =
     let zero_off : c.digits_end-end-else-not-is_empty.result - 0 ≡ c.digits_end-end-else-not-is_empty.result = omega arith in
     let m : 2 ^ 64 ≤ digits_value (slice_range c.args.text.now 0 c.digits_end-end-else-not-is_empty.result) = subst (λ n. 2 ^ 64 ≤ digits_value (take n c.args.text.now)) (sym zero_off) c.in_default-number_of.ensures.large in
     omega (arith, (positive_number c.args.text.now c.digits_end-end-else-not-is_empty.result no_dash c.digits_end-end-else-not-is_empty.ensures.each c.digits_end-end-else-not-is_empty.ensures.ends run rest z j r k).1, m)
-
-pub returns-else-n-clause-run : goal.returns-else-n-clause-run
-returns-else-n-clause-run c = negative_run c.args.text.now c.digits_end-end.result (omega arith) c.if-text-eq45.true c.digits_end-end.ensures.order c.requires c.digits_end-end.ensures.each c.digits_end-end.ensures.ends
-
-pub returns-else-n-clause-number : goal.returns-else-n-clause-number
-returns-else-n-clause-number c =
-    negative_is c.args.text.now c.digits_end-end.result c.in-Some.n _ (omega arith) c.if-text-eq45.true (omega arith) c.digits_end-end.ensures.in_range c.digits_end-end.ensures.each c.in-Some.ensures.value c.if-n.false (omega (arith, ints))
-
-pub returns-in-Some-number_of-clause-run : goal.returns-in-Some-number_of-clause-run
-returns-in-Some-number_of-clause-run c = positive_run c.args.text.now c.digits_end-end-else-not-is_empty.result c.requires c.digits_end-end-else-not-is_empty.ensures.each c.digits_end-end-else-not-is_empty.ensures.ends
-
-pub returns-in-Some-number_of-clause-number : goal.returns-in-Some-number_of-clause-number
-returns-in-Some-number_of-clause-number c =
-    positive_is c.args.text.now c.digits_end-end-else-not-is_empty.result c.in-Some-number_of.n _ (omega arith) c.digits_end-end-else-not-is_empty.ensures.in_range c.digits_end-end-else-not-is_empty.ensures.each c.in-Some-number_of.ensures.value (omega arith) (omega (arith, ints))

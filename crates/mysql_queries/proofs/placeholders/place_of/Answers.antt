@@ -1,18 +1,9 @@
-use Rattle.std.proofs.Common.{nat_lt, ap, sym, ◌∙◌, arith}
-use Rattle.mysql_queries.specs.PlaceKinds.{is_place_kind}
+use Rattle.std.proofs.Common.{nat_lt, sym}
 use Rattle.mysql_queries.specs.SkippedComments.{Counts}
 use Rattle.mysql_queries.specs.TokenKinds.{kind_view}
-use Rattle.mysql_queries.proofs.Counting.{counted_here, place_loose}
+use Rattle.mysql_queries.proofs.Counting.{counted_here}
 use Rattle.mysql_queries.proofs.PlaceLists.{same_place}
 use Rattle.mysql_queries.proofs.placeholders.place_of.Goals as goal
-
-pub up_to-counted-requires-clause-no_star : goal.up_to-counted-requires-clause-no_star
-up_to-counted-requires-clause-no_star c =
-    (place_loose c.args.query.now c.args.start (omega arith) (ap is_place_kind (sym c.requires.kind) ∙ c.in_ok-name.ensures.found.0)).0
-
-pub up_to-counted-requires-clause-no_slash : goal.up_to-counted-requires-clause-no_slash
-up_to-counted-requires-clause-no_slash c =
-    (place_loose c.args.query.now c.args.start (omega arith) (ap is_place_kind (sym c.requires.kind) ∙ c.in_ok-name.ensures.found.0)).1
 
 pub returns-clause-found : goal.returns-clause-found
 returns-clause-found c =

@@ -1,10 +1,8 @@
-use Rattle.std.proofs.Common.{◌≡◌, ◌+◌, ◌-◌, ◌++◌, ◌≤◌, [], length, take, drop, arith, subst, sym, ap, ◌∙◌, length-drop}
-use Rattle.std.proofs.lemmas.Result.{err_from_is_err_and}
+use Rattle.std.proofs.Common.{◌≡◌, ◌+◌, ◌-◌, ◌++◌, ◌≤◌, [], length, take, drop, arith, subst, sym, ap, ◌∙◌}
 use Rattle.mysql_queries.specs.Literals.{inside_content}
 use Rattle.mysql_queries.specs.Scanning.{part_view}
 use Rattle.mysql_queries.specs.Tokens.{inside_bytes, single_quote}
-use Rattle.mysql_queries.proofs.PlaceLists.{to_end}
-use Rattle.mysql_queries.proofs.StringParts.{StringTo, string_cut, string_first, string_more, string_on, string_open, string_read, string_run}
+use Rattle.mysql_queries.proofs.StringParts.{StringTo, string_cut, string_first, string_more, string_on, string_open}
 use Rattle.mysql_queries.proofs.strings.read_string.Goals as goal
 
 pub loop-i-init : goal.loop-i-init
@@ -42,28 +40,3 @@ returns-in-None-clause-none c = string_cut c.args.escapes c.args.text.now c.loop
 
 pub returns-clause-none : goal.returns-clause-none
 returns-clause-none c = string_open c.args.escapes c.args.text.now c.loop-i.i c.loop-i.buf.items c.loop-i.invariant.front c.loop-i-test.false
-
-pub returns-then-text-i-eq39-clause-content : goal.returns-then-text-i-eq39-clause-content
-returns-then-text-i-eq39-clause-content c = string_read c.args.escapes c.args.text.now c.loop-i.i c.loop-i.buf.items c.loop-i.invariant.front c.loop-i-test.true c.if-text-i-eq39.true
-
-pub returns-then-text-i-eq39-clause-run : goal.returns-then-text-i-eq39-clause-run
-returns-then-text-i-eq39-clause-run c = string_run c.args.escapes c.args.text.now c.loop-i.i c.loop-i.buf.items c.loop-i.invariant.front c.loop-i-test.true c.if-text-i-eq39.true c.in-None.ensures.closed
-
-pub returns-in_err-i-clause-full : goal.returns-in_err-i-clause-full
-returns-in_err-i-clause-full c =
-    let p = err_from_is_err_and c.from_residual.result c.from_residual.ensures.1 in
-    let left = ap length (to_end c.args.text.now 1) ∙ length-drop 1 c.args.text.now in
-    rw p.1 (omega (arith, c.in_err-i.ensures.full, c.clear.ensures.len, c.clear.ensures.capacity, c.requires.some, left))
-
-pub returns-in_err-push_content-in-Some-clause-full : goal.returns-in_err-push_content-in-Some-clause-full
-returns-in_err-push_content-in-Some-clause-full c =
-    let p = err_from_is_err_and c.from_residual-in_err-push_content-in-Some.result c.from_residual-in_err-push_content-in-Some.ensures.1 in
-    rw p.1 (omega (arith, c.in_err-push_content-in-Some.ensures.full, c.loop-i.invariant.room, c.loop-i.invariant.capacity, c.in-Some.ensures.part.2))
-
-pub returns-in_err-i-in-Some-clause-full : goal.returns-in_err-i-in-Some-clause-full
-returns-in_err-i-in-Some-clause-full c =
-    let p = err_from_is_err_and c.from_residual-in_err-i-in-Some.result c.from_residual-in_err-i-in-Some.ensures.1 in
-    let at = c.loop-i.i + c.part_len.result in
-    let left = ap length (to_end c.args.text.now at) ∙ length-drop at c.args.text.now in
-    let pushed = c.in_ok-push_content-in-Some.ensures in
-    rw p.1 (omega (arith, c.in_err-i-in-Some.ensures.full, pushed.len, pushed.capacity, c.part_len.ensures, c.loop-i.invariant.room, c.loop-i.invariant.capacity, c.in-Some.ensures.part.2, left))

@@ -3,7 +3,7 @@ use Rattle.mysql_queries.specs.Queries.{Slices}
 use Rattle.mysql_queries.specs.Sql.{read_by}
 use Rattle.std.specs.Cmp.Lexicographic.{same_text, other_text}
 use Rattle.mysql_queries.proofs.PlaceLists.{to_end}
-use Rattle.mysql_queries.proofs.QuerySlices.{next_in_order, next_place, no_place, no_places_left}
+use Rattle.mysql_queries.proofs.QuerySlices.{next_place, no_place, no_places_left}
 use Rattle.mysql_queries.proofs.TextReading.{ReadTo, read_none, read_more, no_piece, no_literal, last_piece, no_last_piece, sliced, unsliced, lexed_too, piece_found, piece_missing}
 use Rattle.mysql_queries.proofs.texts.read_text_in.Goals as goal
 
@@ -59,7 +59,3 @@ returns-else-eq c contents h =
     (subst (λ y. ReadTo c.args.mode c.args.spelling query places c.args.text.now c.loop-place.at y c.loop-place.contents.items c.loop-place.rest.now) (no_places_left places c.loop-place.place-index c.loop-place-test.false) c.loop-place.invariant)
     (λ e. other_text c.loop-place.rest.now _ c.if-eq.ensures (e ∙ sym (to_end query c.loop-place.at)))
     contents (unsliced (read_by c.args.mode c.args.spelling query) c.args.text.now places contents c.requires.places h)
-
-pub slice_bounds-strip_prefix-count : goal.slice_bounds-strip_prefix-count
-slice_bounds-strip_prefix-count c =
-    (next_in_order c.args.query.now c.loop-place.at c.args.places.now c.loop-place.place-index c.loop-place-test.true c.loop-place.invariant.order).from

@@ -1,4 +1,4 @@
-use Rattle.std.proofs.Common.{rules, arith, ◌≡◌, ◌<◌, ◌++◌, [], length, subst, ap, ◌∙◌, Err, refl}
+use Rattle.std.proofs.Common.{rules, arith, ◌≡◌, ◌++◌, [], subst, ap, ◌∙◌, Err, refl}
 use Rattle.std.proofs.lemmas.Result.{err_from_is_err_and}
 use Rattle.mysql_wire.specs.Incoming.{Incoming, codec_by}
 use Rattle.mysql_receive.specs.Views.{statement_view}
@@ -16,11 +16,6 @@ packets-init c =
       limit = refl;
       number = c.requires.open.number;
     }
-
-pub packets-smaller : goal.packets-smaller
-packets-smaller c =
-    let less : length c.advance.new.piece.now < length c.packets.rest.now = search rules in
-    less
 
 pub packets-preserved : goal.packets-preserved
 packets-preserved c =

@@ -1,16 +1,10 @@
-use Rattle.std.proofs.Common.{map, subst}
-use Rattle.std.specs.Prelude.{IfErr, IfOk, OnOk, false}
+use Rattle.std.proofs.Common.{subst}
+use Rattle.std.specs.Prelude.{IfErr, OnOk, false}
 use Rattle.mysql_values.specs.Queries.{HasMixed}
 use Rattle.mysql_values.specs.Sql.{read_in}
 use Rattle.mysql_receive.specs.Making.{IsReceiverError}
-use Rattle.mysql_receive.specs.Receiving.{IsReceived, audit_of}
 use Rattle.mysql_receive.proofs.Making.{is_default}
 use Rattle.mysql_receive.proofs.whole.receive.Goals as goal
-
-pub returns-clause-received : goal.returns-clause-received
-returns-clause-received c =
-    subst (λ mode. IfOk c.receive_in.result (λ audit. IsReceived (read_in mode c.args.query.now) c.args.stmt_id c.args.limit (map (λ piece. piece.now) c.args.pieces.now) (audit_of audit)))
-    (is_default c.default.result c.default.ensures) c.receive_in.ensures.received
 
 pub returns-clause-one_kind : goal.returns-clause-one_kind
 returns-clause-one_kind c =

@@ -8,9 +8,6 @@ pub overflow_add-byte : goal.overflow_add-byte
 overflow_add-byte g c =
     omega (arith, small_byte g.V.HasValue.value c.args.values.now c.loop-place.place c.loop-place.byte c.loop-place.bit c.loop-place.invariant, small_weight g.V.HasValue.value c.args.values.now c.loop-place.place c.loop-place.byte c.loop-place.bit c.loop-place.invariant)
 
-pub overflow_mul-bit : goal.overflow_mul-bit
-overflow_mul-bit g c = omega (arith, small_weight g.V.HasValue.value c.args.values.now c.loop-place.place c.loop-place.byte c.loop-place.bit c.loop-place.invariant)
-
 pub loop-place-preserved : goal.loop-place-preserved
 loop-place-preserved g c =
     next_bit g.V.HasValue.value c.args.values.now c.loop-place.place c.loop-place.byte c.loop-place.bit c.if-is_null.byte _ c.index-values-place.result c.loop-place.invariant (omega arith) (omega arith) c.index-values-place.is

@@ -1,6 +1,5 @@
-use Rattle.std.proofs.Common.{map, refl, sym, ap, ◌∙◌, subst, inl, inr}
+use Rattle.std.proofs.Common.{map, sym, ap, ◌∙◌, subst}
 use Rattle.std.specs.Cow.{cow_slice_items}
-use Rattle.std.proofs.lemmas.Result.{err_from_is_err_and}
 use Rattle.mysql_queries.specs.Queries.{IsParsed}
 use Rattle.mysql_queries.specs.Sql.{read_by_default}
 use Rattle.mysql_queries.proofs.FirstBytes.{same_number}
@@ -19,18 +18,6 @@ returns-clause-query c = elim c.if-is_empty.branch [
       (parsed_as_it_is (read_by_default c.args.query.now) c.args.places.now c.requires (sym c.in_ok-params.ensures ∙ ap (map cow_slice_items) empty)))
   | else-is_empty+in_ok-with_marks w ↦ parsed_marked (read_by_default c.args.query.now) (cow_slice_items c.if-is_empty.parsed) c.args.places.now c.requires (ap cow_slice_items w.parsed-is ∙ w.in_ok-with_marks.ensures)
 ]
-
-pub returns-in_err-params-clause-mixed : goal.returns-in_err-params-clause-mixed
-returns-in_err-params-clause-mixed c = let p = err_from_is_err_and c.from_residual.result c.from_residual.ensures.1 in rw (p.1, p.2) (inl refl)
-
-pub returns-in_err-with_marks-clause-mixed : goal.returns-in_err-with_marks-clause-mixed
-returns-in_err-with_marks-clause-mixed c = let p = err_from_is_err_and c.from_residual-in_err-with_marks.result c.from_residual-in_err-with_marks.ensures.1 in rw (p.1, p.2) (inl refl)
-
-pub returns-then-is_mixed-clause-mixed : goal.returns-then-is_mixed-clause-mixed
-returns-then-is_mixed-clause-mixed c = inr (refl, (c.args.places.now, c.requires, c.if-is_mixed.ensures))
-
-pub returns-clause-one_kind : goal.returns-clause-one_kind
-returns-clause-one_kind c = (c.args.places.now, c.requires, c.if-is_mixed.ensures)
 
 pub names_among-requires : goal.names_among-requires
 names_among-requires c = places_in_order (read_by_default c.args.query.now) c.args.places.now c.requires

@@ -3,11 +3,6 @@ use Rattle.mysql_queries.proofs.Counting.{IsMore, counts_begun, opens_in_range, 
 use Rattle.mysql_queries.proofs.skipped.Skipped.with_begun.Goals as goal
 use Rattle.mysql_queries.proofs.skipped.Skipped.with_begun.Goals.{then-open-eq0, else-open-eq0}
 
-pub open_behind-open-requires : goal.open_behind-open-requires
-open_behind-open-requires c =
-    let within : c.args.start + 3 ≤ length c.args.query.now = opens_in_range c.args.query.now c.args.start c.requires.begins in
-    omega (arith, slice_len c.args.query.now c.args.self.behind (c.args.start + 3) (omega arith) within)
-
 pub returns-clause-counts : goal.returns-clause-counts
 returns-clause-counts c = λ skipped counts.
     let query = c.args.query.now in

@@ -1,9 +1,6 @@
 use Rattle.std.proofs.Common.{◌∙◌, ap, Some, sym, arith}
-use Rattle.mysql_receive.proofs.Receiving.{fed_feed, fed_short, fed_takes, found_none, stays_on, unless_by, on_by}
+use Rattle.mysql_receive.proofs.Receiving.{fed_feed, fed_short, fed_takes, found_none, unless_by, on_by}
 use Rattle.mysql_receive.proofs.receiver.Receiver.feed.Goals as goal
-
-pub returns-in-Some-clause-goes_on : goal.returns-in-Some-clause-goes_on
-returns-in-Some-clause-goes_on c = λ _. stays_on c.args.self.now c.args.piece.now c.in-Some.fault (sym (ap (λ v. v.fault) c.self.view_is) ∙ c.in-Some.is)
 
 pub returns-in-Ok-clause-goes_on : goal.returns-in-Ok-clause-goes_on
 returns-in-Ok-clause-goes_on c =

@@ -1,8 +1,5 @@
-use Rattle.mysql_receive.proofs.Keeping.{kept_within, kept_stopped}
+use Rattle.mysql_receive.proofs.Keeping.{kept_within}
 use Rattle.mysql_receive.proofs.receiver.Receiver.kept.Goals as goal
 
 pub returns-clause-most : goal.returns-clause-most
 returns-clause-most c = kept_within c.self.inside c.args.self.now c.kept.result c.self.view_is c.self.invariant c.kept.ensures
-
-pub returns-clause-stopped : goal.returns-clause-stopped
-returns-clause-stopped c = kept_stopped c.self.inside c.args.self.now c.kept.result c.self.view_is c.self.invariant c.kept.ensures

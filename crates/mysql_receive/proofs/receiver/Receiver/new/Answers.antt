@@ -1,14 +1,10 @@
 use Rattle.std.proofs.Common.{subst}
-use Rattle.std.specs.Prelude.{IfErr, IfOk, OnOk, false}
+use Rattle.std.specs.Prelude.{IfErr, OnOk, false}
 use Rattle.mysql_values.specs.Queries.{HasMixed}
 use Rattle.mysql_values.specs.Sql.{read_in}
-use Rattle.mysql_receive.specs.Making.{IsFresh, IsReceiverError}
+use Rattle.mysql_receive.specs.Making.{IsReceiverError}
 use Rattle.mysql_receive.proofs.Making.{is_default}
 use Rattle.mysql_receive.proofs.receiver.Receiver.new.Goals as goal
-
-pub returns-clause-fresh : goal.returns-clause-fresh
-returns-clause-fresh c =
-    subst (λ mode. IfOk c.new_in.result (IsFresh (read_in mode c.args.query.now) c.args.stmt_id c.args.limit)) (is_default c.default.result c.default.ensures) c.new_in.ensures.fresh
 
 pub returns-clause-one_kind : goal.returns-clause-one_kind
 returns-clause-one_kind c =

@@ -5,53 +5,10 @@ use Rattle.std.proofs.lemmas.List.{length-map, length-replicate, take_at}
 use Rattle.mysql_values.specs.Value.{Value}
 use Rattle.mysql_bulk_builder.specs.RowLists.{row_in}
 use Rattle.mysql_command_rules.specs.Sets.{given_up_to}
-use Rattle.mysql_send.proofs.Lists.{kept_behind}
 use Rattle.mysql_send.specs.Executions.{Limits}
 use Rattle.mysql_send.specs.BulkSets.{AppendsRows, front_bytes, row_bytes}
-use Rattle.mysql_send.proofs.AtOnce.{all_appended, both_yes, finished, front_length, length_behind, room_inside, stays}
+use Rattle.mysql_send.proofs.AtOnce.{all_appended, both_yes, finished, front_length, length_behind}
 use Rattle.mysql_send.proofs.bulk.at_once.put_whole.Goals as goal
-
-pub returns-in_err-whole-clause-kept : goal.returns-in_err-whole-clause-kept
-returns-in_err-whole-clause-kept c =
-    kept_behind c.args.out.now.items (replicate (11 + 2 * c.len.result) 0) c.leave_room.new.out.items c.put_rows_of_sets.new.out.items c.in_ok-leave_room.ensures.ok c.put_rows_of_sets.ensures.kept
-
-pub returns-then-not-whole-clause-kept : goal.returns-then-not-whole-clause-kept
-returns-then-not-whole-clause-kept c =
-    kept_behind c.args.out.now.items (replicate (11 + 2 * c.len.result) 0) c.leave_room.new.out.items c.put_rows_of_sets.new.out.items c.in_ok-leave_room.ensures.ok c.put_rows_of_sets.ensures.kept
-
-pub finish-requires : goal.finish-requires
-finish-requires c =
-    let limits : Limits = record { places = c.args.statement.now.places; bytes = c.args.room } in
-    let names = (map cow_slice_items c.args.statement.now.names.now) in
-    let old = c.args.out.now.items in
-    let out = c.put_rows_of_sets.new.out.items in
-    let len : length c.put_rows_of_sets.new.firsts ≡ c.in_ok-firsts.firsts.len = omega (arith, c.put_rows_of_sets.auto.firsts, ap length c.deref_mut.ensures.value, c.in_ok-firsts.firsts.ok.0) in
-    let lent : c.deref.result.now ≡ c.put_rows_of_sets.new.firsts = c.deref.ensures.value ∙ take_at c.put_rows_of_sets.new.firsts (drop (length c.put_rows_of_sets.new.firsts) c.in_ok-firsts.firsts.items) c.in_ok-firsts.firsts.len len in
-    let a : AppendsRows limits (given_up_to c.args.sets.now None names) (row_in c.deref.result.now) c.leave_room.new.out.items out =
-    subst (λ (l : List (Bor Value)). AppendsRows limits (given_up_to c.args.sets.now None names) (row_in l) c.leave_room.new.out.items out) (sym lent) (c.in_ok-whole.ensures.ok c.if-not-whole.false) in
-    let blank : List ℕ = replicate (11 + 2 * c.len.result) 0 in
-    let rows : List ℕ = flat_map row_bytes a.rows in
-    let is_start : c.len-start.result ≡ length old = omega (arith, c.len-start.ensures, c.args.out.now.ok.0) in
-    let room : length blank ≡ 11 + 2 * length c.deref.result.now = omega (arith, length-replicate {A = ℕ} (11 + 2 * c.len.result) 0, c.len.ensures, len, ap length lent) in
-    let are : out ≡ (old ++ blank) ++ rows = a.appended ∙ ap (λ l. l ++ rows) c.in_ok-leave_room.ensures.ok in
-    room_inside c.len-start.result (11 + 2 * length c.deref.result.now) old blank rows out is_start room are
-
-pub returns-clause-kept : goal.returns-clause-kept
-returns-clause-kept c =
-    let limits : Limits = record { places = c.args.statement.now.places; bytes = c.args.room } in
-    let names = (map cow_slice_items c.args.statement.now.names.now) in
-    let old = c.args.out.now.items in
-    let out = c.put_rows_of_sets.new.out.items in
-    let len : length c.put_rows_of_sets.new.firsts ≡ c.in_ok-firsts.firsts.len = omega (arith, c.put_rows_of_sets.auto.firsts, ap length c.deref_mut.ensures.value, c.in_ok-firsts.firsts.ok.0) in
-    let lent : c.deref.result.now ≡ c.put_rows_of_sets.new.firsts = c.deref.ensures.value ∙ take_at c.put_rows_of_sets.new.firsts (drop (length c.put_rows_of_sets.new.firsts) c.in_ok-firsts.firsts.items) c.in_ok-firsts.firsts.len len in
-    let a : AppendsRows limits (given_up_to c.args.sets.now None names) (row_in c.deref.result.now) c.leave_room.new.out.items out =
-    subst (λ (l : List (Bor Value)). AppendsRows limits (given_up_to c.args.sets.now None names) (row_in l) c.leave_room.new.out.items out) (sym lent) (c.in_ok-whole.ensures.ok c.if-not-whole.false) in
-    let blank : List ℕ = replicate (11 + 2 * c.len.result) 0 in
-    let rows : List ℕ = flat_map row_bytes a.rows in
-    let is_start : c.len-start.result ≡ length old = omega (arith, c.len-start.ensures, c.args.out.now.ok.0) in
-    let room : length blank ≡ 11 + 2 * length c.deref.result.now = omega (arith, length-replicate {A = ℕ} (11 + 2 * c.len.result) 0, c.len.ensures, len, ap length lent) in
-    let are : out ≡ (old ++ blank) ++ rows = a.appended ∙ ap (λ l. l ++ rows) c.in_ok-leave_room.ensures.ok in
-    stays c.len-start.result (11 + 2 * length c.deref.result.now) old blank rows out is_start room are c.finish.new.out.items c.finish.ensures.kept
 
 pub returns-clause-ok : goal.returns-clause-ok
 returns-clause-ok c =

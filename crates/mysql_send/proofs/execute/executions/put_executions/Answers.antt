@@ -1,17 +1,11 @@
 use Rattle.std.proofs.Common.{arith}
-use Rattle.std.proofs.lemmas.List.{length-map, take_all}
+use Rattle.std.proofs.lemmas.List.{length-map}
 use Rattle.std.proofs.lemmas.Result.{err_from_is_err_and}
 use Rattle.mysql_command_rules.specs.declared.road.Road.TheVariants.{Execute}
 use Rattle.mysql_command_rules.specs.OneSet.{first_sets}
 use Rattle.mysql_command_rules.specs.Sets.{all_given, given_by}
-use Rattle.mysql_send.proofs.Statements.{begins, prepare_refused}
+use Rattle.mysql_send.proofs.Statements.{begins}
 use Rattle.mysql_send.proofs.execute.executions.put_executions.Goals as goal
-
-pub returns-in_err-put_prepare-clause-err : goal.returns-in_err-put_prepare-clause-err
-returns-in_err-put_prepare-clause-err c =
-    let p = err_from_is_err_and c.from_residual.result c.from_residual.ensures.1 in
-    let s = c.args.statement.now in
-    rw (p.1, p.2) (prepare_refused c.sent_in_turn.ensures s.sql (all_given c.args.sets.now) s.id c.args.limit c.in_err-put_prepare.field-0.0 c.in_err-put_prepare.ensures.err)
 
 pub sets-init : goal.sets-init
 sets-init c =
@@ -47,9 +41,3 @@ returns-clause-ok c =
     let s = c.args.statement.now in
     c.sent_in_turn.ensures.all Execute s.sql (all_given c.args.sets.now) s.id c.args.limit c.sets.set c.args.out.now.items c.sets.out.items
     (λ names. omega (arith, length-map c.args.sets.now (given_by names))) c.sets.invariant
-
-pub returns-clause-kept : goal.returns-clause-kept
-returns-clause-kept c =
-    let s = c.args.statement.now in
-    let out = c.sets.out.items in
-    c.sent_in_turn.ensures.kept Execute s.sql (first_sets c.sets.set (all_given c.args.sets.now)) s.id c.args.limit c.args.out.now.items out out c.sets.invariant (take_all _ out (omega arith))

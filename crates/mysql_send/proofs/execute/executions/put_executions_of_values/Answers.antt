@@ -1,16 +1,8 @@
 use Rattle.std.proofs.Common.{map, ◌-◌}
-use Rattle.std.proofs.lemmas.Result.{err_from_is_err_and}
-use Rattle.mysql_command_rules.specs.Sets.{all_given_in_places}
 use Rattle.mysql_send.specs.Executions.{AppendsMore, RefusesMore}
-use Rattle.mysql_send.proofs.Lists.{kept_on, on_err, on_ok}
-use Rattle.mysql_send.proofs.Statements.{all_refused, all_sent, prepare_refused, said_over}
+use Rattle.mysql_send.proofs.Lists.{on_err, on_ok}
+use Rattle.mysql_send.proofs.Statements.{all_refused, all_sent, said_over}
 use Rattle.mysql_send.proofs.execute.executions.put_executions_of_values.Goals as goal
-
-pub returns-in_err-put_prepare-clause-err : goal.returns-in_err-put_prepare-clause-err
-returns-in_err-put_prepare-clause-err c =
-    let p = err_from_is_err_and c.from_residual.result c.from_residual.ensures.1 in
-    let s = c.args.statement.now in
-    rw (p.1, p.2) (prepare_refused c.sent_in_turn.ensures s.sql (all_given_in_places (map (λ set. set.items) c.args.sets.now)) s.id c.args.limit c.in_err-put_prepare.field-0.0 c.in_err-put_prepare.ensures.err)
 
 pub returns-clause-ok : goal.returns-clause-ok
 returns-clause-ok c =
@@ -29,6 +21,3 @@ returns-clause-err c =
     c.in_ok-put_prepare.ensures.ok refusal
     (said_over (λ id places. RefusesMore id (record { places = places; bytes = c.args.limit - 4 }) 0 (map (λ set. set.items) c.args.sets.now) refusal) c.id.result s.id c.place_count.result s.places c.id.ensures c.place_count.ensures.count why))
     c.put_value_sets.ensures.err
-
-pub returns-clause-kept : goal.returns-clause-kept
-returns-clause-kept c = kept_on c.args.out.now.items c.put_prepare.new.out.items c.put_value_sets.new.out.items c.put_prepare.ensures.kept c.put_value_sets.ensures.kept

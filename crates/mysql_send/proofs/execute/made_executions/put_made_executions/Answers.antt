@@ -1,22 +1,10 @@
 use Rattle.std.proofs.Common.{arith}
-use Rattle.std.proofs.lemmas.List.{take_all}
 use Rattle.std.proofs.lemmas.Result.{err_from_is_err_and}
 use Rattle.mysql_command_rules.specs.declared.road.Road.TheVariants.{Execute}
 use Rattle.mysql_command_rules.specs.OneSet.{first_sets}
 use Rattle.mysql_command_rules.specs.Sets.{given_by}
-use Rattle.mysql_send.proofs.Statements.{begins, not_made, prepare_refused}
+use Rattle.mysql_send.proofs.Statements.{not_made}
 use Rattle.mysql_send.proofs.execute.made_executions.put_made_executions.Goals as goal
-
-pub returns-in_err-put_prepare-clause-err : goal.returns-in_err-put_prepare-clause-err
-returns-in_err-put_prepare-clause-err g c =
-    let p = err_from_is_err_and c.from_residual.result c.from_residual.ensures.1 in
-    rw (p.1, p.2) (prepare_refused c.sent_in_turn.ensures c.args.statement.now.sql (g.S.SetMaker.given c.args.sets.now) c.args.statement.now.id c.args.limit c.in_err-put_prepare.field-0.0 c.in_err-put_prepare.ensures.err)
-
-pub loop-number-init : goal.loop-number-init
-loop-number-init g c = (
-  c.made_in_turn.ensures.begin (g.S.SetMaker.given c.args.sets.now),
-  begins c.sent_in_turn.ensures c.args.statement.now.sql (g.S.SetMaker.given c.args.sets.now) c.args.statement.now.id c.args.limit c.args.out.now.items c.put_prepare.new.out.items c.in_ok-put_prepare.ensures.ok,
-)
 
 pub returns-in_err-params-clause-err : goal.returns-in_err-params-clause-err
 returns-in_err-params-clause-err g c =
@@ -24,12 +12,6 @@ returns-in_err-params-clause-err g c =
     rw (p.1, p.2) (
     not_made c.sent_in_turn.ensures c.args.statement.now.sql (g.S.SetMaker.given c.args.sets.now) c.args.statement.now.id c.args.limit c.loop-number.number c.args.out.now.items c.loop-number.out.items c.loop-number.invariant.1
     c.in_err-params.field-0.0 c.in_err-params.ensures.err)
-
-pub returns-in_err-params-clause-kept : goal.returns-in_err-params-clause-kept
-returns-in_err-params-clause-kept g c =
-    let out = c.loop-number.out.items in
-    c.sent_in_turn.ensures.kept Execute c.args.statement.now.sql (first_sets c.loop-number.number (g.S.SetMaker.given c.args.sets.now)) c.args.statement.now.id c.args.limit c.args.out.now.items out out
-    c.loop-number.invariant.1 (take_all _ out (omega arith))
 
 pub returns-in_err-put_set-clause-err : goal.returns-in_err-put_set-clause-err
 returns-in_err-put_set-clause-err g c =
@@ -55,13 +37,3 @@ pub returns-clause-ok : goal.returns-clause-ok
 returns-clause-ok g c =
     c.sent_in_turn.ensures.all Execute c.args.statement.now.sql (g.S.SetMaker.given c.args.sets.now) c.args.statement.now.id c.args.limit c.loop-number.number c.args.out.now.items c.loop-number.out.items
     (λ names. omega (arith, c.len-number-end.ensures names)) c.loop-number.invariant.1
-
-pub returns-clause-made : goal.returns-clause-made
-returns-clause-made g c =
-    c.made_in_turn.ensures.all (g.S.SetMaker.given c.args.sets.now) c.loop-number.number (λ names. omega (arith, c.len-number-end.ensures names)) c.loop-number.invariant.0
-
-pub returns-clause-kept : goal.returns-clause-kept
-returns-clause-kept g c =
-    let out = c.loop-number.out.items in
-    c.sent_in_turn.ensures.kept Execute c.args.statement.now.sql (first_sets c.loop-number.number (g.S.SetMaker.given c.args.sets.now)) c.args.statement.now.id c.args.limit c.args.out.now.items out out
-    c.loop-number.invariant.1 (take_all _ out (omega arith))

@@ -1,13 +1,7 @@
 use Rattle.std.proofs.Common.{List, ℕ, ◌++◌, ap, arith, length, subst, ◌∙◌}
 use Rattle.mysql_send.specs.Statement.{IsStatement, SentStatement}
-use Rattle.mysql_send.proofs.Statements.{prepared, room_and_command, too_many}
+use Rattle.mysql_send.proofs.Statements.{prepared, room_and_command}
 use Rattle.mysql_send.proofs.execute.statement.put_prepare.Goals as goal
-
-pub returns-then-place_count-gt65535-clause-err : goal.returns-then-place_count-gt65535-clause-err
-returns-then-place_count-gt65535-clause-err c =
-    let s = c.args.statement.now in
-    let is = subst (λ (s : SentStatement). IsStatement s.sql s.parsed s.places) c.statement.view_is c.statement.invariant in
-    too_many s.sql s.parsed s.places is s.id c.args.room (omega (arith, c.place_count.ensures.count))
 
 pub returns-clause-ok : goal.returns-clause-ok
 returns-clause-ok c =

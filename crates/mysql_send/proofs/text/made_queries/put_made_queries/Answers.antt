@@ -7,17 +7,6 @@ use Rattle.mysql_command_rules.specs.Sets.{given_by}
 use Rattle.mysql_send.proofs.Texts.{not_made}
 use Rattle.mysql_send.proofs.text.made_queries.put_made_queries.Goals as goal
 
-pub returns-in_err-check_places-clause-err : goal.returns-in_err-check_places-clause-err
-returns-in_err-check_places-clause-err g c =
-    let p = err_from_is_err_and c.from_residual.result c.from_residual.ensures.1 in
-    rw (p.1, p.2) (λ id. c.in_err-check_places.ensures.err (g.S.SetMaker.given c.args.sets.now) id c.args.limit)
-
-pub loop-number-init : goal.loop-number-init
-loop-number-init g c = (
-  c.made_in_turn.ensures.begin (g.S.SetMaker.given c.args.sets.now),
-  λ id. c.in_ok-check_places.ensures.begins (g.S.SetMaker.given c.args.sets.now) id c.args.limit c.args.out.now.items,
-)
-
 pub returns-in_err-params-clause-err : goal.returns-in_err-params-clause-err
 returns-in_err-params-clause-err g c =
     let p = err_from_is_err_and c.from_residual-in_err-params.result c.from_residual-in_err-params.ensures.1 in
@@ -55,10 +44,6 @@ pub returns-clause-ok : goal.returns-clause-ok
 returns-clause-ok g c = λ id.
     c.sent_in_turn.ensures.all Text c.args.query.now.sql (g.S.SetMaker.given c.args.sets.now) id c.args.limit c.loop-number.number c.args.out.now.items c.loop-number.out.items
     (λ names. omega (arith, c.len-number-end.ensures names)) (c.loop-number.invariant.1 id)
-
-pub returns-clause-made : goal.returns-clause-made
-returns-clause-made g c =
-    c.made_in_turn.ensures.all (g.S.SetMaker.given c.args.sets.now) c.loop-number.number (λ names. omega (arith, c.len-number-end.ensures names)) c.loop-number.invariant.0
 
 pub returns-clause-kept : goal.returns-clause-kept
 returns-clause-kept g c =

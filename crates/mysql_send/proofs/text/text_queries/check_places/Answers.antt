@@ -1,14 +1,8 @@
 use Rattle.std.proofs.Common.{sym, ◌∙◌}
 use Rattle.std.proofs.lemmas.List.{append-nil}
-use Rattle.mysql_command_rules.specs.declared.refusal.Refusal.TheVariants as refusals
 use Rattle.mysql_command_rules.specs.declared.road.Road.TheVariants.{Text}
-use Rattle.mysql_send.proofs.Texts.{no_cause, not_alone_cause}
+use Rattle.mysql_send.proofs.Texts.{no_cause}
 use Rattle.mysql_send.proofs.text.text_queries.check_places.Goals as goal
-
-pub returns-in-Some-clause-err : goal.returns-in-Some-clause-err
-returns-in-Some-clause-err c = λ sets id limit.
-    let why = not_alone_cause c.args.query.now.sql c.args.query.now.places c.in-Some.place c.places-places.ensures.of_text (sym c.is_mixed.ensures.mixed ∙ c.if-is_mixed.false) (sym c.first_not_alone.ensures.first ∙ c.in-Some.is) in
-    c.sent_in_turn.ensures.refused Text c.args.query.now.sql sets id limit (refusals.NotAlone c.in-Some.place) why.0 why.1 why.2
 
 pub returns-in-None-clause-begins : goal.returns-in-None-clause-begins
 returns-in-None-clause-begins c = λ sets id limit out.

@@ -6,14 +6,6 @@ use Rattle.mysql_command_rules.specs.OneSet.{first_sets}
 use Rattle.mysql_command_rules.specs.Sets.{all_given, given_by}
 use Rattle.mysql_send.proofs.text.text_queries.put_queries.Goals as goal
 
-pub returns-in_err-check_places-clause-err : goal.returns-in_err-check_places-clause-err
-returns-in_err-check_places-clause-err c =
-    let p = err_from_is_err_and c.from_residual.result c.from_residual.ensures.1 in
-    rw (p.1, p.2) (λ id. c.in_err-check_places.ensures.err (all_given c.args.sets.now) id c.args.limit)
-
-pub sets-init : goal.sets-init
-sets-init c = λ id. c.in_ok-check_places.ensures.begins (all_given c.args.sets.now) id c.args.limit c.args.out.now.items
-
 pub returns-in_err-put_query-clause-err : goal.returns-in_err-put_query-clause-err
 returns-in_err-put_query-clause-err c =
     let p = err_from_is_err_and c.from_residual-in_err-put_query.result c.from_residual-in_err-put_query.ensures.1 in

@@ -1,11 +1,6 @@
 use Rattle.std.proofs.Common.{arith}
-use Rattle.mysql_send.proofs.Lists.{kept_behind}
-use Rattle.mysql_send.proofs.Texts.{framed_query, refused, refused_behind, room_and_command}
+use Rattle.mysql_send.proofs.Texts.{framed_query, refused, refused_behind}
 use Rattle.mysql_send.proofs.text.text_queries.put_query.Goals as goal
-
-pub returns-in-Err-clause-kept : goal.returns-in-Err-clause-kept
-returns-in-Err-clause-kept c =
-    kept_behind c.args.out.now.items room_and_command c.extend_from_slice.new.self.items c.bind_query_onto.new.out.items c.in_ok-extend_from_slice.ensures.items c.bind_query_onto.ensures.kept
 
 pub returns-in-Err-clause-err : goal.returns-in-Err-clause-err
 returns-in-Err-clause-err c =

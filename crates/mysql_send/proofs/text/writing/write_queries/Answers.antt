@@ -1,21 +1,9 @@
-use Rattle.std.proofs.Common.{[], arith}
-use Rattle.std.proofs.KnownBytes.{Keeps-refl}
+use Rattle.std.proofs.Common.{arith}
 use Rattle.std.proofs.lemmas.Result.{err_from_is_err_and}
 use Rattle.mysql_command_rules.specs.declared.road.Road.TheVariants.{Text}
-use Rattle.mysql_command_rules.specs.Sets.{all_given}
 use Rattle.mysql_send.proofs.Lists.{where_put}
 use Rattle.mysql_send.proofs.Texts.{where_err, where_ok}
 use Rattle.mysql_send.proofs.text.writing.write_queries.Goals as goal
-
-pub returns-in-Err-clause-err : goal.returns-in-Err-clause-err
-returns-in-Err-clause-err g c = λ id.
-    c.written_in_turn.ensures.refused Text tt c.args.query.now.sql c.args.sets.now id c.args.limit (g.W.Write.contents c.args.to.now) (g.W.Write.contents c.args.to.now) (Keeps-refl _)
-    c.in-Err.refusal (c.in-Err.ensures.err (all_given []) id c.args.limit)
-
-pub sets-init : goal.sets-init
-sets-init g c =
-    rw c.new-buffer.ensures.items (λ id.
-    c.written_in_turn.ensures.begin Text c.args.query.now.sql c.args.sets.now id c.args.limit (g.W.Write.contents c.args.to.now) [] (c.in_default.ensures.begins (all_given c.args.sets.now) id c.args.limit []))
 
 pub returns-in_err-flush_set-clause-err : goal.returns-in_err-flush_set-clause-err
 returns-in_err-flush_set-clause-err g c =

@@ -1,4 +1,4 @@
-use Rattle.std.proofs.Common.{rules, ◌≡◌, ◌<◌, ◌++◌, ap, [], ◌∷◌, length}
+use Rattle.std.proofs.Common.{rules, ◌≡◌, ◌++◌, ap, [], ◌∷◌}
 use Rattle.mysql_wire.specs.Stream.Numbering.{OnFrom}
 use Rattle.mysql_wire.specs.Reader.{payloads_of}
 use Rattle.mysql_wire.specs.declared.codec.PacketCodecError.TheVariants.{Memory}
@@ -6,12 +6,6 @@ use Rattle.mysql_wire.specs.declared.codec.Refusal.TheVariants as refusals
 use Rattle.mysql_wire.proofs.Incoming.{takes_on, waits_on}
 use Rattle.mysql_wire.proofs.Reading.{refuses}
 use Rattle.mysql_wire.proofs.codec.feed.drain.Goals as goal
-
-pub packets-smaller : goal.packets-smaller
-packets-smaller c =
-    let left : (c.read_in_place.new.self ≡ c.packets.reader) × (c.read_in_place.new.piece ≡ c.packets.rest) = search rules in
-    let less : length c.advance.new.piece.now < length c.read_in_place.new.piece.now = search rules in
-    rw left.1 at less
 
 pub packets-preserved-in-Ok : goal.packets-preserved-in-Ok
 packets-preserved-in-Ok c =
