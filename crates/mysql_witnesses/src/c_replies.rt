@@ -6,37 +6,27 @@ ghost use Rattle.mysql_witnesses.specs.CReplies.{OpenRowsHaveNoEnd, ResultsStand
 ghost use Rattle.mysql_witnesses.specs.CReplies.{TakenResultsTakeTheReports};
 
 /// Of rows that haven't ended nothing old is shown, and no end.
-///
-/// Excluded: the length of an earlier result, and rows that ended.
 pub fn open_rows_show_nothing_old()
     ensures length { NoOldLengthStays }
     ensures end { OpenRowsHaveNoEnd }
 {}
 
 /// A change of the session's state ends behind its data.
-///
-/// Excluded: a position by the length of the data alone.
 pub fn changes_end_behind_their_data()
     ensures { ChangesEndBehindTheirData }
 {}
 
 /// Once results are taken no progress report is held.
-///
-/// Excluded: reports that pile up over a long reply.
 pub fn taken_results_take_the_reports()
     ensures { TakenResultsTakeTheReports }
 {}
 
 /// Of a number that names no kind of command no reader is made.
-///
-/// Excluded: one of a query's reply.
 pub fn no_kind_is_no_reader()
     ensures { NoKindIsNoReader }
 {}
 
 /// The result and the row of a refusal are in their order.
-///
-/// Excluded: the two exchanged.
 pub fn results_stand_before_rows()
     ensures { ResultsStandBeforeRows }
 {}

@@ -6,50 +6,36 @@ ghost use Rattle.mysql_witnesses.specs.Connections.{ExecutionsCountTheirAttribut
 ghost use Rattle.mysql_witnesses.specs.Connections.{StatesHaveFiveBytes, ToldEventsAreHeld};
 
 /// An attribute is shown with its name.
-///
-/// Excluded: a name of no bytes.
 pub fn attributes_have_names()
     ensures { AttributesHaveNames }
 {}
 
 /// Each row of a bulk execution has its own values.
-///
-/// Excluded: those of the first row.
 pub fn rows_have_their_own_values()
     ensures { RowsHaveTheirOwnValues }
 {}
 
 /// The end of a connection that failed tells the fault.
-///
-/// Excluded: 0 instead.
 pub fn ends_tell_their_fault()
     ensures { EndsTellTheirFault }
 {}
 
 /// An event that was told is held.
-///
-/// Excluded: one that is let go.
 pub fn told_events_are_held()
     ensures { ToldEventsAreHeld }
 {}
 
 /// Each side has room by its own limit.
-///
-/// Excluded: the other side's.
 pub fn each_side_has_its_room()
     ensures { EachSideHasItsRoom }
 {}
 
 /// An execution counts its attributes.
-///
-/// Excluded: none.
 pub fn executions_count_their_attributes()
     ensures { ExecutionsCountTheirAttributes }
 {}
 
 /// The SQL state of an error has five bytes.
-///
-/// Excluded: four.
 pub fn states_have_five_bytes()
     ensures { StatesHaveFiveBytes }
 {}

@@ -2,9 +2,9 @@
 //!
 //! A contract says by definitions what a call answers. Each function here has no code: its contract
 //! says that such a definition excludes an answer which a wrong body would give. So no later body
-//! can give it, as long as the contract cites the definition. There is a module for what each is
-//! about: connections, streams of commands, replies and the library for C. Nothing calls this crate;
-//! the gate proves it.
+//! can give it, as long as the contract cites the definition. Which answer is excluded stands with
+//! the definition, in `specs`. There is a module for what each is about: connections, streams of
+//! commands, replies and the library for C. Nothing calls this crate; the gate proves it.
 #![tactic(auto)]
 
 pub mod c_replies;

@@ -4,23 +4,17 @@ ghost use Rattle.mysql_witnesses.specs.Logins.{FactorsAreAgreed, FieldsStandByBo
 ghost use Rattle.mysql_witnesses.specs.Logins.{LongAnswersAreNotPut, TlsIsOfferedByBoth};
 
 /// A client's answer is read by the capabilities that both have.
-///
-/// Excluded: TLS that the server didn't offer, and a database that it doesn't read.
 pub fn answers_are_read_by_both_capabilities()
     ensures tls { TlsIsOfferedByBoth }
     ensures fields { FieldsStandByBothCapabilities }
 {}
 
 /// An answer to the scramble that its length can't say isn't put.
-///
-/// Excluded: one that is put cut.
 pub fn long_answers_are_not_put()
     ensures { LongAnswersAreNotPut }
 {}
 
 /// A request for one more plugin is read only where it was agreed on.
-///
-/// Excluded: a plugin's data that begin with 02.
 #[tactic(auto, unfolding(mysql_authentication::specs::Readings::authentication_at))]
 pub fn factors_are_agreed()
     ensures { FactorsAreAgreed }

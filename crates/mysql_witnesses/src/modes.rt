@@ -8,8 +8,6 @@ ghost use Rattle.mysql_witnesses.specs.Modes.{StatusesContradict, StatusesTellNo
 ghost use Rattle.mysql_witnesses.specs.Modes.{TrackedModesStay, TrackingMayEnd};
 
 /// The status of a reply's OK tells nothing of the mode, but that a tracking was ended.
-///
-/// Excluded: the mode that a routine left there, by which a value behind it would end its literal.
 pub fn statuses_tell_nothing()
     ensures nothing { StatusesTellNothing }
     ensures contradict { StatusesContradict }
@@ -24,8 +22,6 @@ pub fn statements_forget_the_mode()
 {}
 
 /// A mode that is tracked stays behind a statement.
-///
-/// Excluded: one that each statement takes away.
 pub fn tracked_modes_stay()
     ensures { TrackedModesStay }
 {}
@@ -41,15 +37,11 @@ pub fn told_modes_may_end()
 {}
 
 /// A command that runs no statement leaves the mode.
-///
-/// Excluded: a mode that no command leaves.
 pub fn pings_leave_the_mode()
     ensures { PingsLeaveTheMode }
 {}
 
 /// A session that begins tells its mode by the status.
-///
-/// Excluded: a mode that is never told, and one that stays tracked over a reset.
 pub fn beginnings_tell_the_mode()
     ensures logins { LoginsTellTheMode }
     ensures resets { ResetsTellTheMode }

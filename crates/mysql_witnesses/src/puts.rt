@@ -8,22 +8,16 @@ ghost use Rattle.mysql_witnesses.specs.Puts.{RowsAreDueBehindColumns, ValuesMake
 ghost use Rattle.mysql_witnesses.specs.Puts.{WhatWaitsComesFirst};
 
 /// Nothing is put before bytes that wait.
-///
-/// Excluded: an event that passes what was said before it.
 pub fn what_waits_comes_first()
     ensures { WhatWaitsComesFirst }
 {}
 
 /// It is one side's turn.
-///
-/// Excluded: the server's where the client's command comes next.
 pub fn payloads_are_of_their_side()
     ensures { PayloadsAreOfTheirSide }
 {}
 
 /// What is put has the next number.
-///
-/// Excluded: an answer that is numbered from 0, and a packet that goes on from its own number.
 #[tactic(auto, unfolding(mysql_wire::specs::Framing::framing, mysql_wire::specs::Framing::chunks))]
 pub fn what_is_put_has_the_number_due()
     ensures answers { AnswersAreNumberedOn }
@@ -39,15 +33,11 @@ pub fn refusals_change_nothing()
 {}
 
 /// An execution that is made of values is no odd one.
-///
-/// Excluded: one with another iteration count than 1, a flag without a name, or bytes behind its values.
 pub fn values_make_no_odd_execution()
     ensures { ValuesMakeNoOddExecution }
 {}
 
 /// An execution is written by what is in force of the statement that it names.
-///
-/// Excluded: the parameters of another one.
 pub fn executions_are_written_by_their_statement()
     ensures { ExecutionsAreWrittenByTheirStatement }
 {}
@@ -61,8 +51,6 @@ pub fn numbers_are_not_put_as_others()
 {}
 
 /// A row comes behind its columns alone.
-///
-/// Excluded: one that is put behind an event which was taken for a row.
 pub fn rows_are_due_behind_columns()
     ensures { RowsAreDueBehindColumns }
 {}

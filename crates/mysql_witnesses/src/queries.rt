@@ -11,8 +11,6 @@ ghost use Rattle.mysql_witnesses.specs.Queries.{PiecesFollowLiteralsAtOnce};
 use mysql_queries::laws::tokens_of_a_text;
 
 /// In ANSI_QUOTES an identifier in double quotes has no escapes: `"\" ?` has a placeholder.
-///
-/// Excluded: a reader that takes double quotes for a string's in each mode.
 pub fn identifiers_have_no_escapes()
     ensures { IdentifiersHaveNoEscapes }
 {
@@ -20,9 +18,6 @@ pub fn identifiers_have_no_escapes()
 }
 
 /// A placeholder is in a comment that a server may skip where one that began before it is still open.
-///
-/// Excluded: a placeholder behind a closed comment that counts as one in it. Excluded too: a count by
-/// the last `/*` before the placeholder alone, or by the last `/*!`.
 pub fn comments_are_counted()
     ensures closed { ClosedCommentsAreLeft }
     ensures inside { CommentsInsideCount }
@@ -32,22 +27,16 @@ pub fn comments_are_counted()
 }
 
 /// Blanks around a name of `sql_mode` don't count, and one that isn't known tells that.
-///
-/// Excluded: a mode that is told in spite of it, or of MSSQL.
 pub fn names_tell_a_mode_or_none()
     ensures { NamesTellAModeOrNone }
 {}
 
 /// The bit 200 of a status tells NO_BACKSLASH_ESCAPES, and 8000 ANSI_QUOTES.
-///
-/// Excluded: the two exchanged.
 pub fn each_bit_tells_its_mode()
     ensures { EachBitTellsItsMode }
 {}
 
 /// `1x 2` is no text over the query `? ?`: a piece of the query follows its literal at once.
-///
-/// Excluded: a reader that looks for the piece further on.
 pub fn pieces_follow_literals_at_once()
     ensures { PiecesFollowLiteralsAtOnce }
 {

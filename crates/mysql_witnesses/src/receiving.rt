@@ -4,30 +4,22 @@ ghost use Rattle.mysql_witnesses.specs.Receiving.{EachRowIsASet, FrontsAreNoFaul
 ghost use Rattle.mysql_witnesses.specs.Receiving.{PreparesDropTheTypes, ResetsLeaveTheTypes};
 
 /// A reset leaves the types in force, and a prepare none.
-///
-/// Excluded: a reset that drops them, and a prepare that keeps those of the statement before.
 pub fn types_stay_to_the_next_prepare()
     ensures resets { ResetsLeaveTheTypes }
     ensures prepares { PreparesDropTheTypes }
 {}
 
 /// Long data is no set.
-///
-/// Excluded: a set that is counted at its first piece.
 pub fn long_data_is_no_set()
     ensures { LongDataIsNoSet }
 {}
 
 /// Each row of a bulk request is a set.
-///
-/// Excluded: the first row alone.
 pub fn each_row_is_a_set()
     ensures { EachRowIsASet }
 {}
 
 /// A stream that is cut off has no fault.
-///
-/// Excluded: a fault of each prefix.
 pub fn fronts_are_no_faults()
     ensures { FrontsAreNoFaults }
 {}

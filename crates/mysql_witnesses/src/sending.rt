@@ -20,8 +20,6 @@ use mysql_values::Params;
 use std::alloc::Global;
 
 /// Rows are cut into requests that are full, and not more than full; types aren't repeated.
-///
-/// Excluded: a request for each row, one of a byte more than there is room, and types in each.
 pub fn requests_are_full_and_not_more()
     ensures full { OneRequestHoldsBothRows }
     ensures room { RequestsKeepToTheRoom }
@@ -39,8 +37,6 @@ pub fn fronts_are_of_the_tight_cut()
 {}
 
 /// The type of a column is that of its first value, which a NULL before it gives way to.
-///
-/// Excluded: a later value without its type, one that is compared with NULL, and the type of NULL.
 #[tactic(auto, unfolding(mysql_bulk_builder::specs::Bulk::bulk_execution))]
 pub fn columns_have_the_type_of_their_first_value()
     ensures brought { FirstValuesBringTheirType }
@@ -49,15 +45,11 @@ pub fn columns_have_the_type_of_their_first_value()
 {}
 
 /// Numbers with a sign and without are of two kinds.
-///
-/// Excluded: both in one column.
 pub fn signs_are_kinds()
     ensures { SignsAreKinds }
 {}
 
 /// Each command is numbered from 0, and its packet, header and all, is within the limit.
-///
-/// Excluded: commands that are numbered on, and a payload of four bytes more.
 #[tactic(auto, unfolding(mysql_wire::specs::Framing::framing, mysql_wire::specs::Framing::chunks))]
 pub fn commands_are_framed_each_by_itself()
     ensures numbers { CommandsBeginAtZero }
@@ -65,23 +57,17 @@ pub fn commands_are_framed_each_by_itself()
 {}
 
 /// A byte string of no bytes is sent as long data too.
-///
-/// Excluded: no piece for it.
 #[tactic(auto, unfolding(mysql_command_rules::specs::Commands::pieces_from, mysql_stmt::specs::Commands::long_data))]
 pub fn empty_strings_have_a_piece()
     ensures { EmptyStringsHaveAPiece }
 {}
 
 /// Further sets are numbered on from those before them.
-///
-/// Excluded: a refusal that counts them from 0.
 pub fn further_sets_are_numbered_on()
     ensures { FurtherSetsAreNumberedOn }
 {}
 
 /// A writer that fails has not taken all, and a refused set isn't flushed.
-///
-/// Excluded: a failure once all is taken, and the bytes that a refused set began with.
 pub fn writers_take_whole_sets()
     ensures failures { FailuresLeaveSomeUntaken }
     ensures refusals { RefusedSetsAreNotFlushed }
@@ -89,8 +75,6 @@ pub fn writers_take_whole_sets()
 
 /// A set is refused before it is written, and a query isn't refused for what is beside its
 /// placeholders.
-///
-/// Excluded: a refusal that counts a set as written, and one for a placeholder that isn't alone.
 pub fn refusals_come_in_time()
     ensures sets { RefusalsComeBeforeTheirSet }
     ensures queries { KeptQueriesMayRunTogether }
@@ -115,8 +99,6 @@ pub fn refused_sets_leave_no_bytes(
 }
 
 /// A stream is recoded as one prepare and executions of what it carries.
-///
-/// Excluded: the stream as it came, one value at both places of a name, and a prepare with each piece.
 pub fn streams_are_recoded_anew()
     ensures copies { StreamsAreNotCopied }
     ensures places { ContentsStayInTheirPlaces }

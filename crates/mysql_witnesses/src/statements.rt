@@ -9,31 +9,23 @@ use mysql_executions::{BoundType, Refused};
 use std::alloc::AllocError;
 
 /// Behind an execution nothing is kept of long data.
-///
-/// Excluded: a sum that still counts it.
 pub fn taken_data_counts_nothing()
     ensures { TakenDataCountsNothing }
 {}
 
 /// Long data that waited for an execution is taken back by its refusal, also where the execution has no
 /// types.
-///
-/// Excluded: a refusal that forgets it.
 #[tactic(auto, unfolding(mysql_connection_statements::specs::Statements::has_nothing))]
 pub fn waiting_data_is_taken_back()
     ensures { WaitingDataIsTakenBack }
 {}
 
 /// What is kept of long data for a parameter is at most what is counted for it.
-///
-/// Excluded: a list with a slot for each parameter up to that one.
 pub fn long_data_is_not_padded()
     ensures { LongDataIsNotPadded }
 {}
 
 /// A statement that was closed isn't the one that was prepared last.
-///
-/// Excluded: ffffffff as its id, and as no id where another one was closed.
 pub fn closed_statements_are_not_the_last()
     ensures { ClosedStatementsAreNotTheLast }
 {}

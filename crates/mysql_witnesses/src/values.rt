@@ -12,8 +12,6 @@ use mysql_convert::from_value_opt;
 use std::time::Duration;
 
 /// A quote is doubled for a server in NO_BACKSLASH_ESCAPES, and else escaped by a backslash.
-///
-/// Excluded: either of the two in the other's mode.
 #[tactic(auto, unfolding(bitflags::proofs::OnLiterals::bitflags_on_literals))]
 pub fn quotes_are_written_by_the_mode()
     ensures without_escapes { QuotesAreDoubledWithoutEscapes }
@@ -21,16 +19,11 @@ pub fn quotes_are_written_by_the_mode()
 {}
 
 /// No bytes are written in quotes, in hexadecimal spelling too.
-///
-/// Excluded: `0x`, also behind an introducer, which is no literal.
 pub fn no_bytes_stand_in_quotes()
     ensures { NoBytesStandInQuotes }
 {}
 
 /// In hexadecimal spelling an introducer tells what bytes are.
-///
-/// Excluded: digits alone, which are a number where one is wanted, and `_utf8mb4` before bytes that
-/// aren't UTF-8.
 #[tactic(auto, unfolding(bitflags::proofs::OnLiterals::bitflags_on_literals))]
 pub fn introducers_tell_what_bytes_are()
     ensures texts { TextsAreNoNumbers }
@@ -38,23 +31,17 @@ pub fn introducers_tell_what_bytes_are()
 {}
 
 /// `*/` is parted in a comment that a server may skip, and left as it is elsewhere.
-///
-/// Excluded: the same spelling for each placeholder.
 #[tactic(auto, unfolding(bitflags::proofs::OnLiterals::bitflags_on_literals))]
 pub fn comments_are_parted_in_comments()
     ensures { CommentsArePartedInComments }
 {}
 
 /// A negative time of all zeros is bound without its sign.
-///
-/// Excluded: a dash before it.
 pub fn zero_times_are_bound_without_sign()
     ensures { ZeroTimesAreBoundWithoutSign }
 {}
 
 /// A number of 2^63 or more in a column without a sign stays positive.
-///
-/// Excluded: the number with a sign of the same bytes.
 #[tactic(auto, unfolding(mysql_cells::specs::Cells::cell_at, mysql_buf::specs::Reading::first))]
 pub fn large_numbers_stay_positive()
     ensures { LargeNumbersStayPositive }
@@ -73,15 +60,11 @@ pub fn a_refused_value_comes_back(value: Value) -> Option<Value>
 }
 
 /// A list of 1 and 2 makes a set of 1 and 2.
-///
-/// Excluded: its first value at each position.
 pub fn each_place_has_its_value()
     ensures { EachPlaceHasItsValue }
 {}
 
 /// Of two equal names no set is made, and of a value that is too long.
-///
-/// Excluded: a set that keeps one of the names, or that leaves out the long value's pair.
 pub fn sets_leave_nothing_out()
     ensures names { EqualNamesAreRefused }
     ensures values { LongValuesAreRefused }

@@ -10,44 +10,32 @@ use bytes::BytesMut;
 use mysql_wire::{ChunkDecoder, ChunkInfo, PacketCodecError};
 
 /// A length that begins with fb is refused as invalid data.
-///
-/// Excluded: a refusal by the stream's end, at which callers wait for more bytes.
 pub fn fb_is_invalid_data()
     ensures { FbIsInvalidData }
 {}
 
 /// A pair of fields is written whole or not at all.
-///
-/// Excluded: its first field without its second, for which there was no memory.
 pub fn refused_pairs_leave_nothing()
     ensures { RefusedPairsLeaveNothing }
 {}
 
 /// A refusal leaves all bytes; and so many bytes are read without memory.
-///
-/// Excluded: a reader that leaves other bytes, and one that answers that there was no memory.
 pub fn refusals_leave_all_bytes()
     ensures without_memory { BytesAskForNoMemory }
     ensures left { RefusalsLeaveAllBytes }
 {}
 
 /// A payload of 16777215 bytes is followed by an empty chunk.
-///
-/// Excluded: a packet that is whole before it.
 pub fn empty_chunks_end_full_packets()
     ensures { EmptyChunksEndFullPackets }
 {}
 
 /// A header may begin in what came, and end in the piece behind it.
-///
-/// Excluded: one that is looked for in the piece alone.
 pub fn headers_begin_in_what_came()
     ensures { HeadersBeginInWhatCame }
 {}
 
 /// A codec that refuses keeps the number of the next chunk.
-///
-/// Excluded: one that counts the chunk that it refuses.
 pub fn refusals_keep_the_number()
     ensures { RefusalsKeepTheNumber }
 {}
