@@ -12,6 +12,7 @@ use crate::laws::{
 use mysql_wire::first_packet_laws::framings_are_found;
 
 /// What a put appends is read as the event that was put, and nothing of it is left unread.
+#[tactic(auto, using(crate::proofs::Putting::puts_are_read))]
 pub fn puts_are_read()
     ensures { PutsAreRead }
 {
@@ -19,11 +20,13 @@ pub fn puts_are_read()
 }
 
 /// The number of the packet that is due is a byte's, in any machine that was new.
+#[tactic(auto, using(crate::proofs::Numbers::numbers_are_bytes))]
 pub fn numbers_are_bytes()
     ensures { NumbersAreBytes }
 {}
 
 /// An event is put, or refused for one cause.
+#[tactic(auto, using(crate::proofs::Refusing::puts_are_not_refused, crate::proofs::Refusing::refusals_are_one, crate::proofs::Refusing::put_or_refused))]
 pub fn puts_or_refusals()
     ensures put { PutsAreNotRefused }
     ensures one { RefusalsAreOne }
@@ -43,6 +46,7 @@ pub fn puts_are_the_run()
 /// events.
 ///
 /// Its client's events are those that the client put, and its server's those that the server put.
+#[tactic(auto, using(crate::proofs::Agreeing::three_agree))]
 pub fn three_agree()
     ensures { ThreeAgree }
 {
@@ -54,6 +58,7 @@ pub fn three_agree()
 }
 
 /// A client whose command is due puts a ping in five bytes.
+#[tactic(auto, using(crate::proofs::Pinging::ping_is_put))]
 pub fn ping_is_put()
     ensures { PingIsPut }
 {

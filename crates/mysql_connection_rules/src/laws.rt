@@ -16,6 +16,7 @@ use mysql_wire::first_packet_laws::{
 };
 
 /// Any two streams have a run of events.
+#[tactic(auto, using(crate::proofs::Running::run_exists))]
 pub fn run_exists()
     ensures { RunExists }
 {
@@ -25,6 +26,7 @@ pub fn run_exists()
 }
 
 /// They have no other.
+#[tactic(auto, using(crate::proofs::Running::run_is_one))]
 pub fn run_is_one()
     ensures { RunIsOne }
 {}
@@ -44,6 +46,7 @@ pub fn pieces_are_the_run()
 /// The events of prefixes of two streams are a prefix of their events.
 ///
 /// A fault of fronts is the streams' fault, behind the same events.
+#[tactic(auto, using(crate::proofs::Running::fronts_read_on))]
 pub fn fronts_read_on()
     ensures { FrontsReadOn }
 {
@@ -53,6 +56,7 @@ pub fn fronts_read_on()
 }
 
 /// The end of the client's stream adds the server's last words at most, one event.
+#[tactic(auto, using(crate::proofs::Running::end_adds_last_words))]
 pub fn end_adds_last_words()
     ensures { EndAddsLastWords }
 {
@@ -62,6 +66,7 @@ pub fn end_adds_last_words()
 }
 
 /// The end of the server's stream changes nothing.
+#[tactic(auto, using(crate::proofs::Running::servers_end_changes_nothing))]
 pub fn servers_end_changes_nothing()
     ensures { ServersEndChangesNothing }
 {
@@ -90,6 +95,7 @@ pub fn events_take_bytes()
 /// What was unread of a stream is what an event read of it and what is unread behind it.
 ///
 /// So the count of bytes that were read is the place in the stream.
+#[tactic(auto, using(crate::proofs::Within::positions_stay))]
 pub fn positions_stay()
     ensures { PositionsStay }
 {
@@ -99,6 +105,7 @@ pub fn positions_stay()
 }
 
 /// A fault names the byte at which what is unread of its side begins.
+#[tactic(auto, using(crate::proofs::Within::faults_are_of_their_bytes))]
 pub fn faults_are_of_their_bytes()
     ensures { FaultsAreOfTheirBytes }
 {
@@ -124,6 +131,7 @@ pub fn held_stays()
 /// A side whose payload is due and isn't there whole has room for more bytes of it.
 ///
 /// So whatever came of the other side, what is due can come.
+#[tactic(auto, using(crate::proofs::Ending::turn_can_come))]
 pub fn turn_can_come()
     ensures { TurnCanCome }
 {
