@@ -15,11 +15,13 @@ pub fn bytes_begin_where_they_are_told()
 {}
 
 /// A call on sets tells of another object that it is one.
+#[tactic(auto, using(crate::proofs::AboutCommands::other_objects_are_told))]
 pub fn other_objects_are_told()
     ensures { OtherObjectsAreTold }
 {}
 
 /// The number -1 is in range.
+#[tactic(auto, using(crate::proofs::AboutCommands::negative_numbers_are_shown))]
 pub fn negative_numbers_are_shown()
     ensures { NegativeNumbersAreShown }
 {}
@@ -30,6 +32,7 @@ pub fn sets_stand_before_places()
 {}
 
 /// By a method without a name nothing is sent, and the answer says so.
+#[tactic(auto, using(crate::proofs::AboutCommands::no_road_is_no_sending))]
 pub fn no_road_is_no_sending()
     ensures { NoRoadIsNoSending }
 {}

@@ -6,6 +6,7 @@ ghost use Rattle.mysql_witnesses.specs.Connections.{ExecutionsCountTheirAttribut
 ghost use Rattle.mysql_witnesses.specs.Connections.{StatesHaveFiveBytes, ToldEventsAreHeld};
 
 /// An attribute is shown with its name.
+#[tactic(auto, using(crate::proofs::AboutConnections::attributes_have_names))]
 pub fn attributes_have_names()
     ensures { AttributesHaveNames }
 {}
@@ -21,11 +22,13 @@ pub fn ends_tell_their_fault()
 {}
 
 /// An event that was told is held.
+#[tactic(auto, using(crate::proofs::AboutConnections::told_events_are_held))]
 pub fn told_events_are_held()
     ensures { ToldEventsAreHeld }
 {}
 
 /// Each side has room by its own limit.
+#[tactic(auto, using(crate::proofs::AboutConnections::each_side_has_its_room))]
 pub fn each_side_has_its_room()
     ensures { EachSideHasItsRoom }
 {}

@@ -66,6 +66,7 @@ pub fn commands_are_read_to_the_end()
 {}
 
 /// A command isn't put whose payload reads as another one.
+#[tactic(auto, using(crate::proofs::AboutExecutions::names_with_zeros_are_not_put, crate::proofs::AboutExecutions::commands_are_not_put_as_others))]
 pub fn payloads_that_read_otherwise_are_not_put()
     ensures names { NamesWithZerosAreNotPut }
     ensures others { CommandsAreNotPutAsOthers }

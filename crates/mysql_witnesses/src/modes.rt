@@ -8,6 +8,7 @@ ghost use Rattle.mysql_witnesses.specs.Modes.{StatusesContradict, StatusesTellNo
 ghost use Rattle.mysql_witnesses.specs.Modes.{TrackedModesStay, TrackingMayEnd};
 
 /// The status of a reply's OK tells nothing of the mode, but that a tracking was ended.
+#[tactic(auto, using(crate::proofs::AboutModes::statuses_tell_nothing, crate::proofs::AboutModes::statuses_contradict))]
 pub fn statuses_tell_nothing()
     ensures nothing { StatusesTellNothing }
     ensures contradict { StatusesContradict }
@@ -16,12 +17,14 @@ pub fn statuses_tell_nothing()
 /// Behind a statement a mode that isn't tracked isn't known.
 ///
 /// Excluded: one that stays as the login told it.
+#[tactic(auto, using(crate::proofs::AboutModes::queries_forget_the_mode, crate::proofs::AboutModes::executions_forget_the_mode))]
 pub fn statements_forget_the_mode()
     ensures queries { QueriesForgetTheMode }
     ensures executions { ExecutionsForgetTheMode }
 {}
 
 /// A mode that is tracked stays behind a statement.
+#[tactic(auto, using(crate::proofs::AboutModes::tracked_modes_stay))]
 pub fn tracked_modes_stay()
     ensures { TrackedModesStay }
 {}
@@ -29,6 +32,7 @@ pub fn tracked_modes_stay()
 /// A mode that is told for one statement, or within a routine, isn't the session's.
 ///
 /// Excluded: a mode that is told so, and one that stays where the tracking may have ended.
+#[tactic(auto, using(crate::proofs::AboutModes::set_statements_are_doubted, crate::proofs::AboutModes::doubted_modes_stay, crate::proofs::AboutModes::tracking_may_end, crate::proofs::AboutModes::routines_tell_none))]
 pub fn told_modes_may_end()
     ensures statements { SetStatementsAreDoubted }
     ensures doubted { DoubtedModesStay }
@@ -37,11 +41,13 @@ pub fn told_modes_may_end()
 {}
 
 /// A command that runs no statement leaves the mode.
+#[tactic(auto, using(crate::proofs::AboutModes::pings_leave_the_mode))]
 pub fn pings_leave_the_mode()
     ensures { PingsLeaveTheMode }
 {}
 
 /// A session that begins tells its mode by the status.
+#[tactic(auto, using(crate::proofs::AboutModes::logins_tell_the_mode, crate::proofs::AboutModes::resets_tell_the_mode))]
 pub fn beginnings_tell_the_mode()
     ensures logins { LoginsTellTheMode }
     ensures resets { ResetsTellTheMode }

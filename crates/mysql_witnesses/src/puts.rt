@@ -27,6 +27,7 @@ pub fn what_is_put_has_the_number_due()
 /// A refusal changes nothing, by any cause.
 ///
 /// Excluded: a number, columns or statements that have gone on where memory or room was wanting.
+#[tactic(auto, using(crate::proofs::AboutPuts::refused_events_change_nothing, crate::proofs::AboutPuts::refused_payloads_change_nothing))]
 pub fn refusals_change_nothing()
     ensures events { RefusedEventsChangeNothing }
     ensures payloads { RefusedPayloadsChangeNothing }
@@ -45,12 +46,14 @@ pub fn executions_are_written_by_their_statement()
 /// A number isn't put that is read as another value.
 ///
 /// Excluded: an unsigned number below 2^63, which is read as one with a sign.
+#[tactic(auto, using(crate::proofs::AboutPuts::has_that_payload, crate::proofs::AboutPuts::numbers_are_not_put_as_others))]
 pub fn numbers_are_not_put_as_others()
     ensures payload { HasThatPayload }
     ensures reading { NumbersAreNotPutAsOthers }
 {}
 
 /// A row comes behind its columns alone.
+#[tactic(auto, using(crate::proofs::AboutPuts::rows_are_due_behind_columns))]
 pub fn rows_are_due_behind_columns()
     ensures { RowsAreDueBehindColumns }
 {}

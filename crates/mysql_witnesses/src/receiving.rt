@@ -10,11 +10,13 @@ pub fn types_stay_to_the_next_prepare()
 {}
 
 /// Long data is no set.
+#[tactic(auto, using(crate::proofs::AboutReceiving::long_data_is_no_set))]
 pub fn long_data_is_no_set()
     ensures { LongDataIsNoSet }
 {}
 
 /// Each row of a bulk request is a set.
+#[tactic(auto, using(crate::proofs::AboutReceiving::each_row_is_a_set))]
 pub fn each_row_is_a_set()
     ensures { EachRowIsASet }
 {}

@@ -16,12 +16,14 @@ pub fn nothing_follows_the_end()
 {}
 
 /// What is read is counted, and nothing else.
+#[tactic(auto, using(crate::proofs::AboutReplies::borrowed_rows_are_counted))]
 pub fn what_is_read_is_counted()
     ensures alone { OnlyWhatIsReadIsCounted }
     ensures rows { BorrowedRowsAreCounted }
 {}
 
 /// A row that is borrowed isn't kept.
+#[tactic(auto, using(crate::proofs::AboutReplies::borrowed_rows_are_not_kept))]
 pub fn borrowed_rows_are_not_kept()
     ensures { BorrowedRowsAreNotKept }
 {}

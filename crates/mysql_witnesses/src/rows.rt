@@ -15,6 +15,7 @@ pub fn null_is_fb()
 {}
 
 /// An unsigned number below 2^63 is read with a sign, and so is none that is read as itself.
+#[tactic(auto, using(crate::proofs::AboutRows::small_unsigned_numbers_are_read_as_int))]
 pub fn small_unsigned_numbers_are_read_as_int()
     ensures { SmallUnsignedNumbersAreReadAsInt }
 {}

@@ -20,6 +20,7 @@ use mysql_values::Params;
 use std::alloc::Global;
 
 /// Rows are cut into requests that are full, and not more than full; types aren't repeated.
+#[tactic(auto, using(crate::proofs::AboutSending::one_request_holds_both_rows, crate::proofs::AboutSending::requests_keep_to_the_room, crate::proofs::AboutSending::types_are_not_repeated))]
 pub fn requests_are_full_and_not_more()
     ensures full { OneRequestHoldsBothRows }
     ensures room { RequestsKeepToTheRoom }
@@ -32,12 +33,13 @@ pub fn requests_are_full_and_not_more()
 /// What a failed writer took of requests is a prefix of those of the tight cut.
 ///
 /// Excluded: a prefix of the request of the first set alone.
+#[tactic(auto, using(crate::proofs::AboutSending::fronts_are_of_the_tight_cut))]
 pub fn fronts_are_of_the_tight_cut()
     ensures { FrontsAreOfTheTightCut }
 {}
 
 /// The type of a column is that of its first value, which a NULL before it gives way to.
-#[tactic(auto, unfolding(mysql_bulk_builder::specs::Bulk::bulk_execution))]
+#[tactic(auto, unfolding(mysql_bulk_builder::specs::Bulk::bulk_execution), using(crate::proofs::AboutSending::first_values_bring_their_type))]
 pub fn columns_have_the_type_of_their_first_value()
     ensures brought { FirstValuesBringTheirType }
     ensures compared { NullGivesWayInItsColumn }
@@ -63,11 +65,13 @@ pub fn empty_strings_have_a_piece()
 {}
 
 /// Further sets are numbered on from those before them.
+#[tactic(auto, using(crate::proofs::AboutSending::further_sets_are_numbered_on))]
 pub fn further_sets_are_numbered_on()
     ensures { FurtherSetsAreNumberedOn }
 {}
 
 /// A writer that fails has not taken all, and a refused set isn't flushed.
+#[tactic(auto, using(crate::proofs::AboutSending::failures_leave_some_untaken, crate::proofs::AboutSending::refused_sets_are_not_flushed))]
 pub fn writers_take_whole_sets()
     ensures failures { FailuresLeaveSomeUntaken }
     ensures refusals { RefusedSetsAreNotFlushed }
@@ -75,6 +79,7 @@ pub fn writers_take_whole_sets()
 
 /// A set is refused before it is written, and a query isn't refused for what is beside its
 /// placeholders.
+#[tactic(auto, using(crate::proofs::AboutSending::refusals_come_before_their_set, crate::proofs::AboutSending::kept_queries_may_run_together))]
 pub fn refusals_come_in_time()
     ensures sets { RefusalsComeBeforeTheirSet }
     ensures queries { KeptQueriesMayRunTogether }

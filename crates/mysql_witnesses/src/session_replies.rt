@@ -35,6 +35,7 @@ pub fn results_go_by_the_capabilities()
 {}
 
 /// The last result says that no more follow, and the number goes on behind each chunk.
+#[tactic(auto, using(crate::proofs::AboutSessionReplies::numbers_count_chunks))]
 pub fn results_are_counted_and_numbered()
     ensures more { LastResultsSayNoMore }
     ensures numbers { NumbersCountChunks }

@@ -21,6 +21,7 @@ pub fn waiting_data_is_taken_back()
 {}
 
 /// What is kept of long data for a parameter is at most what is counted for it.
+#[tactic(auto, using(crate::proofs::AboutStatements::long_data_is_not_padded))]
 pub fn long_data_is_not_padded()
     ensures { LongDataIsNotPadded }
 {}

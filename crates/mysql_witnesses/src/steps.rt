@@ -35,11 +35,13 @@ pub fn unagreed_bulks_change_nothing()
 {}
 
 /// An execution with what no client library sends is one.
+#[tactic(auto, using(crate::proofs::AboutSteps::odd_executions_are_read))]
 pub fn odd_executions_are_read()
     ensures { OddExecutionsAreRead }
 {}
 
 /// An execution is read by what is in force of the statement that it names.
+#[tactic(auto, using(crate::proofs::AboutSteps::executions_are_read_by_their_statement, crate::proofs::AboutSteps::known_executions_are_read))]
 pub fn executions_are_read_by_their_statement()
     ensures types { ExecutionsAreReadByTheirStatement }
     ensures known { KnownExecutionsAreRead }

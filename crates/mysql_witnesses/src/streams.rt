@@ -11,6 +11,7 @@ pub fn payloads_stand_behind_headers()
 {}
 
 /// A packet's chunks are numbered on, up to one that isn't full.
+#[tactic(auto, using(crate::proofs::AboutStreams::full_chunks_go_on))]
 pub fn chunks_go_on_behind_full_ones()
     ensures numbers { LaterChunksAreNumberedOn }
     ensures ends { FullChunksGoOn }
@@ -27,7 +28,7 @@ pub fn no_more_is_kept_than_the_limit()
 {}
 
 /// Commands that came together are read one by one.
-#[tactic(auto, unfolding(mysql_connection_rules::specs::Steps::step))]
+#[tactic(auto, unfolding(mysql_connection_rules::specs::Steps::step), using(crate::proofs::AboutStreams::pipelined_commands_wait))]
 pub fn pipelined_commands_wait()
     ensures { PipelinedCommandsWait }
 {}

@@ -60,6 +60,7 @@ pub fn a_refused_value_comes_back(value: Value) -> Option<Value>
 }
 
 /// A list of 1 and 2 makes a set of 1 and 2.
+#[tactic(auto, using(crate::proofs::AboutValues::each_place_has_its_value))]
 pub fn each_place_has_its_value()
     ensures { EachPlaceHasItsValue }
 {}

@@ -10,6 +10,7 @@ use bytes::BytesMut;
 use mysql_wire::{ChunkDecoder, ChunkInfo, PacketCodecError};
 
 /// A length that begins with fb is refused as invalid data.
+#[tactic(auto, using(crate::proofs::AboutWire::fb_is_invalid_data))]
 pub fn fb_is_invalid_data()
     ensures { FbIsInvalidData }
 {}
@@ -20,12 +21,14 @@ pub fn refused_pairs_leave_nothing()
 {}
 
 /// A refusal leaves all bytes; and so many bytes are read without memory.
+#[tactic(auto, using(crate::proofs::AboutWire::bytes_ask_for_no_memory, crate::proofs::AboutWire::refusals_leave_all_bytes))]
 pub fn refusals_leave_all_bytes()
     ensures without_memory { BytesAskForNoMemory }
     ensures left { RefusalsLeaveAllBytes }
 {}
 
 /// A payload of 16777215 bytes is followed by an empty chunk.
+#[tactic(auto, using(crate::proofs::AboutWire::empty_chunks_end_full_packets))]
 pub fn empty_chunks_end_full_packets()
     ensures { EmptyChunksEndFullPackets }
 {}
@@ -36,6 +39,7 @@ pub fn headers_begin_in_what_came()
 {}
 
 /// A codec that refuses keeps the number of the next chunk.
+#[tactic(auto, using(crate::proofs::AboutWire::refusals_keep_the_number))]
 pub fn refusals_keep_the_number()
     ensures { RefusalsKeepTheNumber }
 {}

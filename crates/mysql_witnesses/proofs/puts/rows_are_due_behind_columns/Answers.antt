@@ -1,5 +1,0 @@
-use Rattle.mysql_witnesses.proofs.AboutPuts.{rows_are_due_behind_columns}
-use Rattle.mysql_witnesses.proofs.puts.rows_are_due_behind_columns.Goals as goal
-
-pub returns : goal.returns
-returns c = rows_are_due_behind_columns
