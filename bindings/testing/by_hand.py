@@ -11,7 +11,8 @@ import struct
 from typing import NamedTuple
 
 CONNECT_WITH_DB, PROTOCOL_41, TRANSACTIONS = 1 << 3, 1 << 9, 1 << 13
-SECURE_CONNECTION, MULTI_RESULTS, PS_MULTI_RESULTS = 1 << 15, 1 << 17, 1 << 18
+SECURE_CONNECTION, MULTI_STATEMENTS, MULTI_RESULTS = 1 << 15, 1 << 16, 1 << 17
+PS_MULTI_RESULTS = 1 << 18
 PLUGIN_AUTH, CONNECT_ATTRS = 1 << 19, 1 << 20
 # Without DEPRECATE_EOF; and without LONG_PASSWORD, by which a client has no extended capabilities.
 CAPABILITIES = (CONNECT_WITH_DB | PROTOCOL_41 | TRANSACTIONS | SECURE_CONNECTION | MULTI_RESULTS
@@ -50,11 +51,12 @@ class Closed(Exception):
 
 
 class Answer(NamedTuple):
-    """One result: rows, or how many were changed; and the status."""
+    """One result: rows, or how many were changed; the status; and how many columns there are."""
 
     rows: list
     affected: int
     status: int
+    columns: int = 0
 
 
 class Statement(NamedTuple):
@@ -167,7 +169,8 @@ class Client:
         self.keeps = True
         self._socket = socket.create_connection(("127.0.0.1", port), SECONDS)
         self._socket.setsockopt(socket.IPPROTO_TCP, socket.TCP_NODELAY, 1)
-        self._unread = b""
+        # What was read and isn't taken, and where that begins.
+        self._unread, self._at = b"", 0
         # The number of the packet that was read last; the columns of the cursor that is open.
         self.number, self.columns = 0, []
         greeting = self._read_greeting()
@@ -210,15 +213,15 @@ class Client:
 
     def _take(self, count):
         """The next bytes."""
-        while len(self._unread) < count:
+        while len(self._unread) - self._at < count:
             piece = self._socket.recv(1 << 16)
             if not piece:
                 raise Closed("the server closed the connection")
             if self.keeps:
                 self.received += piece
-            self._unread += piece
-        taken, self._unread = self._unread[:count], self._unread[count:]
-        return taken
+            self._unread, self._at = self._unread[self._at:] + piece, 0
+        self._at += count
+        return self._unread[self._at - count:self._at]
 
     # Logging in.
 
@@ -268,6 +271,17 @@ class Client:
         self.status = found[-1].status
         return found
 
+    def read_results(self, binary=False):
+        """The results of a reply, and the number of the error that ends it, or None."""
+        found = []
+        try:
+            found.append(self._read_answer(binary))
+            while found[-1].status & MORE_RESULTS:
+                found.append(self._read_answer(binary))
+        except Refused as error:
+            return found, error.number
+        return found, None
+
     def _read_answer(self, binary):
         """One result."""
         first = self.receive()
@@ -283,7 +297,7 @@ class Client:
         status = int.from_bytes(self.receive()[3:5], "little")
         if status & CURSOR:
             self.columns = types
-            return Answer([], 0, status)
+            return Answer([], 0, status, len(types))
         return self._read_rows(types, binary)
 
     def _read_rows(self, types, binary):
@@ -294,8 +308,7 @@ class Client:
                 raise Refused(payload)
             rows.append(binary_row(payload, types) if binary else text_row(payload))
             payload = self.receive()
-        return Answer(rows, 0, int.from_bytes(payload[3:5], "little"))
-
+        return Answer(rows, 0, int.from_bytes(payload[3:5], "little"), len(types))
 
     def _read_column(self):
         """The type of a column, and whether it is unsigned."""

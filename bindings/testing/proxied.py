@@ -13,14 +13,12 @@ import contextlib
 import json
 import os
 import re
-import socket
 import subprocess
-import sys
 import time
 from typing import NamedTuple, Sequence
 
 from .by_hand import Client as ByHand, Closed
-from .support import BINDINGS, Failure, compare, has, run
+from .support import BINDINGS, BOTH, Failure, MARIADBS, compare, has, run
 
 CLIENTS = os.path.join(BINDINGS, "testing", "clients")
 DEBIANS_PYTHON = "/usr/bin/python3"
@@ -305,14 +303,14 @@ class Audits:
         """A client that compresses its packets."""
         self.unreadable("compression begins", "--skip-ssl", "--compress")
 
-    def encrypted(self, mariadb):
+    def encrypted(self, running):
         """A client that goes over to TLS, with its own server."""
         room = self.tests.file("tls")
         os.mkdir(room)
         key, certificate = os.path.join(room, "key.pem"), os.path.join(room, "certificate.pem")
         run(["openssl", "req", "-x509", "-newkey", "rsa:2048", "-nodes", "-keyout", key, "-out",
              certificate, "-days", "2", "-subj", "/CN=localhost"])
-        with mariadb(room, f"--ssl-key={key}", f"--ssl-cert={certificate}") as port:
+        with running(room, f"--ssl-key={key}", f"--ssl-cert={certificate}") as port:
             plain, self.tests.port = self.tests.port, port
             try:
                 self.unreadable("TLS begins", "--ssl")
@@ -376,28 +374,29 @@ class Audits:
         os.waitpid(process, 0)
 
 
-def test_proxied(report, tests, mariadb):
-    """Runs all clients that the machine has, and names those that it doesn't have. By `mariadb` a
+def test_proxied(report, tests, running):
+    """Runs all clients that the machine has, and names those that it doesn't have. By `running` a
     further server is run."""
     it = Audits(tests)
     tests.sql("SET GLOBAL log_output = 'TABLE', GLOBAL general_log = 1, "
               "GLOBAL max_allowed_packet = 67108864")
     try:
         for client in ALL:
-            name = f"server: the proxy with {client.name}"
             if it.has(client):
-                report.run(name, it.client, client)
+                tests.run(report, f"the proxy with {client.name}", MARIADBS, it.client, client)
             else:
-                print(f"left out: {name} (apt-get install {client.package})", flush=True)
+                print(f"left out: the proxy with {client.name} (apt-get install {client.package})",
+                      flush=True)
         for options in (["--pass-first"], ["--plain"], ["--on-fault", "cut"]):
-            report.run(f"server: the proxy with PyMySQL, {' '.join(options)}", it.client, ALL[0],
-                       *options)
-        for test in (it.command_line, it.error_in_rows, it.killed, it.pipelined, it.at_once,
-                     it.compressed):
-            report.run(f"server: the proxy, {test.__name__.replace('_', ' ')}", test)
+            tests.run(report, f"the proxy with PyMySQL, {' '.join(options)}", MARIADBS, it.client,
+                      ALL[0], *options)
+        of_both = (it.killed, it.pipelined, it.at_once, it.compressed)
+        for test in (it.command_line, it.error_in_rows, *of_both):
+            tests.run(report, f"the proxy, {test.__name__.replace('_', ' ')}",
+                      BOTH if test in of_both else MARIADBS, test)
         if has("openssl"):
-            report.run("server: the proxy, encrypted", it.encrypted, mariadb)
+            tests.run(report, "the proxy, encrypted", BOTH, it.encrypted, running)
         else:
-            print("left out: server: the proxy, encrypted (apt-get install openssl)", flush=True)
+            print("left out: the proxy, encrypted (apt-get install openssl)", flush=True)
     finally:
         tests.sql("SET GLOBAL general_log = 0, GLOBAL log_output = DEFAULT")

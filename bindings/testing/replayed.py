@@ -7,7 +7,7 @@ import hashlib
 import os
 
 from .recorder import Recorder
-from .support import BINDINGS, Failure, ROOT, compare, run
+from .support import BOTH, Failure, MARIADBS, ROOT, compare, run
 
 RECORDINGS = os.path.join(ROOT, "crates", "connection_conformance", "data")
 # Recordings of clients that made their tables themselves: any server replies to them alike.
@@ -77,7 +77,7 @@ class Tests:
                 [["1", "69742773", "7", "2.50"], ["2", "", "-", "-1.00"],
                  ["3", "mat\u00e9 \u2618 ?".encode().hex().upper(), "9223372036854775807",
                   "0.01"]])
-        behind = "0.5\t0.1\t2024-02-29\t2024-02-29 12:30:01.000005\t-30:00:01"
+        behind = "0.5\t0.1\t2024-02-29\t2024-02-29 12:30:01.000005\t-30:00:01.000000"
         names = "id\tname\tamount\tprice\thalf\ttenth\tday\tmoment\tspan\n"
         said = self.client("SELECT * FROM blocking WHERE id > ? AND id < ?", "1", "3", "--", "3",
                            "9", "--", "0", "2")
@@ -239,10 +239,10 @@ def with_other_ids(stream, side):
 def test_replayed(report, tests):
     """Runs the client and the replay in Rust against a server."""
     it = Tests(tests)
-    for test in (it.client_by_text, it.client_by_text_with_values, it.client_by_execution,
-                 it.client_of_long_values,
-                 it.client_by_procedure, it.client_refused, it.client_killed,
-                 it.client_with_password, it.replays_recordings, it.replays_other_ids,
-                 it.replay_tells_what_differs, it.replay_sends_the_file,
-                 it.replay_without_commands):
-        report.run("server: in Rust, " + test.__name__.replace("_", " "), test)
+    of_both = (it.client_by_text, it.client_by_text_with_values, it.client_by_execution,
+               it.client_of_long_values, it.client_by_procedure, it.client_refused,
+               it.replay_tells_what_differs, it.replay_sends_the_file, it.replay_without_commands)
+    for test in (*of_both, it.client_killed, it.client_with_password, it.replays_recordings,
+                 it.replays_other_ids):
+        tests.run(report, "in Rust, " + test.__name__.replace("_", " "),
+                  BOTH if test in of_both else MARIADBS, test)

@@ -1,44 +1,48 @@
-"""The examples of the bindings, texts in each mode, random queries and odd commands, against a
-MariaDB server of their own.
+"""The examples of the bindings, differential tests and odd commands, against servers of their own.
 
-`bindings/test --server` calls `test_server`. Everything that is started here is stopped by its
-process id, in any case.
+`bindings/test --server` calls `test_servers`. It takes each server that `tools/servers` has set up,
+and this machine's MariaDB where there is none of these. A step says whose rule it shows: that of
+MySQL and MariaDB, or that of MariaDB alone; it runs at the servers of those. Everything that is
+started here is stopped by its process id, in any case.
 """
 
 import contextlib
 import csv
+import functools
 import os
 import pwd
 import re
 import resource
-import shutil
 import socket
 import subprocess
 import sys
 import time
+from typing import NamedTuple
 
 from .audited import test_audited
+from .by_hand import Client as ByHand
 from .proxied import test_proxied
 from .replayed import test_replayed
-from .support import (BINDINGS, C99, Failure, ROOT, archive_in, compare, has,
-                      python_environment, run, rust_environment)
+from .support import (BINDINGS, BOTH, C99, Failure, MARIADB, MARIADBS, MYSQL, ROOT, archive_in,
+                      compare, has, python_environment, run, rust_environment)
 
-SERVER_PACKAGES = {"mariadbd": "mariadb-server", "mariadb-install-db": "mariadb-server",
-                   "mariadb": "mariadb-client", "mariadb_config": "libmariadb-dev"}
+SERVER_PACKAGES = {"mariadb": "mariadb-client", "mariadb_config": "libmariadb-dev"}
+SERVERS = os.path.join(ROOT, "tools", "servers")
 
 USER, DATABASE = "tester", "bindings"
 WAIT_SECONDS = 60
+FIRST_SECONDS = 240
 # More than a batch holds, so that several requests are sent.
 ROWS = 12345
 RECORDINGS = os.path.join(ROOT, "crates", "connection_conformance", "data")
-# What random queries are about, and how their values are spelled; so many of each.
-PARTS = (("tokens", "quoted"), ("tokens", "hexadecimal"), ("comments", "quoted"),
-         ("comments", "hexadecimal"), ("kinds", "quoted"), ("kinds", "hexadecimal"),
-         ("told", "quoted"))
-RANDOM_QUERIES = 1000
+# The parts of the differential tests, how much of each, and whose rules they show.
+DIFFERENTIAL = {"parameters": (3000, BOTH), "injection": (3000, BOTH), "types": (3000, BOTH),
+                "bytes": (10000, BOTH), "sessions": (2000, BOTH)}
 # Recorded connections that need no more than a server.
 WHOLE_RECORDINGS = ("c-direct", "perl-execute", "java-bulk", "ruby-text", "php-pdo-text",
                     "go-long-data", "load_data_by_execution", "types_in_force")
+# The version that docs/SERVERS.md is of.
+PAGE_OF = "10.11."
 # A table of the test server.
 TABLE = """{
     "SELECT * FROM times": {
@@ -58,10 +62,15 @@ def free_port():
         return it.getsockname()[1]
 
 
-def listens(port):
-    """Returns whether something listens at the port."""
+def greets(port):
+    """Returns whether a server greets at the port."""
     with socket.socket() as it:
-        return it.connect_ex(("127.0.0.1", port)) == 0
+        it.settimeout(2)
+        try:
+            it.connect(("127.0.0.1", port))
+            return it.recv(5)[4:] == b"\x0a"
+        except OSError:
+            return False
 
 
 def wait_for(what, is_there, process, log):
@@ -109,36 +118,86 @@ class Started:
         return re.search(pattern, self.said(), re.M)
 
 
+class Kind(NamedTuple):
+    """A server that is there: its name, whose it is, and what runs a program of it that sees a
+    folder."""
+
+    name: str
+    product: str
+    entered: object
+
+
+def servers_there():
+    """The servers that `tools/servers` has set up, or this machine's MariaDB. Servers that only
+    root can run are named, and left out for another."""
+    names = re.findall(r"^(\S+): (?!not set up)", run([SERVERS, "list"]), re.M)
+    if names and os.geteuid() != 0:
+        print(f"left out: {', '.join(names)}, which root can run", flush=True)
+    elif names:
+        enter = lambda name: lambda room: [SERVERS, "run", name, room]
+        return [Kind(it, MYSQL if it.startswith("mysql") else MARIADB, enter(it)) for it in names]
+    if has("mariadbd", "mariadb-install-db"):
+        return [Kind("this machine's MariaDB", MARIADB, lambda room: [])]
+    raise Failure("no server is there: run tools/servers start, or apt-get install mariadb-server")
+
+
+def own_words(kind, user, room):
+    """How a server's tables are made, and how it is started with them."""
+    data = f"--datadir={room}/data"
+    if kind.product == MYSQL:
+        return (["mysqld", "--no-defaults", data, user, "--initialize-insecure"],
+                ["mysqld", "--mysqlx=OFF", "--performance-schema=OFF"])
+    return (["mariadb-install-db", "--no-defaults", data, user, "--skip-test-db", "--force",
+             "--auth-root-authentication-method=normal"], ["mariadbd"])
+
+
 @contextlib.contextmanager
-def mariadb(room, *options):
+def running(kind, room, *options):
     """Runs a server in its own folder, with binary logging and a user without a password; by
     itself without TLS."""
-    data, first = os.path.join(room, "data"), os.path.join(room, "first.sql")
+    os.makedirs(room, exist_ok=True)
+    first, enter = os.path.join(room, "first.sql"), kind.entered(room)
     with open(first, "w", encoding="utf-8") as it:
-        it.write(f"CREATE USER {USER}@'127.0.0.1' IDENTIFIED VIA mysql_native_password;\n"
-                 f"GRANT ALL ON *.* TO {USER}@'127.0.0.1';\nCREATE DATABASE {DATABASE};\n")
+        it.write(f"CREATE USER {USER}@'127.0.0.1';\nGRANT ALL ON *.* TO {USER}@'127.0.0.1';\n"
+                 f"CREATE DATABASE {DATABASE};\n")
     user = f"--user={pwd.getpwuid(os.geteuid()).pw_name}"
-    run(["mariadb-install-db", "--no-defaults", f"--datadir={data}", user, "--skip-test-db",
-         "--auth-root-authentication-method=normal"])
+    tables, (program, *more) = own_words(kind, user, room)
+    run([*enter, *tables], timeout=FIRST_SECONDS)
     port = free_port()
-    words = [shutil.which("mariadbd"), "--no-defaults", f"--datadir={data}", user,
+    without_tls = ["--tls-version="] if kind.product == MYSQL else ["--skip-ssl"]
+    if any(it.startswith("--ssl") for it in options):
+        without_tls = []
+    words = [*enter, program, "--no-defaults", f"--datadir={room}/data", user, *more,
              f"--socket={room}/socket", f"--port={port}", "--bind-address=127.0.0.1",
-             "--skip-name-resolve", f"--pid-file={room}/pid", f"--log-bin={data}/binlog",
+             "--skip-name-resolve", f"--pid-file={room}/pid", f"--log-bin={room}/data/binlog",
              "--binlog-format=ROW", "--server-id=1", "--character-set-server=utf8mb4",
-             "--innodb-buffer-pool-size=64M", f"--init-file={first}", *(options or ["--skip-ssl"])]
+             "--innodb-buffer-pool-size=64M", "--local-infile=1", f"--init-file={first}",
+             *without_tls, *options]
     with Started(words, os.path.join(room, "server.log")) as server:
-        wait_for("the server", lambda: listens(port), server.process, server.log)
+        wait_for("the server", lambda: greets(port), server.process, server.log)
         yield port
 
 
 class Tests:
-    """The examples against the server at a port."""
+    """The examples against the server at a port. What is built is for all servers."""
 
-    def __init__(self, room, library, port):
-        self.room, self.library, self.port = room, library, port
-        self.python = python_environment(library)
+    def __init__(self, room, library, port, kind, built):
+        self.room, self.library, self.port, self.kind = room, library, port, kind
+        self.built, self.python = built, python_environment(library)
+
+    def run(self, report, name, products, test, *given):
+        """Runs a step that shows a rule of this server, or of clients alone, and says whose."""
+        if self.kind.product in products or not products:
+            of = f"a rule of {' and '.join(products)}" if products else "a rule of clients"
+            report.run(f"{self.kind.name}: {name}, {of}", test, *given)
 
     # What is run.
+
+    @property
+    def version(self):
+        """The version that the server greets with."""
+        with ByHand(self.port, USER, DATABASE) as it:
+            return it.version
 
     def sql(self, text, port=None, options=("--skip-ssl",), **how):
         """Returns the rows that the `mariadb` client prints, each a list of its cells."""
@@ -162,12 +221,12 @@ class Tests:
         """Returns the file of an example in Rust, which is built."""
         folder = os.path.join(BINDINGS, "rust")
         run(["cargo", "build", "--offline", "--quiet", "--example", name], cwd=folder,
-            env=rust_environment(self.library, self.room))
-        return self.file(os.path.join("target", "debug", "examples", name))
+            env=rust_environment(self.library, self.built))
+        return os.path.join(self.built, "target", "debug", "examples", name)
 
     def c_client(self):
         """Returns the file of the client by MariaDB's own library, which is built."""
-        made = self.file("prepared_client")
+        made = os.path.join(self.built, "prepared_client")
         if not os.path.exists(made):
             source = os.path.join(BINDINGS, "c", "tests", "server", "prepared_client.c")
             run([*C99, "-isystem", "/usr/include/mariadb", source, "-lmariadb", "-o", made])
@@ -182,7 +241,7 @@ class Tests:
 
     def loader(self):
         """Returns the loader's file, which is built."""
-        made = self.file("bulk_load")
+        made = os.path.join(self.built, "bulk_load")
         if not os.path.exists(made):
             source = os.path.join(BINDINGS, "c", "examples", "bulk_load.c")
             run([*C99, "-O2", source, archive_in(self.library), "-o", made])
@@ -321,13 +380,17 @@ class Tests:
                     self.file("stream"), f"127.0.0.1:{port or self.port}", "--user", USER,
                     "--database", DATABASE, "--query", query, *words], env=self.python, **how)
 
+    def roads(self):
+        """The methods that the server takes."""
+        return ("text", "execute", "bulk") if self.kind.product == MARIADB else ("text", "execute")
+
     def replays(self):
         """By each method the table holds what the stream carries."""
         query = "INSERT INTO replayed VALUES (?, ?)"
         stream = b"".join(text_query(query.replace("?, ?", it)) for it in
                           ("1, 'it\\'s'", "2, NULL", "3, 0x6d617465", "4, ''"))
         self.sql("CREATE TABLE replayed (id INT PRIMARY KEY, name VARCHAR(99))")
-        for road in ("text", "execute", "bulk"):
+        for road in self.roads():
             self.sql("TRUNCATE replayed")
             said = self.replay(stream, query, "--road", road)
             if not said.endswith("the recorded stream ends: whole\n"):
@@ -401,8 +464,9 @@ class Tests:
                  "id = 1; DELETE FROM logged; FLUSH BINARY LOGS")
         *_, file, _ = [name for name, *_ in self.sql("SHOW BINARY LOGS")]
         shown = [(int(it[4]), it[2]) for it in self.sql(f"SHOW BINLOG EVENTS IN '{file}'")]
-        # Rows with the query's text are sent to those replicas alone that ask for them.
-        wanted = [position for position, kind in shown if kind != "Annotate_rows"]
+        # Rows with the query's text are sent to those replicas alone that ask for them. MariaDB 11
+        # tells no position within a transaction.
+        wanted = [position for position, kind in shown if position and kind != "Annotate_rows"]
         found = self.read_log("--file", file, "--position", "4")
         positions = [position for _, position in found if position != 0]
         compare(positions[:len(wanted)], wanted)
@@ -480,23 +544,13 @@ class Tests:
             compare(said, "2\tcoffee\t3.75\tit's strong\n1\ttea\t2.50\tNULL\n")
 
 
-    # Modes.
+    # Differential tests, and modes.
 
-    def modes(self, port, *queries):
-        """Runs the program of texts in each mode, and returns what it prints."""
-        return run(["python3", os.path.join(BINDINGS, "testing", "modes.py"), str(port), USER,
-                    DATABASE, *queries], env=self.python)
-
-    def texts_in_modes(self):
-        """In each mode the server reads texts as what they carry."""
-        compare(self.modes(self.port).count(": 10000 values, "), 8)
-
-    def random_queries(self, part, spelling):
-        """Random queries and values of a part: a text is answered as an execution is."""
-        words = ["--part", part, "--spelling", spelling, "--count", str(RANDOM_QUERIES)]
-        print("  " + run(["python3", os.path.join(BINDINGS, "testing", "places.py"), str(self.port),
-                          USER, DATABASE, *words], env=self.python).strip()
-              .replace("\n", "\n  "), flush=True)
+    def differential(self, part, count):
+        """What the library makes and tells, beside what the server does."""
+        print("  " + run(["python3", os.path.join(BINDINGS, "testing", "differential.py"),
+                          str(self.port), USER, DATABASE, "--part", part, "--count", str(count)],
+                         env=self.python).strip().replace("\n", "\n  "), flush=True)
 
     def examples_in_ansi_quotes(self):
         """At a server in ANSI_QUOTES the replay, the loader and the replication reader do what they do
@@ -519,17 +573,6 @@ class Tests:
         finally:
             self.sql("SET GLOBAL sql_mode = DEFAULT")
 
-    def mode_behind_a_procedure(self):
-        """Behind a procedure that set the mode a text answers as an execution, with tracking and
-        without. By the status alone it would answer all rows."""
-        self.sql("CREATE TABLE secrets_of (id INT, s VARCHAR(99)); INSERT INTO secrets_of VALUES "
-                 "(1, 'one'), (2, 'two')")
-        said = run([sys.executable, os.path.join(BINDINGS, "testing", "trap.py"), str(self.port),
-                    USER, DATABASE], env=self.python)
-        compare(said, "".join(f"{name}, the procedure {what}: [] and []; by the status 2 rows\n"
-                              for name in ("tracked", "not tracked")
-                              for what in ("sets it", "has rows too")))
-
     def odd_commands(self):
         """What the server runs of odd commands is told, and is on its page."""
         run(["python3", os.path.join(BINDINGS, "testing", "executions.py"), str(self.port), USER,
@@ -539,7 +582,10 @@ class Tests:
         """The proxy follows a session that changes to ANSI_QUOTES."""
         self.sql(r"CREATE TABLE quoted (`a\` INT)")
         with self.proxy("proxy_quotes.log") as (proxy, port):
-            self.modes(port, r'SELECT "a\", ? FROM quoted')
+            with ByHand(port, USER, DATABASE) as it:
+                it.query(b"SET sql_mode = 'ANSI_QUOTES'")
+                it.execute(it.prepare(rb'SELECT "a\", ? FROM quoted'), [1])
+                it.quit()
             proxy.wait_for(r"^.* #1 .* execute statement=.*$")
             if r'SELECT "a\", ? FROM quoted [1] -> 0 rows' not in proxy.said():
                 raise Failure(f"it prints {proxy.said()}")
@@ -610,33 +656,61 @@ def pymysql_python():
     raise Failure("no Python has PyMySQL: apt-get install python3-pymysql")
 
 
-def test_server(report, room, library, load, rate):
-    """Runs the five examples, texts in each mode, random queries and odd commands, and so many
-    seconds of load on the audit, at this rate."""
+# The steps, and whose rules they show. Those of clients that read what the test server answers show
+# no server's rule, and run once.
+STEPS = ((Tests.bulk_load, MARIADBS), (Tests.bulk_load_refused, MARIADBS),
+         (Tests.bulk_load_memory, MARIADBS), (Tests.bulk_load_valgrind, MARIADBS),
+         (Tests.proxy_statements, MARIADBS), (Tests.proxy_rows, MARIADBS), (Tests.replays, BOTH),
+         (Tests.replay_faults, BOTH), (Tests.replays_of_connections, MARIADBS),
+         (Tests.replay_of_files, BOTH), (Tests.replication, MARIADBS),
+         (Tests.replication_by_gtid, MARIADBS), (Tests.test_server_clients, ()),
+         (Tests.test_server_table, ()), (Tests.test_server_statements, ()),
+         (Tests.proxy_of_a_mode, BOTH), (Tests.examples_of_a_mode, MARIADBS),
+         (Tests.examples_in_ansi_quotes, MARIADBS))
+
+
+def test_server(report, room, library, kind, is_first):
+    """Runs the steps that show a rule of a server, and those of clients at the first one."""
     with contextlib.ExitStack() as stack:
-        port = report.run("a MariaDB server", lambda: stack.enter_context(mariadb(room)))
+        port = report.run(f"{kind.name} is started",
+                          lambda: stack.enter_context(running(kind, room)))
         if not port:
             return
-        it = Tests(room, library, port)
-        for test in (it.bulk_load, it.bulk_load_refused, it.bulk_load_memory,
-                     it.bulk_load_valgrind, it.proxy_statements, it.proxy_rows,
-                     it.replays, it.replay_faults, it.replays_of_connections, it.replay_of_files,
-                     it.replication, it.replication_by_gtid, it.test_server_clients,
-                     it.test_server_table, it.test_server_statements, it.texts_in_modes,
-                     it.proxy_of_a_mode, it.examples_of_a_mode, it.examples_in_ansi_quotes,
-                     it.mode_behind_a_procedure):
-            report.run("server: " + test.__name__.replace("_", " "), test)
-        for part, spelling in PARTS:
-            report.run(f"server: random queries, {part}, {spelling}", it.random_queries, part,
-                       spelling)
-        report.run("server: odd commands", it.odd_commands)
-        if has("tcpdump") and os.geteuid() == 0:
-            report.run("server: captured by tcpdump", it.captured)
-        else:
-            print("left out: server: captured by tcpdump, which root can run (apt-get install "
-                  "tcpdump)", flush=True)
-        test_replayed(report, it)
-        test_proxied(report, it, mariadb)
+        it = Tests(room, library, port, kind, os.path.dirname(room))
+        if it.version:
+            print(f"  {kind.name}: {it.version}", flush=True)
+        for step, products in STEPS:
+            if products or is_first:
+                it.run(report, step.__name__.replace("_", " "), products, step, it)
+        for part, (count, products) in DIFFERENTIAL.items():
+            it.run(report, f"differential tests, {part}", products, it.differential, part, count)
+        test_longer(report, kind, it)
+
+
+def test_longer(report, kind, tests):
+    """Runs the longer tests: odd commands, captures, the examples in Rust and clients of the
+    proxy."""
+    if PAGE_OF in tests.version:
+        tests.run(report, "odd commands", MARIADBS, tests.odd_commands)
+    if has("tcpdump") and os.geteuid() == 0:
+        tests.run(report, "captured by tcpdump", MARIADBS, tests.captured)
+    else:
+        print(f"left out: {kind.name}: captured by tcpdump, which root can run (apt-get install "
+              "tcpdump)", flush=True)
+    test_replayed(report, tests)
+    test_proxied(report, tests, functools.partial(running, kind))
+
+
+def test_servers(report, room, library, load, rate):
+    """Runs the tests at each server that is there. So many seconds of load on the audit, at this
+    rate, are for the last MariaDB of them."""
+    kinds = report.run("a server is there", servers_there) or []
+    print("servers: " + ", ".join(it.name for it in kinds), flush=True)
+    for kind in kinds:
+        test_server(report, os.path.join(room, re.sub(r"\W", "_", kind.name)), library, kind,
+                    kind is kinds[0])
     program = os.path.join(room, "target", "release", "mysql-audit")
-    if os.path.exists(program):
-        test_audited(report, room, mariadb, program, load, rate)
+    for kind in [it for it in kinds if it.product == MARIADB][-1:]:
+        if os.path.exists(program):
+            print(f"the audit under load, and beside pt-query-digest: at {kind.name}", flush=True)
+            test_audited(report, room, functools.partial(running, kind), program, load, rate)
