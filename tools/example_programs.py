@@ -9,11 +9,12 @@ the first and the last are handed the files of crates/examples/data with their n
 import re
 import shutil
 
-from trying import CRATES, ROOT, Failure
+from listed import CRATES, ROOT
+from trying import Failure
 
 DOCUMENT = ROOT / "docs" / "EXAMPLES.md"
 EXAMPLES = CRATES / "examples"
-USES = ["mysql_connection", "mysql_session", "mysql_login", "anyhow"]
+USES = ["mysql_connection", "mysql_session", "mysql_login", "mysql_packets", "mysql_wire", "anyhow"]
 HEAD = "== "
 MAIN = """#![tactic(auto)]
 {modules}

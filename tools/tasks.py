@@ -32,7 +32,7 @@ TASKS = {
         ('make a parameter set', ['Params']),
         ('ask what a set gives a query', ['Params::values_for', 'Params::into_positional']),
         ('write a query with a set\'s values as literals', ['bind_text', 'bind_text_at']),
-        ('write the SQL text of a value', ['Value::as_sql']),
+        ('write the SQL text of a value', ['AsSql::as_sql']),
         ('find the placeholders of a query', ['places', 'is_mixed', 'first_not_alone']),
         ('give names question marks', ['ParsedNamedParams::parse']),
         ('read the literals out of a text', ['read_text', 'read_literal']),

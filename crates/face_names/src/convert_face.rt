@@ -27,12 +27,3 @@ mod laws {
 mod numbers {
     use mysql_convert::numbers::{Integer, Number, text_integer};
 }
-
-// The public crates below: one item each, since each has its own list.
-mod values_face {
-    use mysql_convert::mysql_values::Mode;
-
-    mod wire_face {
-        use mysql_convert::mysql_values::mysql_wire::Seq;
-    }
-}

@@ -37,8 +37,3 @@ mod laws {
         };
     }
 }
-
-// The public crates below: one item each, since each has its own list.
-mod wire_face {
-    use mysql_login::mysql_wire::Seq;
-}

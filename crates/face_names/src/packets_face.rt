@@ -21,52 +21,12 @@ use mysql_packets::{
     StmtBulkExecuteParamValues, StmtPacket, StmtPacketStatus, SystemVariable,
     TransactionCharacteristics, TransactionState, Unsupported, from_cell, from_cell_ref, from_row,
     from_row_opt, from_row_ref, has_mysql_status, has_named_status, new_row, new_row_raw,
-    put_states, read_bulk_row, write_binary_row, write_text_row,
+    put_states, read_bulk_row, server_error_of, write_binary_row, write_text_row,
 };
-
-mod err_packet {
-    use mysql_packets::err_packet::{ErrPacket, server_error_of};
-}
-
-mod headers {
-    use mysql_packets::headers::{
-        ErrPacketHeader, InvalidErrPacketHeader, InvalidLocalInfileHeader, InvalidSqlStateMarker,
-        InvalidStmtPacketStatus, LocalInfileHeader, SqlStateMarker, StmtPacketStatus,
-    };
-}
 
 mod laws {
     use mysql_packets::laws::{
         errors_read_back, file_requests_read_back, reports_read_back, statements_read_back,
         states_read_back,
     };
-}
-
-mod local_infile {
-    use mysql_packets::local_infile::LocalInfilePacket;
-}
-
-mod progress_report {
-    use mysql_packets::progress_report::ProgressReport;
-}
-
-mod server_error {
-    use mysql_packets::server_error::{ServerError, SqlState};
-}
-
-mod statement {
-    use mysql_packets::statement::StmtPacket;
-}
-
-// The public crates below: one item each, since each has its own list.
-mod convert_face {
-    use mysql_packets::mysql_convert::ParseIr;
-
-    mod values_face {
-        use mysql_packets::mysql_convert::mysql_values::Mode;
-
-        mod wire_face {
-            use mysql_packets::mysql_convert::mysql_values::mysql_wire::Seq;
-        }
-    }
 }

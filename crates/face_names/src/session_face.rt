@@ -105,20 +105,3 @@ mod laws {
         }
     }
 }
-
-// The public crates below: one item each, since each has its own list.
-mod packets_face {
-    use mysql_session::mysql_packets::Row;
-
-    mod convert_face {
-        use mysql_session::mysql_packets::mysql_convert::ParseIr;
-
-        mod values_face {
-            use mysql_session::mysql_packets::mysql_convert::mysql_values::Mode;
-
-            mod wire_face {
-                use mysql_session::mysql_packets::mysql_convert::mysql_values::mysql_wire::Seq;
-            }
-        }
-    }
-}

@@ -2,7 +2,7 @@
 //! Written by `tools/faces` from the sources. A name that the crate doesn't pass on is refused here.
 
 use mysql_values::{
-    AsSqlError, BinValue, BindError, ByteString, ClientSide, Content, ContentExt, Literal,
+    AsSql, AsSqlError, BinValue, BindError, ByteString, ClientSide, Content, ContentExt, Literal,
     MissingNamedParameterError, MixedParamsError, Mode, NamedParamsError, Params,
     ParamsConfusionError, ParamsError, ParsedNamedParams, Place, SerializationSide, ServerSide,
     SetError, Spelling, TextValue, Value, ValueDeserializer, bind_query, bind_text, bind_text_at,
@@ -30,9 +30,4 @@ mod params {
         MissingNamedParameterError, Params, ParamsConfusionError, ParamsError, SetError,
         list_values_over_names,
     };
-}
-
-// The public crates below: one item each, since each has its own list.
-mod wire_face {
-    use mysql_values::mysql_wire::Seq;
 }

@@ -1,8 +1,8 @@
 -- What the calls on texts say of the bytes that a handle stands for: the text of a set over a
 -- query, and the literal of a value.
 use Rattle.std.specs.Prelude.{◌≡◌, ◌≢◌, ◌⊎◌, ℕ, List, ◌++◌, MatchOption}
-use Rattle.mysql_cells.specs.AsSql.{HasLiteral}
-use Rattle.mysql_cells.specs.Values.{literal_of}
+use Rattle.mysql_literals.specs.AsSql.{HasLiteral}
+use Rattle.mysql_literals.specs.Literals.{literal_of}
 use Rattle.mysql_cells.specs.declared.value.Value.{Value}
 use Rattle.mysql_values.specs.Binding.{Binds, RefusesBinding}
 use Rattle.mysql_values.specs.Mode.{Mode}

@@ -8,8 +8,8 @@ ghost use Rattle.mysql_c_commands.specs.Packets.{Frames, FramesIn, IsPackets, Is
 ghost use Rattle.mysql_c_commands.specs.Packets.{Restarts, RestartsIn, ShowsPayload, wire_code};
 
 use mysql_c_handles::{Code, Handle, Object, start_of};
-use mysql_login::mysql_wire::{PacketCodecError, PacketReader, packet_to_chunks};
 use mysql_receive::StreamFault;
+use mysql_wire::{PacketCodecError, PacketReader, packet_to_chunks};
 use std::alloc::Global;
 
 /// The answer that an error of a reader has. No call of the library reads a file, so that `Io` is none of its errors.

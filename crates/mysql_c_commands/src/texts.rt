@@ -10,7 +10,7 @@ ghost use Rattle.mysql_c_commands.specs.Texts.{PutsLiteralTo, ShowsBindError, bi
 use crate::modes::mode_of;
 use crate::shown::ShownPlace;
 use mysql_c_handles::{Code, Handle, Object};
-use mysql_cells::as_sql::{AsSqlError, push_literal_in};
+use mysql_literals::as_sql::{AsSqlError, push_literal_in};
 use mysql_values::{BindError, Mode, Params, Spelling, Value, bind_text_in};
 use std::alloc::Global;
 

@@ -9,7 +9,7 @@ use Rattle.mysql_connection_state.specs.Views.{plain_phase}
 use Rattle.mysql_connection_state.specs.declared.phase.Phase.{Phase}
 use Rattle.mysql_connection_state.specs.declared.phase.Phase.TheVariants as phase
 use Rattle.mysql_connection_statements.specs.Statements.{Statement}
-use Rattle.mysql_queries.specs.declared.mode.Mode.{Mode}
+use Rattle.mysql_bytes.specs.declared.mode.Mode.{Mode}
 use Rattle.mysql_c_connection.specs.declared.code.ConnectionCode.TheVariants as code
 use Rattle.mysql_c_connection.specs.declared.object.Object.{Object}
 use Rattle.mysql_c_connection.specs.declared.object.Object.TheVariants as object

@@ -7,7 +7,6 @@ ghost use Rattle.mysql_reply_events.specs.Views.{event_view as reply_view};
 ghost use Rattle.mysql_row_refs.specs.Places.{value_of};
 ghost use Rattle.mysql_row_refs.specs.RowRefs.{row_ref_view};
 ghost use Rattle.mysql_rows.specs.Views.{row_view};
-ghost use Rattle.mysql_c_connection_events.specs.Replies.{row_shown};
 ghost use Rattle.mysql_c_connection.specs.Codes.{code_number};
 ghost use Rattle.mysql_c_connection.specs.Lent.{ShowsAt, ShowsCells, ShowsLent, ShowsReplyCells, ShowsRow};
 ghost use Rattle.mysql_c_connection.specs.Lent.{TellsLent, event_told};
@@ -19,7 +18,7 @@ use crate::code::ConnectionCode;
 use crate::events::telling_event;
 use crate::handle::Handle;
 use crate::object::{Object, OpenConnection};
-use mysql_c_connection_events::{ShownEvent, blank};
+use mysql_c_connection_events::{ShownEvent, telling_row};
 use mysql_c_handles::start_of;
 use mysql_c_replies::{ShownValue, show_value};
 use mysql_cells::Value;
@@ -157,15 +156,6 @@ fn show_cells(event: &Event, cells: &mut [ShownValue])
         Event::Reply(said) => show_reply_cells(said, cells),
         _ => {}
     }
-}
-
-/// A row of so many cells.
-fn telling_row(cells: usize) -> ShownEvent
-    ensures { result ≡ row_shown cells result }
-{
-    let mut shown = blank(27, 1);
-    shown.columns = cells;
-    shown
 }
 
 /// Shows the row that is lent, where there is one.

@@ -9,11 +9,11 @@ use crate::code::{ConnectionCode, number_of_fault, number_of_reason, number_of_s
 use crate::handle::Handle;
 use crate::object::Object;
 use crate::shown::ShownStanding;
+use mysql_bytes::Mode;
 use mysql_c_handles::start_of;
 use mysql_connection_machine::Connection;
 use mysql_connection_rules::Side;
 use mysql_connection_state::Phase;
-use mysql_queries::Mode;
 use std::alloc::Global;
 
 /// The number of whose turn it is: 2 where it is nobody's.

@@ -16,5 +16,5 @@ pub mod shown;
 pub use commands::telling_command;
 pub use logins::{telling_authentication, telling_greeting, telling_response_event};
 pub use packets::telling_error;
-pub use replies::telling_reply;
+pub use replies::{telling_reply, telling_row};
 pub use shown::{ShownEvent, blank, with_data};

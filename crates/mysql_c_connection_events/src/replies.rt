@@ -49,7 +49,7 @@ fn telling_field(field: &ListedColumn) -> ShownEvent
 }
 
 /// A row of so many cells.
-fn telling_row(cells: usize) -> ShownEvent
+pub fn telling_row(cells: usize) -> ShownEvent
     ensures { result ≡ row_shown cells result }
 {
     let mut shown = blank(27, 1);

@@ -13,7 +13,7 @@ use Rattle.mysql_fields.specs.Wire.{Reading, ◌>>=◌}
 use Rattle.mysql_const.specs.NamedLaws.{column_type-names_back}
 use Rattle.mysql_const.specs.declared.column_type.ColumnType.{ColumnType}
 use Rattle.mysql_const.specs.ColumnTypes.{column_type_number}
-use Rattle.mysql_cells.specs.AsSql.{FitsFields}
+use Rattle.mysql_cells.specs.Values.{FitsFields}
 use Rattle.mysql_cells.specs.CellLaws.{read_back}
 use Rattle.mysql_cells.specs.Cells.{cell_at, form, form_of, number_value_at, unsigned_value, value_at, whole_value}
 use Rattle.mysql_cells.specs.TypedCells.{TypedCellsReadBack, in_range, number_cell, some_cell, whole_cell}

@@ -4,7 +4,6 @@ pub use Rattle.mysql_buf.specs.Writing
 pub use Rattle.mysql_fields.specs.Forms
 pub use Rattle.mysql_fields.specs.Wire
 pub mod Values
-pub mod AsSql
 pub mod Cells
 pub mod CellLaws
 pub mod TypedCells

@@ -9,7 +9,7 @@ use Rattle.mysql_buf.specs.Bytes.{AreBytes}
 use Rattle.mysql_buf.specs.Writing.{lenenc_str}
 use Rattle.mysql_const.specs.ColumnTypes.{column_type_number}
 use Rattle.mysql_const.specs.declared.column_type.ColumnType.{ColumnType}
-use Rattle.mysql_cells.specs.AsSql.{FitsFields}
+use Rattle.mysql_cells.specs.Values.{FitsFields}
 use Rattle.mysql_cells.specs.CellLaws.{read_back}
 use Rattle.mysql_cells.specs.Cells.{cell, cell_at, date_cell, form, time_cell}
 use Rattle.mysql_cells.specs.Values.{is_null, without_zero_sign}

@@ -4,19 +4,16 @@
 -- Modes".
 use Rattle.std.specs.Prelude.{ℕ, pos, ◌+◌, ◌*◌, ◌-◌, ◌==◌, ◌&&◌, ◌||◌, Bool, true, false, not, if◌then◌else◌, List, []}
 use Rattle.std.specs.Prelude.{◌∷◌}
-use Rattle.std.specs.Prelude.{◌++◌, length, replicate, codes, is_none, Option, Some, None}
-use Rattle.std.specs.Fmt.{decimal, signed_decimal, sign_text}
+use Rattle.std.specs.Prelude.{◌++◌, length, replicate, is_none, Option, Some, None}
+use Rattle.std.specs.Fmt.{decimal, sign_text}
 use Rattle.std.specs.List.{position_from}
-use Rattle.std.specs.Str.{is_utf8}
-use Rattle.mysql_queries.specs.Tokens.{single_quote}
-use Rattle.mysql_queries.specs.Written.{in_hexadecimal, introduced, quoted, quoted_in_comment}
-use Rattle.mysql_queries.specs.declared.content.Content.{Content}
-use Rattle.mysql_queries.specs.declared.content.Content.TheVariants as content
-use Rattle.mysql_queries.specs.declared.mode.Mode.{Mode}
-use Rattle.mysql_queries.specs.declared.spelling.Spelling.{Spelling}
-use Rattle.mysql_queries.specs.declared.spelling.Spelling.TheVariants.{Quoted, Hexadecimal}
+use Rattle.mysql_bytes.specs.declared.content.Content.{Content}
+use Rattle.mysql_bytes.specs.declared.content.Content.TheVariants as content
 use Rattle.mysql_cells.specs.declared.value.Value.{Value}
 use Rattle.mysql_cells.specs.declared.value.Value.TheVariants.{NULL, Bytes, Int, UInt, Float, Double, Date, Time}
+use Rattle.std.specs.Prelude.{◌≡◌, ◌^◌, ◌<◌, FitsSigned, take, Result, Ok, Err}
+use Rattle.std.specs.Int.{w64}
+use Rattle.mysql_buf.specs.Bytes.{AreBytes}
 
 -- whether a value is NULL
 abbrev pub is_null : Value → Bool
@@ -95,55 +92,30 @@ content_of value = plain_content (without_zero_sign value)
 abbrev pub first_float : List Value → Option ℕ
 first_float values = position_from (λ value. is_none (content_of value)) 0 values
 
--- a text between single quotes as it is
-abbrev pub in_quotes : List ℕ → List ℕ
-in_quotes text = single_quote ∷ (text ++ single_quote ∷ [])
+-- each number of the value fits its field
+abbrev pub FitsFields : Value → Type 0
+FitsFields NULL = Unit {0}
+FitsFields (Bytes bytes) = AreBytes bytes × (length bytes < 2 ^ 64)
+FitsFields (Int z) = FitsSigned w64 z
+FitsFields (UInt n) = n < 2 ^ 64
+FitsFields (Float bits) = bits < 2 ^ 32
+FitsFields (Double bits) = bits < 2 ^ 64
+FitsFields (Date year month day hour minute second micros) =
+    (year < 2 ^ 16) × (month < 256) × (day < 256) × (hour < 256) × (minute < 256) × (second < 256) × (micros < 2 ^ 32)
+FitsFields (Time negative days hours minutes seconds micros) =
+    (days < 2 ^ 32) × (hours < 256) × (minutes < 256) × (seconds < 256) × (micros < 2 ^ 32)
 
--- bytes between quotes, in a place in a comment that a server may skip or in another one
-abbrev pub text_sql : (no_backslash_escapes : Bool) → (in_comment : Bool) → List ℕ → List ℕ
-text_sql no_backslash_escapes in_comment bytes =
-    if in_comment then quoted_in_comment no_backslash_escapes bytes else quoted no_backslash_escapes bytes
+-- A call appended these bytes; or it was refused, and what there was still comes first.
+abbrev pub Puts : {E : Type 0} → List ℕ → List ℕ → List ℕ → Result (Unit {0}) E → Type 0
+Puts bytes old new (Ok _) = new ≡ old ++ bytes
+Puts bytes old new (Err _) = take (length old) new ≡ old
 
--- bytes that are UTF-8 between quotes, for a server in NO_BACKSLASH_ESCAPES or for another, and
--- others in hexadecimal
-abbrev pub quoted_sql : (no_backslash_escapes : Bool) → (in_comment : Bool) → List ℕ → List ℕ
-quoted_sql no_backslash_escapes in_comment bytes =
-    if is_utf8 bytes then text_sql no_backslash_escapes in_comment bytes else in_hexadecimal bytes
+-- a separator and at least two digits
+abbrev pub part_text : ℕ → ℕ → List ℕ
+part_text separator n = separator ∷ digits_in 2 n
 
--- bytes in hexadecimal behind an introducer, and none between quotes
-abbrev pub hexadecimal_sql : List ℕ → List ℕ
-hexadecimal_sql [] = in_quotes []
-hexadecimal_sql (b ∷ bytes) = introduced (b ∷ bytes)
-
--- a byte string by its spelling
-abbrev pub bytes_sql : (no_backslash_escapes : Bool) → Spelling → (in_comment : Bool) → List ℕ → List ℕ
-bytes_sql no_backslash_escapes Quoted in_comment bytes = quoted_sql no_backslash_escapes in_comment bytes
-bytes_sql no_backslash_escapes Hexadecimal in_comment bytes = hexadecimal_sql bytes
-
--- The SQL text of a value, by the mode of the server that reads it, the spelling of byte strings,
--- and whether it stands in a comment that a server may skip. Floats have none.
-abbrev pub spelled_sql : (no_backslash_escapes : Bool) → Spelling → (in_comment : Bool) → Value → Option (List ℕ)
-spelled_sql no_backslash_escapes spelling in_comment NULL = Some (codes "NULL")
-spelled_sql no_backslash_escapes spelling in_comment (Bytes bytes) =
-    Some (bytes_sql no_backslash_escapes spelling in_comment bytes)
-spelled_sql no_backslash_escapes spelling in_comment (Int z) = Some (signed_decimal z)
-spelled_sql no_backslash_escapes spelling in_comment (UInt n) = Some (decimal n)
-spelled_sql no_backslash_escapes spelling in_comment (Float bits) = None
-spelled_sql no_backslash_escapes spelling in_comment (Double bits) = None
-spelled_sql no_backslash_escapes spelling in_comment (Date year month day hour minute second micros) =
-    Some (in_quotes (date_text year month day hour minute second micros))
-spelled_sql no_backslash_escapes spelling in_comment (Time negative days hours minutes seconds micros) =
-    Some (in_quotes (time_text negative days hours minutes seconds micros))
-
--- The SQL text of a value with byte strings in quotes.
-abbrev pub sql_of : (no_backslash_escapes : Bool) → Value → Option (List ℕ)
-sql_of no_backslash_escapes value = spelled_sql no_backslash_escapes Quoted false value
-
--- the literal that is bound for a value: its SQL text, an all-zero time taken as positive
-abbrev pub literal_at : Mode → Spelling → (in_comment : Bool) → Value → Option (List ℕ)
-literal_at mode spelling in_comment value =
-    spelled_sql mode.no_backslash_escapes spelling in_comment (without_zero_sign value)
-
--- the literal that stands for a value by itself, in no comment
-abbrev pub literal_of : Mode → Spelling → Value → Option (List ℕ)
-literal_of mode spelling value = literal_at mode spelling false value
+-- a space and the time of day, unless all of it is 0
+abbrev pub time_of_day_text : ℕ → ℕ → ℕ → ℕ → List ℕ
+time_of_day_text hour minute second micros =
+    if is_zero_time 0 hour minute second micros then [] else 0x20 ∷
+    (clock_text 2 hour minute second ++ micros_text micros)

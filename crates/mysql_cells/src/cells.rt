@@ -18,7 +18,7 @@ use crate::value::Value;
 use mysql_buf::{BufMutExt, ParseBuf, lenenc_str_len};
 use mysql_const::ColumnType;
 use mysql_fields::{IntRepr, LeI64, LeU32, LeU64, MySerialize, WireError};
-use mysql_queries::ByteString;
+use mysql_bytes::ByteString;
 use std::alloc::{AllocError, Global};
 
 /// The value of a cell that needs no memory; None where the bytes end before it does. What is left then isn't said.

@@ -1,8 +1,8 @@
 //! The texts of dates and times.
 #![tactic(auto, using(crate::proofs::Appended::what_is_kept))]
 
-ghost use Rattle.mysql_cells.specs.AsSql.{Puts, part_text, time_of_day_text};
-ghost use Rattle.mysql_cells.specs.Values.{clock_text, date_text, day_text, digits_in, in_quotes, is_zero_time};
+ghost use Rattle.mysql_cells.specs.Values.{Puts, part_text, time_of_day_text};
+ghost use Rattle.mysql_cells.specs.Values.{clock_text, date_text, day_text, digits_in, is_zero_time};
 ghost use Rattle.mysql_cells.specs.Values.{micros_text, time_text};
 ghost use Rattle.std.specs.Prelude.{◌++◌, ◌<◌, ◌≡◌};
 
@@ -126,43 +126,5 @@ pub fn put_time_text(
     out.extend_from_slice(sign)?;
     let all_hours = u64::from(days) * 24 + u64::from(hours);
     put_clock(out, 3, all_hours, minutes, seconds, micros)?;
-    Ok(())
-}
-
-/// Appends the text of a date between single quotes.
-pub fn put_date(
-    out: &mut Vec<u8>,
-    year: u16,
-    month: u8,
-    day: u8,
-    hour: u8,
-    minute: u8,
-    second: u8,
-    micros: u32,
-) -> Result<(), AllocError>
-    ensures { Puts (in_quotes (date_text year month day hour minute second micros)) out.old.items out.new.items result }
-{
-    out.push(b'\'')?;
-    put_date_text(out, year, month, day, hour, minute, second, micros)?;
-    out.push(b'\'')?;
-    Ok(())
-}
-
-/// Appends the text of a time between single quotes.
-pub fn put_time(
-    out: &mut Vec<u8>,
-    negative: bool,
-    days: u32,
-    hours: u8,
-    minutes: u8,
-    seconds: u8,
-    micros: u32,
-) -> Result<(), AllocError>
-    ensures { Puts (in_quotes (time_text negative days hours minutes seconds micros)) out.old.items
-        out.new.items result }
-{
-    out.push(b'\'')?;
-    put_time_text(out, negative, days, hours, minutes, seconds, micros)?;
-    out.push(b'\'')?;
     Ok(())
 }

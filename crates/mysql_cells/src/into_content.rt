@@ -5,7 +5,7 @@ ghost use Rattle.std.specs.Prelude.{◌≡◌, IfOk};
 
 use crate::date_text::{is_zero_time, put_date_text, put_time_text};
 use crate::value::Value;
-use mysql_queries::{ByteString, Content};
+use mysql_bytes::{ByteString, Content};
 use std::alloc::{AllocError, Global};
 
 impl Value {

@@ -1,6 +1,6 @@
 //! Laws of cells and of values. The functions change nothing: their contracts are the laws.
 
-ghost use Rattle.mysql_cells.specs.AsSql.{FitsFields};
+ghost use Rattle.mysql_cells.specs.Values.{FitsFields};
 ghost use Rattle.mysql_cells.specs.CellLaws.{CellLength, CellsReadBack, ReadBackMeansTheSame};
 ghost use Rattle.mysql_cells.specs.TypedCells.{ReadCellsAreWritten, TypedCellsReadBack};
 ghost use Rattle.std.specs.List.{AllByRecursion};

@@ -7,7 +7,7 @@
 ghost use Rattle.std.specs.Prelude.{◌≡◌, IfOk, is_none};
 ghost use Rattle.mysql_cells.specs.Values.{content_of, is_null as is_no_value};
 
-use mysql_queries::ByteString;
+use mysql_bytes::ByteString;
 use std::alloc::{AllocError, Global};
 
 /// A value as the protocol carries it.

@@ -1,8 +1,7 @@
 //! What is printed, line by line.
 
-ghost use Rattle.std.specs.Prelude.{◌≤◌, length};
-
 use crate::stop::Stop;
+use mysql_connection_lines::write_hexadecimal;
 use mysql_session::{Audit, Content, End};
 use std::alloc::Global;
 use std::io;
@@ -11,39 +10,15 @@ use std::io::{BufWriter, Write};
 /// How many bytes wait to be written together.
 const WAITING_LEN: usize = 65536;
 
-/// How many bytes are put into hexadecimal together.
-const RUN_LEN: usize = 4096;
-
-/// Writes the digits of a few bytes.
-fn write_run<W: Write>(output: &mut W, run: &[u8]) -> io::Result<()>
-    requires { length run.now ≤ 4096 }
-{
-    let mut digits = [0; 2 * RUN_LEN];
-    let digits = &mut digits[..2 * run.len()];
-    let Ok(()) = hex::encode_to_slice(run, digits) else {
-        unreachable!()
-    };
-    output.write_all(digits)
-}
-
-/// Writes bytes in hexadecimal behind an `x`.
-fn write_bytes<W: Write>(output: &mut W, bytes: &[u8]) -> io::Result<()> {
-    output.write_all(b" x")?;
-    let mut rest = bytes;
-    while !rest.is_empty() {
-        let (run, behind) = rest.split_at(rest.len().min(RUN_LEN));
-        write_run(output, run)?;
-        rest = behind;
-    }
-    Ok(())
-}
-
 /// Writes a content: `null`, a number, or `x` and bytes in hexadecimal.
 fn write_content<W: Write>(output: &mut W, content: &Content) -> io::Result<()> {
     match content {
         Content::Null => output.write_all(b" null"),
         Content::Number(number) => write!(output, " {number}"),
-        Content::Bytes(bytes) => write_bytes(output, bytes.as_slice()),
+        Content::Bytes(bytes) => {
+            output.write_all(b" ")?;
+            write_hexadecimal(output, bytes.as_slice())
+        }
     }
 }
 

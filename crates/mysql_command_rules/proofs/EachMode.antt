@@ -2,7 +2,8 @@
 use Rattle.std.proofs.Common.{◌≡◌, ℕ, suc, ◌+◌, ◌-◌, Bool, true, List, [], ◌∷◌, length, map, Option, Some, None, Ok, refl, ◌∙◌, ap, arith, subst, unwrap_or}
 use Rattle.std.specs.List.{AllByRecursion, flat_map}
 use Rattle.std.specs.Option.{option_or}
-use Rattle.mysql_values.specs.AsSql.{EachSqlIsLiteral, FitsFields, OneHexadecimal}
+use Rattle.mysql_values.specs.AsSql.{EachSqlIsLiteral, OneHexadecimal}
+use Rattle.mysql_values.specs.Values.{FitsFields}
 use Rattle.mysql_values.specs.Content.{Content}
 use Rattle.mysql_values.specs.Laws.{FilledIsRead}
 use Rattle.mysql_values.specs.Literals.{IsLiteral}
@@ -16,7 +17,8 @@ use Rattle.mysql_values.specs.Sql.{Sql, read_by}
 use Rattle.mysql_values.specs.Tokens.{HasTokens}
 use Rattle.mysql_values.specs.Value.{Value}
 use Rattle.mysql_values.specs.Value.TheVariants.{NULL, Bytes, Int, UInt, Float, Double, Date, Time}
-use Rattle.mysql_values.specs.Values.{content_of, literal_at}
+use Rattle.mysql_values.specs.Values.{content_of}
+use Rattle.mysql_values.specs.SqlTexts.{literal_at}
 use Rattle.mysql_bulk_builder.specs.Causes.{first_some}
 use Rattle.mysql_receive.specs.Query.{Statement, statement_of}
 use Rattle.mysql_command_rules.specs.declared.refusal.Refusal.{Refusal}

@@ -4,7 +4,7 @@ use Rattle.std.specs.Prelude.{if◌then◌else◌, ◌||◌}
 use Rattle.std.specs.List.{AllByRecursion, flat_map}
 use Rattle.std.proofs.lemmas.Bool.{ne_eqb}
 use Rattle.byteorder.specs.Endian.{little_bytes}
-use Rattle.mysql_values.specs.AsSql.{FitsFields}
+use Rattle.mysql_values.specs.Values.{FitsFields}
 use Rattle.mysql_values.specs.Cells.{cell, is_unsigned, type_number}
 use Rattle.mysql_values.specs.Content.{Content}
 use Rattle.mysql_values.specs.Content.TheVariants as content

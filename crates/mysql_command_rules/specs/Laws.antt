@@ -2,7 +2,7 @@
 -- MySQL: Client/Server Protocol, "Command Phase".
 use Rattle.std.specs.Prelude.{◌≡◌, ◌≢◌, ℕ, ◌+◌, ◌<◌, ◌≤◌, ◌^◌, ◌-◌, false, List, ◌++◌, length, map, None, Ok}
 use Rattle.std.specs.List.{AllByRecursion, AllZip}
-use Rattle.mysql_values.specs.AsSql.{FitsFields}
+use Rattle.mysql_values.specs.Values.{FitsFields}
 use Rattle.mysql_values.specs.Mode.{Mode}
 use Rattle.mysql_values.specs.Spelling.TheVariants.{Hexadecimal}
 use Rattle.mysql_values.specs.Sql.{Sql, read_by}

@@ -5,7 +5,7 @@ use Rattle.std.specs.List.{AllByRecursion}
 use Rattle.mysql_wire.specs.Stream.{StandWhole}
 use Rattle.mysql_wire.specs.Stream.Numbering.{EachFromZero}
 use Rattle.mysql_values.specs.Sql.{Sql}
-use Rattle.mysql_values.specs.AsSql.{FitsFields}
+use Rattle.mysql_values.specs.Values.{FitsFields}
 use Rattle.mysql_values.specs.Parsed.{names_of}
 use Rattle.mysql_values.specs.Queries.{is_place}
 use Rattle.mysql_values.specs.Tokens.{HasTokens}

@@ -8,7 +8,7 @@ ghost use Rattle.mysql_command_rules.specs.Laws.{TokensInEachMode};
 ghost use Rattle.mysql_command_rules.specs.declared.road.Road.TheVariants as roads;
 
 use mysql_bulk_builder::laws::{tight_typed_has_fewest, types_in_force_serve};
-use mysql_cells::as_sql::hexadecimal_is_safe;
+use mysql_literals::as_sql::hexadecimal_is_safe;
 use mysql_receive::laws::{fronts_read_on, whole_streams_join, written_cells_are_held};
 use mysql_values::laws::{
     cells_have_lengths, filled_text_is_read, sql_text_is_a_literal, tokens_of_a_text,

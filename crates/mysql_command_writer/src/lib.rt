@@ -16,6 +16,5 @@ mod testing;
 mod values;
 mod writing;
 
-pub use mysql_commands;
 pub use refusal::CommandRefusal;
 pub use writing::put_command;

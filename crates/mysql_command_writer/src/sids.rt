@@ -1,4 +1,4 @@
-//! What holds of each set of transactions, since its numbers are those of Rust.
+//! For the proof alone: what holds of each set of transactions, as its numbers are those of Rust.
 
 ghost use Rattle.std.specs.Prelude.{map};
 ghost use Rattle.std.specs.List.{AllByRecursion};

@@ -152,6 +152,7 @@ fn test_binlog_dump(
     ensures { Tests capabilities (option_copied parameters.entry)
         (said.BinlogDump (binlog_dump_view request.now)) result }
 {
+    // For the proof alone: these numbers fit their fields.
     let _pos = request.pos();
     let _server_id = request.server_id();
     if have_names(request.flags()) {
@@ -186,6 +187,7 @@ fn test_register_slave(
     ensures { Tests capabilities (option_copied parameters.entry)
         (said.RegisterSlave (register_slave_view replica.now)) result }
 {
+    // For the proof alone: these numbers fit their fields.
     let _server_id = replica.server_id();
     let _port = replica.port();
     let _replication_rank = replica.replication_rank();
@@ -222,6 +224,7 @@ fn test_binlog_dump_gtid(
     ensures { Tests capabilities (option_copied parameters.entry)
         (said.BinlogDumpGtid (binlog_dump_gtid_view request.now)) result }
 {
+    // For the proof alone: these numbers fit their fields.
     let _server_id = request.server_id();
     let _pos = request.pos();
     sids_are(request.sids());

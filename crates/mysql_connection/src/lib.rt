@@ -50,8 +50,6 @@ pub use mysql_event_lines::{
     write_reply_event, write_response_event, write_row_ref,
 };
 pub use mysql_executions::{Refused, read_bulk_types, read_execution_types};
-pub use mysql_login;
 pub use mysql_reply_event_writer::{ReplyPutRefusal, put_event};
 pub use mysql_reply_events::{Context, EventReader, ReplyEvent, ReplyFault, ReplyKind, Turn};
-pub use mysql_session;
 pub use mysql_session_modes::{SessionMode, Tracking, mode_begun, mode_behind_ok};

@@ -12,7 +12,7 @@ use Rattle.mysql_command_rules.specs.declared.refusal.Refusal.TheVariants as ref
 use Rattle.mysql_connection_contents.specs.Deliveries.{FurtherSetsJoin}
 use Rattle.mysql_queries.specs.Laws.{OneTokens}
 use Rattle.mysql_send.specs.Executions.{AppendsMore, limits_of, whole_execution}
-use Rattle.mysql_values.specs.AsSql.{FitsFields}
+use Rattle.mysql_values.specs.Values.{FitsFields}
 use Rattle.mysql_values.specs.Binding.{values_cause}
 use Rattle.mysql_values.specs.Queries.{places_from}
 use Rattle.mysql_values.specs.Value.{Value}

@@ -15,7 +15,7 @@ use Rattle.mysql_const.specs.declared.column_type.ColumnType.TheVariants.{MYSQL_
 use Rattle.mysql_executions.specs.declared.bulk.BulkValue.TheVariants as bulk
 use Rattle.mysql_executions.specs.declared.types.BoundType.{BoundType}
 use Rattle.mysql_handshake.specs.Capabilities.{both_words}
-use Rattle.mysql_queries.specs.declared.content.Content.TheVariants as content
+use Rattle.mysql_bytes.specs.declared.content.Content.TheVariants as content
 use Rattle.mysql_reply_events.specs.Events.Event.{OkEvent, PreparedEvent}
 use Rattle.mysql_values.specs.Content.{Content}
 

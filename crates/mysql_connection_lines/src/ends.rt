@@ -1,7 +1,6 @@
 //! The state of a connection, as a line.
 
-use crate::name_of;
-use mysql_connection_machine::{ConnectionFault, End};
+use mysql_connection_machine::{ConnectionFault, End, side_name};
 use mysql_connection_rules::Fault;
 use std::io;
 use std::io::Write;
@@ -9,7 +8,7 @@ use std::io::Write;
 /// Writes whose payload is at fault, the byte of that side's stream by which it begins, and why.
 /// The number that a packet out of its order has is left out.
 fn write_failure<W: Write>(output: &mut W, word: &str, failure: ConnectionFault) -> io::Result<()> {
-    let side = name_of(failure.side);
+    let side = side_name(failure.side);
     write!(output, "{word} {side} {} ", failure.byte)?;
     match failure.fault {
         Fault::OutOfSync(_) => output.write_all(b"OutOfSync"),
@@ -25,7 +24,7 @@ pub fn write_end<W: Write>(output: &mut W, end: End) -> io::Result<()> {
     match end {
         End::Over(reason) => write!(output, "end Over {reason:?}"),
         End::Whole => output.write_all(b"end Whole"),
-        End::Unfinished(side) => write!(output, "end Unfinished {}", name_of(side)),
+        End::Unfinished(side) => write!(output, "end Unfinished {}", side_name(side)),
         End::Fault(failure) => write_failure(output, "end Fault", failure),
         End::Unread => output.write_all(b"end Unread"),
     }
@@ -39,7 +38,7 @@ pub fn print_end<W: Write>(output: &mut W, end: End) -> io::Result<()> {
     match end {
         End::Over(reason) => write!(output, "end: over {reason:?}")?,
         End::Whole => output.write_all(b"end: whole")?,
-        End::Unfinished(side) => write!(output, "end: unfinished {}", name_of(side))?,
+        End::Unfinished(side) => write!(output, "end: unfinished {}", side_name(side))?,
         End::Fault(failure) => write_failure(output, "end: fault", failure)?,
         End::Unread => output.write_all(b"end: unread")?,
     }

@@ -7,9 +7,10 @@
 mod ends;
 
 pub use crate::ends::{print_end, write_end};
+use mysql_connection_machine::side_name;
 use mysql_connection_rules::Side;
 use mysql_connection_state::Event;
-pub use mysql_event_lines::{Form, Secrets, Texts};
+pub use mysql_event_lines::{Form, Secrets, Texts, write_hexadecimal};
 use mysql_event_lines::{
     Said, answer_said, authentication_said, command_said, farewell_said, file_data_said,
     greeting_said, lent_row_said, reply_said, response_said, write_said,
@@ -17,14 +18,6 @@ use mysql_event_lines::{
 use mysql_row_refs::RowRef;
 use std::io;
 use std::io::Write;
-
-/// The name of a side.
-pub(crate) fn name_of(side: Side) -> &'static str {
-    match side {
-        Side::Client => "client",
-        Side::Server => "server",
-    }
-}
 
 /// The side that says an event.
 fn side_of(event: &Event) -> Side {
@@ -60,7 +53,7 @@ fn event_said(event: &Event) -> Said<'_> {
 /// - Those of the output.
 /// - `OutOfMemory`: a growth of memory was refused, in a line that is short or has texts.
 pub fn write_event_as<W: Write>(output: &mut W, form: Form, event: &Event) -> io::Result<()> {
-    write!(output, "{} ", name_of(side_of(event)))?;
+    write!(output, "{} ", side_name(side_of(event)))?;
     write_said(output, form, &event_said(event))
 }
 

@@ -5,7 +5,7 @@ use Rattle.mysql_connection_machine.specs.Buffers.{Buffer}
 use Rattle.mysql_connection_machine.specs.Machines.{LendingWorld, Machine, failure_view}
 use Rattle.mysql_connection_machine.specs.declared.connection.Connection as connection
 use Rattle.mysql_connection_machine.specs.declared.stream_buffer.StreamBuffer as stream
-use Rattle.mysql_connection_machine.specs.declared.streams_reader.StreamsReader as reader
+use Rattle.mysql_connection_machine.specs.declared.both_streams.BothStreams as reader
 use Rattle.mysql_connection_rules.specs.Standing.{Standing}
 use Rattle.mysql_connection_writer.specs.NextRows.{IsAmongRows}
 use Rattle.mysql_reply_events.specs.Standing.{RowAt}

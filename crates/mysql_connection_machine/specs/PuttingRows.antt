@@ -5,20 +5,14 @@ use Rattle.std.specs.Prelude.{Err}
 use Rattle.std.specs.declared.alloc.AllocError.{AllocError}
 use Rattle.mysql_connection_rules.specs.Puts.{step_for}
 use Rattle.mysql_connection_rules.specs.Events.{Event}
-use Rattle.mysql_connection_rules.specs.Events.Event.{Replied}
 use Rattle.mysql_connection_rules.specs.Standing.{Standing}
 use Rattle.mysql_connection_writer.specs.NextRows.{row_said}
 use Rattle.mysql_connection_writer.specs.Payloads.{payload_of}
-use Rattle.mysql_reply_events.specs.Events.Event.{RowEvent}
 use Rattle.mysql_rows.specs.Rows.{Row}
 use Rattle.mysql_wire.specs.Framing.{framing, number_after}
 use Rattle.mysql_connection_machine.specs.Machines.{LendingWorld, Machine}
 use Rattle.mysql_connection_machine.specs.Writing.{AppendsEvent, PutsOn}
 use Rattle.mysql_connection_machine.specs.declared.put_refusal.PutRefusal.{PutRefusal}
-
-abbrev pub is_row : Event → Bool
-is_row (Replied (RowEvent row)) = true
-is_row event = false
 
 -- The packets of a row under the columns that are due were appended, behind which this number is due, where it changes
 -- nothing of what stands; or the buffer begins as it did.

@@ -21,13 +21,13 @@ ghost use Rattle.mysql_connection_writer.specs.NextRows.{row_said};
 ghost use Rattle.mysql_row_refs.specs.RowRefs.{row_ref_view};
 ghost use Rattle.mysql_rows.specs.Views.{row_view};
 
+use crate::both_streams::BothStreams;
 use crate::end::End;
 use crate::fault::{ConnectionFault, FeedRefusal};
 use crate::lent_event::LentEvent;
 use crate::payload_refusal::PayloadRefusal;
 use crate::put_refusal::PutRefusal;
 use crate::room::{limit_of, room};
-use crate::streams_reader::StreamsReader;
 use mysql_cells::Value;
 use mysql_connection_rules::agreement_laws::puts_are_read;
 use mysql_connection_rules::laws::{events_take_bytes, held_stays};
@@ -61,7 +61,7 @@ use std::marker::Model;
 ///
 /// MySQL: Client/Server Protocol, "Connection Lifecycle".
 pub struct Connection {
-    reader: StreamsReader,
+    reader: BothStreams,
     fault: Option<ConnectionFault>,
 }
 
@@ -98,7 +98,7 @@ impl Connection {
     {
         held_stays();
         Connection {
-            reader: StreamsReader::new(alloc, limits, State::new(alloc)),
+            reader: BothStreams::new(alloc, limits, State::new(alloc)),
             fault: None,
         }
     }
@@ -113,7 +113,7 @@ impl Connection {
     {
         held_stays();
         Connection {
-            reader: StreamsReader::new(alloc, limits, State::after_login(alloc, capabilities)),
+            reader: BothStreams::new(alloc, limits, State::after_login(alloc, capabilities)),
             fault: None,
         }
     }
@@ -292,7 +292,7 @@ impl Connection {
         if self.fault.is_some() {
             return Err(PutRefusal::NotDue);
         }
-        // A byte, which the law wants to know.
+        // For the proof alone: the number is a byte.
         let _number = self.reader.state().number();
         if self.reader.put_among_rows(event, out) {
             return Ok(());
@@ -331,7 +331,7 @@ impl Connection {
         if self.fault.is_some() {
             return Err(PutRefusal::NotDue);
         }
-        // A byte, which the law wants to know.
+        // For the proof alone: the number is a byte.
         let _number = self.reader.state().number();
         self.reader.put_row(row, out)
     }
@@ -377,7 +377,7 @@ impl Connection {
         if self.fault.is_some() {
             return Err(PutRefusal::NotDue);
         }
-        // A byte, which the law wants to know.
+        // For the proof alone: the number is a byte.
         let _number = self.reader.state().number();
         self.reader.put_execution(id, values, out)
     }
@@ -445,7 +445,7 @@ impl Connection {
         if self.fault.is_some() {
             return Err(PayloadRefusal::NotDue);
         }
-        // A byte, which the law wants to know.
+        // For the proof alone: the number is a byte.
         let _number = self.reader.state().number();
         self.reader.put_due_payload(side, payload, out)
     }

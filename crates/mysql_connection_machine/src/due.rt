@@ -6,8 +6,8 @@ ghost use Rattle.mysql_connection_rules.specs.Puts.{has_ended, has_place, is_due
 ghost use Rattle.mysql_connection_rules.specs.Steps.{turn};
 ghost use Rattle.mysql_connection_state.specs.Views.{event_view};
 
+use crate::both_streams::BothStreams;
 use crate::stream_buffer::StreamBuffer;
-use crate::streams_reader::StreamsReader;
 use mysql_connection_rules::Side;
 use mysql_connection_state::Event;
 use mysql_wire::is_short;
@@ -19,7 +19,7 @@ pub fn is_free(stream: &StreamBuffer) -> bool
     !stream.is_closed() && stream.is_empty()
 }
 
-impl StreamsReader {
+impl BothStreams {
     // The client's stream has ended without a whole payload.
     fn has_ended(&self) -> bool
         ensures { result ≡ has_ended self.now.world }

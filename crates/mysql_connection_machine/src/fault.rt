@@ -28,7 +28,8 @@ pub enum FeedRefusal {
     Memory,
 }
 
-fn side_name(side: Side) -> &'static str {
+/// The name of a side: `client` or `server`.
+pub fn side_name(side: Side) -> &'static str {
     match side {
         Side::Client => "client",
         Side::Server => "server",

@@ -14,6 +14,7 @@
 //!     }
 #![tactic(auto)]
 
+mod both_streams;
 pub mod connection;
 mod due;
 pub mod end;
@@ -34,12 +35,11 @@ mod putting_rows;
 mod room;
 mod saying;
 mod stream_buffer;
-mod streams_reader;
 mod taking;
 
 pub use connection::Connection;
 pub use end::End;
-pub use fault::{ConnectionFault, FeedRefusal};
+pub use fault::{ConnectionFault, FeedRefusal, side_name};
 pub use lent_event::LentEvent;
 pub use packets_refusal::PacketsRefusal;
 pub use payload_refusal::PayloadRefusal;

@@ -3,7 +3,6 @@
 ghost use Rattle.std.specs.Prelude.{◌≡◌, ◌+◌, ◌≤◌, ◌<◌, drop, length, true};
 ghost use Rattle.mysql_connection_rules.specs.Puts.{is_due};
 ghost use Rattle.mysql_connection_machine.specs.Machines.{lending_none};
-ghost use Rattle.mysql_connection_machine.specs.PuttingRows.{is_row};
 ghost use Rattle.mysql_connection_machine.specs.Writing.{GoesOnBehind, PutsBehind, PutsDue, PutsEvent};
 ghost use Rattle.mysql_connection_machine.specs.Writing.{PutsPayload, StandsBehind, WritesBehindRoom};
 ghost use Rattle.mysql_connection_machine.specs.Writing.{passed_by, refused_as};
@@ -12,18 +11,18 @@ ghost use Rattle.mysql_connection_state.specs.Views.{event_view};
 ghost use Rattle.mysql_connection_writer.specs.Writes.{Says};
 ghost use Rattle.mysql_wire.specs.Framing.{max_payload_len};
 
+use crate::both_streams::BothStreams;
 use crate::put_refusal::PutRefusal;
 use crate::room::{limit_of, room_to_keep};
-use crate::streams_reader::StreamsReader;
+use crate::saying::is_row;
 use mysql_connection_rules::Side;
 use mysql_connection_state::{Event, FollowRefusal};
 use mysql_connection_writer::laws::rows_lead_to_rows;
 use mysql_connection_writer::{EventRefusal, write_event};
 use mysql_const::MAX_PAYLOAD_LEN;
-use mysql_reply_events::ReplyEvent;
 use mysql_wire::{frame_in_place, packet_to_chunks};
 
-impl StreamsReader {
+impl BothStreams {
     // Stands behind a payload that says an event, where what is kept then has room.
     fn follow(&mut self, event: &Event, payload: &[u8]) -> Result<(), PutRefusal>
         requires said { Says self.old.world.standing (event_view event.now) payload.now }
@@ -209,18 +208,5 @@ fn refused_as(refusal: EventRefusal) -> PutRefusal
     match refusal {
         EventRefusal::BadEvent(cause) => PutRefusal::BadEvent(cause),
         EventRefusal::Memory => PutRefusal::Memory,
-    }
-}
-
-// Whether an event is a row.
-fn is_row(event: &Event) -> bool
-    ensures { result ≡ is_row (event_view event.now) }
-{
-    match event {
-        Event::Reply(said) => match &**said {
-            ReplyEvent::Row(_) => true,
-            _ => false,
-        },
-        _ => false,
     }
 }

@@ -7,18 +7,18 @@ ghost use Rattle.mysql_connection_machine.specs.PuttingPayloads.{PutsWithoutEven
 ghost use Rattle.mysql_connection_machine.specs.Writing.{GoesOnBehind, PutsPayload, StandsBehind};
 ghost use Rattle.mysql_connection_rules.specs.Standing as phases;
 
+use crate::both_streams::BothStreams;
 use crate::last_words::number_of;
 use crate::payload_refusal::PayloadRefusal;
 use crate::put_refusal::PutRefusal;
 use crate::putting::behind;
 use crate::room::{limit_of, room_to_keep};
-use crate::streams_reader::StreamsReader;
 use mysql_connection_rules::Side;
 use mysql_connection_state::FollowRefusal;
 use mysql_connection_state::laws::payloads_are_in_turn;
 use mysql_wire::{frame_in_place, one_chunk, packet_to_chunks};
 
-impl StreamsReader {
+impl BothStreams {
     // A command is due, and this side says it.
     fn awaits_command_of(&self, side: Side) -> bool
         ensures { IsTrue result → AwaitsCommandOf self.now.world side }
@@ -131,7 +131,7 @@ impl StreamsReader {
         }
     }
 
-    /// Puts a payload as [`StreamsReader::put_due_payload`] does, but answers no event. None is made
+    /// Puts a payload as [`BothStreams::put_due_payload`] does, but answers no event. None is made
     /// of a command.
     pub fn put_without_event(
         &mut self,

@@ -1,7 +1,6 @@
 //! Executions of values that are put: where they leave all as it is, they are written where they go.
 
-ghost use Rattle.std.specs.Prelude.{◌≡◌, ◌≤◌, IfOk, IsTrue, true};
-ghost use Rattle.std.specs.Option.{option_map};
+ghost use Rattle.std.specs.Prelude.{◌≡◌, ◌≤◌, IsTrue, true};
 ghost use Rattle.mysql_connection_rules.specs.Puts.{is_free};
 ghost use Rattle.mysql_connection_machine.specs.PuttingExecutions.{AppendsExecution};
 ghost use Rattle.mysql_connection_machine.specs.PuttingRows.{PutsOrStays};
@@ -10,16 +9,14 @@ ghost use Rattle.mysql_connection_rules.specs.Standing as phases;
 ghost use Rattle.mysql_connection_rules.specs.Standing.{kept};
 ghost use Rattle.mysql_connection_rules.specs.Streams.{room_to_keep};
 ghost use Rattle.mysql_connection_writer.specs.Executions.{execution_said};
-ghost use Rattle.mysql_rows.specs.Views.{shared_columns};
 
+use crate::both_streams::BothStreams;
 use crate::due::is_free;
 use crate::put_refusal::PutRefusal;
-use crate::streams_reader::StreamsReader;
 use mysql_cells::Value;
 use mysql_columns::Column;
 use mysql_connection_rules::Side;
-use mysql_connection_state::{Phase, State};
-use mysql_connection_statements::Statement;
+use mysql_connection_state::{Phase, State, shared_columns_of};
 use mysql_connection_writer::{execution_event, write_execution};
 use mysql_wire::frame_in_place;
 use std::alloc::{AllocError, Global};
@@ -29,16 +26,6 @@ use std::rc::RcSlice;
 struct Executed {
     columns: Option<RcSlice<Column>>,
     next: u8,
-}
-
-// The columns that a statement last had, shared.
-fn columns_of(statement: &Statement) -> Result<Option<RcSlice<Column>>, AllocError>
-    ensures { IfOk result (λ columns. option_map shared_columns columns ≡ statement.now.columns) }
-{
-    match statement.columns() {
-        Some(columns) => Ok(Some(columns.clone()?)),
-        None => Ok(None),
-    }
 }
 
 // Appends the packets of an execution of values that leaves all as it is, where it is within a limit.
@@ -58,7 +45,7 @@ fn append_execution(
     let Some(statement) = state.statements().get_settled(id) else {
         return Ok(None);
     };
-    let columns = columns_of(statement)?;
+    let columns = shared_columns_of(statement)?;
     let start = out.len();
     out.extend_from_slice(&[0, 0, 0, 0])?;
     if !write_execution(state, statement, id, values, out)? || out.len() - start - 4 > limit {
@@ -69,7 +56,7 @@ fn append_execution(
     Ok(Some(Executed { columns, next }))
 }
 
-impl StreamsReader {
+impl BothStreams {
     // A command of the client's is due, and nothing of its stream waits.
     #[tactic(auto, using(crate::proofs::Phases::command_due))]
     pub(crate) fn awaits_command(&self) -> bool

@@ -4,16 +4,16 @@ ghost use Rattle.std.specs.Prelude.{◌≡◌, IfOk};
 ghost use Rattle.mysql_connection_machine.specs.PuttingPayloads.{PutsPayloadOf, awaits_payload};
 ghost use Rattle.mysql_connection_state.specs.Views.{EventHasUnclear};
 
+use crate::both_streams::BothStreams;
 use crate::due::is_free;
 use crate::payload_refusal::PayloadRefusal;
 use crate::put_refusal::PutRefusal;
 use crate::room::limit_of;
-use crate::streams_reader::StreamsReader;
 use mysql_connection_rules::{Fault, Side};
 use mysql_connection_state::laws::payloads_are_in_turn;
 use mysql_connection_state::{Event, peek_event};
 
-impl StreamsReader {
+impl BothStreams {
     /// Whether a payload of a side can be put: it is its turn, and its stream is open and read.
     pub fn awaits_payload(&self, side: Side) -> bool
         ensures { result ≡ awaits_payload self.now.world side }

@@ -10,9 +10,9 @@ ghost use Rattle.mysql_connection_state.specs.Views.{event_view};
 ghost use Rattle.mysql_connection_writer.specs.NextRows.{IsAmongRows, row_due, row_said};
 ghost use Rattle.mysql_rows.specs.Views.{row_view};
 
+use crate::both_streams::BothStreams;
 use crate::due::is_free;
 use crate::put_refusal::PutRefusal;
-use crate::streams_reader::StreamsReader;
 use mysql_connection_rules::Side;
 use mysql_connection_state::{Event, State};
 use mysql_connection_writer::{has_columns_due, write_next_row};
@@ -59,7 +59,7 @@ fn row_due(alloc: Global, state: &State, row: &Row) -> Result<Row, AllocError>
     }
 }
 
-impl StreamsReader {
+impl BothStreams {
     /// Puts a row's cells under the columns in force, behind another row. `false` says nothing of
     /// them, and nothing has changed.
     #[inline(always)]

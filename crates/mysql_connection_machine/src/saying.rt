@@ -19,8 +19,8 @@ use mysql_reply_events::ReplyEvent;
 use std::alloc::Global;
 use std::borrow::CowSlice;
 
-// Whether an event is a row of a reply.
-fn is_row(event: &Event) -> bool
+/// Whether an event is a row of a reply.
+pub fn is_row(event: &Event) -> bool
     ensures { result ≡ is_row (event_view event.now) }
 {
     match event {

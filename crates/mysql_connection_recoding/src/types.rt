@@ -4,8 +4,8 @@ ghost use Rattle.std.specs.Prelude.{◌≡◌, IfErr, IfOk, map, true};
 ghost use Rattle.mysql_connection_recoding.specs.Recoding.{lacks_types, nameless, types_there};
 ghost use Rattle.mysql_executions.specs.Views.{types_of};
 
+use mysql_bytes::ByteString;
 use mysql_executions::{BoundType, ParameterType};
-use mysql_queries::ByteString;
 use std::alloc::{AllocError, Global};
 
 /// A type without a name.

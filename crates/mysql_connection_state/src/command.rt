@@ -15,27 +15,43 @@ use mysql_connection_rules::Fault;
 use mysql_executions::StatementParameters;
 use std::alloc::{AllocError, Global};
 
-// What is in force of the parameters of the statement that a command is about.
-fn parameters_in_question<'s>(state: &'s State, payload: &[u8]) -> Option<&'s StatementParameters>
-    ensures { option_copied result ≡
-        steps.parameters_in_question state.now.standing.statements payload.now }
-{
-    match Command::statement_id(payload) {
-        Some(id) => state.parameters_for(id),
-        None => None,
+impl State {
+    // What is in force of the parameters of the statement that a command is about.
+    fn parameters_in_question(&self, payload: &[u8]) -> Option<&StatementParameters>
+        ensures { option_copied result ≡
+            steps.parameters_in_question self.now.standing.statements payload.now }
+    {
+        match Command::statement_id(payload) {
+            Some(id) => self.parameters_for(id),
+            None => None,
+        }
     }
-}
 
-// The command, in bytes of its own.
-fn command_in(alloc: Global, state: &State, payload: &[u8]) -> Result<Command<'static>, AllocError>
-    ensures reads { IfOk result (λ command. command_view command ≡
-        command_at state.now.standing.capabilities
-        (steps.parameters_in_question state.now.standing.statements payload.now) payload.now) }
-    ensures unclear { IfOk result (λ command. HasUnclear state.now.standing.capabilities
-        (steps.parameters_in_question state.now.standing.statements payload.now) payload.now command) }
-{
-    let parameters = parameters_in_question(state, payload);
-    Command::read(alloc, state.capabilities(), parameters, payload)?.into_owned(alloc)
+    /// What a command says, as it lies in its payload.
+    pub(crate) fn command_in<'p>(&self, payload: &'p [u8]) -> Result<Command<'p>, AllocError>
+        ensures reads { IfOk result (λ command. command_view command ≡
+            command_at self.now.standing.capabilities
+            (steps.parameters_in_question self.now.standing.statements payload.now) payload.now) }
+        ensures unclear { IfOk result (λ command. HasUnclear self.now.standing.capabilities
+            (steps.parameters_in_question self.now.standing.statements payload.now) payload.now
+            command) }
+    {
+        let parameters = self.parameters_in_question(payload);
+        Command::read(self.alloc, self.capabilities(), parameters, payload)
+    }
+
+    /// That, in a box: its drop is one step of a caller's proof.
+    pub(crate) fn boxed_command<'p>(
+        &self,
+        payload: &'p [u8],
+    ) -> Result<Box<Command<'p>>, AllocError>
+        ensures { IfOk result (λ command. command_view command.value ≡
+            command_at self.now.standing.capabilities
+            (steps.parameters_in_question self.now.standing.statements payload.now) payload.now) }
+    {
+        let command = self.command_in(payload)?;
+        Ok(Box::new(self.alloc, command)?)
+    }
 }
 
 /// What a command says, by what is in force of the statement that it is about.
@@ -45,6 +61,6 @@ pub fn peek_command(alloc: Global, state: &State, payload: &[u8]) -> Result<Even
         (steps.parameters_in_question state.now.standing.statements payload.now) payload.now))) }
     ensures unclear { IfOk result (λ event. EventHasUnclear state.now.standing payload.now event) }
 {
-    let command = command_in(alloc, state, payload)?;
+    let command = state.command_in(payload)?.into_owned(alloc)?;
     Ok(Event::command(alloc, command)?)
 }

@@ -1,9 +1,8 @@
 //! Commands: what each says, changes, and what is due behind it.
 
 ghost use Rattle.std.specs.Prelude.{◌≡◌, ◌==◌, ◌||◌, IfOk, List, None, OnErr, OnOk, false, option_map, ℕ};
-ghost use Rattle.std.specs.Option.{option_and_then, option_copied};
+ghost use Rattle.std.specs.Option.{option_and_then};
 ghost use Rattle.mysql_auth.specs.Views.{plugin_view};
-ghost use Rattle.mysql_commands.specs.Commands.{command_at};
 ghost use Rattle.mysql_commands.specs.Views.{command_view};
 ghost use Rattle.mysql_rows.specs.Views.{shared_columns};
 ghost use Rattle.mysql_connection_rules.specs.Standing as standing;
@@ -17,45 +16,13 @@ use crate::executions::{id_in_question, shared_columns_of, statement_of};
 use crate::sizes::counted_size;
 use crate::state::State;
 use mysql_auth::AuthPlugin;
+use mysql_bytes::ByteString;
 use mysql_columns::Column;
 use mysql_commands::{Command, Reply};
 use mysql_connection_rules::{Exchange, Reason};
-use mysql_connection_statements::Statements;
-use mysql_const::Capabilities;
-use mysql_executions::StatementParameters;
-use mysql_queries::ByteString;
 use mysql_reply_events::{EventReader, ReplyKind};
 use std::alloc::{AllocError, Global};
 use std::rc::RcSlice;
-
-// What is in force of the parameters of the statement that a command is about.
-fn parameters_in_question<'s>(
-    statements: &'s Statements,
-    payload: &[u8],
-) -> Option<&'s StatementParameters>
-    ensures { option_copied result ≡ steps.parameters_in_question statements.now payload.now }
-{
-    match statement_of(statements, id_in_question(statements, payload)) {
-        Some(statement) => Some(statement.parameters()),
-        None => None,
-    }
-}
-
-/// What a command says, as it lies in its payload.
-pub fn command_in<'p>(
-    alloc: Global,
-    capabilities: Capabilities,
-    statements: &Statements,
-    payload: &'p [u8],
-) -> Result<Box<Command<'p>>, AllocError>
-    ensures { IfOk result (λ command. command_view command.value ≡
-        command_at capabilities (steps.parameters_in_question statements.now payload.now)
-        payload.now) }
-{
-    let parameters = parameters_in_question(statements, payload);
-    let command = Command::read(alloc, capabilities, parameters, payload)?;
-    Ok(Box::new(alloc, command)?)
-}
 
 // The plugin that a change of user names.
 fn changed_plugin(
@@ -247,7 +214,10 @@ impl State {
             standing.Nothing self.old.standing) }
         ensures err { OnErr result (self.new ≡ self.old) }
     {
-        let columns = shared_columns_of(statement_of(&self.statements, id))?;
+        let columns = match statement_of(&self.statements, id) {
+            Some(statement) => shared_columns_of(statement)?,
+            None => None,
+        };
         self.await_reply(ReplyKind::Fetch, columns, About::Nothing);
         Ok(())
     }

@@ -1,8 +1,8 @@
 //! What is due, and what is held for it.
 
+use mysql_bytes::ByteString;
 use mysql_connection_rules::{Exchange, Reason};
 use mysql_connection_statements::Pending;
-use mysql_queries::ByteString;
 use mysql_reply_events::EventReader;
 
 /// What a reply is about.

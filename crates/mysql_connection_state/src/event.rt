@@ -14,9 +14,9 @@ ghost use Rattle.mysql_connection_state.specs.Reads.{asked, replied};
 ghost use Rattle.mysql_connection_state.specs.Views.{EventHasUnclear, event_view};
 
 use mysql_authentication::{AuthenticationEvent, GreetingEvent, ResponseEvent};
+use mysql_bytes::ByteString;
 use mysql_commands::Command;
 use mysql_connection_rules::Side;
-use mysql_queries::ByteString;
 use mysql_reply_events::ReplyEvent;
 use mysql_server_packets::ServerError;
 use std::alloc::{AllocError, Global};

@@ -48,15 +48,14 @@ pub fn statement_of(statements: &Statements, id: Option<u32>) -> Option<&Stateme
 }
 
 /// The columns that a statement last had, shared.
-pub fn shared_columns_of(
-    statement: Option<&Statement>,
-) -> Result<Option<RcSlice<Column>>, AllocError>
-    ensures { IfOk result (λ columns. option_map shared_columns columns ≡
-        option_and_then (λ x. x.columns) (option_copied statement.entry)) }
+///
+/// # Errors
+/// - `AllocError` for want of memory.
+///
+/// MySQL: Client/Server Protocol, "Prepared Statements".
+pub fn shared_columns_of(statement: &Statement) -> Result<Option<RcSlice<Column>>, AllocError>
+    ensures { IfOk result (λ columns. option_map shared_columns columns ≡ statement.now.columns) }
 {
-    let Some(statement) = statement else {
-        return Ok(None);
-    };
     match statement.columns() {
         Some(columns) => Ok(Some(columns.clone()?)),
         None => Ok(None),

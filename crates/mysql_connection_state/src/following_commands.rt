@@ -1,4 +1,4 @@
-//! Commands that were put: what is kept behind each, and what changes.
+//! Commands that were read or put: what is kept behind each, and what changes.
 
 ghost use Rattle.std.specs.Prelude.{◌≡◌, ◌==◌, ◌||◌, ℕ, List, ◌∷◌, None, Some, false};
 ghost use Rattle.std.specs.Option.{option_and_then, option_map};
@@ -14,7 +14,6 @@ ghost use Rattle.mysql_connection_state.specs.Follows.{Goes, after_said};
 ghost use Rattle.mysql_connection_state.specs.Views.{ConnectionState};
 ghost use Rattle.mysql_reply_events.specs.declared.context.ReplyKind.TheVariants as kinds;
 
-use crate::commands::command_in;
 use crate::due::About;
 use crate::executions::{
     carried_types, id_in_question, is_unagreed_bulk, refused_as, shared_columns_of,
@@ -105,7 +104,7 @@ impl State {
         Ok(())
     }
 
-    // An execution was put of the statement of this id, which is known and last had these columns.
+    // An execution of the statement of this id, which is known and last had these columns.
     #[tactic(auto, using(crate::proofs::Executing::kept_executing))]
     fn pass_executing(
         &mut self,
@@ -126,7 +125,7 @@ impl State {
         Ok(())
     }
 
-    // An execution was put.
+    // An execution.
     fn pass_execution(
         &mut self,
         number: u8,
@@ -148,7 +147,7 @@ impl State {
             return self.pass_unknown(room);
         };
         let count = statement.parameters().count();
-        let columns = shared_columns_of(Some(statement))?;
+        let columns = shared_columns_of(statement)?;
         let types = carried_types(self.alloc, self.capabilities, number, count, body)?;
         self.pass_executing(
             id,
@@ -159,7 +158,7 @@ impl State {
         )
     }
 
-    // A command was put, by its number.
+    // A command, by its number.
     fn pass_by_number(
         &mut self,
         number: u8,
@@ -186,7 +185,7 @@ impl State {
         }
     }
 
-    /// A command was put; an empty payload is one too.
+    /// A command; an empty payload is one too.
     pub(crate) fn pass_command(
         &mut self,
         command: &Command,
@@ -226,7 +225,7 @@ impl State {
         }
     }
 
-    // A query was put, without attributes: only its reply is due.
+    // A query without attributes: only its reply is due.
     fn pass_text(&mut self, text: &[u8], room: u128) -> Result<(), FollowRefusal>
         ensures { Goes self.old (steps.in_mode (mode_behind_text text.now self.old.standing.mode)
             (steps.reply_due kinds.Text None standing.Nothing self.old.standing)) room result
@@ -238,7 +237,7 @@ impl State {
         Ok(())
     }
 
-    // A query was put, which is read where it may have attributes.
+    // A query, which is read where it may have attributes.
     fn pass_query(&mut self, text: &[u8], payload: &[u8], room: u128) -> Result<(), FollowRefusal>
         ensures { payload.now ≡ 0x03 ∷ text.now →
             Goes self.old (after_said self.old.standing payload.now) room result self.new }
@@ -250,8 +249,8 @@ impl State {
         }
     }
 
-    // An execution was put, by its number: what it says beside the fields in front changes nothing, so
-    // that its values aren't read.
+    // An execution, by its number: what it says beside the fields in front changes nothing, so that its
+    // values aren't read.
     fn pass_unread(
         &mut self,
         number: u8,
@@ -271,7 +270,7 @@ impl State {
         self.pass_in_mode(passed, mode)
     }
 
-    // An execution was put.
+    // An execution.
     fn pass_execute(&mut self, body: &[u8], payload: &[u8], room: u128) -> Result<(), FollowRefusal>
         ensures { payload.now ≡ 0x17 ∷ body.now →
             Goes self.old (after_said self.old.standing payload.now) room result self.new }
@@ -279,7 +278,7 @@ impl State {
         self.pass_unread(0x17, body, payload, room)
     }
 
-    // A bulk execution was put.
+    // A bulk execution.
     fn pass_bulk(&mut self, body: &[u8], payload: &[u8], room: u128) -> Result<(), FollowRefusal>
         ensures { payload.now ≡ 0xfa ∷ body.now →
             Goes self.old (after_said self.old.standing payload.now) room result self.new }
@@ -287,19 +286,19 @@ impl State {
         self.pass_unread(0xfa, body, payload, room)
     }
 
-    // A command was put, which is read.
+    // A command, which is read.
     #[inline(never)]
     fn pass_read(&mut self, payload: &[u8], room: u128) -> Result<(), FollowRefusal>
         ensures { Goes self.old (after_said self.old.standing payload.now) room result self.new }
     {
-        let command = command_in(self.alloc, self.capabilities, &self.statements, payload)?;
+        let command = self.boxed_command(payload)?;
         let said: &Command = &command;
         let mode = mode_asked(self.session_mode(), said);
         let passed = self.pass_command(said, payload, room);
         self.pass_in_mode(passed, mode)
     }
 
-    /// Goes on behind a command that was put by this payload, whatever it says.
+    /// Goes on behind a command of this payload, whatever it says.
     ///
     /// So much room there is for what is kept. The number of the next packet stays as it is, as by
     /// [`State::follow`].

@@ -1,4 +1,4 @@
-//! Events of a reply that were put, and bytes of a file that it asks for.
+//! Events of a reply that were read or put, and bytes of a file that it asks for.
 
 ghost use Rattle.std.specs.Prelude.{◌≡◌, ◌<◌, ◌≤◌, ◌^◌, ℕ, IfOk, None, Ok, OnErr, OnOk, false, true};
 ghost use Rattle.std.specs.Prelude.{if◌then◌else◌};
@@ -30,10 +30,10 @@ use crate::following::{FollowRefusal, fit};
 use crate::following_sizes::{going_size, whole_size};
 use crate::sizes::{counted_size, sum};
 use crate::state::State;
+use mysql_bytes::ByteString;
 use mysql_columns::{Column, ExtendedColumn};
 use mysql_connection_rules::Side;
 use mysql_connection_statements::{Pending, Statements};
-use mysql_queries::ByteString;
 use mysql_reply_events::laws::events_lead_on;
 use mysql_reply_events::{EventReader, ReplyEvent, Turn};
 use std::alloc::{AllocError, Global};
@@ -444,7 +444,7 @@ impl InReply {
         Ok(())
     }
 
-    // Bytes of the client's file were put, or the end of it.
+    // Bytes of the client's file, or the end of it.
     fn pass_file(&mut self, payload: &[u8])
         requires going { self.old.reader.fault ≡ None }
         requires due { steps.turn_in_reply self.old.reader.so_far.awaited ≡ Client }
@@ -471,7 +471,7 @@ impl State {
         }
     }
 
-    // An event of the reply that is due was put, whose payload counts so much.
+    // An event of the reply that is due, whose payload counts so much.
     fn pass_event(
         &mut self,
         event: &ReplyEvent,
@@ -496,7 +496,7 @@ impl State {
         }
     }
 
-    /// An event of the reply that is due was put.
+    /// An event of the reply that is due.
     pub(crate) fn pass_reply(
         &mut self,
         event: &ReplyEvent,
@@ -515,7 +515,7 @@ impl State {
         self.pass_event(event, counted_size(payload), room)
     }
 
-    // Bytes of the client's file were put where they are due.
+    // Bytes of the client's file where they are due.
     fn take_file_data(&mut self, payload: &[u8])
         ensures { (r : StandingReply) (next : ReplySoFar) →
             self.old.standing.phase ≡ phases.Reply r →
@@ -530,7 +530,7 @@ impl State {
         }
     }
 
-    /// Bytes of the client's file were put, or the end of it.
+    /// Bytes of the client's file, or the end of it.
     pub(crate) fn pass_file_data(&mut self, payload: &[u8], room: u128) -> Result<(), FollowRefusal>
         ensures goes { (r : StandingReply) (next : ReplySoFar) →
             self.old.standing.phase ≡ phases.Reply r →

@@ -30,6 +30,7 @@ mod sizes;
 mod state;
 
 pub use event::Event;
+pub use executions::shared_columns_of;
 pub use following::FollowRefusal;
 pub use phase::Phase;
 pub use state::State;
@@ -43,4 +44,5 @@ mod peeking;
 mod reply;
 
 pub use farewell::peek_farewell;
+pub use login_peek::greets_anew;
 pub use peeking::peek_event;

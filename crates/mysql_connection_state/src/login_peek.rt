@@ -103,8 +103,11 @@ fn authentication(
     }
 }
 
-// Behind a change of user that was its number alone MariaDB greets anew.
-fn greets_anew(exchange: Exchange, payload: &[u8]) -> bool
+/// Whether a payload begins a greeting, by which MariaDB answers a change of user that is its number
+/// alone.
+///
+/// MySQL: Client/Server Protocol, "Protocol::HandshakeV10".
+pub fn greets_anew(exchange: Exchange, payload: &[u8]) -> bool
     ensures { result ≡ greets_anew exchange payload.now }
 {
     match exchange {

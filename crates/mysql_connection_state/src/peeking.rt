@@ -11,8 +11,8 @@ use crate::command::peek_command;
 use crate::login_peek::{peek_authentication, peek_greeting, peek_response};
 use crate::reply::peek_in_reply;
 use crate::{Event, Phase, State};
+use mysql_bytes::ByteString;
 use mysql_connection_rules::Fault;
-use mysql_queries::ByteString;
 use std::alloc::Global;
 
 // What the client answers while a user is logged in or changed: these bytes.

@@ -9,8 +9,8 @@ ghost use Rattle.mysql_reply_events.specs.Views.{turn_of};
 ghost use Rattle.mysql_reply_events.specs.declared.awaited.Turn.TheVariants.{Server};
 
 use crate::Event;
+use mysql_bytes::ByteString;
 use mysql_connection_rules::Fault;
-use mysql_queries::ByteString;
 use mysql_reply_events::{EventReader, ReplyFault, Turn};
 use std::alloc::Global;
 

@@ -18,9 +18,9 @@ ghost use Rattle.mysql_connection_statements.specs.Statements.{with_long_data};
 
 use crate::pending::Pending;
 use crate::sizes::bound;
+use mysql_bytes::ByteString;
 use mysql_columns::Column;
 use mysql_executions::{BoundType, Refused, StatementParameters};
-use mysql_queries::ByteString;
 use std::alloc::{AllocError, Global};
 use std::marker::Model;
 use std::mem;

@@ -17,9 +17,9 @@ ghost use Rattle.mysql_connection_statements.specs.Statements.{taken_back, with_
 use crate::pending::Pending;
 use crate::sizes::{changed_sum, with_part};
 use crate::statement::Statement;
+use mysql_bytes::ByteString;
 use mysql_columns::Column;
 use mysql_executions::{BoundType, Refused};
-use mysql_queries::ByteString;
 use std::alloc::{AllocError, Global};
 use std::collections::BTreeMap;
 use std::marker::Model;

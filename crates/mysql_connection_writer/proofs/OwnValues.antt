@@ -4,7 +4,7 @@ use Rattle.std.proofs.lemmas.Bool.{and_from, and_parts, le-ltb, leb-true}
 use Rattle.std.proofs.lemmas.Bool.Decides.{nat_tests}
 use Rattle.std.proofs.lemmas.List.Folds.{list_all-map}
 use Rattle.std.specs.List.{AllByRecursion, list_all}
-use Rattle.mysql_cells.specs.AsSql.{FitsFields}
+use Rattle.mysql_cells.specs.Values.{FitsFields}
 use Rattle.mysql_cells.specs.declared.value.Value.{Value}
 use Rattle.mysql_cells.specs.declared.value.Value.TheVariants.{UInt}
 use Rattle.mysql_execution_writer.specs.Bulks.{bulk_as_read, bulk_value_as_read}

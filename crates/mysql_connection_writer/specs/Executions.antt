@@ -4,7 +4,7 @@ use Rattle.std.specs.Prelude.{◌≡◌, ℕ, Bool, true, false, List, [], ◌++
 use Rattle.std.specs.Prelude.{Option, Some, Result, Ok, Err}
 use Rattle.std.specs.declared.alloc.AllocError.{AllocError}
 use Rattle.mysql_cells.specs.declared.value.Value.{Value}
-use Rattle.mysql_cells.specs.declared.value.Value.TheVariants.{Bytes, Date, Double, Float, Int, NULL, Time, UInt}
+use Rattle.mysql_cells.specs.Cells.{is_unsigned, type_of}
 use Rattle.mysql_command_writer.specs.Refusals.{can_execute}
 use Rattle.mysql_commands.specs.Commands.{Execute}
 use Rattle.mysql_connection_rules.specs.Puts.{step_for}
@@ -14,8 +14,6 @@ use Rattle.mysql_connection_rules.specs.Standing.{Standing}
 use Rattle.mysql_connection_statements.specs.Statements.{Statement}
 use Rattle.mysql_connection_state.specs.Follows.{after_settled}
 use Rattle.mysql_const.specs.declared.capabilities.Capabilities.{Capabilities}
-use Rattle.mysql_const.specs.declared.column_type.ColumnType.{ColumnType}
-use Rattle.mysql_const.specs.declared.column_type.ColumnType.TheVariants as types
 use Rattle.mysql_execution_writer.specs.Cells.{as_read}
 use Rattle.mysql_execution_writer.specs.InForce.{without_types}
 use Rattle.mysql_executions.specs.Executions.{Execution}
@@ -27,18 +25,8 @@ use Rattle.mysql_connection_writer.specs.Payloads.{Payload, payload_of}
 
 -- THE TYPE THAT A VALUE HAS ITSELF
 
-abbrev pub signed : ColumnType → ParameterType
-signed column_type = record { column_type = column_type; unsigned = false }
-
 abbrev pub own_type : Value → ParameterType
-own_type NULL = signed types.MYSQL_TYPE_NULL
-own_type (Bytes bytes) = signed types.MYSQL_TYPE_VAR_STRING
-own_type (Int n) = signed types.MYSQL_TYPE_LONGLONG
-own_type (UInt n) = record { column_type = types.MYSQL_TYPE_LONGLONG; unsigned = true }
-own_type (Float bits) = signed types.MYSQL_TYPE_FLOAT
-own_type (Double bits) = signed types.MYSQL_TYPE_DOUBLE
-own_type (Date year month day hour minute second micros) = signed types.MYSQL_TYPE_DATETIME
-own_type (Time negative days hours minutes seconds micros) = signed types.MYSQL_TYPE_TIME
+own_type value = record { column_type = type_of value; unsigned = is_unsigned value }
 
 -- Of a parameter without a name.
 abbrev pub bound_to : Value → BoundType

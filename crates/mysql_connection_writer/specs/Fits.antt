@@ -1,7 +1,7 @@
 -- Words of the crate's own body: what the types of a command's values hold.
 -- MySQL: Client/Server Protocol, "Binary Protocol Value".
 use Rattle.std.specs.Prelude.{◌<◌, ◌^◌, length}
-use Rattle.mysql_cells.specs.AsSql.{FitsFields}
+use Rattle.mysql_cells.specs.Values.{FitsFields}
 use Rattle.mysql_commands.specs.Commands.{BulkExecute, Close, Command, Execute, Fetch, LongData}
 use Rattle.mysql_commands.specs.Commands.{Query, ResetStatement}
 use Rattle.mysql_execution_writer.specs.Laws.{FitsAttributes, FitsBulk, FitsExecution}

@@ -7,7 +7,6 @@ ghost use Rattle.mysql_authentication.specs.Views.{authentication_view};
 ghost use Rattle.mysql_authentication.specs.Written.{authentication_bytes, authentication_cause};
 ghost use Rattle.mysql_ok_packets.specs.Views.{ok_packet_view};
 ghost use Rattle.mysql_connection_rules.specs.Events as events;
-ghost use Rattle.mysql_connection_rules.specs.Steps.{greets_anew};
 ghost use Rattle.mysql_connection_writer.specs.Exchanges.{ReadsInExchange};
 ghost use Rattle.mysql_connection_writer.specs.Payloads.{login_cause, unless_cause};
 ghost use Rattle.mysql_connection_writer.specs.Writes.{Writes, WritesEvent};
@@ -17,18 +16,18 @@ use crate::refusal::{BadEvent, EventRefusal};
 use mysql_authentication::laws::authentications_read_back;
 use mysql_authentication::{AuthenticationEvent, put_authentication};
 use mysql_connection_rules::Exchange;
-use mysql_connection_state::State;
+use mysql_connection_state::{State, greets_anew};
 use mysql_const::CapabilityFlags;
 use mysql_ok_packets::OkPacket;
 
-// The length of bytes that may be there.
+// For the proof alone: the length of bytes that may be there.
 fn length_holds(bytes: Option<&[u8]>) {
     if let Some(bytes) = bytes {
         let _length = bytes.len();
     }
 }
 
-// What an OK packet's types hold. It only reads.
+// For the proof alone: what an OK packet's types hold.
 fn ok_holds(packet: &OkPacket)
     ensures { HoldsOk (ok_packet_view packet.now) }
 {
@@ -42,7 +41,7 @@ fn ok_holds(packet: &OkPacket)
     length_holds(packet.session_state_info_ref());
 }
 
-// What an event's types hold.
+// For the proof alone: what an event's types hold.
 fn authentication_holds(said: &AuthenticationEvent)
     ensures { HoldsAuthentication (authentication_view said.now) }
 {
@@ -70,19 +69,6 @@ fn put_read(
     match put_authentication(capabilities, said, out) {
         Ok(()) => Ok(()),
         Err(refusal) => Err(refusal_of_login(refusal)),
-    }
-}
-
-// Behind a change of user that was its number alone MariaDB greets anew: its greeting begins so.
-fn greets_anew(exchange: Exchange, payload: &[u8]) -> bool
-    ensures { result ≡ greets_anew exchange payload.now }
-{
-    match exchange {
-        Exchange::BareChange => match payload {
-            [10, ..] => true,
-            _ => false,
-        },
-        _ => false,
     }
 }
 

@@ -7,49 +7,30 @@ ghost use Rattle.mysql_connection_rules.specs.Standing as phases;
 ghost use Rattle.mysql_connection_state.specs.Views.{event_view};
 ghost use Rattle.mysql_connection_statements.specs.Settled.{IsSettledAt};
 ghost use Rattle.mysql_connection_writer.specs.Executions.{WritesExecution, bound_to, execution_by};
-ghost use Rattle.mysql_connection_writer.specs.Executions.{execution_said, own_type, signed};
+ghost use Rattle.mysql_connection_writer.specs.Executions.{execution_said, own_type};
 ghost use Rattle.mysql_execution_writer.specs.Cells.{as_read};
 ghost use Rattle.mysql_executions.specs.Views.{execution_of};
 
+use mysql_bytes::ByteString;
 use mysql_cells::Value;
 use mysql_cells::laws::all_fields_fit;
 use mysql_commands::Command;
 use mysql_connection_state::{Event, State};
 use mysql_connection_statements::Statement;
-use mysql_const::{Capabilities, ColumnType, CursorType};
+use mysql_const::{Capabilities, CursorType};
 use mysql_execution_writer::laws::executions_read_back;
 use mysql_execution_writer::{can_put, put_in_force};
 use mysql_executions::laws::read_types_are_carried;
 use mysql_executions::{BoundType, Execution, ParameterType, StatementParameters, UnclearValues};
-use mysql_queries::ByteString;
 use std::alloc::{AllocError, Global};
-
-// A type whose whole numbers have a sign.
-fn signed(column_type: ColumnType) -> ParameterType
-    ensures { result ≡ signed column_type }
-{
-    ParameterType {
-        column_type,
-        unsigned: false,
-    }
-}
 
 // The type that a value has itself.
 fn own_type(value: &Value) -> ParameterType
     ensures { result ≡ own_type value.now }
 {
-    match value {
-        Value::NULL => signed(ColumnType::MYSQL_TYPE_NULL),
-        Value::Bytes(_) => signed(ColumnType::MYSQL_TYPE_VAR_STRING),
-        Value::Int(_) => signed(ColumnType::MYSQL_TYPE_LONGLONG),
-        Value::UInt(_) => ParameterType {
-            column_type: ColumnType::MYSQL_TYPE_LONGLONG,
-            unsigned: true,
-        },
-        Value::Float(_) => signed(ColumnType::MYSQL_TYPE_FLOAT),
-        Value::Double(_) => signed(ColumnType::MYSQL_TYPE_DOUBLE),
-        Value::Date(..) => signed(ColumnType::MYSQL_TYPE_DATETIME),
-        Value::Time(..) => signed(ColumnType::MYSQL_TYPE_TIME),
+    ParameterType {
+        column_type: value.column_type(),
+        unsigned: value.is_unsigned(),
     }
 }
 
@@ -203,7 +184,7 @@ pub fn write_execution(
     executions_read_back();
     read_types_are_carried();
     all_fields_fit(values);
-    // That they are fewer than 2^64, which the proof takes of this.
+    // For the proof alone: they are fewer than 2^64.
     let _count = count(values);
     put_in_force(
         state.capabilities(),

@@ -37,7 +37,7 @@ pub fn refusal_of_login(refusal: LoginRefusal) -> EventRefusal
     }
 }
 
-/// What an error's types hold. It only reads.
+/// For the proof alone: what an error's types hold.
 pub fn error_holds(error: &ServerError)
     ensures { HoldsError (server_error_view error.now) }
 {
@@ -47,14 +47,14 @@ pub fn error_holds(error: &ServerError)
     }
 }
 
-// What a greeting's types hold: of a value that is handed over the proof knows it.
+// For the proof alone: what a greeting's types hold, which is known of a value that is handed over.
 fn handshake_holds(packet: HandshakePacket<'static>)
     ensures { HoldsHandshake (handshake_view packet.entry) }
 {
     let _packet = packet;
 }
 
-// What a server's first payload holds.
+// For the proof alone: what a server's first payload holds.
 fn greeting_holds(alloc: Global, said: &GreetingEvent) -> Result<(), AllocError>
     ensures { IfOk result (λ _. HoldsGreeting (greeting_view said.now)) }
 {

@@ -75,8 +75,8 @@ pub fn is_own_command(command: &Command) -> bool
     }
 }
 
-// What the types of values hold. These only read: compiled with optimizations, nothing is left of
-// them but a sum of two counts.
+// For the proof alone: what the types of values hold. Compiled with optimizations, nothing is left
+// of the functions from here on but a sum of two counts.
 
 fn names_fit(types: &[BoundType])
     ensures { HaveLengths types.now }

@@ -5,8 +5,8 @@ ghost use Rattle.mysql_values.specs.Contents.{content_value};
 
 use crate::to_value::ToValue;
 use crate::to_value_error::ToValueError;
+use mysql_bytes::Content;
 use mysql_cells::Value;
-use mysql_queries::Content;
 use std::alloc::Global;
 
 /// What a command carried, as a value that can be sent again. A number from -2^63 to 2^64-1, as

@@ -7,8 +7,8 @@ ghost use Rattle.mysql_values.specs.Contents.{integer_value};
 use crate::to_value::ToValue;
 use crate::to_value_error::ToValueError;
 use itoa::Buffer;
+use mysql_bytes::ByteString;
 use mysql_cells::Value;
-use mysql_queries::ByteString;
 use std::alloc::Global;
 
 impl ToValue for i8 {

@@ -27,7 +27,6 @@ mod tuples;
 pub use conversion::{FromValue, Intermediate, from_value, from_value_opt, get_intermediate};
 pub use errors::FromValueError;
 pub use intermediates::{OptionIr2, ParseIr, ParseIrOpt, ValueIr};
-pub use mysql_values;
 pub use mysql_values::SetError;
 pub use sets::IntoParams;
 pub use to_value::ToValue;

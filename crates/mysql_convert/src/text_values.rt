@@ -7,8 +7,8 @@ ghost use Rattle.mysql_cells.specs.declared.value.Value.TheVariants.{Bytes};
 
 use crate::to_value::ToValue;
 use crate::to_value_error::ToValueError;
+use mysql_bytes::ByteString;
 use mysql_cells::Value;
-use mysql_queries::ByteString;
 use std::alloc::Global;
 use std::borrow::{CowSlice, CowStr};
 

@@ -1,7 +1,7 @@
 -- What is no token.
 use Rattle.std.proofs.Common.{◌≡◌, ℕ, List, [], ◌∷◌, refl}
 use Rattle.mysql_queries.specs.Tokens.{Kind, Quoted, LineComment, BlockComment, Name, Mark, Plain, kind_of, HasShape, IsToken, line_feed}
-use Rattle.mysql_queries.specs.declared.mode.Mode.{Mode}
+use Rattle.mysql_bytes.specs.declared.mode.Mode.{Mode}
 
 -- a token has bytes
 pub not_empty : (m : Mode) (r : List ℕ) → IsToken m [] r → ⊥

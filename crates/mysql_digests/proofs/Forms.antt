@@ -5,9 +5,9 @@ use Rattle.mysql_queries.specs.Laws.{OneTokens}
 use Rattle.mysql_queries.specs.Literals.{is_digit, AreDigits, IsString, IsIntroducer, IsLiteral, text_introducer, binary_introducer}
 use Rattle.mysql_queries.specs.Scanning.{is_plain}
 use Rattle.mysql_queries.specs.Tokens.{Kind, Quoted, Plain, kind_of, HasShape, HasTokens, has_escapes, single_quote, dash, goes_on_as_dashes}
-use Rattle.mysql_queries.specs.declared.content.Content.{Content}
-use Rattle.mysql_queries.specs.declared.mode.Mode.{Mode}
-use Rattle.mysql_queries.specs.declared.spelling.Spelling.{Spelling}
+use Rattle.mysql_bytes.specs.declared.content.Content.{Content}
+use Rattle.mysql_bytes.specs.declared.mode.Mode.{Mode}
+use Rattle.mysql_bytes.specs.declared.spelling.Spelling.{Spelling}
 use Rattle.mysql_digests.specs.Digest.{Lexeme, Gap, Value, Word, Operator, Byte, Piece, with_operator_byte, with_bytes, with_token, with_value, with_word, lexemes_of, pieces_behind, awaits_exponent, value_follows}
 use Rattle.mysql_digests.specs.declared.left_out.Before.TheVariants.{Apart, Joined, Exponent}
 use Rattle.mysql_digests.proofs.Lexing.{NoWord, all_plain, front, singles, singles_lexemes, singles_tokens, word_bytes}

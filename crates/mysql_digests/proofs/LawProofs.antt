@@ -3,7 +3,7 @@ use Rattle.std.proofs.Common.{◌≡◌, ℕ, Bool, true, false, not, List, [], 
 use Rattle.mysql_queries.specs.Laws.{OneTokens, SomeTokens, SlicedIsLexed}
 use Rattle.mysql_queries.specs.Queries.{Lexes}
 use Rattle.mysql_queries.specs.Tokens.{HasTokens, Kind, Quoted, LineComment, BlockComment, Name, Mark, Plain, kind_of, quotes_identifier}
-use Rattle.mysql_queries.specs.declared.mode.Mode.{Mode}
+use Rattle.mysql_bytes.specs.declared.mode.Mode.{Mode}
 use Rattle.mysql_digests.specs.Digest.{Lexeme, Gap, Value, digest_of, lexemes_of, with_token, pieces_behind, with_spaces, without_last}
 use Rattle.mysql_digests.specs.Laws.{OneDigest, SomeDigest, TextHasItsQuerysDigest, TextsHaveOneDigest, InsidesAreNotTold, DifferInside, is_string_kind, is_comment_kind}
 use Rattle.mysql_digests.specs.declared.left_out.Before.TheVariants.{Apart}

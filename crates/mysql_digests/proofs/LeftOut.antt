@@ -1,7 +1,7 @@
 -- What is left out beside a value, by the first bytes behind it.
 use Rattle.std.proofs.Common.{if◌then◌else◌, ◌≡◌, ℕ, Bool, true, false, ◌&&◌, ◌||◌, ◌==◌, List, sym, ap, ◌∙◌}
 use Rattle.mysql_queries.specs.Tokens.{HasTokens, dash}
-use Rattle.mysql_queries.specs.declared.mode.Mode.{Mode}
+use Rattle.mysql_bytes.specs.declared.mode.Mode.{Mode}
 use Rattle.mysql_digests.specs.Digest.{Lexeme, Byte, digit_follows, is_left_out, is_power, is_string_prefix, lexemes_of, may_sign, value_follows}
 use Rattle.mysql_digests.specs.Lexemes.{first_is_digit, lexeme_view}
 use Rattle.mysql_digests.specs.declared.left_out.Before.{Before}

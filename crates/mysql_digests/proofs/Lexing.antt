@@ -5,7 +5,7 @@ use Rattle.mysql_queries.specs.LiteralRuns.{EndsBefore}
 use Rattle.mysql_queries.specs.Literals.{is_digit}
 use Rattle.mysql_queries.specs.Scanning.{is_plain}
 use Rattle.mysql_queries.specs.Tokens.{Kind, Quoted, LineComment, BlockComment, Name, Mark, Plain, kind_of, HasShape, IsToken, HasTokens, quotes_identifier}
-use Rattle.mysql_queries.specs.declared.mode.Mode.{Mode}
+use Rattle.mysql_bytes.specs.declared.mode.Mode.{Mode}
 use Rattle.mysql_digests.specs.Digest.{Lexeme, Gap, Value, Word, Operator, Identifier, Byte, with_word_byte, with_operator_byte, with_byte, with_bytes, with_token, lexemes_of, is_blank, is_word_byte, is_operator_byte, digit_follows, value_follows}
 use Rattle.mysql_digests.specs.Lexemes.{BeginsWith, first_is_digit, first_is_value, is_value_kind}
 use Rattle.mysql_queries.proofs.FirstBytes.{bool_tells}

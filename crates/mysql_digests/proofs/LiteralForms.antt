@@ -7,10 +7,10 @@ use Rattle.std.specs.Str.{bytes_eq, str_eq_ignore_ascii_case, str_to_ascii_lower
 use Rattle.mysql_queries.specs.Tokens.{has_escapes, is_within, single_quote, dash}
 use Rattle.mysql_queries.specs.Literals.{lower, is_digit, AreDigits, IsString, is_hex, SpellsInHex, IsHexLiteral, IsIntroducer, IsLiteral}
 use Rattle.mysql_queries.specs.Queries.{is_joining}
-use Rattle.mysql_queries.specs.declared.content.Content.{Content}
-use Rattle.mysql_queries.specs.declared.content.Content.TheVariants.{Null, Number, Bytes}
-use Rattle.mysql_queries.specs.declared.mode.Mode.{Mode}
-use Rattle.mysql_queries.specs.declared.spelling.Spelling.{Spelling}
+use Rattle.mysql_bytes.specs.declared.content.Content.{Content}
+use Rattle.mysql_bytes.specs.declared.content.Content.TheVariants.{Null, Number, Bytes}
+use Rattle.mysql_bytes.specs.declared.mode.Mode.{Mode}
+use Rattle.mysql_bytes.specs.declared.spelling.Spelling.{Spelling}
 use Rattle.mysql_digests.specs.Digest.{is_value, is_word_byte, begins_number, is_string_prefix, ends_in_e, awaits_exponent, dot}
 use Rattle.mysql_queries.proofs.FirstBytes.{bool_tells}
 use Rattle.mysql_digests.proofs.TokenKinds.{digit_word, plain_by}

@@ -1,7 +1,7 @@
 -- How far a digest has come.
 use Rattle.std.proofs.Common.{if◌then◌else◌, ◌≡◌, ℕ, ◌+◌, ◌≤◌, Bool, List, [], ◌∷◌, length, take, drop, sym, ap, ◌∙◌, subst, drop-drop, drop_of_length-le}
 use Rattle.mysql_queries.specs.Tokens.{HasTokens}
-use Rattle.mysql_queries.specs.declared.mode.Mode.{Mode}
+use Rattle.mysql_bytes.specs.declared.mode.Mode.{Mode}
 use Rattle.mysql_digests.specs.Digest.{Lexeme, Piece, lexemes_of, pieces_behind, is_left_out, before_next, with_lexeme, without_last, with_spaces, IsDigest}
 use Rattle.mysql_digests.specs.Held.{Holds}
 use Rattle.mysql_digests.specs.Lexemes.{BeginsWith, lexeme_view}

@@ -6,9 +6,9 @@ use Rattle.mysql_queries.specs.Laws.{OneTokens}
 use Rattle.mysql_queries.specs.LiteralRuns.{EndsBefore}
 use Rattle.mysql_queries.specs.Queries.{is_joining, is_name_kind, is_mark_kind, is_place, Replaces}
 use Rattle.mysql_queries.specs.Tokens.{Kind, Quoted, LineComment, BlockComment, Name, Mark, Plain, kind_of, HasShape, AreTokens, IsQuoted, is_quote, quotes_identifier, has_escapes, inside_bytes, dash, colon, question}
-use Rattle.mysql_queries.specs.declared.content.Content.{Content}
-use Rattle.mysql_queries.specs.declared.mode.Mode.{Mode}
-use Rattle.mysql_queries.specs.declared.spelling.Spelling.{Spelling}
+use Rattle.mysql_bytes.specs.declared.content.Content.{Content}
+use Rattle.mysql_bytes.specs.declared.mode.Mode.{Mode}
+use Rattle.mysql_bytes.specs.declared.spelling.Spelling.{Spelling}
 use Rattle.mysql_digests.specs.Digest.{Lexeme, Gap, Value, Word, Operator, Identifier, Byte, Piece, with_operator_byte, with_word_byte, with_byte, with_bytes, with_token, with_value, with_lexeme, lexemes_of, pieces_behind, is_left_out, before_next, may_sign, is_exponent, is_power, is_string_prefix, digit_follows, value_follows, is_blank, is_word_byte, is_operator_byte}
 use Rattle.mysql_digests.specs.declared.left_out.Before.{Before}
 use Rattle.mysql_digests.specs.declared.left_out.Before.TheVariants.{Apart, Joined, Exponent, Power}

@@ -6,7 +6,7 @@ use Rattle.mysql_queries.specs.Tokens.{goes_on_as_dashes, goes_on_as_block, goes
 use Rattle.mysql_queries.specs.Literals.{is_digit}
 use Rattle.mysql_queries.specs.Queries.{is_joining}
 use Rattle.mysql_queries.specs.Scanning.{is_plain}
-use Rattle.mysql_queries.specs.declared.mode.Mode.{Mode}
+use Rattle.mysql_bytes.specs.declared.mode.Mode.{Mode}
 use Rattle.mysql_digests.specs.Digest.{is_blank, is_word_byte, is_operator_byte}
 use Rattle.mysql_queries.proofs.FirstBytes.{and_true, same_number, HasQuote, kind_has_quote, Tells, kind_tells, name_second}
 use Rattle.mysql_digests.proofs.FirstTokens.{not_empty}

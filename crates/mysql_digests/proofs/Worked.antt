@@ -3,7 +3,7 @@ use Rattle.std.proofs.Common.{◌≡◌, ℕ, true, List, [], ◌∷◌, codes, 
 use Rattle.std.specs.List.{AllByRecursion}
 use Rattle.mysql_queries.specs.Scanning.{is_plain}
 use Rattle.mysql_queries.specs.Tokens.{Byte, slash, star, single_quote}
-use Rattle.mysql_queries.specs.declared.mode.Mode.{Mode}
+use Rattle.mysql_bytes.specs.declared.mode.Mode.{Mode}
 use Rattle.mysql_digests.specs.Digest.{IsDigest, digest_of}
 use Rattle.mysql_digests.specs.Laws.{WorkedDigests}
 use Rattle.mysql_digests.proofs.Forms.{all_singles}

@@ -10,7 +10,7 @@ use Rattle.mysql_queries.specs.Queries.{is_joining}
 use Rattle.mysql_queries.specs.Scanning.{is_plain}
 use Rattle.mysql_queries.specs.Tokens.{is_within, quotes_identifier, kind_of, Kind, Quoted, LineComment, BlockComment}
 use Rattle.mysql_queries.specs.Tokens.{Name, Mark, Plain, HasTokens, dash}
-use Rattle.mysql_queries.specs.declared.mode.Mode.{Mode}
+use Rattle.mysql_bytes.specs.declared.mode.Mode.{Mode}
 use Rattle.mysql_digests.specs.declared.left_out.Before.{Before}
 use Rattle.mysql_digests.specs.declared.left_out.Before.TheVariants.{Apart, Joined, Exponent, Power}
 

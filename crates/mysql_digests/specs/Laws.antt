@@ -6,8 +6,8 @@ use Rattle.mysql_queries.specs.Queries.{AllAlone, Slices}
 use Rattle.mysql_queries.specs.Sql.{Sql}
 use Rattle.mysql_queries.specs.Tokens.{HasTokens, Kind, Quoted, LineComment, BlockComment, Name, Mark, Plain, kind_of}
 use Rattle.mysql_queries.specs.Tokens.{quotes_identifier}
-use Rattle.mysql_queries.specs.declared.content.Content.{Content}
-use Rattle.mysql_queries.specs.declared.mode.Mode.{Mode}
+use Rattle.mysql_bytes.specs.declared.content.Content.{Content}
+use Rattle.mysql_bytes.specs.declared.mode.Mode.{Mode}
 use Rattle.mysql_digests.specs.Digest.{IsDigest}
 
 -- Each text has a digest.

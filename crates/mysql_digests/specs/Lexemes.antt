@@ -4,7 +4,7 @@ use Rattle.std.specs.Prelude.{◌≡◌, ℕ, Bool, true, false, not, List, [], 
 use Rattle.mysql_queries.specs.Literals.{is_digit}
 use Rattle.mysql_queries.specs.Tokens.{HasTokens, Kind, Quoted, LineComment, BlockComment, Name, Mark, Plain, kind_of}
 use Rattle.mysql_queries.specs.Tokens.{quotes_identifier}
-use Rattle.mysql_queries.specs.declared.mode.Mode.{Mode}
+use Rattle.mysql_bytes.specs.declared.mode.Mode.{Mode}
 use Rattle.mysql_digests.specs.Digest.{Lexeme, lexemes_of}
 use Rattle.mysql_digests.specs.Digest as digest
 use Rattle.mysql_digests.specs.declared.lexemes.Found.{Found}

@@ -6,7 +6,7 @@ ghost use Rattle.std.specs.Prelude.{IfOk};
 use crate::left_out::Before;
 use crate::lexemes::lexeme_at;
 use crate::pieces::Pieces;
-use mysql_queries::Mode;
+use mysql_bytes::Mode;
 use std::alloc::{AllocError, Global};
 
 /// The digest of a statement, for a server in this mode: its text with the values taken out.

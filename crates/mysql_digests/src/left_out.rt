@@ -7,12 +7,12 @@ ghost use Rattle.mysql_digests.specs.Lexemes.{first_is_digit, first_is_value, le
 ghost use Rattle.mysql_digests.specs.declared.left_out.Before.TheVariants.{Apart, Power};
 ghost use Rattle.mysql_queries.specs.Queries.{is_joining};
 ghost use Rattle.mysql_queries.specs.Tokens.{HasTokens, dash};
-ghost use Rattle.mysql_queries.specs.declared.mode.Mode.{Mode};
+ghost use Rattle.mysql_bytes.specs.declared.mode.Mode.{Mode};
 ghost use Rattle.std.specs.Prelude.{◌≡◌, ◌==◌, ◌&&◌, if◌then◌else◌, ℕ, List};
 
 use crate::lexemes::{Found, is_identifier, word_byte};
 use crate::pieces::{digit, number_first};
-use mysql_queries::Mode;
+use mysql_bytes::Mode;
 use mysql_queries::tokens::{TokenKind, kind_at};
 
 /// What is right before, as far as the next word or byte is read by it.

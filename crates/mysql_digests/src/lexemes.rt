@@ -7,7 +7,7 @@ ghost use Rattle.mysql_queries.specs.Tokens.{quotes_identifier};
 ghost use Rattle.std.specs.List.{AllByRecursion};
 ghost use Rattle.std.specs.Prelude.{◌<◌, ◌≡◌, ◌≤◌, drop, false, length, slice_index, take, true};
 
-use mysql_queries::Mode;
+use mysql_bytes::Mode;
 use mysql_queries::tokens::{TokenKind, kind_at, token_end};
 
 /// What a text was found to begin with.

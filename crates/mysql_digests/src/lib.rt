@@ -14,4 +14,4 @@ mod lexemes;
 mod pieces;
 
 pub use digests::digest;
-pub use mysql_queries::Mode;
+pub use mysql_bytes::Mode;

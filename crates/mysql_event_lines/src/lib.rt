@@ -30,3 +30,4 @@ pub use crate::replies::{
 };
 pub use crate::secrets::Secrets;
 pub use crate::texts::Texts;
+pub use crate::values::write_hexadecimal;

@@ -6,9 +6,9 @@ use crate::form::Form;
 use crate::moments::write_moment;
 use crate::quoted::push_readable;
 use crate::texts::Texts;
+use mysql_bytes::Content;
 use mysql_cells::Value;
 use mysql_columns::Column;
-use mysql_queries::Content;
 use mysql_row_refs::ValueRef;
 use std::alloc::Global;
 use std::io;
@@ -30,7 +30,10 @@ fn write_run<W: Write>(output: &mut W, run: &[u8]) -> io::Result<()>
 }
 
 /// Writes bytes in hexadecimal behind an `x`.
-pub(crate) fn write_hexadecimal<W: Write>(output: &mut W, bytes: &[u8]) -> io::Result<()> {
+///
+/// # Errors
+/// - Those of the output.
+pub fn write_hexadecimal<W: Write>(output: &mut W, bytes: &[u8]) -> io::Result<()> {
     output.write_all(b"x")?;
     let mut rest = bytes;
     while !rest.is_empty() {

@@ -12,7 +12,7 @@ use Rattle.mysql_const.specs.FlagSets.{contains}
 use Rattle.mysql_const.specs.declared.capabilities.Capabilities.{Capabilities}
 use Rattle.mysql_const.specs.declared.bulk.MariadbBulkIndicator.{MariadbBulkIndicator}
 use Rattle.mysql_const.specs.declared.bulk.MariadbBulkIndicator.TheVariants.{BULK_INDICATOR_NONE, BULK_INDICATOR_NULL, BULK_INDICATOR_DEFAULT, BULK_INDICATOR_IGNORE}
-use Rattle.mysql_cells.specs.AsSql.{FitsFields}
+use Rattle.mysql_cells.specs.Values.{FitsFields}
 use Rattle.mysql_cells.specs.TypedCells.{TypedCellsReadBack}
 use Rattle.mysql_cells.specs.Values.{is_null}
 use Rattle.mysql_cells.specs.declared.value.Value.{Value}

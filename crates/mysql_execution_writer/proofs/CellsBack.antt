@@ -10,7 +10,7 @@ use Rattle.mysql_fields.specs.Wire.{◌>>=◌, or_end}
 use Rattle.mysql_const.specs.ColumnTypes.{column_type_number}
 use Rattle.mysql_const.specs.NamedLaws.{column_type-names_back}
 use Rattle.mysql_const.specs.declared.column_type.ColumnType.{ColumnType}
-use Rattle.mysql_cells.specs.AsSql.{FitsFields}
+use Rattle.mysql_cells.specs.Values.{FitsFields}
 use Rattle.mysql_cells.specs.CellLaws.{read_back}
 use Rattle.mysql_cells.specs.Cells.{cell_at, form, form_of, time_of, value_at}
 use Rattle.mysql_cells.specs.TypedCells.{TypedCellsReadBack, some_cell}

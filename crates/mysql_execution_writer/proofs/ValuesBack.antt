@@ -4,7 +4,7 @@ use Rattle.std.specs.Prelude.{◌&&◌, is_some, unwrap_or}
 use Rattle.std.specs.List.{AllByRecursion, list_all}
 use Rattle.std.proofs.lemmas.Slice.Eq.{bytes_eq-Decides}
 use Rattle.mysql_field_lists.specs.NullBitmap.{is_null_at}
-use Rattle.mysql_cells.specs.AsSql.{FitsFields}
+use Rattle.mysql_cells.specs.Values.{FitsFields}
 use Rattle.mysql_cells.specs.TypedCells.{TypedCellsReadBack}
 use Rattle.mysql_cells.specs.Values.{is_null}
 use Rattle.mysql_cells.specs.declared.value.Value.{Value}

@@ -136,7 +136,7 @@ pub fn put_in_force(
     if has_query_attributes(capabilities) || !fits_types(parameters, values) {
         return Ok(false);
     }
-    // The number of values has two bytes.
+    // For the proof alone: the number of values has two bytes.
     let _count = parameters.count();
     let mut whole = replace(out, Vec::new(*out.allocator()));
     let put = put_parts(parameters.types(), id, values, &mut whole);

@@ -2,8 +2,8 @@
 
 use crate::types::BoundType;
 use crate::unclear::UnclearCells;
+use mysql_bytes::ByteString;
 use mysql_cells::Value;
-use mysql_queries::ByteString;
 
 /// What a parameter holds in a row of a bulk execution.
 ///

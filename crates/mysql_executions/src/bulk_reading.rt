@@ -23,9 +23,9 @@ use crate::unclear::read_unclear_rows;
 use crate::value_reading::{count_of, read_typed_value, type_of};
 use bitflags::Flags;
 use mysql_buf::ParseBuf;
+use mysql_bytes::ByteString;
 use mysql_cells::Value;
 use mysql_const::{Capabilities, MariadbBulkIndicator, MariadbCapabilities};
-use mysql_queries::ByteString;
 use std::alloc::{AllocError, Global};
 
 /// The flag of a bulk that asks for a result for each row.

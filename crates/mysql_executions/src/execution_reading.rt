@@ -18,8 +18,8 @@ use crate::types::{BoundType, Execution};
 use crate::unclear::read_unclear;
 use crate::value_reading::{read_attributes, read_parameters};
 use bitflags::Flags;
+use mysql_bytes::ByteString;
 use mysql_const::{Capabilities, CapabilityFlags, CursorType};
-use mysql_queries::ByteString;
 use std::alloc::{AllocError, Global};
 
 /// The flag of an execution that says that the number of parameters is given.

@@ -9,8 +9,8 @@ use crate::fields::read_u8;
 use crate::not_read::NotRead;
 use crate::types::{BoundType, ParameterType};
 use mysql_buf::ParseBuf;
+use mysql_bytes::ByteString;
 use mysql_const::ColumnType;
-use mysql_queries::ByteString;
 use std::alloc::Global;
 
 /// The flag of a type whose whole numbers have no sign.

@@ -1,9 +1,9 @@
 //! Types of parameters, and executions that carry them.
 
 use crate::unclear::UnclearValues;
+use mysql_bytes::ByteString;
 use mysql_cells::Value;
 use mysql_const::{ColumnType, CursorType};
-use mysql_queries::ByteString;
 
 /// A parameter's type, and whether its whole numbers have no sign.
 ///

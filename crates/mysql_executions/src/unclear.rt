@@ -24,10 +24,10 @@ use crate::skipping::skip_typed_value;
 use crate::statement::StatementParameters;
 use crate::types::{BoundType, ParameterType};
 use crate::value_reading::{count_of, is_null, type_of};
+use mysql_bytes::ByteString;
 use mysql_cells::cell_form::form_of_type;
 use mysql_cells::{CellForm, Value};
 use mysql_const::ColumnType;
-use mysql_queries::ByteString;
 use std::alloc::{AllocError, Global};
 
 /// Cells that servers read each their way: all from the first such one on.

@@ -11,9 +11,9 @@ use crate::not_read::NotRead;
 use crate::statement::StatementParameters;
 use crate::types::{Attribute, BoundType, ParameterType};
 use mysql_buf::ParseBuf;
+use mysql_bytes::ByteString;
 use mysql_cells::{Value, read_cell};
 use mysql_fields::WireError;
-use mysql_queries::ByteString;
 use std::alloc::Global;
 
 /// Reads the value of the cell that stands first, by its type.

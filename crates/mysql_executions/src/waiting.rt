@@ -3,7 +3,7 @@
 ghost use Rattle.std.specs.Prelude.{◌≡◌, ◌==◌, ◌++◌, OnErr, OnOk, length};
 ghost use Rattle.mysql_executions.specs.After.{more_data};
 
-use mysql_queries::ByteString;
+use mysql_bytes::ByteString;
 use std::alloc::{AllocError, Global};
 use std::collections::BTreeMap;
 use std::mem;

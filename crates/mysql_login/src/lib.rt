@@ -44,4 +44,3 @@ pub use mysql_replication::{
     InvalidTag, SemiSyncAckPacket, SemiSyncAckPacketPacketHeader, Sid, SidBlock, SidError, Tag,
     UUID_LEN, UnknownBinlogDumpFlags,
 };
-pub use mysql_wire;

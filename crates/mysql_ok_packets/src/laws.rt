@@ -21,7 +21,7 @@ pub fn ok_packets_read_back()
 pub fn kinds_read_back<T: OkPacketKind>()
     ensures { KindReadsBack T.HEADER T.body_at T.body_bytes T.kept }
 {
-    // Its range is known once it is read.
+    // For the proof alone: the header is a byte.
     let _header = T::HEADER;
 }
 

@@ -1,7 +1,7 @@
 //! The public crate of packets: columns, rows, OK packets, errors, and the commands of prepared
 //! statements.
 //!
-//! A user lists it. `mysql_session` passes it on, and it passes on values and the wire.
+//! A user lists it, and `mysql_values`, `mysql_convert` and `mysql_wire` for what it names of them.
 //!
 //! | packets of | crate below |
 //! |---|---|
@@ -33,7 +33,6 @@ pub use mysql_columns::FixedLengthFieldsLen;
 pub use mysql_columns::InvalidCatalog;
 pub use mysql_columns::InvalidFixedLengthFieldsLen;
 pub use mysql_columns::ListedColumn;
-pub use mysql_convert;
 pub use mysql_field_lists::BitmapBytes;
 pub use mysql_field_lists::NullBitmap;
 pub use mysql_field_lists::NullBits;
@@ -93,13 +92,8 @@ pub use mysql_server_packets::SqlState;
 pub use mysql_server_packets::SqlStateMarker;
 pub use mysql_server_packets::StmtPacket;
 pub use mysql_server_packets::StmtPacketStatus;
-pub use mysql_server_packets::err_packet;
-pub use mysql_server_packets::headers;
+pub use mysql_server_packets::err_packet::server_error_of;
 pub use mysql_server_packets::laws;
-pub use mysql_server_packets::local_infile;
-pub use mysql_server_packets::progress_report;
-pub use mysql_server_packets::server_error;
-pub use mysql_server_packets::statement;
 pub use mysql_stmt::ComStmtClose;
 pub use mysql_stmt::ComStmtCloseHeader;
 pub use mysql_stmt::ComStmtExecuteHeader;

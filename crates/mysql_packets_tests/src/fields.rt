@@ -165,7 +165,8 @@ const NO_METADATA: MariadbCapabilities = MariadbCapabilities(0);
 
 const EXTENDED: MariadbCapabilities = MariadbCapabilities::MARIADB_CLIENT_EXTENDED_METADATA;
 
-const JSON: &[u8] = b"\x03def\0\0\0\x01c\0\x06\x01\x04json\x0c\x2d\0\0\0\0\0\xfc\0\0\0\0\0";
+const UUID: &[u8] =
+    b"\x03def\0\0\0\x01c\0\x0c\x01\x04json\0\x04uuid\x0c\x2d\0\0\0\0\0\xfc\0\0\0\0\0";
 
 /// Packets of the column `c` with extended metadata, and the type's name and the format that these tell.
 const METADATA: [(&[u8], Option<&[u8]>, Option<&[u8]>); 5] = [
@@ -179,12 +180,12 @@ const METADATA: [(&[u8], Option<&[u8]>, Option<&[u8]>); 5] = [
         Some(b"point"),
         None,
     ),
-    (JSON, None, Some(b"json")),
     (
-        b"\x03def\0\0\0\x01c\0\x0c\x01\x04json\0\x04uuid\x0c\x2d\0\0\0\0\0\xfc\0\0\0\0\0",
-        Some(b"uuid"),
+        b"\x03def\0\0\0\x01c\0\x06\x01\x04json\x0c\x2d\0\0\0\0\0\xfc\0\0\0\0\0",
+        None,
         Some(b"json"),
     ),
+    (UUID, Some(b"uuid"), Some(b"json")),
     // A value that is cut off ends them.
     (
         b"\x03def\0\0\0\x01c\0\x09\0\x04uuid\x01\x04j\x0c\x2d\0\0\0\0\0\xfc\0\0\0\0\0",
@@ -193,10 +194,11 @@ const METADATA: [(&[u8], Option<&[u8]>, Option<&[u8]>); 5] = [
     ),
 ];
 
-/// The column of `JSON`, made by its parts.
-fn with_format(alloc: Global) -> Result<ExtendedColumn, AllocError> {
+/// The column of `UUID`, made by its parts.
+fn with_names(alloc: Global) -> Result<ExtendedColumn, AllocError> {
     let mut metadata = Vec::new(alloc);
     ExtendedColumn::put_format(b"json", &mut metadata)?;
+    ExtendedColumn::put_type_name(b"uuid", &mut metadata)?;
     let column = Column::new(alloc, ColumnType::MYSQL_TYPE_BLOB).with_name(b"c")?;
     Ok(ExtendedColumn::new(column.with_character_set(45)).with_metadata(metadata))
 }
@@ -209,7 +211,7 @@ fn columns(rt: HostRuntime) {
     assert_field::<Column, ()>(&a, alloc, (), COLUMN, COLUMN.len(), &NO_COLUMNS);
     let (first, second) = (column_named(alloc, NAMES), column_named(alloc, NAMES));
     assert_made(&a, alloc, first, second, COLUMN);
-    assert_made(&a, alloc, with_format(alloc), with_format(alloc), JSON);
+    assert_made(&a, alloc, with_names(alloc), with_names(alloc), UUID);
     for (bytes, type_name, format) in &METADATA {
         assert_field::<ExtendedColumn, MariadbCapabilities>(&a, alloc, EXTENDED, *bytes, 0, &[]);
         let read = whole::<ExtendedColumn, MariadbCapabilities>(&a, alloc, EXTENDED, *bytes);

@@ -4,7 +4,7 @@ use Rattle.mysql_queries.specs.Tokens.{Kind, Quoted, LineComment, BlockComment, 
 use Rattle.mysql_queries.specs.Scanning.{is_plain}
 use Rattle.mysql_queries.specs.Queries.{is_name_kind, is_name, is_place}
 use Rattle.mysql_queries.specs.PlaceKinds.{is_place_kind}
-use Rattle.mysql_queries.specs.declared.mode.Mode.{Mode}
+use Rattle.mysql_bytes.specs.declared.mode.Mode.{Mode}
 use Rattle.mysql_queries.proofs.FirstBytes.{bool_tells}
 use Rattle.mysql_queries.proofs.Filled.{place_begins, name_is_place}
 use Rattle.mysql_queries.proofs.QuerySlices.{no_name_token}

@@ -5,8 +5,8 @@ use Rattle.mysql_queries.specs.Tokens.{Kind, Quoted, LineComment, BlockComment, 
 use Rattle.mysql_queries.specs.Comments.{with_skipped}
 use Rattle.mysql_queries.specs.Literals.{IsLiteral}
 use Rattle.mysql_queries.specs.Sql.{Sql}
-use Rattle.mysql_queries.specs.declared.mode.Mode.{Mode}
-use Rattle.mysql_queries.specs.declared.content.Content.{Content}
+use Rattle.mysql_bytes.specs.declared.mode.Mode.{Mode}
+use Rattle.mysql_bytes.specs.declared.content.Content.{Content}
 use Rattle.mysql_queries.specs.Queries.{is_name_kind, is_mark_kind, is_place, Replaces, is_joining, stands_alone, place_at, places_behind, places_from, AllAlone}
 use Rattle.std.proofs.Common.{◌+◌, ◌-◌, length, get_or, slice_index, length-append}
 use Rattle.std.proofs.Math.Seq.{get_or-append_seam}
@@ -15,7 +15,7 @@ use Rattle.mysql_queries.proofs.FirstBytes.{and_true, bool_tells, kind_tells, or
 use Rattle.mysql_queries.proofs.OneToken.{not_empty}
 use Rattle.mysql_queries.proofs.Follow.{IsApart, Agrees, last_of, agree_front, IsNoName, token_same, or_first, not_equal, BeginsApart}
 use Rattle.mysql_queries.proofs.Spellings.{LiteralStart, literal_start, LiteralTokens, literal_tokens}
-use Rattle.mysql_queries.specs.declared.spelling.Spelling.{Spelling}
+use Rattle.mysql_bytes.specs.declared.spelling.Spelling.{Spelling}
 
 -- a text that is tokens with literals for the placeholders
 abbrev pub Spells : Mode → Spelling → List (List ℕ) → List Content → List ℕ → Type 0

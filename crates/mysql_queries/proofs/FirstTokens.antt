@@ -1,7 +1,7 @@
 -- What a text's kind says of its front, and what makes its first bytes a token.
 use Rattle.std.proofs.Common.{◌≡◌, ℕ, zero, suc, ◌<◌, List, [], ◌∷◌, length, take, drop, slice_index, refl, sym, arith, subst, take-append-drop}
 use Rattle.mysql_queries.specs.Tokens.{Kind, Quoted, kind_of, HasShape, IsToken}
-use Rattle.mysql_queries.specs.declared.mode.Mode.{Mode}
+use Rattle.mysql_bytes.specs.declared.mode.Mode.{Mode}
 use Rattle.mysql_queries.proofs.FirstBytes.{Tells, kind_tells}
 use Rattle.mysql_queries.proofs.OneToken.{not_empty}
 

@@ -3,7 +3,7 @@ use Rattle.std.proofs.Common.{◌≡◌, ◌≢◌, ℕ, Bool, true, false, not,
 use Rattle.std.proofs.lemmas.Bool.Decides.{nat_tests, eqb_tells}
 use Rattle.mysql_queries.specs.Tokens.{Kind, Quoted, LineComment, BlockComment, Name, Mark, Plain, kind_of, is_quote, has_escapes, HasShape, IsToken, AtLineEnd, BeginsOtherwise, Closes, star, slash, colon, question, dash, inside_bytes, goes_on_as_dashes, goes_on_as_block, goes_on_as_name, is_name_start}
 use Rattle.mysql_queries.specs.Queries.{is_joining}
-use Rattle.mysql_queries.specs.declared.mode.Mode.{Mode}
+use Rattle.mysql_bytes.specs.declared.mode.Mode.{Mode}
 use Rattle.mysql_queries.proofs.FirstBytes.{HasQuote, kind_has_quote}
 use Rattle.mysql_queries.proofs.OneToken.{not_empty}
 

@@ -2,16 +2,16 @@
 use Rattle.std.proofs.Common.{◌≡◌, ◌≢◌, ℕ, Bool, ◌≤◌, ◌<◌, true, false, List, [], ◌∷◌, ◌++◌, length, take, get_or, map, codes, refl, sym, ap, ◌∙◌, inl, inr, arith, subst, ℤ}
 use Rattle.mysql_queries.specs.Tokens.{has_escapes, IsQuoted, single_quote, dash}
 use Rattle.mysql_queries.specs.Literals.{lower, is_digit, AreDigits, IsNumber, IsString, IsHexLiteral, IsIntroduced, IsLiteral}
-use Rattle.mysql_queries.specs.declared.content.Content.{Content}
-use Rattle.mysql_queries.specs.declared.content.Content.TheVariants.{Null, Number, Bytes}
-use Rattle.mysql_queries.specs.declared.mode.Mode.{Mode}
+use Rattle.mysql_bytes.specs.declared.content.Content.{Content}
+use Rattle.mysql_bytes.specs.declared.content.Content.TheVariants.{Null, Number, Bytes}
+use Rattle.mysql_bytes.specs.declared.mode.Mode.{Mode}
 use Rattle.mysql_queries.specs.LiteralRuns.{begins_hex, IsDigitRun, IsHexRun, IsIntroducedRun, IsLiteralRun}
 use Rattle.mysql_queries.specs.LiteralViews.{IsNoLiteral}
 use Rattle.mysql_queries.proofs.OneContent.{dash_sort, digits_sort, hex_sort, introduced_is, introduced_sort, null_sort, number_sort, second_sort, sort_of, string_sort}
 use Rattle.mysql_queries.proofs.HexDigits.{IsNoHex}
 use Rattle.mysql_queries.proofs.StringParts.{IsNoString}
-use Rattle.mysql_queries.specs.declared.spelling.Spelling.{Spelling}
-use Rattle.mysql_queries.specs.declared.spelling.Spelling.TheVariants.{Hexadecimal, Quoted}
+use Rattle.mysql_bytes.specs.declared.spelling.Spelling.{Spelling}
+use Rattle.mysql_bytes.specs.declared.spelling.Spelling.TheVariants.{Hexadecimal, Quoted}
 
 quoted_sort : (escapes : Bool) (run rest : List ℕ) → IsQuoted escapes single_quote run rest → sort_of run ≡ 0
 unfolding sort_of

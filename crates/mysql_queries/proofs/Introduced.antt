@@ -2,8 +2,8 @@
 use Rattle.std.proofs.Common.{◌≡◌, ℕ, suc, ◌+◌, true, false, List, [], ◌∷◌, ◌++◌, length, take, drop, refl, sym, ap, ◌∙◌, append_assoc, arith, subst, length-append}
 use Rattle.mysql_queries.specs.Literals.{IsHexLiteral, IsIntroduced, IsIntroducer}
 use Rattle.mysql_queries.specs.LiteralRuns.{IsHexRun, IsIntroducedRun, begins_hex}
-use Rattle.mysql_queries.specs.declared.spelling.Spelling.{Spelling}
-use Rattle.mysql_queries.specs.declared.spelling.Spelling.TheVariants.{Hexadecimal, Quoted}
+use Rattle.mysql_bytes.specs.declared.spelling.Spelling.{Spelling}
+use Rattle.mysql_bytes.specs.declared.spelling.Spelling.TheVariants.{Hexadecimal, Quoted}
 use Rattle.mysql_queries.proofs.Fronts.{IsNoIntroduced, no_introduced}
 use Rattle.mysql_queries.proofs.HexDigits.{IsNoHex}
 use Rattle.mysql_queries.proofs.OneContent.{one_introducer}

@@ -1,5 +1,4 @@
 pub mod Modes
-pub mod SqlModes
 pub mod QuerySlices
 pub mod TextReading
 pub mod TextDecided

@@ -5,11 +5,11 @@ use Rattle.std.specs.Cmp.Lexicographic.{pointwise, same_text, other_text}
 use Rattle.std.proofs.lemmas.Bool.Decides.{nat_tests, eqb_tells}
 use Rattle.mysql_queries.specs.Tokens.{has_escapes, inside_bytes, single_quote, backslash, dash}
 use Rattle.mysql_queries.specs.Literals.{lower, is_digit, is_hex, hex_value, digits_value, inside_content, IsNumber, IsHexLiteral, IsIntroducer, SpellsInHex, IsLiteral, text_introducer, binary_introducer}
-use Rattle.mysql_queries.specs.declared.mode.Mode.{Mode}
+use Rattle.mysql_bytes.specs.declared.mode.Mode.{Mode}
 use Rattle.mysql_queries.specs.LiteralRuns.{EndsBefore, begins_hex, IsDigitRun, IsHexRun, IsLiteralRun}
 use Rattle.mysql_queries.specs.LiteralViews.{IsNoLiteral}
-use Rattle.mysql_queries.specs.declared.content.Content.{Content}
-use Rattle.mysql_queries.specs.declared.content.Content.TheVariants.{Null, Number, Bytes}
+use Rattle.mysql_bytes.specs.declared.content.Content.{Content}
+use Rattle.mysql_bytes.specs.declared.content.Content.TheVariants.{Null, Number, Bytes}
 use Rattle.mysql_queries.proofs.FirstBytes.{bool_tells}
 use Rattle.mysql_queries.proofs.SomeToken.{InsideOf, some_inside, RunOf, some_run, Begins}
 use Rattle.mysql_queries.proofs.Runs.{one_run}
@@ -20,8 +20,8 @@ use Rattle.mysql_queries.proofs.Fronts.{IsNoIntroduced, IsNoNull, no_introduced,
 use Rattle.mysql_queries.proofs.Introduced.{none_behind, none_first, none_without}
 use Rattle.mysql_queries.proofs.OneRead.{dash_no_digit, one_hex_run}
 use Rattle.mysql_queries.proofs.QuerySlices.{drop_front, take_all_front}
-use Rattle.mysql_queries.specs.declared.spelling.Spelling.{Spelling}
-use Rattle.mysql_queries.specs.declared.spelling.Spelling.TheVariants.{Hexadecimal, Quoted}
+use Rattle.mysql_bytes.specs.declared.spelling.Spelling.{Spelling}
+use Rattle.mysql_bytes.specs.declared.spelling.Spelling.TheVariants.{Hexadecimal, Quoted}
 
 -- the literal at the front of a text
 pub record LiteralAt (mode : Mode) (sp : Spelling) (text : List ℕ) : Type 0 where

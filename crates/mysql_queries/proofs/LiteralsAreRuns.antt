@@ -3,15 +3,15 @@ use Rattle.std.proofs.Common.{◌≡◌, ◌≢◌, ℕ, Bool, true, false, ◌&
 use Rattle.std.specs.List.{AllByRecursion}
 use Rattle.mysql_queries.specs.Tokens.{single_quote, dash}
 use Rattle.mysql_queries.specs.Literals.{is_digit, is_hex, AreDigits, IsNumber, SpellsInHex, IsHexLiteral, IsLiteral}
-use Rattle.mysql_queries.specs.declared.content.Content.{Content}
-use Rattle.mysql_queries.specs.declared.content.Content.TheVariants.{Null, Number, Bytes}
+use Rattle.mysql_bytes.specs.declared.content.Content.{Content}
+use Rattle.mysql_bytes.specs.declared.content.Content.TheVariants.{Null, Number, Bytes}
 use Rattle.mysql_queries.specs.LiteralRuns.{EndsBefore, begins_hex, IsDigitRun, IsHexRun, IsLiteralRun}
-use Rattle.mysql_queries.specs.declared.mode.Mode.{Mode}
+use Rattle.mysql_bytes.specs.declared.mode.Mode.{Mode}
 use Rattle.mysql_queries.specs.Queries.{is_joining}
 use Rattle.mysql_queries.proofs.Follow.{BeginsApart, not_equal}
 use Rattle.mysql_queries.proofs.Spellings.{is_word, digit_word, hex_word, apart_bytes, apart_otherwise}
 use Rattle.mysql_queries.proofs.OneContent.{word_joins}
-use Rattle.mysql_queries.specs.declared.spelling.Spelling.{Spelling}
+use Rattle.mysql_bytes.specs.declared.spelling.Spelling.{Spelling}
 
 ends_before : (p : ℕ → Bool) → ((b : ℕ) → p b ≡ true → is_word b ≡ true) → (r : List ℕ) → BeginsApart r → EndsBefore p r
 ends_before p w [] h = tt

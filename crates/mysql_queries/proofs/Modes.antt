@@ -1,6 +1,6 @@
 -- The mode of a server that has neither setting.
 use Rattle.std.proofs.Common.{◌≡◌, Bool, false, ap, ◌∙◌}
-use Rattle.mysql_queries.specs.declared.mode.Mode.{Mode}
+use Rattle.mysql_bytes.specs.declared.mode.Mode.{Mode}
 use Rattle.mysql_queries.specs.Sql.{default_mode}
 
 abbrev mode_of : Bool → Bool → Mode

@@ -4,16 +4,16 @@ use Rattle.std.specs.List.{AllByRecursion}
 use Rattle.std.proofs.lemmas.Bool.Decides.{nat_tests}
 use Rattle.mysql_queries.specs.Tokens.{has_escapes, AreTokens, BeginsOtherwise, single_quote, dash, inside_bytes, backslash}
 use Rattle.mysql_queries.specs.Literals.{lower, is_digit, digits_value, IsNumber, IsString, inside_content, SpellsInHex, IsHexLiteral, IsIntroduced, IsIntroducer, IsLiteral, text_introducer, binary_introducer}
-use Rattle.mysql_queries.specs.declared.content.Content.{Content}
-use Rattle.mysql_queries.specs.declared.content.Content.TheVariants.{Null, Number, Bytes}
-use Rattle.mysql_queries.specs.declared.mode.Mode.{Mode}
+use Rattle.mysql_bytes.specs.declared.content.Content.{Content}
+use Rattle.mysql_bytes.specs.declared.content.Content.TheVariants.{Null, Number, Bytes}
+use Rattle.mysql_bytes.specs.declared.mode.Mode.{Mode}
 use Rattle.mysql_queries.specs.Queries.{is_joining}
 use Rattle.mysql_queries.proofs.Quotes.{one_inside}
 use Rattle.mysql_queries.proofs.Runs.{one_run, EndsRun}
 use Rattle.mysql_queries.proofs.Follow.{BeginsApart, or_first, not_equal, last_of}
 use Rattle.mysql_queries.proofs.Spellings.{is_word, AreWord, IsWord, IsIntroducedWord, literal_form, apart_bytes, apart_otherwise}
 use Rattle.mysql_queries.proofs.Filled.{Spells, AloneFrom, rest_apart}
-use Rattle.mysql_queries.specs.declared.spelling.Spelling.{Spelling}
+use Rattle.mysql_bytes.specs.declared.spelling.Spelling.{Spelling}
 
 pub word_joins : (b : ℕ) → is_word b ≡ true → is_joining b ≡ true
 word_joins b h = or_first _ _ (or_first _ _ (or_first _ _ (or_first _ _ (or_first _ _ (or_first _ _ (or_first _ _ (or_first _ _ (or_first _ _ h))))))))

@@ -3,8 +3,8 @@ use Rattle.std.proofs.Common.{◌≡◌, ◌≢◌, ℕ, Bool, true, false, List
 use Rattle.std.specs.List.{AllByRecursion}
 use Rattle.mysql_queries.specs.Tokens.{has_escapes, IsQuoted, Quoted, single_quote, dash}
 use Rattle.mysql_queries.specs.Literals.{lower, is_digit, is_hex, AreDigits, IsNumber, IsLiteral}
-use Rattle.mysql_queries.specs.declared.content.Content.{Content}
-use Rattle.mysql_queries.specs.declared.mode.Mode.{Mode}
+use Rattle.mysql_bytes.specs.declared.content.Content.{Content}
+use Rattle.mysql_bytes.specs.declared.mode.Mode.{Mode}
 use Rattle.mysql_queries.specs.LiteralRuns.{begins_hex, EndsBefore, IsDigitRun, IsHexRun, IsIntroducedRun, IsLiteralRun}
 use Rattle.mysql_queries.proofs.Runs.{one_run}
 use Rattle.mysql_queries.proofs.OneToken.{one_shape}
@@ -14,7 +14,7 @@ use Rattle.mysql_queries.proofs.Spellings.{apart_bytes}
 use Rattle.mysql_queries.proofs.Decimals.{ends_run}
 use Rattle.mysql_queries.proofs.HexDigits.{hex_ends}
 use Rattle.mysql_queries.proofs.Fronts.{Front, null, string, hexadecimal, number, introduced, front}
-use Rattle.mysql_queries.specs.declared.spelling.Spelling.{Spelling}
+use Rattle.mysql_bytes.specs.declared.spelling.Spelling.{Spelling}
 
 null_four : (r q : List ℕ) → map lower r ≡ codes "null" → r ≡ take 4 (r ++ q)
 null_four [] q h = cc

@@ -2,7 +2,7 @@
 use Rattle.std.proofs.Common.{◌≡◌, ◌≢◌, ℕ, true, false, List, [], ◌∷◌, ◌++◌, refl, sym, ap, ◌∙◌, append_assoc, subst, flat_map}
 use Rattle.std.specs.List.{concat}
 use Rattle.mysql_queries.specs.Tokens.{Kind, Quoted, LineComment, BlockComment, Name, Mark, Plain, kind_of, HasShape, IsToken, AreTokens, has_escapes, AtLineEnd, AtNameEnd, is_name_byte, line_feed, star, slash, colon, question, inside_bytes}
-use Rattle.mysql_queries.specs.declared.mode.Mode.{Mode}
+use Rattle.mysql_bytes.specs.declared.mode.Mode.{Mode}
 use Rattle.mysql_queries.proofs.Quotes.{one_inside}
 use Rattle.mysql_queries.proofs.Comments.{one_comment}
 use Rattle.mysql_queries.proofs.Runs.{one_run, EndsRun}

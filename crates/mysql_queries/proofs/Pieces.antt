@@ -1,12 +1,12 @@
 -- A text of pieces with literals between is one of tokens with literals for the placeholders.
 use Rattle.std.proofs.Common.{◌≡◌, ℕ, true, false, List, [], ◌∷◌, ◌++◌, refl, sym, ap, ◌∙◌, inl, inr, append_assoc, subst}
 use Rattle.mysql_queries.specs.Literals.{IsLiteral}
-use Rattle.mysql_queries.specs.declared.content.Content.{Content}
-use Rattle.mysql_queries.specs.declared.mode.Mode.{Mode}
+use Rattle.mysql_bytes.specs.declared.content.Content.{Content}
+use Rattle.mysql_bytes.specs.declared.mode.Mode.{Mode}
 use Rattle.mysql_queries.specs.Queries.{is_place, before_first, pieces_of, Alternates}
 use Rattle.mysql_queries.proofs.FirstBytes.{bool_tells}
 use Rattle.mysql_queries.proofs.Filled.{Spells}
-use Rattle.mysql_queries.specs.declared.spelling.Spelling.{Spelling}
+use Rattle.mysql_bytes.specs.declared.spelling.Spelling.{Spelling}
 use Rattle.mysql_queries.proofs.QueryWritten.{some_piece}
 
 pieces_at_place : (t : List ℕ) (ts : List (List ℕ)) → is_place t ≡ true → pieces_of (t ∷ ts) ≡ [] ∷ pieces_of ts

@@ -10,7 +10,7 @@ use Rattle.mysql_queries.specs.Scanning.{is_plain}
 use Rattle.mysql_queries.specs.SkippedComments.{Counts}
 use Rattle.mysql_queries.specs.Sql.{Sql}
 use Rattle.mysql_queries.specs.declared.placeholders.Place.{Place}
-use Rattle.mysql_queries.specs.declared.mode.Mode.{Mode}
+use Rattle.mysql_bytes.specs.declared.mode.Mode.{Mode}
 use Rattle.mysql_queries.specs.declared.skipped.Skipped.{Skipped}
 use Rattle.mysql_queries.proofs.AloneKinds.{plain_token, plain_no_place, token_place, token_name}
 use Rattle.mysql_queries.proofs.Cuts.{drop_end, drop_one}

@@ -7,7 +7,7 @@ use Rattle.mysql_queries.specs.Queries.{BeginsPlace, InOrder, before_first, is_n
 use Rattle.mysql_queries.specs.Comments.{with_skipped}
 use Rattle.mysql_queries.specs.Laws.{NamesAreSlices, PiecesAreSlices, PlacesInOrder}
 use Rattle.mysql_queries.specs.Parsed.{names_of, names_at}
-use Rattle.mysql_queries.specs.declared.mode.Mode.{Mode}
+use Rattle.mysql_bytes.specs.declared.mode.Mode.{Mode}
 use Rattle.mysql_queries.specs.declared.placeholders.Place.{Place}
 use Rattle.mysql_queries.proofs.FirstBytes.{bool_tells}
 use Rattle.mysql_queries.proofs.OneToken.{not_empty}

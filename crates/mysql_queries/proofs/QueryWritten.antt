@@ -5,7 +5,7 @@ use Rattle.mysql_queries.specs.Tokens.{question, IsToken, AreTokens, HasShape, k
 use Rattle.mysql_queries.specs.Queries.{is_name_kind, is_mark_kind, is_name, is_place, before_first, pieces_of, slices_between, HasPlaces, IsParsed}
 use Rattle.mysql_queries.specs.Parsed.{names_of, names_at, HasNames}
 use Rattle.mysql_queries.specs.Sql.{Sql}
-use Rattle.mysql_queries.specs.declared.mode.Mode.{Mode}
+use Rattle.mysql_bytes.specs.declared.mode.Mode.{Mode}
 use Rattle.mysql_queries.specs.declared.placeholders.Place.{Place}
 use Rattle.mysql_queries.proofs.FirstBytes.{bool_tells, Tells, kind_tells}
 use Rattle.mysql_queries.proofs.OneToken.{not_empty}

@@ -3,7 +3,7 @@ use Rattle.std.proofs.Common.{◌≡◌, ◌≢◌, ℕ, Bool, zero, suc, ◌≤
 use Rattle.std.specs.List.{AllByRecursion}
 use Rattle.std.proofs.lemmas.Bool.Decides.{eqb_tells}
 use Rattle.mysql_queries.specs.Tokens.{Kind, Quoted, LineComment, BlockComment, Name, Mark, Plain, kind_of, Inside, Byte, Escape, Doubled, IsInside, HasShape, IsToken, HasTokens, is_name_byte, line_feed, star, slash, colon, question, backslash, inside_bytes, has_escapes, Closes, EndsBlock}
-use Rattle.mysql_queries.specs.declared.mode.Mode.{Mode}
+use Rattle.mysql_bytes.specs.declared.mode.Mode.{Mode}
 use Rattle.mysql_queries.proofs.FirstBytes.{bool_tells, Tells, kind_tells, block_second}
 use Rattle.mysql_queries.proofs.OneToken.{not_empty}
 

@@ -8,7 +8,7 @@ use Rattle.mysql_queries.specs.PlaceKinds.{is_place_kind}
 use Rattle.mysql_queries.specs.Queries.{HasPlaces, InOrder, StayInComments, interleaved, is_place, places_behind, slices_between, stretch}
 use Rattle.mysql_queries.specs.Sql.{Sql}
 use Rattle.mysql_queries.specs.Laws.{CommentsKeepTheirPairs}
-use Rattle.mysql_queries.specs.declared.mode.Mode.{Mode}
+use Rattle.mysql_bytes.specs.declared.mode.Mode.{Mode}
 use Rattle.mysql_queries.specs.declared.placeholders.Place.{Place}
 use Rattle.mysql_queries.proofs.AloneKinds.{token_place}
 use Rattle.mysql_queries.proofs.Counting.{Opens, opens, slice_cut}

@@ -5,8 +5,8 @@ use Rattle.std.specs.Cmp.Lexicographic.{pointwise}
 use Rattle.mysql_queries.specs.Laws.{TextIsDecided}
 use Rattle.mysql_queries.specs.Tokens.{HasTokens}
 use Rattle.mysql_queries.specs.Queries.{Alternates, HasPlaces, places_from, slices_between}
-use Rattle.mysql_queries.specs.declared.content.Content.{Content}
-use Rattle.mysql_queries.specs.declared.mode.Mode.{Mode}
+use Rattle.mysql_bytes.specs.declared.content.Content.{Content}
+use Rattle.mysql_bytes.specs.declared.mode.Mode.{Mode}
 use Rattle.mysql_queries.specs.declared.placeholders.Place.{Place}
 use Rattle.mysql_queries.proofs.FirstBytes.{bool_tells}
 use Rattle.mysql_queries.proofs.LiteralDecided.{literal_tells, list_tells}
@@ -15,7 +15,7 @@ use Rattle.mysql_queries.proofs.QuerySlices.{places_in_order}
 use Rattle.mysql_queries.proofs.Readings.{some_tokens}
 use Rattle.mysql_queries.proofs.TextReading.{FirstRead, first_read, read_before, run_there, same_read, piece_found, piece_missing, sliced, unsliced}
 use Rattle.mysql_queries.proofs.OneContent.{same_rest}
-use Rattle.mysql_queries.specs.declared.spelling.Spelling.{Spelling}
+use Rattle.mysql_bytes.specs.declared.spelling.Spelling.{Spelling}
 
 -- what stands at the front of a text, or that it doesn't
 front_tells : (piece text : List ℕ) → ((behind : List ℕ) × (text ≡ piece ++ behind)) ⊎ ((behind : List ℕ) → text ≡ piece ++ behind → ⊥)

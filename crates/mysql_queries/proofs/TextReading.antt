@@ -9,8 +9,8 @@ use Rattle.mysql_queries.specs.LiteralViews.{IsNoLiteral}
 use Rattle.mysql_queries.specs.Laws.{FilledIsRead}
 use Rattle.mysql_queries.specs.Sql.{Sql}
 use Rattle.mysql_queries.specs.Queries.{Alternates, AllAlone, AreLiterals, BeginsPlace, HasPlaces, InOrder, Lexes, Slices, interleaved, is_joining, places_from, slices_between}
-use Rattle.mysql_queries.specs.declared.content.Content.{Content}
-use Rattle.mysql_queries.specs.declared.mode.Mode.{Mode}
+use Rattle.mysql_bytes.specs.declared.content.Content.{Content}
+use Rattle.mysql_bytes.specs.declared.mode.Mode.{Mode}
 use Rattle.mysql_queries.specs.declared.placeholders.Place.{Place}
 use Rattle.mysql_queries.proofs.FirstBytes.{and_true}
 use Rattle.mysql_queries.proofs.Follow.{BeginsApart}
@@ -21,7 +21,7 @@ use Rattle.mysql_queries.proofs.OneRead.{one_read}
 use Rattle.mysql_queries.proofs.QuerySlices.{pieces_are_slices, places_in_order, take_all_front}
 use Rattle.mysql_queries.proofs.Cuts.{drop_one}
 use Rattle.mysql_queries.proofs.Readings.{one_places, sliced_is_lexed}
-use Rattle.mysql_queries.specs.declared.spelling.Spelling.{Spelling}
+use Rattle.mysql_bytes.specs.declared.spelling.Spelling.{Spelling}
 
 -- a piece, a literal of the first content, and what follows them
 pub record FirstRead (m : Mode) (sp : Spelling) (query : List ℕ) (start : ℕ) (p : Place) (ps : List Place) (contents : List Content) (text : List ℕ) : Type 0 where

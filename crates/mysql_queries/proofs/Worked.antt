@@ -3,13 +3,13 @@ use Rattle.std.proofs.Common.{◌≢◌, flat_map, ◌≡◌, ℕ, Bool, List, [
 use Rattle.std.specs.List.{AllByRecursion}
 use Rattle.mysql_queries.specs.Tokens.{has_escapes, single_quote, Byte, Escape, Doubled, inside_bytes}
 use Rattle.mysql_queries.specs.Literals.{IsIntroduced, IsLiteral, IsString, binary_introducer, is_digit, lower, SpellsInHex, text_introducer}
-use Rattle.mysql_queries.specs.declared.content.Content.{Content}
-use Rattle.mysql_queries.specs.declared.content.Content.TheVariants.{Null, Number, Bytes}
-use Rattle.mysql_queries.specs.declared.mode.Mode.{Mode}
+use Rattle.mysql_bytes.specs.declared.content.Content.{Content}
+use Rattle.mysql_bytes.specs.declared.content.Content.TheVariants.{Null, Number, Bytes}
+use Rattle.mysql_bytes.specs.declared.mode.Mode.{Mode}
 use Rattle.mysql_queries.specs.Laws.{WorkedSpellings}
 use Rattle.mysql_queries.proofs.Spellings.{IsIntroducedWord, IsWord, literal_form, AreWord, is_word}
-use Rattle.mysql_queries.specs.declared.spelling.Spelling.{Spelling}
-use Rattle.mysql_queries.specs.declared.spelling.Spelling.TheVariants.{Hexadecimal, Quoted}
+use Rattle.mysql_bytes.specs.declared.spelling.Spelling.{Spelling}
+use Rattle.mysql_bytes.specs.declared.spelling.Spelling.TheVariants.{Hexadecimal, Quoted}
 
 no_word : (s : List ℕ) → s ≡ codes "+5" → IsWord s → ⊥
 no_word s e w = elim w.spelled [

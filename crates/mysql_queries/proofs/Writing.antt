@@ -4,14 +4,14 @@ use Rattle.std.specs.List.{AllByRecursion}
 use Rattle.std.proofs.lemmas.Bool.Decides.{nat_tests, eqb_tells}
 use Rattle.mysql_queries.specs.Tokens.{Inside, Byte, Escape, Doubled, IsInside, inside_bytes, single_quote, double_quote, backslash, star, slash}
 use Rattle.mysql_queries.specs.Literals.{IsHexLiteral, IsIntroducer, IsLiteral, IsString, SpellsInHex, binary_introducer, inside_content, is_hex, hex_value, text_introducer}
-use Rattle.mysql_queries.specs.declared.mode.Mode.{Mode}
-use Rattle.mysql_queries.specs.declared.content.Content.TheVariants.{Bytes}
+use Rattle.mysql_bytes.specs.declared.mode.Mode.{Mode}
+use Rattle.mysql_bytes.specs.declared.content.Content.TheVariants.{Bytes}
 use Rattle.std.specs.Str.{is_utf8}
 use Rattle.mysql_queries.specs.Comments.{begins_comment, ends_comment}
 use Rattle.mysql_queries.specs.Written.{has_pair, in_hexadecimal, parted_byte, parted_bytes, quoted_in_comment, written_byte, quoted, hex_digit}
 use Rattle.mysql_queries.proofs.FirstBytes.{bool_tells, or_cases, same_number}
 use Rattle.mysql_queries.specs.Laws.{PlainIsRead, WrittenIsRead}
-use Rattle.mysql_queries.specs.declared.spelling.Spelling.{Spelling}
+use Rattle.mysql_bytes.specs.declared.spelling.Spelling.{Spelling}
 
 -- the part that a byte is written as
 record WrittenAs (no_backslash_escapes : Bool) (b : ℕ) : Type 0 where

@@ -8,17 +8,17 @@ use Rattle.std.specs.Prelude.{◌≡◌, ◌≢◌, ◌⊎◌, ◌<◌, ◌+◌,
 use Rattle.std.specs.Prelude.{◌≤◌, flat_map, slice_range}
 use Rattle.mysql_queries.specs.Tokens.{HasTokens, backslash, single_quote, slash, star}
 use Rattle.mysql_queries.specs.Literals.{IsLiteral}
-use Rattle.mysql_queries.specs.declared.content.Content.{Content}
-use Rattle.mysql_queries.specs.declared.content.Content.TheVariants.{Null, Number, Bytes}
+use Rattle.mysql_bytes.specs.declared.content.Content.{Content}
+use Rattle.mysql_bytes.specs.declared.content.Content.TheVariants.{Null, Number, Bytes}
 use Rattle.mysql_queries.specs.Queries.{Slices, Lexes, AllAlone, AreLiterals, HasPlaces, InOrder, interleaved}
 use Rattle.mysql_queries.specs.Queries.{StayInComments, is_joining, pieces_of, places_from, slices_between, stretch}
 use Rattle.mysql_queries.specs.Parsed.{names_of, names_at}
 use Rattle.mysql_queries.specs.LiteralRuns.{EndsBefore, IsLiteralRun}
 use Rattle.mysql_queries.specs.Sql.{Sql, default_mode}
 use Rattle.mysql_queries.specs.declared.placeholders.Place.{Place}
-use Rattle.mysql_queries.specs.declared.mode.Mode.{Mode}
-use Rattle.mysql_queries.specs.declared.spelling.Spelling.{Spelling}
-use Rattle.mysql_queries.specs.declared.spelling.Spelling.TheVariants.{Hexadecimal, Quoted}
+use Rattle.mysql_bytes.specs.declared.mode.Mode.{Mode}
+use Rattle.mysql_bytes.specs.declared.spelling.Spelling.{Spelling}
+use Rattle.mysql_bytes.specs.declared.spelling.Spelling.TheVariants.{Hexadecimal, Quoted}
 
 -- Each text has tokens.
 abbrev pub SomeTokens : Type 0

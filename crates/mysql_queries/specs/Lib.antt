@@ -1,6 +1,5 @@
 pub mod Tokens
 pub mod Sql
-pub mod Modes
 pub mod Literals
 pub mod Comments
 pub mod Queries

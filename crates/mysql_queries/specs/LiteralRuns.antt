@@ -3,9 +3,9 @@
 use Rattle.std.specs.Prelude.{◌≡◌, ℕ, Bool, true, false, ◌&&◌, ◌==◌, ◌⊎◌, List, [], ◌∷◌, ◌++◌, map, codes}
 use Rattle.std.specs.List.{AllByRecursion}
 use Rattle.mysql_queries.specs.Tokens.{IsQuoted, has_escapes, single_quote, dash}
-use Rattle.mysql_queries.specs.declared.mode.Mode.{Mode}
-use Rattle.mysql_queries.specs.declared.spelling.Spelling.{Spelling}
-use Rattle.mysql_queries.specs.declared.spelling.Spelling.TheVariants.{Hexadecimal}
+use Rattle.mysql_bytes.specs.declared.mode.Mode.{Mode}
+use Rattle.mysql_bytes.specs.declared.spelling.Spelling.{Spelling}
+use Rattle.mysql_bytes.specs.declared.spelling.Spelling.TheVariants.{Hexadecimal}
 use Rattle.mysql_queries.specs.Literals.{IsIntroducer, lower, is_digit, is_hex}
 
 -- no byte that passes the test comes first

@@ -3,10 +3,10 @@
 use Rattle.std.specs.Prelude.{◌≡◌, ◌++◌, ℕ, List, []}
 use Rattle.mysql_queries.specs.LiteralRuns.{IsLiteralRun}
 use Rattle.mysql_queries.specs.Literals.{IsLiteral}
-use Rattle.mysql_queries.specs.declared.content.Content.{Content}
-use Rattle.mysql_queries.specs.declared.mode.Mode.{Mode}
-use Rattle.mysql_queries.specs.declared.spelling.Spelling.{Spelling}
-use Rattle.mysql_queries.specs.declared.content.Content.TheVariants as content
+use Rattle.mysql_bytes.specs.declared.content.Content.{Content}
+use Rattle.mysql_bytes.specs.declared.mode.Mode.{Mode}
+use Rattle.mysql_bytes.specs.declared.spelling.Spelling.{Spelling}
+use Rattle.mysql_bytes.specs.declared.content.Content.TheVariants as content
 use Rattle.mysql_queries.specs.declared.literals.Literal.{Literal}
 use Rattle.mysql_queries.specs.declared.literals.Literal.TheVariants.{Null, Number, Bytes}
 

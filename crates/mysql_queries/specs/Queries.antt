@@ -10,9 +10,9 @@ use Rattle.mysql_queries.specs.Tokens.{LineComment, BlockComment, Name, Mark, Pl
 use Rattle.mysql_queries.specs.Comments.{BringsNoPair, in_comment, with_skipped}
 use Rattle.mysql_queries.specs.Literals.{IsLiteral}
 use Rattle.mysql_queries.specs.Sql.{Sql}
-use Rattle.mysql_queries.specs.declared.content.Content.{Content}
-use Rattle.mysql_queries.specs.declared.mode.Mode.{Mode}
-use Rattle.mysql_queries.specs.declared.spelling.Spelling.{Spelling}
+use Rattle.mysql_bytes.specs.declared.content.Content.{Content}
+use Rattle.mysql_bytes.specs.declared.mode.Mode.{Mode}
+use Rattle.mysql_bytes.specs.declared.spelling.Spelling.{Spelling}
 
 abbrev pub is_name_kind : Kind → Bool
 is_name_kind Name = true

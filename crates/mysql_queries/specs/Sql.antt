@@ -1,9 +1,9 @@
 -- A text in SQL, with the mode of the server that reads it and the spelling of byte strings in it.
 -- MySQL Reference Manual, "Server SQL Modes", "Hexadecimal Literals", "Character Set Introducers".
 use Rattle.std.specs.Prelude.{ℕ, false, List}
-use Rattle.mysql_queries.specs.declared.mode.Mode.{Mode}
-use Rattle.mysql_queries.specs.declared.spelling.Spelling.{Spelling}
-use Rattle.mysql_queries.specs.declared.spelling.Spelling.TheVariants as spellings
+use Rattle.mysql_bytes.specs.declared.mode.Mode.{Mode}
+use Rattle.mysql_bytes.specs.declared.spelling.Spelling.{Spelling}
+use Rattle.mysql_bytes.specs.declared.spelling.Spelling.TheVariants as spellings
 
 -- the text, the mode in which it is read, and how byte strings are spelled in the texts made of it
 pub record Sql : Type 0 where

@@ -4,7 +4,7 @@ use Rattle.std.specs.Prelude.{ℕ, List, Option, None, Some, Vec}
 use Rattle.std.specs.declared.alloc.Global.{Global}
 use Rattle.mysql_queries.specs.Queries.{Lexes, Slices}
 use Rattle.mysql_queries.specs.Sql.{Sql}
-use Rattle.mysql_queries.specs.declared.content.Content.{Content}
+use Rattle.mysql_bytes.specs.declared.content.Content.{Content}
 
 -- the contents of the text over the query, by its pieces and by its tokens; or that there are none
 abbrev pub TellsContents : Sql → List ℕ → Option (Vec Content Global) → Type 0

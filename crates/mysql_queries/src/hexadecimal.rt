@@ -2,7 +2,7 @@
 
 ghost use Rattle.mysql_queries.specs.LiteralRuns.{IsHexRun, IsIntroducedRun, begins_hex};
 ghost use Rattle.mysql_queries.specs.Literals.{IsHexLiteral, IsIntroduced, IsIntroducer, hex_value, is_hex};
-ghost use Rattle.mysql_queries.specs.declared.spelling.Spelling.TheVariants.{Hexadecimal};
+ghost use Rattle.mysql_bytes.specs.declared.spelling.Spelling.TheVariants.{Hexadecimal};
 ghost use Rattle.std.specs.Prelude.{
   OnErr,
   vec_capacity,

@@ -7,35 +7,27 @@
 //! | where are a query's placeholders, and what are their names? | [`ParsedQuery`], [`places`] |
 //! | which values does a text have where the query has placeholders? | [`read_text`] |
 //! | which literal begins a text? | [`read_literal`] |
-//! | by which SQL mode is a text read? | [`Mode`], for the calls in `_in` |
+//! | by which SQL mode is a text read? | `mysql_bytes::Mode`, for the calls in `_in` |
 //!
 //!     let query = ParsedQuery::new(alloc, b"SELECT :a")?;
 //!     let statement = query.with_marks(alloc)?;                  // SELECT ?
 //!     let contents = read_text(alloc, b"SELECT :a", query.places(), b"SELECT 5")?;
 #![tactic(auto)]
 
-pub mod byte_string;
-pub mod content;
 mod hexadecimal;
 pub mod laws;
 pub mod literals;
-pub mod mode;
 pub mod named_params;
 mod numbers;
 pub mod parsed_query;
 pub mod placeholders;
 mod skipped;
-pub mod spelling;
 mod strings;
 pub mod texts;
 pub mod tokens;
 
-pub use byte_string::ByteString;
-pub use content::Content;
 pub use literals::{Literal, read_literal, read_literal_in};
-pub use mode::{Mode, is_safe_to_quote};
 pub use named_params::{MixedParamsError, NamedParamsError, ParsedNamedParams};
 pub use parsed_query::ParsedQuery;
 pub use placeholders::{Place, first_not_alone, is_mixed, places, places_in};
-pub use spelling::Spelling;
 pub use texts::{read_text, read_text_in};

@@ -29,10 +29,9 @@ ghost use Rattle.std.specs.Prelude.{
 };
 
 use crate::hexadecimal::{hex_first, read_hex, read_introduced};
-use crate::mode::Mode;
 use crate::numbers::read_number;
-use crate::spelling::Spelling;
 use crate::strings::read_string;
+use mysql_bytes::{Mode, Spelling};
 use std::alloc::AllocError;
 
 /// A literal that was read. Bytes lie in the buffer that was lent.

@@ -12,10 +12,9 @@ ghost use Rattle.std.specs.Cow.{cow_slice_items};
 ghost use Rattle.std.specs.List.{AllByRecursion};
 ghost use Rattle.std.specs.Prelude.{◌≡◌, IfNone, IfOk, map, true};
 
-use crate::mode::Mode;
 use crate::named_params::{copied_names, names_among, with_marks};
 use crate::placeholders::{Place, first_not_alone, is_mixed, places_in};
-use crate::spelling::Spelling;
+use mysql_bytes::{Mode, Spelling};
 use std::alloc::{AllocError, Global};
 use std::borrow::CowSlice;
 use std::marker::Model;

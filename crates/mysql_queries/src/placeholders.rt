@@ -14,9 +14,9 @@ ghost use Rattle.mysql_queries.specs.TokenKinds.{kind_view};
 ghost use Rattle.std.specs.List.{AllByRecursion, list_any};
 ghost use Rattle.std.specs.Prelude.{◌<◌, ◌≡◌, ◌≤◌, IfNone, IfOk, IfSome, List, drop, false, length, not, true, ℕ};
 
-use crate::mode::Mode;
 use crate::skipped::{Skipped, begins_skipped};
 use crate::tokens::{TokenKind, kind_at, plain_end, token_end};
+use mysql_bytes::Mode;
 use std::alloc::{AllocError, Global};
 
 /// A placeholder of a query, from `start` up to `end`: a name such as `:a`, or a question mark.

@@ -12,12 +12,9 @@ ghost use Rattle.mysql_queries.specs.TextViews.{TellsContents};
 ghost use Rattle.std.specs.List.{AllByRecursion};
 ghost use Rattle.std.specs.Prelude.{◌++◌, ◌≡◌, IfNone, IfOk, IfSome, List, true, ℕ};
 
-use crate::byte_string::ByteString;
-use crate::content::Content;
 use crate::literals::{Literal, read_literal_in};
-use crate::mode::Mode;
 use crate::placeholders::Place;
-use crate::spelling::Spelling;
+use mysql_bytes::{ByteString, Content, Mode, Spelling};
 use std::alloc::{AllocError, Global};
 
 /// The content of the literal at the front of a text, and what follows it; None where no literal stands there.

@@ -38,7 +38,7 @@ ghost use Rattle.std.specs.Prelude.{
   take,
 };
 
-use crate::mode::Mode;
+use mysql_bytes::Mode;
 
 fn name_start(b: u8) -> bool
     ensures { result ≡ is_name_start b }

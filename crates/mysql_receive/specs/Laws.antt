@@ -10,7 +10,7 @@ use Rattle.mysql_receive.specs.Layout.{Types}
 use Rattle.mysql_receive.specs.InForce.{StatementState, nothing_yet, state_after}
 use Rattle.mysql_receive.specs.LookingBack.{last_said, looking_back}
 use Rattle.mysql_receive.specs.Reading.{Set, ReadsAs, Faulty, content_at}
-use Rattle.mysql_values.specs.AsSql.{FitsFields}
+use Rattle.mysql_values.specs.Values.{FitsFields}
 use Rattle.mysql_values.specs.Cells.{cell, is_unsigned, type_number}
 use Rattle.mysql_values.specs.Values.{content_of}
 use Rattle.mysql_values.specs.Content.{Content}

@@ -245,39 +245,6 @@ impl Receiver {
         Ok(Receiver::of_statement(alloc, statement, limit))
     }
 
-    /// [`Receiver::new`] over what was found of the query before.
-    ///
-    /// That is its placeholders, as `mysql_values::places` lists them, and its text with a question
-    /// mark for each, as `ParsedNamedParams` makes it. They are copied.
-    ///
-    /// # Errors
-    /// - `AllocError` for want of memory.
-    pub fn of_places(
-        alloc: Global,
-        query: &[u8],
-        parsed: &[u8],
-        places: &[Place],
-        stmt_id: u32,
-        limit: usize,
-    ) -> Result<Receiver, AllocError>
-        requires limit { 4 ≤ limit }
-        requires parsed { IsParsed (read_by_default query.now) parsed.now }
-        requires places { HasPlaces (read_by_default query.now) places.now }
-        requires one_kind { HasMixed (read_by_default query.now) false }
-        ensures { IfOk result (IsFresh (read_by_default query.now) stmt_id limit) }
-    {
-        let statement = copied_statement(
-            alloc,
-            query,
-            Mode::default(),
-            Spelling::Quoted,
-            parsed,
-            places,
-            stmt_id,
-        )?;
-        Ok(Receiver::of_statement(alloc, statement, limit))
-    }
-
     /// A receiver that was fed nothing.
     fn of_statement(alloc: Global, statement: Statement, limit: usize) -> Receiver
         requires { IsQuery (statement_view statement).query }

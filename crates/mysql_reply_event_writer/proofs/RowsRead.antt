@@ -9,7 +9,7 @@ use Rattle.std.specs.List.{AllByRecursion}
 use Rattle.byteorder.specs.Endian.{little_number}
 use Rattle.byteorder.specs.Numbers.{little_from-lt}
 use Rattle.mysql_buf.specs.Bytes.{AreBytes}
-use Rattle.mysql_cells.specs.AsSql.{FitsFields}
+use Rattle.mysql_cells.specs.Values.{FitsFields}
 use Rattle.mysql_cells.specs.Cells.{cell_at, column_cell_at, date_of, number_value_at, part, text_cell_at, time_of}
 use Rattle.mysql_cells.specs.Cells.{unsigned_value, value_at, whole_value}
 use Rattle.mysql_cells.specs.declared.cell_form.CellForm.{CellForm}

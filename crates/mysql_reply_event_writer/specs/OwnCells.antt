@@ -3,7 +3,7 @@
 use Rattle.std.specs.Prelude.{◌≡◌, List, ℕ, ◌++◌, map, Bool, true, false, if◌then◌else◌, Option, Some, None, Result, Ok}
 use Rattle.std.specs.Prelude.{Err}
 use Rattle.std.specs.declared.alloc.AllocError.{AllocError}
-use Rattle.mysql_cells.specs.AsSql.{FitsFields}
+use Rattle.mysql_cells.specs.Values.{FitsFields}
 use Rattle.mysql_cells.specs.declared.value.Value.{Value}
 use Rattle.mysql_rows.specs.Rows.{Row}
 use Rattle.mysql_rows.specs.Written.{as_binary, as_text, binary_cause, binary_row, text_cause, text_row, values_of}

@@ -14,7 +14,7 @@ use mysql_rows::laws::{binary_rows_read_back, text_rows_begin, text_rows_read_ba
 use mysql_rows::{Row, RowRefusal};
 use std::alloc::AllocError;
 
-// The numbers of a cell's value fit their fields.
+// For the proof alone: the numbers of a cell's value fit their fields.
 fn cell_fits(row: &Row, place: usize)
     ensures { FitsCell (cell_at (row_view row.now) (Some place)) }
 {
@@ -23,7 +23,8 @@ fn cell_fits(row: &Row, place: usize)
     }
 }
 
-// So do those of each cell's value. Compiled with optimizations, nothing is left of the loop.
+// For the proof alone: so do those of each cell's value. Compiled with optimizations, nothing is
+// left of the loop.
 fn cells_fit(row: &Row)
     ensures { (place : ℕ) → place < length (row_view row.now).cells →
         FitsCell (cell_at (row_view row.now) (Some place)) }

@@ -1,7 +1,7 @@
 -- Cells that fit, place by place.
 use Rattle.std.proofs.Common.{ℕ, suc, ◌<◌, List, [], ◌∷◌, length, Option, Some, None, IfSome, slice_get, arith}
 use Rattle.std.specs.Option.{option_flatten}
-use Rattle.mysql_cells.specs.AsSql.{FitsFields}
+use Rattle.mysql_cells.specs.Values.{FitsFields}
 use Rattle.mysql_cells.specs.declared.value.Value.{Value}
 use Rattle.mysql_reply_writer.specs.Fits.{CellFits, CellsFit}
 

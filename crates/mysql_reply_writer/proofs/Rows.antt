@@ -5,7 +5,7 @@ use Rattle.std.specs.Option.{option_and_then}
 use Rattle.std.proofs.lemmas.Bool.{le-ltb}
 use Rattle.std.proofs.lemmas.Bool.Decides.{eqb_tells}
 use Rattle.std.proofs.lemmas.List.{length-map}
-use Rattle.mysql_cells.specs.AsSql.{FitsFields}
+use Rattle.mysql_cells.specs.Values.{FitsFields}
 use Rattle.mysql_cells.specs.declared.value.Value.{Value}
 use Rattle.mysql_columns.specs.Columns.{ColumnDefinition}
 use Rattle.mysql_rows.specs.Rows.{as_row, binary_resultset_row_at, text_row_at, whole_row}

@@ -1,7 +1,7 @@
 -- What the types of a step's fields hold.
 use Rattle.std.specs.Prelude.{◌≡◌, ℕ, ◌<◌, ◌^◌, List, length, Option, Some, None, ⊤}
 use Rattle.std.specs.List.{AllByRecursion}
-use Rattle.mysql_cells.specs.AsSql.{FitsFields}
+use Rattle.mysql_cells.specs.Values.{FitsFields}
 use Rattle.mysql_ok_packets.specs.OkPackets.{OkPacket}
 use Rattle.mysql_server_packets.specs.Packets.{PrepareOk, ProgressReport, ServerError}
 use Rattle.mysql_columns.specs.Columns.{ColumnDefinition, IsColumn}

@@ -1,7 +1,7 @@
-//! What the types of a step's fields hold. Each of these only reads.
+//! For the proof alone: what the types of a step's fields hold. Each of these only reads.
 
 ghost use Rattle.std.specs.Prelude.{IfSome, Some};
-ghost use Rattle.mysql_cells.specs.AsSql.{FitsFields};
+ghost use Rattle.mysql_cells.specs.Values.{FitsFields};
 ghost use Rattle.mysql_columns.specs.Columns.{IsColumn};
 ghost use Rattle.mysql_rows.specs.Rows.{cell_at};
 ghost use Rattle.mysql_columns.specs.Views.{column_view};

@@ -203,6 +203,7 @@ impl ReplyWriter {
     fn check_ok(&self, more: bool, ok: &OkPacket<'_>) -> Result<(), ReplyRefusal>
         ensures { cause_in result ≡ first_cause (step_checks self.now.so_far (OkStep more (ok_packet_view ok.now))) }
     {
+        // For the proof alone: which step it is.
         let _more = more;
         self.check_place()?;
         self.check_kind(!self.has_results())?;
@@ -226,6 +227,7 @@ impl ReplyWriter {
     fn check_end(&self, more: bool, ok: &OkPacket<'_>) -> Result<(), ReplyRefusal>
         ensures { cause_in result ≡ first_cause (step_checks self.now.so_far (EndStep more (ok_packet_view ok.now))) }
     {
+        // For the proof alone: which step it is.
         let _more = more;
         self.check_rows()?;
         self.check_status(ok)
@@ -235,7 +237,7 @@ impl ReplyWriter {
     fn error_number(&self) -> usize
         ensures { result ≡ error_number self.now.so_far }
     {
-        // There are at least as many payloads.
+        // For the proof alone: there are at least as many payloads.
         let _payloads = self.packets.payloads;
         match &self.rows {
             Some(_) => self.results + 1,
@@ -260,6 +262,7 @@ impl ReplyWriter {
         ensures { cause_in result ≡
             first_cause (step_checks self.now.so_far (FileStep (local_infile_view file.now))) }
     {
+        // For the proof alone: which step it is.
         let _file = file;
         self.check_place()?;
         self.check_kind(!self.has_results())
@@ -277,6 +280,7 @@ impl ReplyWriter {
             (PreparedStep (prepare_ok_view statement.now) (column_views parameters.now)
             (column_views columns.now))) }
     {
+        // For the proof alone: which step it is.
         let _statement = statement;
         self.check_place()?;
         self.check_kind(!self.is_prepare())?;

@@ -3,8 +3,8 @@
 ghost use Rattle.std.specs.Prelude.{◌≡◌, IfOk};
 ghost use Rattle.mysql_row_refs.specs.Places.{value_of};
 
+use mysql_bytes::ByteString;
 use mysql_cells::Value;
-use mysql_queries::ByteString;
 use std::alloc::{AllocError, Global};
 
 /// What a cell of a payload holds, as [`Value`] tells it, but for its bytes, which it borrows.

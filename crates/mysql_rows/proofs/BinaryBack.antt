@@ -11,7 +11,7 @@ use Rattle.mysql_buf.specs.FirstBytes.{first-enough}
 use Rattle.mysql_fields.specs.Laws.{bytes_at-back}
 use Rattle.mysql_fields.specs.Wire.{Reading, ◌>>=◌}
 use Rattle.mysql_field_lists.specs.NullBitmap.{bitmap_len, has_bit, is_null_at}
-use Rattle.mysql_cells.specs.AsSql.{FitsFields}
+use Rattle.mysql_cells.specs.Values.{FitsFields}
 use Rattle.mysql_cells.specs.TypedCells.{TypedCellsReadBack}
 use Rattle.mysql_cells.specs.Cells.{has_no_sign}
 use Rattle.mysql_cells.specs.Values.{is_null}

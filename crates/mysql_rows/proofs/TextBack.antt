@@ -15,7 +15,7 @@ use Rattle.mysql_buf.specs.TextLaws.{lenenc_str-reads_back}
 use Rattle.mysql_buf.specs.Writing.{lenenc_int, lenenc_str}
 use Rattle.mysql_fields.specs.Wire.{Reading, ◌>>=◌, or_end}
 use Rattle.mysql_field_lists.specs.Lists.{elements_at}
-use Rattle.mysql_cells.specs.AsSql.{FitsFields}
+use Rattle.mysql_cells.specs.Values.{FitsFields}
 use Rattle.mysql_cells.specs.Cells.{text_cell_at}
 use Rattle.mysql_cells.specs.Values.{date_text, is_zero_time, time_text}
 use Rattle.mysql_cells.specs.declared.value.Value.{Value}

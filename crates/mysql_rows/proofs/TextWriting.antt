@@ -1,17 +1,13 @@
 -- Text rows that are appended cell by cell.
-use Rattle.std.proofs.Common.{◌≡◌, ℕ, ◌+◌, ◌-◌, ◌*◌, ◌^◌, ◌<◌, ◌≤◌, Bool, true, false, List, [], ◌∷◌, ◌++◌, length, map, take, set, Option, Some, Result, Ok, Err, refl, subst, sym, ap, ◌∙◌, append_assoc, length-append, arith}
-use Rattle.std.specs.Prelude.{◌&&◌, ◌==◌, not, if◌then◌else◌, replicate, unwrap_or, IsSome, is_err, flat_map}
+use Rattle.std.proofs.Common.{◌≡◌, ℕ, ◌+◌, ◌-◌, ◌*◌, ◌^◌, ◌<◌, ◌≤◌, Bool, true, false, List, [], ◌∷◌, ◌++◌, length, map, take, set, Result, Ok, Err, refl, sym, ap, ◌∙◌, append_assoc, length-append, arith}
+use Rattle.std.specs.Prelude.{◌&&◌, ◌==◌, not, if◌then◌else◌, replicate, unwrap_or, is_err, flat_map}
 use Rattle.std.specs.Fmt.{decimal, sign_text}
 use Rattle.std.proofs.lemmas.Bool.{lt-ltb}
 use Rattle.std.proofs.lemmas.Fmt.{length-decimal-le}
-use Rattle.std.proofs.lemmas.List.{length-replicate, take_all, take_at}
+use Rattle.std.proofs.lemmas.List.{length-replicate, take_all}
 use Rattle.mysql_buf.specs.Writing.{lenenc_str}
-use Rattle.mysql_queries.specs.Tokens.{single_quote}
-use Rattle.mysql_queries.specs.Sql.{default_mode}
-use Rattle.mysql_cells.specs.AsSql.{FitsFields, PutsLiteral}
-use Rattle.mysql_cells.specs.Values.{clock_text, day_text, digits_in, in_quotes, is_zero_time, literal_of, micros_text}
-use Rattle.mysql_cells.specs.declared.as_sql.AsSqlError.{AsSqlError}
-use Rattle.mysql_queries.specs.declared.spelling.Spelling.TheVariants.{Quoted}
+use Rattle.mysql_cells.specs.Values.{FitsFields, Puts}
+use Rattle.mysql_cells.specs.Values.{clock_text, day_text, digits_in, is_zero_time, micros_text}
 use Rattle.mysql_cells.specs.declared.value.Value.{Value}
 use Rattle.mysql_cells.specs.declared.value.Value.TheVariants.{NULL, Bytes, Int, UInt, Float, Double, Date, Time}
 use Rattle.mysql_rows.specs.CellsWritten.{temporal_text}
@@ -71,23 +67,6 @@ temporal_short (Time negative days hours minutes seconds micros) h =
 
 -- DATES AND TIMES
 
--- the literal of a date or a time is its text between quotes
-pub temporal_literal : (value : Value) → IsSome (temporal_text value) → literal_of default_mode Quoted value ≡ Some (in_quotes (unwrap_or (temporal_text value) []))
-temporal_literal NULL h = absurd (cc)
-temporal_literal (Bytes bytes) h = absurd (cc)
-temporal_literal (Int z) h = absurd (cc)
-temporal_literal (UInt n) h = absurd (cc)
-temporal_literal (Float bits) h = absurd (cc)
-temporal_literal (Double bits) h = absurd (cc)
-temporal_literal (Date year month day hour minute second micros) h = refl
-temporal_literal (Time negative days hours minutes seconds micros) h = refl
-
--- what the literal is appended as, where it is
-pub temporal_put : (value : Value) (result : Result (Unit {0}) AsSqlError) (old new : List ℕ) → IsSome (temporal_text value) → is_err result ≡ false
-    → PutsLiteral (literal_of default_mode Quoted value) old new result → new ≡ old ++ in_quotes (unwrap_or (temporal_text value) [])
-temporal_put value (Ok done) old new some ok put = subst (λ (found : Option (List ℕ)). PutsLiteral found old new (Ok done)) (temporal_literal value some) put
-temporal_put value (Err e) old new some ok put = absurd (cc)
-
 set_behind : (old text : List ℕ) (q n : ℕ) → set (old ++ q ∷ text) (length old) n ≡ old ++ n ∷ text
 set_behind [] text q n = refl
 set_behind (b ∷ old) text q n = ap (λ (l : List ℕ). b ∷ l) (set_behind old text q n)
@@ -96,18 +75,28 @@ set_behind (b ∷ old) text q n = ap (λ (l : List ℕ). b ∷ l) (set_behind ol
 pub short_text : (text : List ℕ) → length text < 251 → lenenc_str text ≡ length text ∷ text
 short_text text h = rw (lt-ltb (length text) 251 h) refl
 
--- where the first quote gives way to the length, and the last one goes
-pub quotes_gone : (old text put cut new : List ℕ) (start end : ℕ) → length text < 251 → put ≡ old ++ in_quotes text → start ≡ length old → end ≡ length put
-    → cut ≡ take (end - 1) put → new ≡ set cut start (end - 1 - start - 1) → new ≡ old ++ lenenc_str text
-quotes_gone old text put cut new start end short is from to taken wrote =
-    let front : List ℕ = old ++ single_quote ∷ text in
-    let whole : put ≡ front ++ single_quote ∷ [] = is ∙ sym (append_assoc old (single_quote ∷ text) (single_quote ∷ [])) in
-    let len : length put ≡ length old + (1 + (length text + 1)) = ap length is ∙ omega (arith, length-append old (in_quotes text), length-append text (single_quote ∷ [])) in
-    let left : end - 1 ≡ length front = omega (arith, to, len, length-append old (single_quote ∷ text)) in
-    let kept : cut ≡ front = taken ∙ ap (take (end - 1)) whole ∙ take_at front (single_quote ∷ []) (end - 1) (sym left) in
-    let count : end - 1 - start - 1 ≡ length text = omega (arith, to, len, from) in
-    wrote ∙ ap (λ (l : List ℕ). set l start (end - 1 - start - 1)) kept ∙ ap (λ (k : ℕ). set front k (end - 1 - start - 1)) from ∙ ap (set front (length old)) count
-    ∙ set_behind old text single_quote (length text) ∙ ap (λ (l : List ℕ). old ++ l) (sym (short_text text short))
+-- what stands behind a list and a zero where nothing was refused
+pub text_put : {E : Type 0} (text old zeroed put : List ℕ) (result : Result (Unit {0}) E) → zeroed ≡ old ++ 0 ∷ [] → Puts text zeroed put result → is_err result ≡ false → put ≡ (old ++ 0 ∷ []) ++ text
+text_put text old zeroed put (Ok done) zero is kept = cc
+text_put text old zeroed put (Err e) zero is kept = cc
+
+-- how long what was put behind a list and a zero is
+count_of : (old text put : List ℕ) (start end : ℕ) → put ≡ (old ++ 0 ∷ []) ++ text → start ≡ length old → end ≡ length put → end - start - 1 ≡ length text
+count_of old text put start end is from to =
+    omega (arith, to, from, ap length is, length-append (old ++ 0 ∷ []) text, length-append old (0 ∷ []))
+
+-- where the length takes the place of the zero before the text
+pub length_set : (old text put new : List ℕ) (start end : ℕ) → length text < 251 → put ≡ (old ++ 0 ∷ []) ++ text → start ≡ length old → end ≡ length put
+    → new ≡ set put start (end - start - 1) → new ≡ old ++ lenenc_str text
+length_set old text put new start end short is from to wrote =
+    let whole : put ≡ old ++ 0 ∷ text = is ∙ append_assoc old (0 ∷ []) text in
+    let count : end - start - 1 ≡ length text = count_of old text put start end is from to in
+    wrote ∙ ap (λ (l : List ℕ). set l start (end - start - 1)) whole ∙ ap (λ (k : ℕ). set (old ++ 0 ∷ text) k (end - start - 1)) from ∙ ap (set (old ++ 0 ∷ text) (length old)) count
+    ∙ set_behind old text 0 (length text) ∙ ap (λ (l : List ℕ). old ++ l) (sym (short_text text short))
+
+-- that length is small
+pub small_count : (old text put : List ℕ) (start end : ℕ) → length text < 251 → put ≡ (old ++ 0 ∷ []) ++ text → start ≡ length old → end ≡ length put → end - start - 1 < 256
+small_count old text put start end short is from to = omega (arith, short, count_of old text put start end is from to)
 
 -- CELLS
 
@@ -121,8 +110,3 @@ pub all_held : {X Y : Type 0} (held : X → Y) (f : Y → List ℕ) (cells : Lis
     → out ≡ old ++ flat_map (λ cell. f (held cell)) (take i cells) → out ≡ old ++ flat_map f (map held cells)
 all_held {X = X} held f cells old out i all so_far =
     so_far ∙ ap (λ (l : List X). old ++ flat_map (λ cell. f (held cell)) l) (take_all i cells all) ∙ ap (λ (l : List ℕ). old ++ l) (over_held held f cells)
-
--- the count of bytes between the quotes is small
-pub small_count : (old text put : List ℕ) (start end : ℕ) → length text < 251 → put ≡ old ++ in_quotes text → start ≡ length old → end ≡ length put → end - 1 - start - 1 < 256
-small_count old text put start end short is from to =
-    omega (arith, short, to, from, ap length is, length-append old (in_quotes text), length-append text (single_quote ∷ []))

@@ -10,10 +10,10 @@ use Rattle.mysql_cells.specs.declared.value.Value.TheVariants.{NULL}
 use Rattle.mysql_cells.specs.Cells.{column_cell_at, text_cell_at}
 use Rattle.mysql_field_lists.specs.NullBitmap.{bitmap_len, is_null_at}
 use Rattle.mysql_columns.specs.Columns.{ColumnDefinition}
-use Rattle.mysql_wire.specs.Wire.{Reading, ◌>>=◌}
-use Rattle.mysql_wire.specs.Forms.{bytes_at}
-use Rattle.mysql_wire.specs.Lists.{elements_at}
-use Rattle.mysql_wire.specs.Constants.{constant_at}
+use Rattle.mysql_fields.specs.Wire.{Reading, ◌>>=◌}
+use Rattle.mysql_fields.specs.Forms.{bytes_at}
+use Rattle.mysql_field_lists.specs.Lists.{elements_at}
+use Rattle.mysql_field_constants.specs.Constants.{constant_at}
 
 -- A text row: a cell for each column.
 abbrev pub text_row_at : List ColumnDefinition → List ℕ → Reading (List Value)

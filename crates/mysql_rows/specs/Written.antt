@@ -8,8 +8,8 @@ use Rattle.std.specs.Fmt.{signed_decimal}
 use Rattle.std.specs.List.{position_from, range_with_len}
 use Rattle.std.specs.Option.{option_and_then, option_map}
 use Rattle.mysql_buf.specs.Writing.{lenenc_str}
-use Rattle.mysql_queries.specs.declared.content.Content.{Content}
-use Rattle.mysql_queries.specs.declared.content.Content.TheVariants as content
+use Rattle.mysql_bytes.specs.declared.content.Content.{Content}
+use Rattle.mysql_bytes.specs.declared.content.Content.TheVariants as content
 use Rattle.mysql_cells.specs.CellLaws.{read_back}
 use Rattle.mysql_cells.specs.Cells.{has_no_sign}
 use Rattle.mysql_cells.specs.TypedCells.{typed_cell}

@@ -192,6 +192,7 @@ pub fn put_row<C: Held>(
         cells_in (column_views columns.now) (map C.held cells.now))) }
     ensures kept { take (length out.old.items) out.new.items ≡ out.old.items }
 {
+    // For the proof alone: a length is below 2^64.
     let _few = columns.len();
     let bitmap = put_front(cells.len(), out)?;
     put_cells(bitmap, columns, cells, out)
@@ -213,6 +214,7 @@ pub fn put_own_row<C: Held>(
     ensures own { OnOk result (AreOwn (map C.held cells.now)) }
     ensures kept { take (length out.old.items) out.new.items ≡ out.old.items }
 {
+    // For the proof alone: a length is below 2^64.
     let _few = columns.len();
     let bitmap = put_front(cells.len(), out)?;
     put_own_cells(bitmap, columns, cells, out)

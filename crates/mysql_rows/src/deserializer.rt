@@ -2,12 +2,12 @@
 
 ghost use Rattle.std.specs.Prelude.{◌≡◌, ◌≤◌, IfOk, None, false, length, true};
 ghost use Rattle.mysql_fields.specs.Laws.{unsized};
-ghost use Rattle.mysql_wire.specs.Wire.{GivesPart};
+ghost use Rattle.mysql_fields.specs.Wire.{GivesPart};
 ghost use Rattle.mysql_field_lists.specs.NullBitmap.{bitmap_len};
 ghost use Rattle.mysql_columns.specs.Views.{column_view};
 ghost use Rattle.mysql_rows.specs.Rows.{Row as RowOf, as_row, binary_cell_at, binary_cells_at, binary_row_at};
 ghost use Rattle.mysql_rows.specs.Rows.{binary_row_body_at, some_cells, text_row_at};
-ghost use Rattle.mysql_wire.specs.Lists.{elements_at};
+ghost use Rattle.mysql_field_lists.specs.Lists.{elements_at};
 ghost use Rattle.mysql_cells.specs.Cells.{column_cell_at, text_cell_at, value_at};
 ghost use Rattle.mysql_cells.specs.declared.cell_form.CellForm.TheVariants as cell_form;
 ghost use Rattle.mysql_rows.specs.Views.{column_views, row_view, shared_columns};
@@ -15,13 +15,14 @@ ghost use Rattle.mysql_rows.specs.Views.{column_views, row_view, shared_columns}
 use crate::binary_cell::has_no_sign;
 use crate::calls::new_row_raw;
 use crate::row::Row;
+use mysql_buf::ParseBuf;
+use mysql_bytes::ByteString;
 use mysql_cells::cell_form::{CellForm, form_of_type};
 use mysql_cells::cell_values::whole8;
 use mysql_cells::{Value, read_cell, read_text_cell};
 use mysql_columns::Column;
 use mysql_field_lists::{NullBitmap, SerializationSide};
-use mysql_queries::ByteString;
-use mysql_wire::{Binary, MyDeserialize, ParseBuf, Readable, Text, WireError};
+use mysql_fields::{Binary, MyDeserialize, Readable, Text, WireError};
 use std::alloc::{AllocError, Global};
 use std::marker::PhantomData;
 use std::rc::RcSlice;

@@ -5,6 +5,7 @@ ghost use Rattle.std.specs.Prelude.{unwrap_or};
 ghost use Rattle.std.specs.Fmt.{decimal, signed_decimal};
 ghost use Rattle.std.specs.Option.{option_and_then};
 ghost use Rattle.mysql_buf.specs.Writing.{lenenc_str};
+ghost use Rattle.mysql_cells.specs.Values.{Puts};
 ghost use Rattle.mysql_fields.specs.Wire.{Appends};
 ghost use Rattle.mysql_rows.specs.Written.{text_cause, text_cell};
 ghost use Rattle.mysql_rows.specs.CellsWritten.{temporal_text, text_cells};
@@ -13,7 +14,7 @@ use crate::held::Held;
 use itoa::Buffer;
 use mysql_buf::BufMutExt;
 use mysql_cells::Value;
-use mysql_cells::as_sql::push_literal;
+use mysql_cells::date_text::{is_zero_time, put_date_text, put_time_text};
 use mysql_cells::laws::fields_fit;
 use std::alloc::AllocError;
 
@@ -46,20 +47,37 @@ fn put_signed(number: i64, out: &mut Vec<u8>) -> Result<(), AllocError>
     put_text(buffer.format(number).as_bytes(), out)
 }
 
-/// Appends the text of a date or a time after its length. Its literal is this text between quotes:
-/// the length takes the first one's place, and the last one goes.
+/// Appends the text of a date or a time; nothing for another value.
+fn put_temporal_text(temporal: &Value, out: &mut Vec<u8>) -> Result<(), AllocError>
+    requires { IsSome (temporal_text temporal.now) }
+    ensures { Puts (unwrap_or (temporal_text temporal.now) []) out.old.items out.new.items result }
+{
+    match temporal {
+        Value::Date(year, month, day, hour, minute, second, micros) => {
+            put_date_text(out, *year, *month, *day, *hour, *minute, *second, *micros)
+        }
+        Value::Time(negative, days, hours, minutes, seconds, micros) => {
+            let zero = is_zero_time(*days, *hours, *minutes, *seconds, *micros);
+            let signed = *negative && !zero;
+            put_time_text(out, signed, *days, *hours, *minutes, *seconds, *micros)
+        }
+        _ => Ok(()),
+    }
+}
+
+/// Appends the text of a date or a time after its length, which is one byte, put last.
 fn put_temporal(temporal: &Value, out: &mut Vec<u8>) -> Result<(), AllocError>
     requires { IsSome (temporal_text temporal.now) }
     ensures { Appends result out.old.items out.new.items (lenenc_str (unwrap_or (temporal_text temporal.now) [])) }
 {
     fields_fit(temporal);
     let start = out.len();
-    if push_literal(out, temporal).is_err() {
+    out.push(0)?;
+    if put_temporal_text(temporal, out).is_err() {
+        out.truncate(start);
         return Err(AllocError);
     }
-    let end = out.len() - 1;
-    out.truncate(end);
-    out[start] = (end - start - 1) as u8;
+    out[start] = (out.len() - start - 1) as u8;
     Ok(())
 }
 

@@ -6,7 +6,7 @@ use Rattle.std.proofs.lemmas.Bool.{cond-false, cond-true}
 use Rattle.std.proofs.lemmas.Grind.{flat_map-append}
 use Rattle.std.proofs.lemmas.List.{append-nil, drop_all, get_or-set_other, get_or-set_same, get_or_default, length-map, map-set, take_all, take_more}
 use Rattle.mysql_cells.specs.declared.value.Value.TheVariants.{NULL}
-use Rattle.mysql_values.specs.AsSql.{FitsFields}
+use Rattle.mysql_values.specs.Values.{FitsFields}
 use Rattle.mysql_values.specs.Values.{content_of, first_float}
 use Rattle.mysql_values.specs.Value.{Value}
 use Rattle.mysql_bulk_builder.specs.Bulk.{param_value_bytes, param_value_of}

@@ -9,7 +9,7 @@ use Rattle.std.proofs.lemmas.List.FromFn.{length-map-range_with_len}
 use Rattle.std.proofs.lemmas.Grind.{flat_map-append}
 use Rattle.mysql_bulk_builder.specs.Bulk.{all_values}
 use Rattle.mysql_bulk_builder.specs.RowLists.{row_in, rows_in}
-use Rattle.mysql_values.specs.AsSql.{FitsFields}
+use Rattle.mysql_values.specs.Values.{FitsFields}
 use Rattle.mysql_values.specs.Binding.{values_cause}
 use Rattle.mysql_cells.specs.Values.{first_float}
 use Rattle.mysql_values.specs.declared.params.Params.{Params}

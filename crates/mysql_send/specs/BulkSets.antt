@@ -6,7 +6,7 @@ use Rattle.std.specs.List.{AllByRecursion, flat_map, range_with_len}
 use Rattle.byteorder.specs.Endian.{little_bytes}
 use Rattle.mysql_wire.specs.Stream.{framings}
 use Rattle.mysql_wire.specs.Stream.Numbering.{EachFromZero}
-use Rattle.mysql_values.specs.AsSql.{FitsFields}
+use Rattle.mysql_values.specs.Values.{FitsFields}
 use Rattle.mysql_values.specs.Value.{Value}
 use Rattle.mysql_cells.specs.declared.value.Value.TheVariants.{NULL}
 use Rattle.mysql_values.specs.Values.{content_of, first_float}

@@ -35,7 +35,6 @@ pub use mysql_from_row::{
     FromRow, FromRowError, FromRowRef, FromValueRef, RowConversionError, RowExt, RowRefExt,
     SingleValue, SingleValueRef, from_cell, from_cell_ref, from_row, from_row_opt, from_row_ref,
 };
-pub use mysql_packets;
 pub use mysql_packets::{
     Column, LocalInfilePacket, OkPacket, ProgressReport, ServerError, SqlState, StmtPacket,
 };

@@ -182,7 +182,7 @@ impl<'q> Query<'q> {
     {
         readable_sets_are_delivered();
         tokens_of_a_text();
-        // That the id is below 2^32, and the text of one kind, the proof takes of these.
+        // For the proof alone: the id is below 2^32, the text's placeholders are of one kind.
         let (_id, _text) = (self.statement.id(), self.text());
         let start = out.len();
         let statement = &self.statement;
@@ -345,6 +345,7 @@ impl<'q> Query<'q> {
             (W.contents to.new)) }
     {
         readable_sets_are_delivered();
+        // For the proof alone: the id is below 2^32.
         let _id = self.statement.id();
         self.send_sets_to(alloc, sets, road, limit, to)
     }
@@ -365,7 +366,7 @@ impl<'q> Query<'q> {
         ensures fresh { IfOk result (IsFresh self.now.sql self.now.id limit) }
         ensures one_kind { HasMixed self.now.sql false }
     {
-        // That the text's placeholders are of one kind the proof takes of this.
+        // For the proof alone: the text's placeholders are of one kind.
         let _text = self.text();
         Receiver::of_query(alloc, self.statement.query(), self.statement.id(), limit)
     }
@@ -400,9 +401,10 @@ impl<'q> Query<'q> {
     {
         pieces_of_a_query();
         tokens_of_a_text();
-        // That the text's placeholders are of one kind the proof takes of these.
+        // For the proof alone: the text's placeholders are of one kind.
         let _text = self.text();
         let query = self.statement.query();
+        // For the proof alone: the placeholders are those of the text.
         let _places = query.places();
         if let Some(place) = query.first_not_alone() {
             return Err(BindError::NotAlone(place));

@@ -6,8 +6,8 @@ use Rattle.std.specs.Prelude.{ℕ, Bool, true, false, not, ◌==◌, ◌&&◌, �
 use Rattle.std.specs.Prelude.{List, [], ◌∷◌, codes, Option, Some, None}
 use Rattle.std.specs.Char.{to_ascii_lowercase}
 use Rattle.mysql_const.specs.FlagSets.{contains}
-use Rattle.mysql_queries.specs.Modes.{ansi_quotes_bit, mode_of_sql_mode, mode_of_status}
-use Rattle.mysql_queries.specs.declared.mode.Mode.{Mode}
+use Rattle.mysql_bytes.specs.Modes.{ansi_quotes_bit, mode_of_sql_mode, mode_of_status}
+use Rattle.mysql_bytes.specs.declared.mode.Mode.{Mode}
 use Rattle.mysql_session_modes.specs.declared.session_mode.SessionMode.{SessionMode}
 use Rattle.mysql_session_modes.specs.declared.session_mode.Tracking.{Tracking}
 use Rattle.mysql_session_modes.specs.declared.session_mode.Tracking.TheVariants.{Doubted, Tracked, Untracked}

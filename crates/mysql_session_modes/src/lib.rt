@@ -17,6 +17,6 @@ pub mod session_mode;
 mod told;
 mod words;
 
-pub use mysql_queries::Mode;
+pub use mysql_bytes::Mode;
 pub use session_mode::{SessionMode, Tracking};
 pub use told::{mode_begun, mode_behind_ok};

@@ -9,15 +9,15 @@
 //!     session = session.behind_text(b"SET sql_mode = @@sql_mode");
 //!     session = mode_behind_ok(session, &reply);
 
-ghost use Rattle.mysql_queries.specs.declared.spelling.Spelling.TheVariants.{Hexadecimal, Quoted};
+ghost use Rattle.mysql_bytes.specs.declared.spelling.Spelling.TheVariants.{Hexadecimal, Quoted};
 ghost use Rattle.mysql_session_modes.specs.SessionModes.{agrees, fresh_mode, has_bits, has_word};
 ghost use Rattle.mysql_session_modes.specs.SessionModes.{mode_behind_statement, mode_behind_text};
 ghost use Rattle.mysql_session_modes.specs.SessionModes.{tracked_mode, unknown_mode};
 ghost use Rattle.std.specs.Prelude.{◌≡◌, codes, if◌then◌else◌, is_some};
 
 use crate::words::{has_statement, has_tracked_variables};
+use mysql_bytes::{Mode, Spelling};
 use mysql_const::StatusFlags;
-use mysql_queries::{Mode, Spelling};
 
 /// Whether session tracking tells the mode of a session.
 ///

@@ -6,7 +6,7 @@
 //!     request.serialize(&mut payload)?;
 
 ghost use Rattle.std.specs.Prelude.{◌≡◌, ◌++◌, ◌∷◌, ◌<◌, ◌≤◌, IfOk, None, OnOk, Some, SomeIff, flat_map, if◌then◌else◌};
-ghost use Rattle.std.specs.Prelude.{is_none, length, map, nat_lt, take};
+ghost use Rattle.std.specs.Prelude.{is_none, length, map, take};
 ghost use Rattle.byteorder.specs.Endian.{little_bytes};
 ghost use Rattle.mysql_buf.specs.Writing.{lenenc_str};
 ghost use Rattle.mysql_cells.specs.Cells.{bin_len, cell};
@@ -49,22 +49,6 @@ impl ComStmtExecuteRequestBuilder {
         ensures { result.stmt_id ≡ stmt_id }
     {
         ComStmtExecuteRequestBuilder { stmt_id }
-    }
-
-    /// Whether an execution that holds the cells of all these values is longer than so many bytes.
-    ///
-    /// The values are at most 65535. An execution without values has 10 bytes, and counts as one of
-    /// 11 here.
-    ///
-    /// Promise: that is so exactly where the whole execution, as it is counted, has more bytes
-    /// (`whole_size`).
-    ///
-    /// MySQL: Client/Server Protocol, "COM_STMT_EXECUTE".
-    pub fn exceeds(values: &[&Value], most: usize) -> bool
-        requires { length values.now ≤ 65535 }
-        ensures { result ≡ nat_lt most (whole_size (map (λ value. value.now) values.now)) }
-    {
-        is_longer(values, most)
     }
 
     /// The execution with these values, and whether their byte strings are sent before it as long
@@ -181,20 +165,12 @@ pub fn size_without_floats<V: HasValue>(values: &[V], most: usize) -> Option<usi
     Some(most - room as usize)
 }
 
-// Whether an execution that holds all cells exceeds so many bytes.
-fn is_longer(values: &[&Value], most: usize) -> bool
-    requires { length values.now ≤ 65535 }
-    ensures { result ≡ nat_lt most (whole_size (map (λ value. value.now) values.now)) }
-{
-    size_within(values, most).is_none()
-}
-
-// Whether it exceeds the most bytes of one chunk.
+// Whether an execution that holds all cells exceeds the most bytes of one chunk.
 fn needs_long_data(values: &[&Value]) -> bool
     requires { length values.now ≤ 65535 }
     ensures { result ≡ has_to_be_apart (map (λ value. value.now) values.now) }
 {
-    is_longer(values, MAX_PAYLOAD_LEN)
+    size_within(values, MAX_PAYLOAD_LEN).is_none()
 }
 
 /// An execution of a prepared statement: no cursor, a count of 1, and types for all values.

@@ -25,9 +25,9 @@ pub fn bitmaps_say_which_are_null()
     ensures { BitmapsSayWhichAreNull }
 {}
 
-/// An execution with the cells of all its values has the bytes that `exceeds` counts.
+/// An execution with the cells of all its values has the bytes that `size_within` counts.
 ///
-/// That is `ComStmtExecuteRequestBuilder::exceeds`. One without values has 10.
+/// One without values has 10.
 pub fn executions_have_sizes()
     ensures { ExecutionsHaveSizes }
 {

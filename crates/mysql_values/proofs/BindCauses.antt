@@ -9,7 +9,7 @@ use Rattle.mysql_queries.specs.Queries.{HasPlaces, Slices, StayInComments, Lexes
 use Rattle.mysql_queries.specs.Laws.{FilledIsRead, NamesAreSlices, PiecesAreSlices}
 use Rattle.mysql_queries.specs.Parsed.{names_at, names_of}
 use Rattle.mysql_queries.specs.Sql.{Sql, default_mode}
-use Rattle.mysql_queries.specs.declared.mode.Mode.{Mode}
+use Rattle.mysql_bytes.specs.declared.mode.Mode.{Mode}
 use Rattle.mysql_values.specs.Params.{values_over}
 use Rattle.mysql_values.specs.Binding.{Binds, IsBindCause, IsFilled, RefusesBinding, bind_cause, bind_error_of, given_cause, alone_cause, literals_in}
 use Rattle.mysql_cells.specs.Values.{first_float}

@@ -4,14 +4,15 @@ use Rattle.std.specs.List.{AllByRecursion, position_from}
 use Rattle.std.proofs.lemmas.List.{map-append, take_at}
 use Rattle.mysql_queries.specs.Queries.{AreLiterals, InOrder, StayInComments, interleaved, slices_between}
 use Rattle.mysql_queries.specs.Sql.{Sql}
-use Rattle.mysql_cells.specs.Values.{content_of, literal_at}
-use Rattle.mysql_cells.specs.AsSql.{HasLiteral, PutsSql, StaysInComment}
-use Rattle.mysql_cells.specs.declared.as_sql.AsSqlError.{AsSqlError}
-use Rattle.mysql_cells.specs.declared.as_sql.AsSqlError.TheVariants as as_sql_error
+use Rattle.mysql_cells.specs.Values.{content_of}
+use Rattle.mysql_literals.specs.Literals.{literal_at}
+use Rattle.mysql_literals.specs.AsSql.{HasLiteral, PutsSql, StaysInComment}
+use Rattle.mysql_literals.specs.declared.as_sql.AsSqlError.{AsSqlError}
+use Rattle.mysql_literals.specs.declared.as_sql.AsSqlError.TheVariants as as_sql_error
 use Rattle.mysql_values.specs.Binding.{IsFilled, literal_in, literals_in}
-use Rattle.mysql_queries.specs.declared.content.Content.{Content}
-use Rattle.mysql_queries.specs.declared.mode.Mode.{Mode}
-use Rattle.mysql_queries.specs.declared.spelling.Spelling.{Spelling}
+use Rattle.mysql_bytes.specs.declared.content.Content.{Content}
+use Rattle.mysql_bytes.specs.declared.mode.Mode.{Mode}
+use Rattle.mysql_bytes.specs.declared.spelling.Spelling.{Spelling}
 use Rattle.mysql_cells.specs.declared.value.Value.{Value}
 use Rattle.mysql_cells.specs.declared.value.Value.TheVariants.{NULL, Bytes, Int, UInt, Float, Double, Date, Time}
 use Rattle.mysql_queries.specs.declared.placeholders.Place.{Place}

@@ -10,10 +10,11 @@ use Rattle.mysql_queries.specs.Tokens.{HasTokens}
 use Rattle.mysql_queries.specs.Queries.{first_not_alone, interleaved, is_mixed, pieces_of, places_from, slices_between}
 use Rattle.mysql_queries.specs.Queries.{Lexes, Slices, StayInComments}
 use Rattle.mysql_queries.specs.Sql.{Sql}
-use Rattle.mysql_queries.specs.declared.content.Content.{Content}
+use Rattle.mysql_bytes.specs.declared.content.Content.{Content}
 use Rattle.mysql_queries.specs.Parsed.{names_of}
-use Rattle.mysql_cells.specs.Values.{first_float, literal_at}
-use Rattle.mysql_cells.specs.AsSql.{HasLiteral, StaysInComment}
+use Rattle.mysql_cells.specs.Values.{first_float}
+use Rattle.mysql_literals.specs.Literals.{literal_at}
+use Rattle.mysql_literals.specs.AsSql.{HasLiteral, StaysInComment}
 use Rattle.mysql_values.specs.Params.{IsMeaning, values_over}
 use Rattle.mysql_cells.specs.declared.value.Value.{Value}
 use Rattle.mysql_queries.specs.declared.placeholders.Place.{Place}

@@ -2,8 +2,8 @@
 -- MySQL Reference Manual, "Integer Types (Exact Value)", "Numeric Literals".
 use Rattle.std.specs.Prelude.{ℤ, pos, negsuc, suc, ◌^◌, ◌<◌, nat_lt, ◌∷◌, if◌then◌else◌}
 use Rattle.std.specs.Fmt.{decimal}
-use Rattle.mysql_queries.specs.declared.content.Content.{Content}
-use Rattle.mysql_queries.specs.declared.content.Content.TheVariants as content
+use Rattle.mysql_bytes.specs.declared.content.Content.{Content}
+use Rattle.mysql_bytes.specs.declared.content.Content.TheVariants as content
 use Rattle.mysql_cells.specs.declared.value.Value.{Value}
 use Rattle.mysql_cells.specs.declared.value.Value.TheVariants.{NULL, Bytes, Int, UInt}
 

@@ -10,17 +10,18 @@ pub use Rattle.mysql_queries.specs.LiteralRuns
 pub use Rattle.mysql_queries.specs.LiteralViews
 pub use Rattle.mysql_queries.specs.Parsed
 pub use Rattle.mysql_queries.specs.Query
-pub use Rattle.mysql_queries.specs.Modes
+pub use Rattle.mysql_bytes.specs.Modes
 pub use Rattle.mysql_queries.specs.Sql
 pub use Rattle.mysql_queries.specs.TextViews
-pub use Rattle.mysql_queries.specs.declared.content.Content
+pub use Rattle.mysql_bytes.specs.declared.content.Content
 pub use Rattle.mysql_queries.specs.declared.literals.Literal
-pub use Rattle.mysql_queries.specs.declared.mode.Mode
+pub use Rattle.mysql_bytes.specs.declared.mode.Mode
 pub use Rattle.mysql_queries.specs.declared.named_params.NamedParamsError
 pub use Rattle.mysql_queries.specs.declared.placeholders.Place
-pub use Rattle.mysql_queries.specs.declared.spelling.Spelling
+pub use Rattle.mysql_bytes.specs.declared.spelling.Spelling
 pub use Rattle.mysql_cells.specs.Values
-pub use Rattle.mysql_cells.specs.AsSql
+pub use Rattle.mysql_literals.specs.AsSql
+pub use Rattle.mysql_literals.specs.Literals as SqlTexts
 pub use Rattle.mysql_cells.specs.Cells
 pub use Rattle.mysql_cells.specs.CellLaws
 pub use Rattle.mysql_cells.specs.declared.value.Value

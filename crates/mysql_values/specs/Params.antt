@@ -9,7 +9,7 @@ use Rattle.mysql_queries.specs.Queries.{is_place}
 use Rattle.mysql_queries.specs.Parsed.{names_of}
 use Rattle.mysql_queries.specs.Sql.{Sql}
 use Rattle.mysql_cells.specs.Values.{content_of}
-use Rattle.mysql_queries.specs.declared.content.Content.{Content}
+use Rattle.mysql_bytes.specs.declared.content.Content.{Content}
 use Rattle.mysql_cells.specs.declared.value.Value.{Value}
 use Rattle.mysql_values.specs.declared.params.Params.{Params}
 use Rattle.mysql_values.specs.declared.params.Params.TheVariants.{Empty, Named, Positional}

@@ -30,12 +30,13 @@ ghost use Rattle.std.specs.Prelude.{
 ghost use Rattle.mysql_values.specs.declared.bind.BindError.TheVariants as bind_error;
 
 use crate::params::{Params, ParamsError, list_values_over_names};
-use mysql_cells::as_sql::{AsSqlError, put_sql};
-use mysql_cells::{Spelling, Value};
+use mysql_bytes::{Mode, Spelling};
+use mysql_cells::Value;
+use mysql_literals::as_sql::{AsSqlError, put_sql};
 use mysql_queries::laws::{filled_text_is_read, pieces_of_a_query};
 pub use mysql_queries::named_params::names_among;
 pub use mysql_queries::parsed_query::ParsedQuery;
-use mysql_queries::{Mode, Place, first_not_alone, is_mixed};
+use mysql_queries::{Place, first_not_alone, is_mixed};
 use std::alloc::{AllocError, AllocFailed, Global};
 use std::borrow::CowSlice;
 use thiserror::Error;

@@ -4,12 +4,12 @@
 //!     values.push(value)?;
 
 ghost use Rattle.std.specs.Prelude.{◌≡◌, IfOk};
-ghost use Rattle.mysql_queries.specs.declared.content.Content.{Content as ContentOf};
-ghost use Rattle.mysql_queries.specs.declared.content.Content.TheVariants as contents;
+ghost use Rattle.mysql_bytes.specs.declared.content.Content.{Content as ContentOf};
+ghost use Rattle.mysql_bytes.specs.declared.content.Content.TheVariants as contents;
 ghost use Rattle.mysql_values.specs.Contents.{IsInRange, content_value, integer_value};
 
+use mysql_bytes::Content;
 use mysql_cells::Value;
-use mysql_queries::Content;
 use std::alloc::{AllocError, Global};
 
 /// The value of a number from -2^63 to 2^64-1.

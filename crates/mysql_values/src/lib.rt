@@ -19,14 +19,12 @@ pub mod params;
 
 pub use bind::{BindError, bind_query, bind_text, bind_text_at, bind_text_in};
 pub use contents::ContentExt;
-pub use mysql_cells::{
-    AsSqlError, BinValue, Spelling, TextValue, Value, ValueDeserializer, read_cell, read_text_cell,
-};
+pub use mysql_bytes::{ByteString, Content, Mode, Spelling, is_safe_to_quote};
+pub use mysql_cells::{BinValue, TextValue, Value, ValueDeserializer, read_cell, read_text_cell};
 pub use mysql_field_lists::{ClientSide, SerializationSide, ServerSide};
+pub use mysql_literals::{AsSql, AsSqlError};
 pub use mysql_queries::{
-    ByteString, Content, Literal, MixedParamsError, Mode, NamedParamsError, ParsedNamedParams,
-    Place, first_not_alone, is_mixed, is_safe_to_quote, places, places_in, read_literal,
-    read_literal_in, read_text, read_text_in,
+    Literal, MixedParamsError, NamedParamsError, ParsedNamedParams, Place, first_not_alone,
+    is_mixed, places, places_in, read_literal, read_literal_in, read_text, read_text_in,
 };
-pub use mysql_wire;
 pub use params::{MissingNamedParameterError, Params, ParamsConfusionError, ParamsError, SetError};

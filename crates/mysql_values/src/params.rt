@@ -10,8 +10,9 @@ ghost use Rattle.std.specs.Prelude.{◌≡◌, ◌⊎◌, Err, IfErr, IfOk, List
 ghost use Rattle.mysql_values.specs.declared.params.ParamsError.TheVariants as params_error;
 ghost use Rattle.mysql_values.specs.declared.params.SetError.TheVariants as set_error;
 
+use mysql_bytes::ByteString;
 use mysql_cells::Value;
-use mysql_queries::{ByteString, ParsedNamedParams};
+use mysql_queries::ParsedNamedParams;
 use std::alloc::{AllocError, AllocFailed, Global};
 use std::collections::HashMap;
 use std::convert::AsSlice;

@@ -1,7 +1,7 @@
 //! SQL texts of values, and what values mean.
 
 use crate::support::{Asserting, Given, assert_gives, made};
-use mysql_values::Content;
+use mysql_values::{AsSql, Content};
 use tests_support::{Assert, assert_bytes, assert_copied, once_more};
 
 /// Values, their texts with backslash escapes and without, and the values of their contents.

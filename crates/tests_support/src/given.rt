@@ -1,7 +1,7 @@
 //! Values that the tables of tests give.
 
+use mysql_bytes::ByteString;
 use mysql_cells::Value;
-use mysql_queries::ByteString;
 use std::alloc::{AllocError, Global};
 
 /// A value of a table.

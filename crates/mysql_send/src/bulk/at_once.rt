@@ -7,7 +7,7 @@ ghost use Rattle.std.specs.Cow.{cow_slice_items};
 ghost use Rattle.std.specs.Prelude.{length, map, replicate, take, true};
 ghost use Rattle.std.specs.Prelude.{Ok as Gives};
 ghost use Rattle.std.specs.List.{AllByRecursion};
-ghost use Rattle.mysql_values.specs.AsSql.{FitsFields};
+ghost use Rattle.mysql_values.specs.Values.{FitsFields};
 ghost use Rattle.mysql_values.specs.Binding.{values_cause};
 ghost use Rattle.mysql_values.specs.Params.{values_over};
 ghost use Rattle.mysql_wire.specs.Framing.{framing};

@@ -2,7 +2,7 @@
 
 ghost use Rattle.std.specs.Prelude.{◌≡◌, IfErr, None, OnOk, Some, map};
 ghost use Rattle.std.specs.List.{AllByRecursion};
-ghost use Rattle.mysql_values.specs.AsSql.{FitsFields};
+ghost use Rattle.mysql_values.specs.Values.{FitsFields};
 ghost use Rattle.mysql_values.specs.Binding.{values_cause};
 ghost use Rattle.mysql_values.specs.Values.{first_float as float_at};
 ghost use Rattle.mysql_command_rules.specs.declared.refusal.Refusal.TheVariants as refusals;

@@ -6,10 +6,11 @@ ghost use Rattle.mysql_values.specs.Sql.{read_by, read_by_default};
 ghost use Rattle.mysql_send.specs.Making.{IsMade, IsNotMade};
 ghost use Rattle.mysql_send.specs.Statement.{AppendsPrepare, IsStatement, RefusesPrepare};
 
+use mysql_bytes::{Mode, Spelling};
 use mysql_command_rules::Refusal;
 use mysql_command_rules::in_turn::sent_in_turn;
 use mysql_const::Command;
-use mysql_queries::{Mode, ParsedQuery, Spelling};
+use mysql_queries::ParsedQuery;
 use mysql_values::laws::tokens_of_a_text;
 use mysql_wire::frame_in_place;
 use std::alloc::Global;
@@ -79,7 +80,7 @@ impl<'q> Statement<'q> {
         if query.is_mixed() {
             return Err(Refusal::Mixed);
         }
-        // What the names are is told by the call.
+        // For the proof alone: the call tells what the names are.
         let _names = query.names();
         let marked = query.with_marks(alloc)?;
         Ok(Statement { query, marked, id })

@@ -35,7 +35,7 @@ pub(crate) fn check_places(query: &ParsedQuery<'_>) -> Result<(), Refusal>
         RefusesGiven roads.Text query.now.sql sets id limit refusal) }
 {
     sent_in_turn();
-    // That the placeholders are those of the text is what the proof takes of it.
+    // For the proof alone: the placeholders are those of the text.
     let _places = query.places();
     if query.is_mixed() {
         return Err(Refusal::Mixed);
@@ -91,7 +91,7 @@ pub(crate) fn put_query<'a>(
 {
     pieces_of_a_query();
     tokens_of_a_text();
-    // That the placeholders are those of the text is what the proof takes of it.
+    // For the proof alone: the placeholders are those of the text.
     let _places = query.places();
     let start = out.len();
     out.extend_from_slice(&[0, 0, 0, 0, Command::COM_QUERY as u8])?;

@@ -1,7 +1,7 @@
 use Rattle.std.proofs.Common.{IfOk, IfNone, subst}
 use Rattle.mysql_queries.specs.LiteralViews.{IsNoLiteral}
 use Rattle.mysql_queries.proofs.Modes.{is_default}
-use Rattle.mysql_queries.specs.declared.spelling.Spelling.TheVariants.{Quoted}
+use Rattle.mysql_bytes.specs.declared.spelling.Spelling.TheVariants.{Quoted}
 use Rattle.mysql_queries.proofs.literals.read_literal.Goals as goal
 
 pub returns-clause-none : goal.returns-clause-none

@@ -1,5 +1,5 @@
 use Rattle.std.proofs.Common.{ℕ, ◌<◌, IfSome, Some}
-use Rattle.mysql_cells.specs.AsSql.{FitsFields}
+use Rattle.mysql_cells.specs.Values.{FitsFields}
 use Rattle.mysql_rows.specs.Rows.{cell_at}
 use Rattle.mysql_rows.specs.Views.{row_view}
 use Rattle.mysql_reply_writer.proofs.facts.cells_fit.Given as goal

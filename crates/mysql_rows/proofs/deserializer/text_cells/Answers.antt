@@ -1,6 +1,6 @@
 use Rattle.std.proofs.Common.{Some, arith}
 use Rattle.std.proofs.lemmas.Result.{err_from_is_err_and}
-use Rattle.mysql_wire.specs.Lists.{elements_at}
+use Rattle.mysql_field_lists.specs.Lists.{elements_at}
 use Rattle.mysql_cells.specs.Cells.{text_cell_at}
 use Rattle.mysql_rows.specs.Rows.{some_cells}
 use Rattle.mysql_rows.proofs.Cells.{goes_on, ends, is_done, one_more}

@@ -1,6 +1,6 @@
 use Rattle.std.proofs.Common.{◌≡◌, ◌≤◌, ◌-◌, length, vec_capacity}
 use Rattle.mysql_field_lists.specs.ElementLaws.{with_front}
-use Rattle.mysql_wire.specs.Lists.{elements_at}
+use Rattle.mysql_field_lists.specs.Lists.{elements_at}
 use Rattle.mysql_cells.specs.Cells.{text_cell_at}
 use Rattle.mysql_rows.specs.Rows.{some_cells}
 use Rattle.mysql_rows.proofs.deserializer.text_cells.Given as goal

@@ -1,6 +1,6 @@
 use Rattle.std.proofs.Common.{IfErr, OnOk, subst}
 use Rattle.mysql_queries.specs.Sql.{read_in}
-use Rattle.mysql_queries.specs.declared.mode.Mode.{Mode}
+use Rattle.mysql_bytes.specs.declared.mode.Mode.{Mode}
 use Rattle.mysql_values.specs.Binding.{Binds, RefusesBinding}
 use Rattle.mysql_values.proofs.BindCauses.{is_default}
 use Rattle.mysql_values.proofs.bind.bind_text.Goals as goal

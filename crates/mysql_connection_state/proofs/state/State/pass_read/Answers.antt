@@ -12,8 +12,7 @@ pub returns : goal.returns
 returns c =
     let old : ConnectionState = c.args.self.now in
     let read : command_view c.in_ok-command.command.value ≡ command_said old.standing c.args.payload.now =
-    subst (λ (s : ConnectionState). command_view c.in_ok-command.command.value ≡ command_said s.standing c.args.payload.now)
-    c.self.view_is c.in_ok-command.ensures in
+    c.in_ok-command.ensures in
     let said : command_view c.deref-said.result.now ≡ command_said old.standing c.args.payload.now =
     ap command_view c.deref-said.ensures ∙ read in
     let mode : c.mode_asked-mode.result ≡ mode_asked (command_view c.deref-said.result.now) old.standing.mode =

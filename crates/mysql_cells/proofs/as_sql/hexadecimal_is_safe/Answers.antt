@@ -1,5 +1,0 @@
-use Rattle.mysql_cells.proofs.SqlTexts.{each_hexadecimal_is_safe, one_hexadecimal}
-use Rattle.mysql_cells.proofs.as_sql.hexadecimal_is_safe.Goals as goal
-
-pub returns : goal.returns
-returns c = record { one = one_hexadecimal; safe = each_hexadecimal_is_safe }

@@ -1,5 +1,0 @@
-use Rattle.mysql_cells.proofs.SqlTexts.{each_is_literal}
-use Rattle.mysql_cells.proofs.as_sql.sql_text_is_a_literal.Goals as goal
-
-pub returns : goal.returns
-returns c = each_is_literal c.content_of_a_spelling.ensures.written c.content_of_a_spelling.ensures.plain

@@ -1,0 +1,3 @@
+pub mod Escapes
+pub mod SqlTexts
+pub mod Parted
