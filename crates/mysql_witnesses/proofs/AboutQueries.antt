@@ -5,10 +5,10 @@ use Rattle.mysql_queries.specs.Laws.{OnePlaces, OneTokens}
 use Rattle.mysql_queries.specs.Literals.{IsLiteral, is_digit}
 use Rattle.mysql_queries.specs.Queries.{Alternates, pieces_of, places_from}
 use Rattle.mysql_queries.specs.Sql.{default_mode, read_by_default, read_in}
-use Rattle.mysql_queries.specs.declared.spelling.Spelling.TheVariants.{Hexadecimal, Quoted}
+use Rattle.mysql_bytes.specs.declared.spelling.Spelling.TheVariants.{Hexadecimal, Quoted}
 use Rattle.mysql_queries.specs.Tokens.{Byte, HasTokens}
-use Rattle.mysql_queries.specs.declared.content.Content.{Content}
-use Rattle.mysql_queries.specs.declared.content.Content.TheVariants.{Null, Number, Bytes}
+use Rattle.mysql_bytes.specs.declared.content.Content.{Content}
+use Rattle.mysql_bytes.specs.declared.content.Content.TheVariants.{Null, Number, Bytes}
 use Rattle.mysql_witnesses.specs.Queries.{ClosedCommentsAreLeft, CommentsInsideCount, EachOpenerCounts, IdentifiersHaveNoEscapes, PiecesFollowLiteralsAtOnce, ansi_quotes, quoted_backslash}
 
 -- ---- an identifier

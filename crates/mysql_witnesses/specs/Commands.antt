@@ -13,10 +13,10 @@ use Rattle.mysql_c_commands.specs.declared.shown.ShownPlace.{ShownPlace}
 use Rattle.mysql_c_handles.specs.Sets.{OfSets}
 use Rattle.mysql_c_handles.specs.declared.object.Object.{Object}
 use Rattle.mysql_c_handles.specs.declared.object.Object.TheVariants as object
-use Rattle.mysql_queries.specs.declared.spelling.Spelling.TheVariants.{Quoted}
+use Rattle.mysql_bytes.specs.declared.spelling.Spelling.TheVariants.{Quoted}
 use Rattle.mysql_cells.specs.declared.value.Value.{Value}
 use Rattle.mysql_cells.specs.declared.value.Value.TheVariants as value
-use Rattle.mysql_queries.specs.declared.content.Content.TheVariants.{Number}
+use Rattle.mysql_bytes.specs.declared.content.Content.TheVariants.{Number}
 use Rattle.mysql_values.specs.declared.bind.BindError.TheVariants.{Float}
 use Rattle.mysql_values.specs.declared.params.Params.{Params}
 

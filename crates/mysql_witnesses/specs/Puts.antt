@@ -1,25 +1,31 @@
 -- What the definitions of events that are put exclude. MySQL: Client/Server Protocol, "Connection Lifecycle",
--- "Sequence ID", "COM_STMT_EXECUTE", "COM_QUERY Response", "Binary Protocol Value".
-use Rattle.std.specs.Prelude.{◌≡◌, ℕ, true, false, List, [], ◌∷◌, Option, None, Err, Some, pos}
+-- "MySQL Packets", "Sequence ID", "COM_STMT_EXECUTE", "COM_QUERY Response", "Text Resultset Row", "Binary Protocol
+-- Value".
+use Rattle.std.specs.Prelude.{◌≡◌, ◌≢◌, ℕ, true, false, List, [], ◌∷◌, ◌++◌, Option, None, Ok, Err, Some, pos}
 use Rattle.mysql_cells.specs.declared.value.Value.{Value}
-use Rattle.mysql_cells.specs.declared.value.Value.TheVariants.{Int, UInt}
+use Rattle.mysql_cells.specs.declared.value.Value.TheVariants.{Int, NULL, UInt}
+use Rattle.mysql_columns.specs.Columns.{ColumnDefinition}
 use Rattle.mysql_commands.specs.Commands.{Execute, Ping, command_at}
 use Rattle.mysql_connection_rules.specs.Puts.{is_free, number_for, packets_for}
 use Rattle.mysql_connection_machine.specs.Machines.{Machine, new_machine}
-use Rattle.mysql_connection_machine.specs.PuttingPayloads.{PutsPayloadOn, is_due_of}
+use Rattle.mysql_connection_machine.specs.PuttingPackets.{PutsPackets}
+use Rattle.mysql_connection_machine.specs.PuttingPayloads.{PutsPayloadOn, RefusesPayload, is_due_of}
 use Rattle.mysql_connection_machine.specs.Writing.{PutsOn}
 use Rattle.mysql_connection_machine.specs.declared.payload_refusal.PayloadRefusal.{PayloadRefusal}
+use Rattle.mysql_connection_machine.specs.declared.payload_refusal.PayloadRefusal.TheVariants.{Held}
 use Rattle.mysql_connection_machine.specs.declared.put_refusal.PutRefusal.{PutRefusal}
 use Rattle.mysql_connection_rules.specs.Events.{Event}
-use Rattle.mysql_connection_rules.specs.Events.Event.{Answer, Asked}
+use Rattle.mysql_connection_rules.specs.Events.Event.{Answer, Asked, Replied}
+use Rattle.mysql_connection_rules.specs.Standing as phases
 use Rattle.mysql_connection_rules.specs.Standing.{Standing, logged_in}
 use Rattle.mysql_connection_rules.specs.Standing.About.{Nothing}
-use Rattle.mysql_connection_rules.specs.Steps.{parameters_in_question, reply_due, step}
+use Rattle.mysql_connection_rules.specs.Steps.{in_phase, parameters_in_question, reply_due, step}
 use Rattle.mysql_connection_rules.specs.Streams.{from_login}
 use Rattle.mysql_connection_rules.specs.declared.fault.Fault.TheVariants.{BadReply}
 use Rattle.mysql_connection_rules.specs.declared.limits.Limits.{Limits}
 use Rattle.mysql_connection_rules.specs.declared.side.Side.{Side}
-use Rattle.mysql_connection_rules.specs.declared.side.Side.TheVariants.{Server}
+use Rattle.mysql_connection_rules.specs.declared.side.Side.TheVariants.{Client, Server}
+use Rattle.mysql_connection_state.specs.declared.event.Event.{Event as HeldEvent}
 use Rattle.mysql_connection_statements.specs.Statements.{Statement}
 use Rattle.mysql_connection_writer.specs.Commands.{parameters_named}
 use Rattle.mysql_connection_writer.specs.Executions.{execution_by}
@@ -29,10 +35,14 @@ use Rattle.mysql_const.specs.declared.column_type.ColumnType.TheVariants.{MYSQL_
 use Rattle.mysql_executions.specs.Executions.{Execution}
 use Rattle.mysql_executions.specs.InForce.{InForce}
 use Rattle.mysql_handshake.specs.Capabilities.{both_words}
+use Rattle.mysql_reply_events.specs.Events.Awaited.{Rows}
+use Rattle.mysql_reply_events.specs.Events.Event.{RowEvent}
 use Rattle.mysql_reply_events.specs.declared.context.ReplyKind.TheVariants.{Text}
 use Rattle.mysql_reply_events.specs.declared.fault.ReplyFault.TheVariants.{BadCount}
+use Rattle.mysql_rows.specs.Rows.{Row}
 use Rattle.mysql_witnesses.specs.Statements.{statement_with}
 use Rattle.mysql_witnesses.specs.Steps.{two_statements}
+use Rattle.mysql_witnesses.specs.Streams.{ping}
 
 -- WHEN AN EVENT IS DUE
 
@@ -73,6 +83,12 @@ abbrev pub RefusedPayloadsChangeNothing : Type 0
 RefusedPayloadsChangeNothing = (old new : Machine) (side : Side) (payload before behind : List ℕ)
     (cause : PayloadRefusal) → PutsPayloadOn old side payload before (Err cause) new behind →
     (new.world ≡ old.world) × (behind ≡ before)
+
+-- A payload behind which more would be kept than has room isn't put. Excluded: its event as the answer,
+-- where nothing was appended. MySQL: Client/Server Protocol, "Prepared Statements".
+abbrev pub WhatIsHeldBackIsNotPut : Type 0
+WhatIsHeldBackIsNotPut = (old new : Machine) (side : Side) (payload before behind : List ℕ) (event : HeldEvent) →
+    RefusesPayload old.world side payload Held → PutsPayloadOn old side payload before (Ok event) new behind → ⊥
 
 -- WHAT IS PUT
 
@@ -144,3 +160,37 @@ NumbersAreNotPutAsOthers =
 abbrev pub RowsAreDueBehindColumns : Type 0
 RowsAreDueBehindColumns = step (reply_due Text None Nothing (logged_in (both_words 0 0))) (1 ∷ 0x61 ∷ [])
     ≡ Err (BadReply BadCount)
+
+-- where rows of one column come next
+abbrev pub rows_due : ColumnDefinition → Standing
+rows_due column = in_phase (phases.Reply (record {
+  kind = Text;
+  so_far = record { awaited = Rows true; columns = Some (column ∷ []) };
+  about = Nothing;
+  earlier = 0;
+  coming = 0;
+  parameters = 0;
+})) (logged_in (both_words 0 0))
+
+-- a row of one cell, which is NULL
+abbrev pub null_under : ColumnDefinition → Row
+null_under column = record { columns = column ∷ []; cells = Some NULL ∷ [] }
+
+-- Where rows of one column come next, a row of another column isn't put. Excluded: its cell under the
+-- column that is due, which is read as another row. MySQL: Client/Server Protocol, "Text Resultset Row".
+abbrev pub RowsAreNotPutUnderOtherColumns : Type 0
+RowsAreNotPutUnderOtherColumns = (m new : Machine) (column other : ColumnDefinition) (before behind : List ℕ) →
+    other ≢ column → PutsOn (record m { world = record m.world { standing = rows_due column } })
+    (Replied (RowEvent (null_under other))) before (Ok tt) new behind → ⊥
+
+-- PACKETS
+
+-- a client that is logged in, and may send packets of one byte
+abbrev pub client_of_bytes : Machine
+client_of_bytes = new_machine (from_login (record { client = 1; server = 1; held = 10 }) (both_words 0 0))
+
+-- Of two pings only the first is put, since the server answers it. Excluded: an answer that all ten bytes
+-- were taken, by which a caller drops the second. MySQL: Client/Server Protocol, "Command Phase".
+abbrev pub PacketsWaitForTheirTurn : Type 0
+PacketsWaitForTheirTurn = (new : Machine) (before behind : List ℕ) →
+    PutsPackets client_of_bytes Client (ping ++ ping) before (Ok 10) new behind → ⊥

@@ -2,11 +2,11 @@
 -- Reference Manual, "Server SQL Modes", "Schema Object Names", "Literal Values", "Comments", "PREPARE Statement";
 -- MySQL: Client/Server Protocol, "Status Flags".
 use Rattle.std.specs.Prelude.{◌≡◌, ℕ, ◌+◌, Bool, true, false, List, [], ◌∷◌, codes, Some, None}
-use Rattle.mysql_queries.specs.Modes.{mode_of_sql_mode, mode_of_status}
+use Rattle.mysql_bytes.specs.Modes.{mode_of_sql_mode, mode_of_status}
 use Rattle.mysql_queries.specs.Queries.{HasPlaces, Slices}
 use Rattle.mysql_queries.specs.Sql.{read_by_default, read_in}
-use Rattle.mysql_queries.specs.declared.content.Content.{Content}
-use Rattle.mysql_queries.specs.declared.mode.Mode.{Mode}
+use Rattle.mysql_bytes.specs.declared.content.Content.{Content}
+use Rattle.mysql_bytes.specs.declared.mode.Mode.{Mode}
 use Rattle.mysql_queries.specs.declared.placeholders.Place.{Place}
 
 abbrev pub ansi_quotes : Mode

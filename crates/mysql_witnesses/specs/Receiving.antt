@@ -1,12 +1,13 @@
 -- What the definitions of streams of commands exclude. MySQL: Client/Server Protocol, "COM_STMT_PREPARE",
--- "COM_STMT_SEND_LONG_DATA", "COM_STMT_RESET", "MySQL Packets"; MariaDB: Client/Server Protocol,
+-- "COM_STMT_SEND_LONG_DATA", "COM_STMT_RESET", "MySQL Packets", "Command Phase"; MariaDB: Client/Server Protocol,
 -- "COM_STMT_BULK_EXECUTE".
 use Rattle.std.specs.Prelude.{◌≡◌, ℕ, List, [], ◌∷◌, length, None}
-use Rattle.mysql_receive.specs.Audit.{end_by_rest}
+use Rattle.mysql_receive.specs.Audit.{Audit, end_by_rest}
+use Rattle.mysql_receive.specs.GoingOn.{ReceiverDecides, ReceiverState, RunsShort, fresh_receiver}
 use Rattle.mysql_receive.specs.InForce.{StatementState, after, nothing_yet}
 use Rattle.mysql_receive.specs.Query.{Query, Statement}
 use Rattle.mysql_receive.specs.Reading.{PayloadReadsAs, RowsAt, Set}
-use Rattle.mysql_receive.specs.declared.audit.End.TheVariants.{UnfinishedPacket}
+use Rattle.mysql_receive.specs.declared.audit.End.TheVariants.{UnfinishedPacket, Whole}
 use Rattle.mysql_receive.specs.declared.param_type.ParamType.{ParamType}
 use Rattle.mysql_wire.specs.Stream.Rest.{Open}
 
@@ -33,8 +34,24 @@ LongDataIsNoSet = (statement : Statement) (state : StatementState) (body : List 
 abbrev pub EachRowIsASet : Type 0
 EachRowIsASet = (t : ParamType) (sets : List Set) → RowsAt (t ∷ []) (1 ∷ 1 ∷ []) sets [] → length sets ≡ 2
 
+-- a statement without placeholders
+abbrev pub without_places : Query → (id : ℕ) → Statement
+without_places query id = record { query = record query { places = [] }; id = id }
+
 -- A stream that ends within a packet has no fault. Excluded: a fault at each front.
 -- MySQL: Client/Server Protocol, "MySQL Packets".
 abbrev pub FrontsAreNoFaults : Type 0
 FrontsAreNoFaults = (query : Query) (id : ℕ) →
-    end_by_rest (record { query = record query { places = [] }; id = id }) nothing_yet 0 Open ≡ UnfinishedPacket
+    end_by_rest (without_places query id) nothing_yet 0 Open ≡ UnfinishedPacket
+
+-- A stream of no bytes is whole. Excluded: any other end, as that memory ran out where it didn't.
+-- MySQL: Client/Server Protocol, "MySQL Packets".
+abbrev pub EmptyStreamsAreWhole : Type 0
+EmptyStreamsAreWhole = (query : Query) (id limit : ℕ) (audit : Audit) →
+    ReceiverDecides (without_places query id) limit fresh_receiver [] audit → audit.ending ≡ Whole
+
+-- A set that was read stays, as the first, where memory runs out. Excluded: a receiver that drops its sets
+-- there. MySQL: Client/Server Protocol, "Command Phase".
+abbrev pub SetsThatWereReadStay : Type 0
+SetsThatWereReadStay = (statement : Statement) (limit : ℕ) (old new : ReceiverState) (piece : List ℕ) (set : Set) →
+    old.sets ≡ set ∷ [] → RunsShort statement limit old piece new → (later : List Set) × (new.sets ≡ set ∷ later)

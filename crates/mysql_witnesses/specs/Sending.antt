@@ -15,7 +15,7 @@ use Rattle.mysql_command_rules.specs.declared.refusal.Refusal.{Refusal}
 use Rattle.mysql_command_rules.specs.declared.refusal.Refusal.TheVariants.{NotAlone, PacketTooLarge, WrongCount}
 use Rattle.mysql_command_rules.specs.declared.send_to_error.SendToError.TheVariants.{Refused}
 use Rattle.mysql_queries.specs.Sql.{Sql, read_by_default}
-use Rattle.mysql_queries.specs.declared.content.Content.TheVariants.{Number}
+use Rattle.mysql_bytes.specs.declared.content.Content.TheVariants.{Number}
 use Rattle.mysql_receive.specs.Query.{Statement}
 use Rattle.mysql_receive.specs.Reading.{Set}
 use Rattle.mysql_recoding.specs.AsItComes.{RecoderState, RecodesPiece, Terms}

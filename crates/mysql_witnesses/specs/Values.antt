@@ -4,12 +4,12 @@
 use Rattle.std.specs.Prelude.{◌≡◌, ◌^◌, pos, Bool, true, false, [], ◌∷◌, codes, Some, None, Ok, Vec}
 use Rattle.std.specs.declared.alloc.Global.{Global}
 use Rattle.mysql_cells.specs.Cells.{cell_at}
-use Rattle.mysql_cells.specs.Values.{in_quotes, literal_at, sql_of}
-use Rattle.mysql_queries.specs.declared.spelling.Spelling.{Spelling}
-use Rattle.mysql_queries.specs.declared.spelling.Spelling.TheVariants.{Hexadecimal, Quoted}
+use Rattle.mysql_literals.specs.Literals.{in_quotes, literal_at, sql_of}
+use Rattle.mysql_bytes.specs.declared.spelling.Spelling.{Spelling}
+use Rattle.mysql_bytes.specs.declared.spelling.Spelling.TheVariants.{Hexadecimal, Quoted}
 use Rattle.mysql_cells.specs.declared.value.Value.{Value}
 use Rattle.mysql_cells.specs.declared.value.Value.TheVariants.{Bytes, Int, Time, UInt}
-use Rattle.mysql_queries.specs.declared.mode.Mode.{Mode}
+use Rattle.mysql_bytes.specs.declared.mode.Mode.{Mode}
 use Rattle.mysql_convert.specs.Sets.{IsMadeOf, set_cause}
 use Rattle.mysql_convert.specs.Sets.Parts.{ByName, InOrder}
 use Rattle.mysql_values.specs.declared.params.Params.TheVariants.{Positional}

@@ -1,20 +1,24 @@
 -- Wrong bodies of a connection's calls that readers tried: what a clause says that excludes each.
 -- MySQL: Client/Server Protocol, "Connection Lifecycle", "MySQL Packets", "Sequence ID", "ERR_Packet",
--- "COM_STMT_EXECUTE", "COM_STMT_FETCH"; MariaDB: "COM_STMT_BULK_EXECUTE", 'Progress report' of "ERR_Packet".
-use Rattle.std.specs.Prelude.{◌≡◌, ℕ, true, false, List, [], ◌∷◌, None, Some}
+-- "COM_STMT_EXECUTE", "COM_STMT_FETCH", "Text Resultset Row"; C API, "mysql_use_result()"; MariaDB: Client/Server
+-- Protocol, "COM_STMT_BULK_EXECUTE", 'Progress report' of "ERR_Packet".
+use Rattle.std.specs.Prelude.{◌≡◌, ℕ, true, false, List, [], ◌∷◌, None, Ok, Some}
 use Rattle.mysql_cells.specs.declared.value.Value.TheVariants.{Bytes}
+use Rattle.mysql_columns.specs.Columns.{ColumnDefinition}
 use Rattle.mysql_commands.specs.Commands.{Command}
-use Rattle.mysql_connection_machine.specs.Machines.{FindsFault}
+use Rattle.mysql_connection_machine.specs.Machines.{AnswersLent, FindsFault, LendingWorld}
 use Rattle.mysql_connection_machine.specs.Writing.{RefusesEvent}
 use Rattle.mysql_connection_machine.specs.declared.fault.ConnectionFault.{ConnectionFault}
+use Rattle.mysql_connection_machine.specs.declared.lent_event.LentEvent.TheVariants as lent
 use Rattle.mysql_connection_machine.specs.declared.put_refusal.PutRefusal.TheVariants.{BadEvent}
 use Rattle.mysql_connection_rules.specs.Events.{Event}
 use Rattle.mysql_connection_rules.specs.Puts.{is_due, may_end}
 use Rattle.mysql_connection_rules.specs.Standing.{Standing}
 use Rattle.mysql_connection_rules.specs.Standing.About.{Executing, Nothing}
 use Rattle.mysql_connection_rules.specs.Steps.{about_after, after_command, carried_types, changed_by, reply_due}
-use Rattle.mysql_connection_rules.specs.Streams.{World, is_early}
+use Rattle.mysql_connection_rules.specs.Streams.{World, is_early, nothing_came}
 use Rattle.mysql_connection_rules.specs.declared.side.Side.TheVariants.{Server}
+use Rattle.mysql_connection_state.specs.declared.event.Event.{Event as HeldEvent}
 use Rattle.mysql_connection_statements.specs.Statements.{Statement, Statements}
 use Rattle.mysql_connection_statements.specs.declared.pending.Pending.{Pending}
 use Rattle.mysql_connection_writer.specs.Executions.{execution_by}
@@ -26,8 +30,9 @@ use Rattle.mysql_handshake.specs.Capabilities.{both_words}
 use Rattle.mysql_reply_events.specs.Events.Event.{ProgressEvent}
 use Rattle.mysql_reply_events.specs.declared.context.ReplyKind.TheVariants.{Fetch}
 use Rattle.mysql_server_packets.specs.Packets.{ProgressReport}
+use Rattle.mysql_witnesses.specs.Puts.{rows_due}
 use Rattle.mysql_witnesses.specs.Steps.{two_statements}
-use Rattle.mysql_witnesses.specs.Streams.{client_unread, keeping, world_with}
+use Rattle.mysql_witnesses.specs.Streams.{client_unread, keeping, with_server, world_with}
 
 -- FAULTS
 
@@ -102,3 +107,12 @@ abbrev pub ReportsAnswerNothing : Type 0
 ReportsAnswerNothing = (p : Pending) (report : ProgressReport) (more : ℕ) (s : Statements) →
     (about_after (Executing p) (ProgressEvent report) ≡ Executing p)
     × (changed_by (Executing p) more (ProgressEvent report) s ≡ s)
+
+-- ROWS
+
+-- Where a row of one chunk comes next the answer is no event of it. Excluded: an event into which each row is
+-- copied, so that none is lent. C API, "mysql_use_result()".
+abbrev pub ShortRowsAreLent : Type 0
+ShortRowsAreLent = (column : ColumnDefinition) (event : HeldEvent) (new : LendingWorld) →
+    AnswersLent (with_server (1 ∷ 0 ∷ 0 ∷ 0 ∷ 0xfb ∷ []) (world_with 0 (rows_due column) nothing_came))
+    (Ok (Some (lent.Event event))) new → ⊥

@@ -1,10 +1,12 @@
-//! Events and payloads that are put.
+//! Events, payloads and packets that are put.
 
 ghost use Rattle.mysql_witnesses.specs.Puts.{AnswersAreNumberedOn, CommandsAreNumberedAnew};
 ghost use Rattle.mysql_witnesses.specs.Puts.{ExecutionsAreWrittenByTheirStatement, HasThatPayload};
-ghost use Rattle.mysql_witnesses.specs.Puts.{NumbersAreNotPutAsOthers, PayloadsAreOfTheirSide};
-ghost use Rattle.mysql_witnesses.specs.Puts.{RefusedEventsChangeNothing, RefusedPayloadsChangeNothing};
-ghost use Rattle.mysql_witnesses.specs.Puts.{RowsAreDueBehindColumns, ValuesMakeNoOddExecution};
+ghost use Rattle.mysql_witnesses.specs.Puts.{NumbersAreNotPutAsOthers, PacketsWaitForTheirTurn};
+ghost use Rattle.mysql_witnesses.specs.Puts.{PayloadsAreOfTheirSide, RefusedEventsChangeNothing};
+ghost use Rattle.mysql_witnesses.specs.Puts.{RefusedPayloadsChangeNothing, RowsAreDueBehindColumns};
+ghost use Rattle.mysql_witnesses.specs.Puts.{RowsAreNotPutUnderOtherColumns};
+ghost use Rattle.mysql_witnesses.specs.Puts.{ValuesMakeNoOddExecution, WhatIsHeldBackIsNotPut};
 ghost use Rattle.mysql_witnesses.specs.Puts.{WhatWaitsComesFirst};
 
 /// Nothing is put before bytes that wait.
@@ -33,6 +35,12 @@ pub fn refusals_change_nothing()
     ensures payloads { RefusedPayloadsChangeNothing }
 {}
 
+/// A payload that is held back isn't put.
+#[tactic(auto, using(crate::proofs::AboutPuts::what_is_held_back_is_not_put))]
+pub fn what_is_held_back_is_not_put()
+    ensures { WhatIsHeldBackIsNotPut }
+{}
+
 /// An execution that is made of values is no odd one.
 pub fn values_make_no_odd_execution()
     ensures { ValuesMakeNoOddExecution }
@@ -56,4 +64,14 @@ pub fn numbers_are_not_put_as_others()
 #[tactic(auto, using(crate::proofs::AboutPuts::rows_are_due_behind_columns))]
 pub fn rows_are_due_behind_columns()
     ensures { RowsAreDueBehindColumns }
+{}
+
+/// A row isn't put under other columns than its own.
+pub fn rows_are_not_put_under_other_columns()
+    ensures { RowsAreNotPutUnderOtherColumns }
+{}
+
+/// Packets past the turn of their side are left.
+pub fn packets_wait_for_their_turn()
+    ensures { PacketsWaitForTheirTurn }
 {}

@@ -1,7 +1,11 @@
 //! Streams of commands that are read back.
 
-ghost use Rattle.mysql_witnesses.specs.Receiving.{EachRowIsASet, FrontsAreNoFaults, LongDataIsNoSet};
+ghost use Rattle.mysql_witnesses.specs.Receiving.{EachRowIsASet, EmptyStreamsAreWhole};
+ghost use Rattle.mysql_witnesses.specs.Receiving.{FrontsAreNoFaults, LongDataIsNoSet};
 ghost use Rattle.mysql_witnesses.specs.Receiving.{PreparesDropTheTypes, ResetsLeaveTheTypes};
+ghost use Rattle.mysql_witnesses.specs.Receiving.{SetsThatWereReadStay};
+
+use mysql_wire::laws::reader_laws;
 
 /// A reset leaves the types in force, and a prepare none.
 pub fn types_stay_to_the_next_prepare()
@@ -24,4 +28,17 @@ pub fn each_row_is_a_set()
 /// A stream that is cut off has no fault.
 pub fn fronts_are_no_faults()
     ensures { FrontsAreNoFaults }
+{}
+
+/// A stream of no bytes is whole.
+pub fn empty_streams_are_whole()
+    ensures { EmptyStreamsAreWhole }
+{
+    reader_laws();
+}
+
+/// Sets that were read stay where memory runs out.
+#[tactic(auto, using(crate::proofs::AboutReceiving::sets_that_were_read_stay))]
+pub fn sets_that_were_read_stay()
+    ensures { SetsThatWereReadStay }
 {}

@@ -4,7 +4,8 @@ ghost use Rattle.mysql_witnesses.specs.WrongBodies.{AnswersAreNoLastWords, BadEv
 ghost use Rattle.mysql_witnesses.specs.WrongBodies.{BulksCarryTheirTypes, FaultsForgetNothing};
 ghost use Rattle.mysql_witnesses.specs.WrongBodies.{FetchesAreReadByTheirStatement};
 ghost use Rattle.mysql_witnesses.specs.WrongBodies.{LastWordsMayBePut, PacketsAreWaitedFor};
-ghost use Rattle.mysql_witnesses.specs.WrongBodies.{ReportsAnswerNothing, TypesInForceWillDo};
+ghost use Rattle.mysql_witnesses.specs.WrongBodies.{ReportsAnswerNothing, ShortRowsAreLent};
+ghost use Rattle.mysql_witnesses.specs.WrongBodies.{TypesInForceWillDo};
 
 /// Behind a fault the state is the one before it.
 #[tactic(auto, using(crate::proofs::AboutWrongBodies::faults_forget_nothing))]
@@ -58,4 +59,10 @@ pub fn fetches_are_read_by_their_statement()
 #[tactic(auto, using(crate::proofs::AboutWrongBodies::reports_answer_nothing))]
 pub fn reports_answer_nothing()
     ensures { ReportsAnswerNothing }
+{}
+
+/// A row of one chunk is lent.
+#[tactic(auto, using(crate::proofs::AboutWrongBodies::short_rows_are_lent))]
+pub fn short_rows_are_lent()
+    ensures { ShortRowsAreLent }
 {}
