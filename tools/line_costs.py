@@ -9,7 +9,7 @@ import re
 import textwrap
 
 PAGE = pathlib.Path(__file__).resolve().parent.parent / 'docs' / 'GATE_COSTS.md'
-ROW = re.compile(r'\| `(\w+)` \| (\d+) \| \d* \| (?:(\d+) \((\d+)\))? \|')
+ROW = re.compile(r'\| `(\w+)` \| (\d+) \| (?:(\d+) \(\d+\))? \|')
 # What is shown where no crate is named: the low crates, and those in which most is proved.
 SHOWN = """mysql_const mysql_bytes mysql_queries mysql_literals mysql_wire mysql_cells mysql_values mysql_receive
     mysql_executions mysql_connection_rules mysql_connection_state mysql_connection_machine""".split()
@@ -34,20 +34,25 @@ def all_below(uses):
     return {name: below(name) for name in uses}
 
 
-def clock(tasks, processors):
-    """The seconds by the clock: of each task is given what it waits for, and its seconds."""
-    above = {key: [] for key in tasks}
+def ways(tasks):
+    """Of each task the seconds of the longest way that begins with it. A task is what it waits for, and its seconds."""
+    above, found = {key: [] for key in tasks}, {}
     for key, (waits, _) in tasks.items():
         for it in waits:
             above[it].append(key)
-    ways = {}
 
     def way(key):
-        if key not in ways:
-            ways[key] = tasks[key][1] + max(map(way, above[key]), default=0)
-        return ways[key]
+        if key not in found:
+            found[key] = tasks[key][1] + max(map(way, above[key]), default=0)
+        return found[key]
 
-    waiting = sorted(tasks, key=lambda key: (-way(key), key))
+    return {key: way(key) for key in tasks}
+
+
+def clock(tasks, processors):
+    """The seconds by the clock of some tasks."""
+    behind = ways(tasks)
+    waiting = sorted(tasks, key=lambda key: (-behind[key], key))
     now, running, done = 0, [], set()
     while waiting or running:
         for key in [it for it in waiting if done.issuperset(tasks[it][0])][:processors - len(running)]:

@@ -1,5 +1,8 @@
 """What tools share that build crates by `rt try`, which needs no proof.
 
+The programs that they keep have the checks of `rt try`, but neither its sandbox nor its address
+sanitizer. Where a check fails, such a program ends by a signal, and `rt try` says where.
+
 `rt try` reads all sources from the beginning, and takes a minute to. So what is tried together is
 copied into one repository and made one crate, of which each crate is a module.
 """
@@ -13,8 +16,7 @@ import signal
 import subprocess
 import time
 
-ROOT = pathlib.Path(__file__).resolve().parent.parent
-CRATES = ROOT / "crates"
+from listed import CRATES, ROOT, below
 
 
 class Failure(Exception):
@@ -38,25 +40,14 @@ def kit():
 # ---- Sources -----------------------------------------------------------------------------------
 
 
-def uses_of_crates():
-    """Returns the crates of crates.txt, each with the names of what it uses; a crate's kind goes with its name."""
-    lines = [it.partition("#")[0].strip() for it in (ROOT / "crates.txt").read_text(encoding="utf-8").splitlines()]
-    return {it.partition(":")[0]: it.partition(":")[2].split() for it in lines if it}
-
-
 def copy_sources(crate, uses, room):
     """Copies the sources of what a crate uses, and of all below it, as a repository; returns the crate's folder."""
-    below, left = set(), [crate]
-    while left:
-        name = left.pop()
-        if name in uses and name not in below:
-            below.add(name)
-            left += uses[name]
-    for name in below:
+    names = sorted(below([crate], uses))
+    for name in names:
         for part in ("src", "specs"):
             if (CRATES / name / part).is_dir():
                 shutil.copytree(CRATES / name / part, room / "crates" / name / part)
-    listed = "".join(f"{name}: {' '.join(uses[name])}\n" for name in below)
+    listed = "".join(f"{name}: {' '.join(uses[name])}\n" for name in names)
     (room / "crates.txt").write_text(listed, encoding="utf-8")
     shutil.copy(ROOT / "HANDLES", room)
     (room / "crates" / crate / "src").mkdir(parents=True, exist_ok=True)
@@ -99,23 +90,29 @@ def begun(words, folder, room, said):
         tried.wait()
 
 
+def keep_module(room):
+    """Keeps the program's module, which `rt try` writes, as module.bc; returns its size so far, 0 where there is none."""
+    kept = room / "module.bc"
+    for module in (room / "try").glob("*/*/module.bc"):
+        # The first one, of some hundred bytes, tries the sanitizer. A link outlives the run.
+        if not kept.exists() and module.stat().st_size > 1000:
+            os.link(module, kept)
+    return kept.stat().st_size if kept.exists() else 0
+
+
 def take_module(folder, room):
-    """Runs `rt try` until the program's module is whole, and keeps that as module.bc."""
+    """Runs `rt try` until the program's module is whole, and keeps it."""
     print("rt try: the program's module", flush=True)
-    kept, stands = room / "module.bc", 0
+    size = stands = 0
     with open(room / "said", "w+", encoding="utf-8", errors="replace") as said:
         with begun(["--steps", "1", "--seconds", "1"], folder, room, said) as tried:
             while tried.poll() is None and stands < 20:
                 time.sleep(0.05)
                 spare_hint(tried)
-                size = kept.stat().st_size if kept.exists() else 0
-                for module in (room / "try").glob("*/*/module.bc"):
-                    # The first one, of some hundred bytes, tries the sanitizer. A link outlives the run.
-                    if not size and module.stat().st_size > 1000:
-                        os.link(module, kept)
-                stands = stands + 1 if size and size == kept.stat().st_size else 0
+                now = keep_module(room)
+                stands, size = stands + 1 if now and now == size else 0, now
         said.seek(0)
-        if not kept.exists():
+        if not size:
             raise Failure(f"rt try: it ended with status {tried.returncode} and no module\n{said.read()}")
 
 
@@ -139,3 +136,36 @@ def without_fills(text):
         fresh = place[1] if place else None
         if not is_fill:
             yield line
+
+
+# ---- Programs ----------------------------------------------------------------------------------
+
+FLAGS = """--target=x86_64-unknown-linux-gnu -march=x86-64-v2 -O1 -fPIE -ffunction-sections -fdata-sections
+    -mllvm -no-trap-after-noreturn -mllvm -trap-unreachable""".split()
+# As `rt try` links it.
+LINKED = """-m elf_x86_64 -pie --dynamic-linker /lib64/ld-linux-x86-64.so.2 --as-needed -z relro -z now -z noexecstack
+    --gc-sections lib/Scrt1.o lib/crti.o lib/crtbeginS.o program.o c/libos_c.a c/liblibc_c.a lib/libm.so.6 lib/libc.so.6
+    lib/libc_nonshared.a lib/ld-linux-x86-64.so.2 lib/libgcc.a lib/libgcc_s.so.1 lib/crtendS.o lib/crtn.o""".split()
+
+
+def compile_module(room, file):
+    """Compiles the program's module that was kept, without the address sanitizer, as this file."""
+    module_text(room)
+    with open(room / "module.ll", encoding="utf-8") as text, open(room / "program.ll", "w", encoding="utf-8") as to:
+        for line in without_fills(text):
+            if line.startswith("attributes "):
+                line = line.replace(" sanitize_address", "").replace(' "frame-pointer"="all"', "")
+                # A group without an attribute is none for clang.
+                line = line.replace("{ }", '{ "none" }')
+            to.write(line)
+    at = kit()
+    tools = at / "toolchain" / "bin"
+    words = ["--no-default-config", "-x", "ir", *FLAGS, "-c", "program.ll", "-o", "program.o"]
+    run("clang: the object", [str(tools / "clang"), *words], room)
+    of_kit = {"lib": at / "toolchain", "c": at}
+    linked = [str(of_kit.get(it.partition("/")[0], room) / it) if "." in it and it[0] != "/" else it for it in LINKED]
+    run("ld.lld: the program", [str(tools / "ld.lld"), *linked, "-o", "program"], room)
+    file.parent.mkdir(parents=True, exist_ok=True)
+    shutil.copyfile(room / "program", f"{file}.new")
+    os.chmod(f"{file}.new", 0o755)
+    os.replace(f"{file}.new", file)

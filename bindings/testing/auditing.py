@@ -2,7 +2,7 @@
 
 import os
 
-from .support import BINDINGS, run, rust_environment
+from .support import BINDINGS, run, rust_environment, tell
 
 FOLDER = os.path.join(BINDINGS, "audit")
 TESTING = os.path.join(BINDINGS, "testing")
@@ -19,14 +19,19 @@ def build_load(room):
 def check_program(program, load):
     """Runs the checks, and tells what they measured."""
     words = ["python3", os.path.join(TESTING, "audit.py"), program, RECORDINGS, "--load", load]
-    print(run(words), end="", flush=True)
+    tell(run(words))
 
 
-def test_audit(report, library, room):
-    """Tests the crate, builds its program, and has connections pass it."""
+def test_crate(report, library, room):
+    """Tests the crate, in a folder aside, since the program is compiled by other flags."""
+    environment = rust_environment(library, os.path.join(room, "audit_crate"))
+    how = {"cwd": FOLDER, "env": {**environment, "RUSTFLAGS": "-D warnings"}}
+    report.run("cargo test of the audit", run, ["cargo", "test", "--offline"], **how)
+
+
+def test_program(report, library, room):
+    """Builds the program, and has connections pass it."""
     how = {"cwd": FOLDER, "env": rust_environment(library, room)}
-    strict = {**how, "env": {**how["env"], "RUSTFLAGS": "-D warnings"}}
-    report.run("cargo test of the audit", run, ["cargo", "test", "--offline"], **strict)
     built = report.run("cargo build of the audit", run,
                        ["cargo", "build", "--offline", "--release"], **how)
     load = report.run("the load for the audit", build_load, room)

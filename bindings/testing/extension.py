@@ -5,7 +5,7 @@ import re
 import xml.etree.ElementTree
 
 from .languages import SANITIZERS
-from .support import BINDINGS, Failure, archive_in, has, python_environment, run
+from .support import BINDINGS, Failure, archive_in, has, python_environment, run, tell
 
 FOLDER = os.path.join(BINDINGS, "python")
 # The tests under sanitizers, without those of time and of growing memory. Each row is a program.
@@ -47,7 +47,7 @@ def sanitized(python, how, tests):
     how = {**how, "LD_PRELOAD": run(["gcc", "-print-file-name=libasan.so"]).strip(),
            "ASAN_OPTIONS": "detect_leaks=0"}
     said = run([python, "-m", "unittest", *tests], cwd=FOLDER, env=how)
-    print(f"  {count_of(said)} tests", flush=True)
+    tell(f"{count_of(said)} tests")
 
 
 def functions(stack):
@@ -89,7 +89,7 @@ def under_valgrind(python, how, made):
         raise Failure("\n".join("{} {}".format(it.findtext("kind"), [functions(at) for at in
                                                                   it.findall("stack")])
                                 for it in others))
-    print(f"  {count_of(said)} tests, {len(errors)} errors of Python's own", flush=True)
+    tell(f"{count_of(said)} tests, {len(errors)} errors of Python's own")
 
 
 def test_extension(report, library, room):

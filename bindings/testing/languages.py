@@ -1,12 +1,13 @@
 """The tests and examples in C, Rust and Python, and the programs of the documents."""
 
+import functools
 import glob
 import os
 import re
 import subprocess
 
 from .support import (BINDINGS, C99, CPP17, Failure, ROOT, archive_in, compare, has,
-                      python_environment, run, rust_environment)
+                      python_environment, run, rust_environment, tell)
 
 SANITIZERS = ["-fsanitize=address,undefined", "-fno-sanitize-recover=all"]
 # By these the tests can have an allocation be refused.
@@ -60,29 +61,36 @@ class C:
         if not re.search(r"\b[1-9][0-9]* checks, 0 failed\n$", said):
             raise Failure(f"it didn't count its checks: {said}")
 
-    def all(self):
-        """Runs each test in each way, and builds the examples."""
-        report, ways = self.report, []
+    def parts(self):
+        """Returns the parts that run each test in each way, and build the examples."""
         words = ["python3", "-B", os.path.join(TESTING, "conversation_rows.py")]
         words += [*self.words["conversations"], *CONVERSATIONS]
-        report.run("conversations for C", run, words)
-        if has("gcc"):
-            report.run("mysql_session.h, C99", self.header, C99)
-            ways += [("C99", [*C99, "-O2"], [])]
-            ways += [("sanitizers", [*C99, "-O1", *SANITIZERS], [])]
-        if has("g++"):
-            report.run("mysql_session.h, C++17", self.header, CPP17)
-            ways += [("C++17", CPP17, [])]
+        self.report.run("conversations for C", run, words)
+        ways = []
         if has("gcc", "valgrind"):
             ways += [("valgrind", [*C99, "-O1"], VALGRIND)]
-        for kind, compiler, tool in ways:
-            for file in self.tests:
-                name = os.path.relpath(file, ROOT)
-                report.run(f"{name}, {kind}", self.test, compiler, file, kind, tool)
         if has("gcc"):
+            ways += [("sanitizers", [*C99, "-O1", *SANITIZERS], [])]
+            ways += [("C99", [*C99, "-O2"], [])]
+        if has("g++"):
+            ways += [("C++17", CPP17, [])]
+        return [*(functools.partial(self.way, *it) for it in ways), self.headers_and_examples]
+
+    def way(self, kind, compiler, tool):
+        """Runs each test in one way."""
+        for file in self.tests:
+            name = os.path.relpath(file, ROOT)
+            self.report.run(f"{name}, {kind}", self.test, compiler, file, kind, tool)
+
+    def headers_and_examples(self):
+        """Compiles the header by itself, and builds the examples."""
+        if has("g++"):
+            self.report.run("mysql_session.h, C++17", self.header, CPP17)
+        if has("gcc"):
+            self.report.run("mysql_session.h, C99", self.header, C99)
             for file in sorted(glob.glob(os.path.join(self.folder, "examples", "*.c"))):
-                report.run(os.path.relpath(file, ROOT), self.build, [*C99, "-O2"], [file],
-                           os.path.basename(file)[:-2])
+                self.report.run(os.path.relpath(file, ROOT), self.build, [*C99, "-O2"], [file],
+                                os.path.basename(file)[:-2])
 
 
 # ---- Rust and Python --------------------------------------------------------------------------
@@ -116,16 +124,24 @@ def poll_loop(program):
 def three_machines(events, **how):
     """A client, a server and an auditor agree on random scripts; tells how many, and their seeds."""
     words = ["python3", os.path.join(TESTING, "three_machines.py"), RECORDINGS]
-    print("  " + run(words + (["--events", str(events)] if events else []), **how).strip()
-          .replace("\n", "\n  "), flush=True)
+    tell(run(words + (["--events", str(events)] if events else []), **how))
 
 
-def test_python(report, library, room, events=None):
-    """Runs the module's tests, looks at its types, has random scripts say so many events, and reads
-    each example as a program."""
+def python_parts(report, library, room, events=None):
+    """Returns the parts that run the module's tests, a file each, and what else there is of Python."""
     folder = os.path.join(BINDINGS, "python")
     how = {"cwd": folder, "env": python_environment(library)}
-    report.run("Python tests", run, ["python3", "-m", "unittest", "discover"], **how)
+    files = sorted(glob.glob(os.path.join(folder, "test_*.py")), key=os.path.getsize, reverse=True)
+    names = [os.path.basename(it)[:-len(".py")] for it in files]
+    return [*(functools.partial(report.run, f"{name}, Python", run,
+                                ["python3", "-m", "unittest", name], **how) for name in names),
+            functools.partial(report.run, "a client, a server and an auditor", three_machines,
+                              events, **how),
+            functools.partial(test_python, report, folder, room, how)]
+
+
+def test_python(report, folder, room, how):
+    """Looks at the module's types, runs rows, and reads each example as a program."""
     if has("mypy"):
         words = ["mypy", "--strict", "--cache-dir", os.path.join(room, "mypy"), "mysql_session.py",
                  *sorted(glob.glob(os.path.join(folder, "examples", "*.py")))]
@@ -137,7 +153,6 @@ def test_python(report, library, room, events=None):
         report.run(f"rows of {name}", run, words, **how)
     words = ["python3", os.path.join(TESTING, "codes.py"), "--check"]
     report.run("the page of codes", run, words, **how)
-    report.run("a client, a server and an auditor", three_machines, events, **how)
     for file in sorted(glob.glob(os.path.join(folder, "examples", "*.py"))):
         words = ["python3", file, "--help"]
         report.run(os.path.relpath(file, ROOT) + " --help", run, words, **how)
@@ -146,13 +161,13 @@ def test_python(report, library, room, events=None):
 def fuzz(library):
     """Reads inputs of fixed seeds under sanitizers, and tells how many and what of."""
     words = [os.path.join(TESTING, "fuzz"), "--short", "--library", library]
-    print("  " + run(["python3", *words]).splitlines()[1], flush=True)
+    tell(run(["python3", *words]).splitlines()[1])
 
 
 def measure_costs(library):
     """Measures what hostile inputs take, and tells how many rows there are."""
     words = [os.path.join(TESTING, "costs"), "--quick", "--library", library]
-    print("  " + run(["python3", *words]).splitlines()[-1], flush=True)
+    tell(run(["python3", *words]).splitlines()[-1])
 
 
 # ---- The README's programs --------------------------------------------------------------------
@@ -195,11 +210,11 @@ class Programs:
     """Runs programs of documents as they are there, in the repository's folder."""
 
     def __init__(self, library, room):
-        self.library, self.room = library, room
+        self.library, self.room = library, os.path.join(room, "documents")
 
     def write(self, name, text):
         """Writes a file in its own folder."""
-        file = os.path.join(self.room, "readme", name)
+        file = os.path.join(self.room, name)
         os.makedirs(os.path.dirname(file), exist_ok=True)
         with open(file, "w", encoding="utf-8") as it:
             it.write(text)
@@ -233,18 +248,17 @@ class Programs:
         compare(getattr(self, language)(text), output)
 
 
-def test_documents(report, programs):
-    """Runs the programs of the documents, of which the README has one in each language, and looks at
-    their commands."""
+def test_documents(report, programs, wanted):
+    """Runs the programs of the documents in one language. The README has one in each."""
     documents = [os.path.join(ROOT, "README.md"), os.path.join(BINDINGS, "README.md")]
     documents += sorted(glob.glob(os.path.join(BINDINGS, "*", "README.md")))
     documents += sorted(glob.glob(os.path.join(ROOT, "docs", "EXAMPLES_*.md")))
     documents.append(os.path.join(ROOT, "docs", "LOGGING_IN.md"))
-    words = ["python3", os.path.join(TESTING, "commands.py")]
-    report.run("the commands of the documents", run, words)
     for file in documents:
         name, blocks = os.path.relpath(file, ROOT), blocks_of(file)
         for number, block in enumerate(blocks):
+            if block[0] != wanted:
+                continue
             if OPENSSL in block[1] and not has_header(OPENSSL):
                 print(f"left out: {name}, program {number} (apt-get install libssl-dev)", flush=True)
                 continue
@@ -253,10 +267,17 @@ def test_documents(report, programs):
                       flush=True)
                 continue
             report.run(f"{name}, program {number} ({block[0]})", programs.test, *block)
-        lacking = {"c", "rust", "python"} - {it[0] for it in blocks}
-        if file == documents[0]:
-            for language in sorted(lacking):
-                report.run(f"{name}, a program in {language}", lacks, language)
+        if file == documents[0] and wanted not in {it[0] for it in blocks}:
+            report.run(f"{name}, a program in {wanted}", lacks, wanted)
+
+
+def document_parts(report, library, room):
+    """Returns the parts that run the programs of the documents, a language each, and look at their
+    commands."""
+    programs = Programs(library, room)
+    words = ["python3", os.path.join(TESTING, "commands.py")]
+    return [*(functools.partial(test_documents, report, programs, it) for it in ("rust", "python", "c")),
+            functools.partial(report.run, "the commands of the documents", run, words)]
 
 
 def lacks(language):

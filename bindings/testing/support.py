@@ -1,8 +1,11 @@
 """What the tests of the bindings share: commands that are run, their report, what is compared."""
 
+import concurrent.futures
+import contextlib
 import os
 import shutil
 import subprocess
+import threading
 import time
 
 BINDINGS = os.path.dirname(os.path.dirname(os.path.abspath(__file__)))
@@ -10,6 +13,9 @@ ROOT = os.path.dirname(BINDINGS)
 WARNINGS = ["-Wall", "-Wextra", "-pedantic", "-Wconversion", "-Wshadow", "-Werror"]
 C99 = ["gcc", "-std=c99", *WARNINGS]
 CPP17 = ["g++", "-std=c++17", "-x", "c++", *WARNINGS]
+# Whose rule a step shows that asks a server.
+MYSQL, MARIADB = "MySQL", "MariaDB"
+BOTH, MARIADBS = (MYSQL, MARIADB), (MARIADB,)
 # A test that hangs is stopped: none of them takes a tenth of this.
 SECONDS = 1200
 
@@ -18,37 +24,72 @@ class Failure(Exception):
     """Why a test failed."""
 
 
+# What the test that a thread runs has said so far, and the commands that run.
+SAID, RUNNING = threading.local(), set()
+
+
+def tell(text):
+    """Says what a test found: some lines behind its name."""
+    SAID.lines = [*getattr(SAID, "lines", []), *text.strip("\n").splitlines()]
+
+
 class Report:
-    """Counts what passed and what failed, and tells each as it ends."""
+    """Counts what passed and what failed, and tells each as it ends. Tests may run in several threads."""
 
     def __init__(self):
         self.passed = 0
         self.failed = []
+        self.telling, self.is_stopped = threading.Lock(), False
 
     def run(self, name, test, *given, **named):
         """Runs a test, and returns what it returns, True for None, or None where it failed."""
-        began = time.monotonic()
+        began, SAID.lines, found, why = time.monotonic(), [], None, None
+        if self.is_stopped:
+            return None
         try:
             found = test(*given, **named)
         except Exception as error:  # (whatever it is, the tests behind it still run)
-            self.failed.append(name)
             why = error if isinstance(error, Failure) else repr(error)
-            print(f"FAILED {name}: {why}", flush=True)
-            return None
-        self.passed += 1
-        print(f"ok {name} ({time.monotonic() - began:.1f} s)", flush=True)
-        return True if found is None else found
+        with self.telling:
+            if why is None:
+                self.passed += 1
+                print(f"ok {name} ({time.monotonic() - began:.1f} s)")
+            else:
+                self.failed.append(name)
+                print(f"FAILED {name}: {why}")
+            print("".join(f"  {it}\n" for it in SAID.lines), end="", flush=True)
+        return None if why is not None else True if found is None else found
+
+    def side_by_side(self, jobs, parts):
+        """Runs parts of the tests, so many at a time. Those that take longest come first."""
+        with concurrent.futures.ThreadPoolExecutor(jobs) as pool:
+            try:
+                for it in [pool.submit(part) for part in parts]:
+                    it.result()
+            except BaseException:
+                # A thread ends with its command.
+                self.is_stopped = True
+                for it in list(RUNNING):
+                    it.terminate()
+                raise
 
 
-def run(words, status=0, **how):
+def run(words, status=0, timeout=SECONDS, **how):
     """Runs a command and returns its output; another status than this one is a failure."""
-    ran = subprocess.run(words, stdin=subprocess.DEVNULL, stdout=subprocess.PIPE,
-                         stderr=subprocess.STDOUT, text=True, encoding="utf-8", errors="replace",
-                         timeout=SECONDS, **how)
+    with subprocess.Popen(words, stdin=subprocess.DEVNULL, stdout=subprocess.PIPE,
+                          stderr=subprocess.STDOUT, text=True, encoding="utf-8", errors="replace",
+                          **how) as ran, contextlib.ExitStack() as stack:
+        RUNNING.add(ran)
+        stack.callback(RUNNING.discard, ran)
+        try:
+            said, _ = ran.communicate(timeout=timeout)
+        except BaseException:
+            ran.kill()
+            raise
     if ran.returncode != status:
         raise Failure(f"{' '.join(words)} ended with status {ran.returncode}, not {status}\n"
-                      f"{ran.stdout[-20000:]}")
-    return ran.stdout
+                      f"{said[-20000:]}")
+    return said
 
 
 def compare(found, wanted):
