@@ -49,8 +49,8 @@ extern "C" {
 #define MYSQL_SESSION_VERSION_PATCH 0
 
 /* The number of this interface. mysql_session_abi() answers the library's: compare them before
- * any other call. It changes with each change of what the library exports and of a struct, and the
- * shared object's name has it: libmysql_session.so.9. */
+ * any other call. It changes with each change of what the library exports and of a struct. The
+ * shared object's name ends in it (libmysql_session.so. and the number). */
 #define MYSQL_SESSION_ABI 10
 
 uint32_t mysql_session_abi(void);

@@ -26,8 +26,8 @@ static void end(void)
     mysql_session_free(&out);
 }
 
-/* The text of the value over the query; where NULL is wanted, the count of values is refused. */
-static void row(uint32_t flags, const char *query, const char *bytes, const char *wanted)
+/* The text of the value over the query, or none where it is refused by this code. */
+static void bind(uint32_t flags, const char *query, const char *bytes, uint32_t code, const char *wanted)
 {
     mysql_session_place place = { 0, 0 };
     const uint8_t *data = NULL;
@@ -36,11 +36,29 @@ static void row(uint32_t flags, const char *query, const char *bytes, const char
     begin(bytes);
     CHECK_CODE(mysql_session_bind_text(&sets, 0, bytes_of(query), strlen(query), flags, &out,
                                        &place),
-               wanted != NULL ? MYSQL_SESSION_OK : MYSQL_SESSION_REFUSED_WRONG_COUNT);
+               code);
     CHECK_DONE(mysql_session_bytes_data(&out, &data, &len));
-    CHECK_TEXT(data, len, wanted != NULL ? wanted : "");
+    CHECK_TEXT(data, len, wanted);
     end();
     check_note("", 0);
+}
+
+static void row(uint32_t flags, const char *query, const char *bytes, const char *wanted)
+{
+    bind(flags, query, bytes, MYSQL_SESSION_OK, wanted);
+}
+
+/* A query that has no placeholder. */
+static void no_place(uint32_t flags, const char *query)
+{
+    bind(flags, query, NULL, MYSQL_SESSION_REFUSED_WRONG_COUNT, "");
+}
+
+/* A query of whose placeholders one doesn't stand alone. */
+static void not_alone(const char *query)
+{
+    bind(0, query, NULL, MYSQL_SESSION_REFUSED_NOT_ALONE, "");
+    bind(HEX, query, "*/", MYSQL_SESSION_REFUSED_NOT_ALONE, "");
 }
 
 static void texts(void)
@@ -55,14 +73,40 @@ static void texts(void)
         row(mode | HEX, "SELECT ?", "", "SELECT ''");
         row(mode | HEX, "SELECT ?", NULL, "SELECT 1");
     }
-    row(0, "SELECT 1 /*!80000 + ? */", "*/ x /*", "SELECT 1 /*!80000 + '*\\/ x /\\*' */");
-    row(ESCAPELESS, "SELECT 1 /*!80000 + ? */", "*/ x /*",
-        "SELECT 1 /*!80000 + 0x2A2F2078202F2A */");
     row(0, "SELECT 1 /* ! */ + ?", "*/", "SELECT 1 /* ! */ + '*/'");
     row(ESCAPELESS, "SELECT '\\', ?", NULL, "SELECT '\\', 1");
-    row(0, "SELECT '\\', ?", NULL, NULL);
+    no_place(0, "SELECT '\\', ?");
     row(ANSI, "SELECT \"a\\\", ?", NULL, "SELECT \"a\\\", 1");
-    row(0, "SELECT \"a\\\", ?", NULL, NULL);
+    no_place(0, "SELECT \"a\\\", ?");
+    row(ANSI, "SELECT ? \"al\"", NULL, "SELECT 1 \"al\"");
+    not_alone("SELECT ? \"al\"");
+}
+
+/* Hints and version comments: what servers make of them is the same, or the query is refused. */
+static void comments(void)
+{
+    row(0, "SELECT /*!40001 SQL_NO_CACHE */ * FROM t WHERE id > ?", NULL,
+        "SELECT /*!40001 SQL_NO_CACHE */ * FROM t WHERE id > 1");
+    row(0, "SELECT /*! ? */ 1", "*/", "SELECT /*! '*/' */ 1");
+    row(0, "SELECT /*+ MAX_EXECUTION_TIME(1000) */* FROM t WHERE id = ?", NULL,
+        "SELECT /*+ MAX_EXECUTION_TIME(1000) */* FROM t WHERE id = 1");
+    row(0, "SELECT /*+ user's */ ?", NULL, "SELECT /*+ user's */ 1");
+    row(0, "SELECT */* it's */ FROM t WHERE id = ?", NULL,
+        "SELECT */* it's */ FROM t WHERE id = 1");
+    row(0, "SELECT a$$b$$, ?", NULL, "SELECT a$$b$$, 1");
+    no_place(0, "SELECT /*+ SET_VAR(time_zone = ?) */ 1");
+    not_alone("SELECT 1 /*!80000 + ? */");
+    not_alone("SELECT 2 /*! */*'3', '*/ ? '");
+    not_alone("SELECT 1 /*!99999 /*! */ , ?");
+    not_alone("SELECT /*!?");
+    not_alone("SELECT ? 'al'");
+    not_alone("SELECT 'al' /* c */ ?");
+    not_alone("SELECT ? /*!50000 */ 'al'");
+    not_alone("SELECT a[1], ?");
+    not_alone("SELECT 1 AS $$, ?");
+    not_alone("SELECT /*M! 1, */ ?");
+    not_alone("SELECT /*!99999 'a' */ ?");
+    not_alone("SELECT ?, 1 /*!99999 'a' */");
 }
 
 static void literals(void)
@@ -202,6 +246,7 @@ int main(void)
 {
     uint32_t bit;
     texts();
+    comments();
     literals();
     streams();
     one_backslash();

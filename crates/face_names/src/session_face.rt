@@ -83,8 +83,8 @@ mod laws {
     mod values {
         use mysql_session::laws::values::{
             all_fields_fit, cells_have_lengths, cells_read_back, content_of_a_spelling, fields_fit,
-            filled_text_is_read, literals_bring_no_pair, literals_stay_in_comments, one_reading,
-            pieces_of_a_query, sql_text_is_a_literal, texts_are_decided, tokens_of_a_text,
+            filled_text_is_read, one_reading, pieces_of_a_query, servers_read_alike,
+            sql_text_is_a_literal, texts_are_decided, tokens_of_a_text,
         };
     }
 

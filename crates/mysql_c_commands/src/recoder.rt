@@ -173,7 +173,11 @@ fn ended_object(held: Object, out: &mut Vec<u8>, stop: &mut ShownStop) -> Code
     match held {
         Object::Recoder(recoder) => ended(recoder, out, stop),
         Object::Empty => Code::EmptyHandle,
-        _ => Code::OtherKind,
+        other => {
+            // One step of the proof, in place of one for each part of a variant.
+            drop(other);
+            Code::OtherKind
+        }
     }
 }
 

@@ -18,7 +18,7 @@ use crate::code::ConnectionCode;
 use crate::events::telling_event;
 use crate::handle::Handle;
 use crate::object::{Object, OpenConnection};
-use mysql_c_connection_events::{ShownEvent, telling_row};
+use mysql_c_connection_events::{ShownEvent, blank, telling_row};
 use mysql_c_handles::start_of;
 use mysql_c_replies::{ShownValue, show_value};
 use mysql_cells::Value;

@@ -82,7 +82,8 @@ fn text_of_cause(number: u32) -> &'static [u8]
     ensures { IsTrue (ends_at_nul result.now) }
 {
     match number {
-        200 => b"not sent: a placeholder does not stand alone in the query's text\0",
+        200 =>
+            b"not sent: a placeholder does not stand alone: a neighbour joins it, or servers read it differently\0",
         201 => b"not sent: the query has more than 65535 placeholders\0",
         202 => b"not sent: the prepare is larger than max_allowed_packet\0",
         203 => b"not sent: the query has no placeholders\0",

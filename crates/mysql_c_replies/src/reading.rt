@@ -80,7 +80,8 @@ fn end(object: &mut Object, end: &mut ShownEnd) -> Code
     if let Object::Answer(reply) = &ended {
         *end = shown_reply_end(reply.end);
     }
-    *object = ended;
+    // One step of the proof, in place of one for each part of a variant.
+    drop(replace(object, ended));
     code
 }
 

@@ -1,19 +1,16 @@
--- The text of a value in a query, and what it means. MySQL Reference Manual, "Literal Values":
--- "String Literals", "Numeric Literals", "Date and Time Literals", "Hexadecimal Literals", "NULL
--- Values"; "Character Set Introducers"; "Comments"; of the SQL mode NO_BACKSLASH_ESCAPES: "Server SQL
--- Modes".
-use Rattle.std.specs.Prelude.{ℕ, pos, ◌+◌, ◌*◌, ◌-◌, ◌==◌, ◌&&◌, ◌||◌, Bool, true, false, not, if◌then◌else◌, List, []}
-use Rattle.std.specs.Prelude.{◌∷◌}
-use Rattle.std.specs.Prelude.{◌++◌, length, replicate, is_none, Option, Some, None}
+-- What a value means, and the texts of dates and times. MySQL Reference Manual, "Literal Values":
+-- "Date and Time Literals", "NULL Values"; "Date and Time Data Types".
+use Rattle.std.specs.Prelude.{◌≡◌, ℕ, pos, ◌+◌, ◌*◌, ◌-◌, ◌^◌, ◌<◌, ◌==◌, ◌&&◌, ◌||◌, Bool, true, false, not}
+use Rattle.std.specs.Prelude.{if◌then◌else◌, List, [], ◌∷◌, ◌++◌, length, replicate, take, is_none, Option, Some, None}
+use Rattle.std.specs.Prelude.{FitsSigned, Result, Ok, Err}
 use Rattle.std.specs.Fmt.{decimal, sign_text}
+use Rattle.std.specs.Int.{w64}
 use Rattle.std.specs.List.{position_from}
+use Rattle.mysql_buf.specs.Bytes.{AreBytes}
 use Rattle.mysql_bytes.specs.declared.content.Content.{Content}
 use Rattle.mysql_bytes.specs.declared.content.Content.TheVariants as content
 use Rattle.mysql_cells.specs.declared.value.Value.{Value}
 use Rattle.mysql_cells.specs.declared.value.Value.TheVariants.{NULL, Bytes, Int, UInt, Float, Double, Date, Time}
-use Rattle.std.specs.Prelude.{◌≡◌, ◌^◌, ◌<◌, FitsSigned, take, Result, Ok, Err}
-use Rattle.std.specs.Int.{w64}
-use Rattle.mysql_buf.specs.Bytes.{AreBytes}
 
 -- whether a value is NULL
 abbrev pub is_null : Value → Bool

@@ -16,9 +16,9 @@ use crate::cell_values::{date_parts, time_parts, whole1, whole2, whole4, whole8}
 use crate::cell_writing::{date_size, put_date, put_time, time_size};
 use crate::value::Value;
 use mysql_buf::{BufMutExt, ParseBuf, lenenc_str_len};
+use mysql_bytes::ByteString;
 use mysql_const::ColumnType;
 use mysql_fields::{IntRepr, LeI64, LeU32, LeU64, MySerialize, WireError};
-use mysql_bytes::ByteString;
 use std::alloc::{AllocError, Global};
 
 /// The value of a cell that needs no memory; None where the bytes end before it does. What is left then isn't said.

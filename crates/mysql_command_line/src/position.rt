@@ -7,7 +7,7 @@ ghost use Rattle.std.specs.Prelude.{◌<◌};
 
 use mysql_connection_rules::Side;
 
-/// How many bytes stand before a record's bytes: the letter of its side, and its length.
+/// How many bytes are before a record's bytes: the letter of its side, and its length.
 const HEADER_LEN: usize = 5;
 
 /// A record of which bytes are still to come.
@@ -20,7 +20,7 @@ pub(crate) struct Record {
     ghost is_unfinished: { 0 < left },
 }
 
-/// Where a transcript stands between two bytes of it.
+/// What a transcript has come to between two bytes of it.
 #[derive(Clone, Copy, Debug, PartialEq, Eq)]
 pub(crate) enum Position {
     /// So many bytes of a record's header came, which begins with them.
@@ -33,7 +33,7 @@ pub(crate) enum Position {
 #[derive(Clone, Copy, Debug, PartialEq, Eq)]
 pub(crate) struct BadTranscript;
 
-/// The side that a letter stands for.
+/// The side that a letter names.
 fn side_of(letter: u8) -> Result<Side, BadTranscript> {
     match letter {
         b'c' => Ok(Side::Client),

@@ -14,8 +14,7 @@ use Rattle.mysql_values.specs.Value.{Value}
 use Rattle.mysql_values.specs.Values.{content_of, first_float}
 use Rattle.mysql_values.specs.Params.{IsMeaning, values_over}
 use Rattle.mysql_values.specs.Parsed.{names_of}
-use Rattle.mysql_values.specs.Comments.{with_skipped}
-use Rattle.mysql_values.specs.Queries.{is_place, place_at, places_behind, places_from}
+use Rattle.mysql_values.specs.Queries.{is_place, place_at, places_behind, places_of, servers_agree}
 use Rattle.mysql_values.specs.Tokens.{HasTokens}
 use Rattle.mysql_receive.specs.Reading.{Set}
 use Rattle.mysql_command_rules.specs.declared.refusal.Refusal.{Refusal}
@@ -110,16 +109,14 @@ all_held n (value ∷ values) none =
     ap (λ o. o ∷ map content_of values) parts.0 ∙ ap (λ l. Some (held value) ∷ l) (all_held (n + 1) values parts.1)
 
 -- a query has as many placeholders as tokens that are some
-counted : (query skipped : List ℕ) (start : ℕ) (tokens : List (List ℕ)) → length (places_behind query skipped start tokens) ≡ length (filter is_place tokens)
-counted query skipped start [] = refl
-counted query skipped start (token ∷ tokens) =
-    let others : List ℕ = with_skipped query start skipped in
-    by (is_place token) others (counted query skipped (start + length token) tokens) (counted query others (start + length token) tokens)
+pub counted : (query : Sql) (agree : Bool) (before : List (List ℕ)) (start : ℕ) (tokens : List (List ℕ)) → length (places_behind query agree before start tokens) ≡ length (filter is_place tokens)
+counted query agree before start [] = refl
+counted query agree before start (token ∷ tokens) = by (is_place token) (counted query agree (token ∷ before) (start + length token) tokens)
   where
-    by : (b : Bool) (others : List ℕ) → length (places_behind query skipped (start + length token) tokens) ≡ length (filter is_place tokens) → length (places_behind query others (start + length token) tokens) ≡ length (filter is_place tokens)
-        → length (cond b (place_at query skipped token start (start + length token) ∷ places_behind query skipped (start + length token) tokens) (places_behind query others (start + length token) tokens)) ≡ length (cond b (token ∷ filter is_place tokens) (filter is_place tokens))
-    by true others same other = ap (λ n. suc n) same
-    by false others same other = other
+    by : (b : Bool) → length (places_behind query agree (token ∷ before) (start + length token) tokens) ≡ length (filter is_place tokens)
+        → length (cond b (place_at query agree before start token tokens ∷ places_behind query agree (token ∷ before) (start + length token) tokens) (places_behind query agree (token ∷ before) (start + length token) tokens)) ≡ length (cond b (token ∷ filter is_place tokens) (filter is_place tokens))
+    by true same = ap (λ n. suc n) same
+    by false same = same
 
 -- sets against which nothing speaks have no float
 pub all_hold : (command : List Value → List ℕ) (places room number : ℕ) (sets : List (List Value)) → first_of_sets (set_cause command places room) number (map Ok sets) ≡ None → AllByRecursion HoldsAll sets
@@ -130,13 +127,13 @@ all_hold command places room number (values ∷ sets) none =
     (all_held 0 values g.exact, all_hold command places room (number + 1) sets parts.1)
 
 -- and each has as many values as the query has placeholders
-pub all_counted : (query : Sql) (tokens : List (List ℕ)) (command : List Value → List ℕ) (places room : ℕ) → places ≡ length (places_from query.text 0 tokens) → (number : ℕ) (sets : List (List Value))
+pub all_counted : (query : Sql) (tokens : List (List ℕ)) (command : List Value → List ℕ) (places room : ℕ) → places ≡ length (places_of query tokens) → (number : ℕ) (sets : List (List Value))
     → first_of_sets (set_cause command places room) number (map Ok sets) ≡ None → AllByRecursion (λ set. length set ≡ length (filter is_place tokens)) sets
 all_counted query tokens command places room count number [] none = tt
 all_counted query tokens command places room count number (values ∷ sets) none =
     let parts = neither (set_cause command places room number (Ok values)) (first_of_sets (set_cause command places room) (number + 1) (map Ok sets)) none in
     let g : IsGood command places room values = good command places room number values parts.0 in
-    (g.count_is ∙ count ∙ counted query.text [] 0 tokens, all_counted query tokens command places room count (number + 1) sets parts.1)
+    (g.count_is ∙ count ∙ counted query (servers_agree 0 tokens) [] 0 tokens, all_counted query tokens command places room count (number + 1) sets parts.1)
 
 -- payloads that leave room for a header are within the limit
 pub within_limit : (limit : ℕ) (payloads : List (List ℕ)) → AllByRecursion (λ payload. length payload ≤ limit - 4) payloads → AllByRecursion (λ payload. length payload ≤ limit) payloads

@@ -7,7 +7,7 @@ use Rattle.mysql_values.specs.Sql.{Sql}
 use Rattle.mysql_values.specs.Tokens.{HasTokens, question}
 use Rattle.mysql_values.specs.Literals.{IsLiteral}
 use Rattle.mysql_values.specs.Laws.{OnePlaces, PiecesAreSlices}
-use Rattle.mysql_values.specs.Queries.{Alternates, HasPlaces, IsParsed, Slices, interleaved, pieces_of, places_from, slices_between}
+use Rattle.mysql_values.specs.Queries.{Alternates, HasPlaces, IsParsed, Slices, interleaved, pieces_of, places_of, slices_between}
 use Rattle.mysql_values.specs.Content.{Content}
 use Rattle.mysql_values.specs.Place.{Place}
 use Rattle.mysql_values.specs.Mode.{Mode}
@@ -84,7 +84,7 @@ length_slices text start (p ∷ ps) = omega (arith, length_slices text p.end ps)
 
 pieces_are : OnePlaces → PiecesAreSlices → (query : Sql) (places : List Place) (tokens : List (List ℕ)) → HasPlaces query places → HasTokens query.mode query.text tokens → pieces_of tokens ≡ slices_between query.text 0 places
 pieces_are one slices query places tokens are has =
-    slices query tokens has ∙ ap (λ (ps : List Place). slices_between query.text 0 ps) (one query (places_from query.text 0 tokens) places (tokens, has, refl) are)
+    slices query tokens has ∙ ap (λ (ps : List Place). slices_between query.text 0 ps) (one query (places_of query tokens) places (tokens, has, refl) are)
 
 join_marks : (pieces : List (List ℕ)) (n : ℕ) → length pieces ≡ suc n → join_with_byte question pieces ≡ interleaved pieces (replicate n (question ∷ []))
 join_marks [] n e = absurd (omega (arith, e))

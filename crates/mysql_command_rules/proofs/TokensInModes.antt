@@ -3,7 +3,7 @@ use Rattle.std.proofs.Common.{◌≢◌, ℕ, Bool, List, [], ◌∷◌, ◌++�
 use Rattle.std.specs.List.{AllByRecursion, concat}
 use Rattle.mysql_values.specs.Mode.{Mode}
 use Rattle.mysql_values.specs.Tokens.{AreTokens, Closes, HasShape, Inside, IsInside, IsQuoted, Kind, Byte, Escape, Doubled, backslash, has_escapes, inside_bytes, kind_of}
-use Rattle.mysql_values.specs.Tokens.{Quoted, LineComment, BlockComment, Name, Mark, Plain}
+use Rattle.mysql_values.specs.Tokens.{Quoted, LineComment, BlockComment, Opening, Closing, Name, Mark, Plain}
 use Rattle.mysql_command_rules.specs.Laws.{TokensInEachMode}
 use Rattle.mysql_command_rules.proofs.Held.{all_parts}
 
@@ -34,6 +34,8 @@ shape_too : (m o : Mode) (kind : Kind) (token rest : List ℕ) → Plainly token
 shape_too m o (Quoted quote) token rest none is = quoted_too (has_escapes m quote) (has_escapes o quote) quote token rest none is
 shape_too m o LineComment token rest none is = is
 shape_too m o BlockComment token rest none is = is
+shape_too m o Opening token rest none is = is
+shape_too m o Closing token rest none is = is
 shape_too m o Name token rest none is = is
 shape_too m o Mark token rest none is = is
 shape_too m o Plain token rest none is = is

@@ -2,6 +2,7 @@
 -- MySQL: Client/Server Protocol, "Command Phase".
 use Rattle.std.specs.Prelude.{◌≡◌, ◌≢◌, ℕ, ◌+◌, ◌<◌, ◌≤◌, ◌^◌, ◌-◌, false, List, ◌++◌, length, map, None, Ok}
 use Rattle.std.specs.List.{AllByRecursion, AllZip}
+use Rattle.mysql_values.specs.Queries.{AllAlone}
 use Rattle.mysql_values.specs.Values.{FitsFields}
 use Rattle.mysql_values.specs.Mode.{Mode}
 use Rattle.mysql_values.specs.Spelling.TheVariants.{Hexadecimal}
@@ -116,14 +117,14 @@ TokensInEachMode = (mode other : Mode) (text : List ℕ) (tokens : List (List �
     AllByRecursion (λ b. b ≢ backslash) text → HasTokens mode text tokens → HasTokens other text tokens
 
 -- What is sent by text in hexadecimal is also what would be sent in each mode in which the query has
--- the same tokens, and it can be read back there. The numbers of the values fit their fields, as
--- those of all values in a program do.
+-- the same tokens and its placeholders stand alone, and it can be read back there. The numbers of the
+-- values fit their fields, as those of all values in a program do.
 abbrev pub HexadecimalInEachMode : Type 0
 HexadecimalInEachMode =
     (text : List ℕ) (mode other : Mode) (sets : List (List ℕ) → List Given) (id limit : ℕ) (old new : List ℕ)
     (sent : SentReadable Text (read_by mode Hexadecimal text) sets id limit old new) →
     AllByRecursion (λ values. AllByRecursion (λ value. FitsFields value) values) sent.sends.values →
-    HasTokens other text sent.sends.tokens →
+    HasTokens other text sent.sends.tokens → AllAlone (read_by other Hexadecimal text) →
     SentReadable Text (read_by other Hexadecimal text) sets id limit old new
 
 -- A bulk request takes seven bytes, the types that it carries, and its rows.

@@ -17,11 +17,11 @@ use Rattle.mysql_command_rules.specs.declared.road.Road.TheVariants.{Text, Execu
 use Rattle.mysql_command_rules.specs.Commands.{bulk_request, pieces_from, prepare_command, query_command}
 
 -- the text of a query with values: its slices between its placeholders, and between them the
--- literal of each value in its place, empty where it has none
+-- literal of each value, empty where it has none
 abbrev pub query_text_of : Query → List Value → List ℕ
 query_text_of query values =
     interleaved (slices_between query.sql.text 0 query.places)
-    (map (λ literal. unwrap_or literal []) (literals_in query.sql query.places values))
+    (map (λ literal. unwrap_or literal []) (literals_in query.sql values))
 
 -- the command that carries all of a set's values, by which the set's size counts; by bulk, where
 -- sets share requests, none does

@@ -11,7 +11,8 @@ use mysql_bulk_builder::laws::{tight_typed_has_fewest, types_in_force_serve};
 use mysql_literals::as_sql::hexadecimal_is_safe;
 use mysql_receive::laws::{fronts_read_on, whole_streams_join, written_cells_are_held};
 use mysql_values::laws::{
-    cells_have_lengths, filled_text_is_read, sql_text_is_a_literal, tokens_of_a_text,
+    cells_have_lengths, filled_text_is_read, pieces_of_a_query, sql_text_is_a_literal,
+    tokens_of_a_text,
 };
 
 /// Text queries read as the sets whose values they carry.
@@ -93,9 +94,9 @@ pub fn tokens_in_each_mode()
 /// Sets that were sent by text in hexadecimal are sent so for a server in any other mode.
 ///
 /// The query needs to have the same tokens in that mode, as it has without a backslash by
-/// `tokens_in_each_mode`. Then whoever sends need not know the mode of the server: by
-/// `sent_sets_are_delivered` what was appended reads in each as the same sets. That the numbers of
-/// the values fit their fields is what `all_fields_fit` gives.
+/// `tokens_in_each_mode`, and its placeholders stand alone there. Then whoever sends need not know
+/// the mode of the server: by `sent_sets_are_delivered` what was appended reads in each as the same
+/// sets. That the numbers of the values fit their fields is what `all_fields_fit` gives.
 ///
 /// (MySQL Reference Manual, "Server SQL Modes", "Hexadecimal Literals".)
 pub fn hexadecimal_reads_in_each_mode()
@@ -104,6 +105,7 @@ pub fn hexadecimal_reads_in_each_mode()
     hexadecimal_is_safe();
     sql_text_is_a_literal();
     filled_text_is_read();
+    pieces_of_a_query();
 }
 
 /// Parameter sets mean what each of them means by itself, as `bind_text` goes by it.

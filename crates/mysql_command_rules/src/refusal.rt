@@ -69,7 +69,7 @@ impl Refusal {
             ),
             Refusal::NotAlone(_) => (
                 "placeholder ",
-                " does not stand alone: put blanks around it",
+                " does not stand alone: a neighbour joins it, or servers read it differently",
             ),
             Refusal::TooManyPlaces => (
                 "the query has more than 65535 placeholders: split it, or send it as text",

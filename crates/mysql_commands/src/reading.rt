@@ -27,22 +27,18 @@ use mysql_login::ComChangeUser;
 use std::alloc::{AllocError, Global};
 use std::borrow::CowSlice;
 
-/// A command that has no fields.
-fn alone<'a>(command: Command<'a>, bytes: &[u8]) -> Option<Command<'a>>
-    ensures { option_map command_view result ≡ alone (command_view command.entry) bytes.now }
-{
-    if bytes.is_empty() {
-        Some(command)
-    } else {
-        None
-    }
-}
-
 /// What is read of the fields, where no byte is left behind them.
 fn if_all<T: Drop>(value: T, rest: &ParseBuf) -> Option<T>
     ensures { all_of (Ok (value, rest.now.0.now)) ≡ result }
 {
     if rest.is_empty() { Some(value) } else { None }
+}
+
+/// A command that has no fields.
+fn alone<'a>(command: Command<'a>, bytes: &[u8]) -> Option<Command<'a>>
+    ensures { option_map command_view result ≡ alone (command_view command.entry) bytes.now }
+{
+    if_all(command, &ParseBuf(bytes))
 }
 
 /// A number of one byte.
@@ -314,14 +310,13 @@ fn laid_out<'a>(
     ensures { (parameters : Option InForce) → IfOk result (λ command. option_map command_view command ≡
         laid_out capabilities parameters number bytes.now) }
 {
-    let rest = CowSlice::Borrowed(bytes);
     match number {
         0x01 => Ok(alone(Command::Quit, bytes)),
-        0x02 => Ok(Some(Command::InitDb(rest))),
+        0x02 => Ok(Some(Command::InitDb(CowSlice::Borrowed(bytes)))),
         0x03 => query(alloc, capabilities, bytes),
         0x04 => Ok(field_list(bytes)),
-        0x05 => Ok(Some(Command::CreateDb(rest))),
-        0x06 => Ok(Some(Command::DropDb(rest))),
+        0x05 => Ok(Some(Command::CreateDb(CowSlice::Borrowed(bytes)))),
+        0x06 => Ok(Some(Command::DropDb(CowSlice::Borrowed(bytes)))),
         0x07 => Ok(refresh(bytes)),
         0x08 => Ok(shutdown(bytes)),
         0x09 => Ok(alone(Command::Statistics, bytes)),
@@ -333,7 +328,7 @@ fn laid_out<'a>(
         0x12 => binlog_dump(alloc, payload),
         0x13 => table_dump(alloc, payload),
         0x15 => register_slave(alloc, payload),
-        0x16 => Ok(Some(Command::Prepare(rest))),
+        0x16 => Ok(Some(Command::Prepare(CowSlice::Borrowed(bytes)))),
         0x18 => Ok(long_data(bytes)),
         0x19 => Ok(close(bytes)),
         0x1a => Ok(reset_statement(bytes)),
@@ -341,7 +336,7 @@ fn laid_out<'a>(
         0x1c => Ok(fetch(bytes)),
         0x1e => binlog_dump_gtid(alloc, payload),
         0x1f => Ok(alone(Command::ResetConnection, bytes)),
-        0x20 => Ok(Some(Command::Clone(rest))),
+        0x20 => Ok(Some(Command::Clone(CowSlice::Borrowed(bytes)))),
         _ => Ok(None),
     }
 }
@@ -453,6 +448,9 @@ impl<'a> Command<'a> {
             is_some (said capabilities (option_copied parameters.entry) payload.now)) }
     {
         let command = said(alloc, capabilities, parameters, payload)?;
-        Ok(command.is_some())
+        let is = command.is_some();
+        // One step of the proof, in place of one for each part of a variant.
+        drop(command);
+        Ok(is)
     }
 }

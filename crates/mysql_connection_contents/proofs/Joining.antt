@@ -14,7 +14,7 @@ use Rattle.mysql_queries.specs.Laws.{OneTokens}
 use Rattle.mysql_send.specs.Executions.{AppendsMore, limits_of, whole_execution}
 use Rattle.mysql_values.specs.Values.{FitsFields}
 use Rattle.mysql_values.specs.Binding.{values_cause}
-use Rattle.mysql_values.specs.Queries.{places_from}
+use Rattle.mysql_values.specs.Queries.{places_of}
 use Rattle.mysql_values.specs.Value.{Value}
 
 -- ---- no cause speaks against a set, whichever number it has
@@ -60,9 +60,9 @@ module _ (command : List Value → List ℕ) (places room : ℕ) where
 pub further_sets_join : OneTokens → FurtherSetsJoin
 further_sets_join one query limit first later sets more old new before behind a b =
     let same : b.tokens ≡ a.tokens = one query.sql.mode query.sql.text b.tokens a.tokens b.has a.has in
-    let other : AppendsMore query.id (limits_of (places_from query.sql.text 0 a.tokens) limit) later more before behind =
-    subst (λ (tokens : List (List ℕ)). AppendsMore query.id (limits_of (places_from query.sql.text 0 tokens) limit) later more before behind) same b.appends in
-    let limits = limits_of (places_from query.sql.text 0 a.tokens) limit in record {
+    let other : AppendsMore query.id (limits_of (places_of query.sql a.tokens) limit) later more before behind =
+    subst (λ (tokens : List (List ℕ)). AppendsMore query.id (limits_of (places_of query.sql tokens) limit) later more before behind) same b.appends in
+    let limits = limits_of (places_of query.sql a.tokens) limit in record {
       tokens = a.tokens;
       has = a.has;
       few = a.few;

@@ -2,7 +2,7 @@
 use Rattle.std.proofs.Common.{◌≡◌, ℕ, Bool, true, false, not, List, [], ◌∷◌, refl, sym, ap, ◌∙◌, inl, inr}
 use Rattle.mysql_queries.specs.Laws.{OneTokens, SomeTokens, SlicedIsLexed}
 use Rattle.mysql_queries.specs.Queries.{Lexes}
-use Rattle.mysql_queries.specs.Tokens.{HasTokens, Kind, Quoted, LineComment, BlockComment, Name, Mark, Plain, kind_of, quotes_identifier}
+use Rattle.mysql_queries.specs.Tokens.{HasTokens, Kind, Quoted, LineComment, BlockComment, Opening, Closing, Name, Mark, Plain, kind_of, quotes_identifier}
 use Rattle.mysql_bytes.specs.declared.mode.Mode.{Mode}
 use Rattle.mysql_digests.specs.Digest.{Lexeme, Gap, Value, digest_of, lexemes_of, with_token, pieces_behind, with_spaces, without_last}
 use Rattle.mysql_digests.specs.Laws.{OneDigest, SomeDigest, TextHasItsQuerysDigest, TextsHaveOneDigest, InsidesAreNotTold, DifferInside, is_string_kind, is_comment_kind}
@@ -38,6 +38,8 @@ string_value : (mode : Mode) (k : Kind) (t : List ℕ) (ls : List Lexeme) → is
 string_value mode (Quoted q) t ls h = rw (not_true (quotes_identifier mode q) h) refl
 string_value mode LineComment t ls h = cc
 string_value mode BlockComment t ls h = cc
+string_value mode Opening t ls h = cc
+string_value mode Closing t ls h = cc
 string_value mode Name t ls h = cc
 string_value mode Mark t ls h = cc
 string_value mode Plain t ls h = cc
@@ -46,6 +48,8 @@ comment_gap : (mode : Mode) (k : Kind) (t : List ℕ) (ls : List Lexeme) → is_
 comment_gap mode (Quoted q) t ls h = cc
 comment_gap mode LineComment t ls h = refl
 comment_gap mode BlockComment t ls h = refl
+comment_gap mode Opening t ls h = cc
+comment_gap mode Closing t ls h = cc
 comment_gap mode Name t ls h = cc
 comment_gap mode Mark t ls h = cc
 comment_gap mode Plain t ls h = cc

@@ -4,7 +4,7 @@ use Rattle.std.specs.List.{AllByRecursion, concat}
 use Rattle.mysql_queries.specs.LiteralRuns.{EndsBefore}
 use Rattle.mysql_queries.specs.Literals.{is_digit}
 use Rattle.mysql_queries.specs.Scanning.{is_plain}
-use Rattle.mysql_queries.specs.Tokens.{Kind, Quoted, LineComment, BlockComment, Name, Mark, Plain, kind_of, HasShape, IsToken, HasTokens, quotes_identifier}
+use Rattle.mysql_queries.specs.Tokens.{Kind, Quoted, LineComment, BlockComment, Opening, Closing, Name, Mark, Plain, kind_of, HasShape, IsToken, HasTokens, quotes_identifier}
 use Rattle.mysql_bytes.specs.declared.mode.Mode.{Mode}
 use Rattle.mysql_digests.specs.Digest.{Lexeme, Gap, Value, Word, Operator, Identifier, Byte, with_word_byte, with_operator_byte, with_byte, with_bytes, with_token, lexemes_of, is_blank, is_word_byte, is_operator_byte, digit_follows, value_follows}
 use Rattle.mysql_digests.specs.Lexemes.{BeginsWith, first_is_digit, first_is_value, is_value_kind}
@@ -105,6 +105,8 @@ other_first : (P : List Lexeme → Type 0) (m : Mode) (k : Kind) (b : ℕ) (x r 
 other_first P m (Quoted q) b x r ls i w g h = quoted_first P (quotes_identifier m q) (b ∷ x) ls h
 other_first P m LineComment b x r ls i w g h = h Gap tt
 other_first P m BlockComment b x r ls i w g h = h Gap tt
+other_first P m Opening b x r ls i w g h = h Gap tt
+other_first P m Closing b x r ls i w g h = h Gap tt
 other_first P m Name b x r ls i w g h = h Value tt
 other_first P m Mark b x r ls i w g h = h Value tt
 other_first P m Plain b x r ls (c, e) w g h =
@@ -248,6 +250,8 @@ value_kind_first : (m : Mode) (k : Kind) (t r : List ℕ) (ls : List Lexeme) →
 value_kind_first m (Quoted q) t r ls h = value_quoted_first (quotes_identifier m q) t ls
 value_kind_first m LineComment t r ls h = refl
 value_kind_first m BlockComment t r ls h = refl
+value_kind_first m Opening t r ls h = refl
+value_kind_first m Closing t r ls h = refl
 value_kind_first m Name t r ls h = refl
 value_kind_first m Mark t r ls h = refl
 value_kind_first m Plain t r ls (b, h) = ap (λ y. value_follows (with_bytes y ls)) h ∙ value_byte_first b ls

@@ -5,7 +5,7 @@ use Rattle.std.specs.List.{concat}
 use Rattle.mysql_queries.specs.Laws.{OneTokens}
 use Rattle.mysql_queries.specs.LiteralRuns.{EndsBefore}
 use Rattle.mysql_queries.specs.Queries.{is_joining, is_name_kind, is_mark_kind, is_place, Replaces}
-use Rattle.mysql_queries.specs.Tokens.{Kind, Quoted, LineComment, BlockComment, Name, Mark, Plain, kind_of, HasShape, AreTokens, IsQuoted, is_quote, quotes_identifier, has_escapes, inside_bytes, dash, colon, question}
+use Rattle.mysql_queries.specs.Tokens.{Kind, Quoted, LineComment, BlockComment, Opening, Closing, Name, Mark, Plain, kind_of, HasShape, AreTokens, IsQuoted, is_quote, quotes_identifier, has_escapes, inside_bytes, dash, colon, question}
 use Rattle.mysql_bytes.specs.declared.content.Content.{Content}
 use Rattle.mysql_bytes.specs.declared.mode.Mode.{Mode}
 use Rattle.mysql_bytes.specs.declared.spelling.Spelling.{Spelling}
@@ -13,7 +13,8 @@ use Rattle.mysql_digests.specs.Digest.{Lexeme, Gap, Value, Word, Operator, Ident
 use Rattle.mysql_digests.specs.declared.left_out.Before.{Before}
 use Rattle.mysql_digests.specs.declared.left_out.Before.TheVariants.{Apart, Joined, Exponent, Power}
 use Rattle.mysql_queries.proofs.Filled.{AloneFrom}
-use Rattle.mysql_queries.proofs.Follow.{BeginsApart, IsApart, last_of}
+use Rattle.mysql_queries.proofs.Follow.{BeginsApart, IsApart}
+use Rattle.mysql_queries.specs.Alone.{last_of}
 use Rattle.mysql_queries.proofs.FirstBytes.{and_true, bool_tells, HasQuote, kind_has_quote, Tells, kind_tells}
 use Rattle.mysql_digests.proofs.FirstTokens.{not_empty}
 use Rattle.mysql_digests.proofs.Forms.{Forms, IsForm, literal_forms}
@@ -136,6 +137,8 @@ place_kind : (b : ℕ) (x : List ℕ) (k : Kind) → Tells b x k → is_name_kin
 place_kind b x (Quoted q) h e = cc
 place_kind b x LineComment h e = cc
 place_kind b x BlockComment h e = cc
+place_kind b x Opening h e = cc
+place_kind b x Closing h e = cc
 place_kind b x Name h e = inl h.0
 place_kind b x Mark h e = inr h
 place_kind b x Plain h e = cc
@@ -163,6 +166,8 @@ value_kind : (m : Mode) (k : Kind) (t : List ℕ) (ls : List Lexeme) → is_name
 value_kind m (Quoted q) t ls h = cc
 value_kind m LineComment t ls h = cc
 value_kind m BlockComment t ls h = cc
+value_kind m Opening t ls h = cc
+value_kind m Closing t ls h = cc
 value_kind m Name t ls h = refl
 value_kind m Mark t ls h = refl
 value_kind m Plain t ls h = cc
@@ -234,6 +239,8 @@ token_kept : (m : Mode) (joined : Bool) (last : ℕ) (k : Kind) (t : List ℕ) (
 token_kept m joined last (Quoted q) t ts ls ms hq h i p same apart = quoted_kept joined (quotes_identifier m q) t ls ms (same true (λ e. absurd (quoted_no_place m q last t ts hq h i apart e)))
 token_kept m joined last LineComment t ts ls ms hq h i p same apart = inl (ms, refl, (λ j. (refl, refl)), same false (λ e. refl))
 token_kept m joined last BlockComment t ts ls ms hq h i p same apart = inl (ms, refl, (λ j. (refl, refl)), same false (λ e. refl))
+token_kept m joined last Opening t ts ls ms hq h i p same apart = inl (ms, refl, (λ j. (refl, refl)), same false (λ e. refl))
+token_kept m joined last Closing t ts ls ms hq h i p same apart = inl (ms, refl, (λ j. (refl, refl)), same false (λ e. refl))
 token_kept m joined last Name t ts ls ms hq h i p same apart = no_form p
 token_kept m joined last Mark t ts ls ms hq h i p same apart = no_form p
 token_kept m joined last Plain t ts ls ms hq (b, h) i p same apart =

@@ -9,7 +9,7 @@ use Rattle.mysql_queries.specs.Literals.{is_digit}
 use Rattle.mysql_queries.specs.Queries.{is_joining}
 use Rattle.mysql_queries.specs.Scanning.{is_plain}
 use Rattle.mysql_queries.specs.Tokens.{is_within, quotes_identifier, kind_of, Kind, Quoted, LineComment, BlockComment}
-use Rattle.mysql_queries.specs.Tokens.{Name, Mark, Plain, HasTokens, dash}
+use Rattle.mysql_queries.specs.Tokens.{Opening, Closing, Name, Mark, Plain, HasTokens, dash}
 use Rattle.mysql_bytes.specs.declared.mode.Mode.{Mode}
 use Rattle.mysql_digests.specs.declared.left_out.Before.{Before}
 use Rattle.mysql_digests.specs.declared.left_out.Before.TheVariants.{Apart, Joined, Exponent, Power}
@@ -73,13 +73,15 @@ abbrev pub with_bytes : List ℕ → List Lexeme → List Lexeme
 with_bytes [] lexemes = lexemes
 with_bytes (b ∷ bytes) lexemes = with_byte b (with_bytes bytes lexemes)
 
--- A token of a kind, before what follows. A string and a placeholder are values, and comments don't
--- count.
+-- A token of a kind, before what follows. A string and a placeholder are values. Comments don't
+-- count, nor does what begins or ends one whose inside is read.
 abbrev pub with_token : Mode → Kind → List ℕ → List Lexeme → List Lexeme
 with_token mode (Quoted quote) token lexemes =
     (if quotes_identifier mode quote then Identifier token else Value) ∷ lexemes
 with_token mode LineComment token lexemes = Gap ∷ lexemes
 with_token mode BlockComment token lexemes = Gap ∷ lexemes
+with_token mode Opening token lexemes = Gap ∷ lexemes
+with_token mode Closing token lexemes = Gap ∷ lexemes
 with_token mode Name token lexemes = Value ∷ lexemes
 with_token mode Mark token lexemes = Value ∷ lexemes
 with_token mode Plain token lexemes = with_bytes token lexemes

@@ -4,7 +4,8 @@
 use Rattle.std.specs.Prelude.{◌≡◌, ℕ, Bool, true, false, not, ◌⊎◌, List, [], ◌∷◌, codes}
 use Rattle.mysql_queries.specs.Queries.{AllAlone, Slices}
 use Rattle.mysql_queries.specs.Sql.{Sql}
-use Rattle.mysql_queries.specs.Tokens.{HasTokens, Kind, Quoted, LineComment, BlockComment, Name, Mark, Plain, kind_of}
+use Rattle.mysql_queries.specs.Tokens.{HasTokens, Kind, Quoted, LineComment, BlockComment, Opening, Closing, Name, Mark}
+use Rattle.mysql_queries.specs.Tokens.{Plain, kind_of}
 use Rattle.mysql_queries.specs.Tokens.{quotes_identifier}
 use Rattle.mysql_bytes.specs.declared.content.Content.{Content}
 use Rattle.mysql_bytes.specs.declared.mode.Mode.{Mode}
@@ -35,6 +36,8 @@ abbrev pub is_string_kind : Mode → Kind → Bool
 is_string_kind mode (Quoted quote) = not (quotes_identifier mode quote)
 is_string_kind mode LineComment = false
 is_string_kind mode BlockComment = false
+is_string_kind mode Opening = false
+is_string_kind mode Closing = false
 is_string_kind mode Name = false
 is_string_kind mode Mark = false
 is_string_kind mode Plain = false
@@ -43,6 +46,8 @@ abbrev pub is_comment_kind : Kind → Bool
 is_comment_kind (Quoted quote) = false
 is_comment_kind LineComment = true
 is_comment_kind BlockComment = true
+is_comment_kind Opening = false
+is_comment_kind Closing = false
 is_comment_kind Name = false
 is_comment_kind Mark = false
 is_comment_kind Plain = false

@@ -2,7 +2,8 @@
 -- MySQL Reference Manual, "Comments", "String Literals", "Schema Object Names".
 use Rattle.std.specs.Prelude.{◌≡◌, ℕ, Bool, true, false, not, List, [], ◌∷◌}
 use Rattle.mysql_queries.specs.Literals.{is_digit}
-use Rattle.mysql_queries.specs.Tokens.{HasTokens, Kind, Quoted, LineComment, BlockComment, Name, Mark, Plain, kind_of}
+use Rattle.mysql_queries.specs.Tokens.{HasTokens, Kind, Quoted, LineComment, BlockComment, Opening, Closing, Name, Mark}
+use Rattle.mysql_queries.specs.Tokens.{Plain, kind_of}
 use Rattle.mysql_queries.specs.Tokens.{quotes_identifier}
 use Rattle.mysql_bytes.specs.declared.mode.Mode.{Mode}
 use Rattle.mysql_digests.specs.Digest.{Lexeme, lexemes_of}
@@ -35,6 +36,8 @@ abbrev pub is_value_kind : Mode → Kind → Bool
 is_value_kind mode (Quoted quote) = not (quotes_identifier mode quote)
 is_value_kind mode LineComment = false
 is_value_kind mode BlockComment = false
+is_value_kind mode Opening = false
+is_value_kind mode Closing = false
 is_value_kind mode Name = true
 is_value_kind mode Mark = true
 is_value_kind mode Plain = false

@@ -56,6 +56,8 @@ fn value_first(text: &[u8], mode: Mode) -> bool
         TokenKind::Quoted(quote) => !is_identifier(mode, quote),
         TokenKind::LineComment => false,
         TokenKind::BlockComment => false,
+        TokenKind::Opening => false,
+        TokenKind::Closing => false,
         TokenKind::Name => true,
         TokenKind::Mark => true,
         TokenKind::Plain => false,

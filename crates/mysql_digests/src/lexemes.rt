@@ -138,6 +138,8 @@ fn token_at(text: &[u8], mode: Mode) -> (Found, usize)
         }
         TokenKind::LineComment => (Found::Gap, end),
         TokenKind::BlockComment => (Found::Gap, end),
+        TokenKind::Opening => (Found::Gap, end),
+        TokenKind::Closing => (Found::Gap, end),
         TokenKind::Name => (Found::Value, end),
         TokenKind::Mark => (Found::Value, end),
         TokenKind::Plain => (Found::Byte(text[0]), end),

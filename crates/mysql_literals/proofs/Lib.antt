@@ -1,3 +1,2 @@
 pub mod Escapes
 pub mod SqlTexts
-pub mod Parted

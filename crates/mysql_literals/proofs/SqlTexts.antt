@@ -13,12 +13,11 @@ use Rattle.std.proofs.lemmas.List.Concat.{flat_map-append}
 use Rattle.std.proofs.lemmas.Str.{IsUtf8-append, IsUtf8-nil, IsUtf8-encode, IsUtf8-from_ascii, IsUtf8-from_is_utf8, is_utf8-from_IsUtf8, encode_ascii, inside_one}
 use Rattle.std.proofs.lemmas.Str.Parse.{IsNumeralModel, IsDigitsTest, FoldsDigits, numerals_by_fold}
 use Rattle.mysql_cells.specs.Values.{FitsFields}
-use Rattle.mysql_literals.specs.AsSql.{IsSafeByte, SqlIsLiteral, EachSqlIsLiteral, EachHexadecimalIsSafe, EachStaysInComment, OneHexadecimal, PutsSql, stands_in_quotes}
-use Rattle.mysql_queries.specs.Laws.{PlainIsRead, WrittenBringsNoPair, WrittenIsRead}
-use Rattle.mysql_queries.specs.Comments.{BringsNoPair}
+use Rattle.mysql_literals.specs.AsSql.{IsSafeByte, SqlIsLiteral, EachSqlIsLiteral, EachHexadecimalIsSafe, OneHexadecimal, PutsSql, stands_in_quotes}
+use Rattle.mysql_queries.specs.Laws.{PlainIsRead, WrittenIsRead}
 use Rattle.mysql_queries.specs.Literals.{AreDigits, IsLiteral, IsNumber, binary_introducer, digits_value, is_digit, text_introducer}
 use Rattle.mysql_queries.specs.Tokens.{single_quote, double_quote, backslash, slash, star}
-use Rattle.mysql_literals.specs.Literals.{bytes_sql, hexadecimal_sql, in_quotes, quoted_sql, sql_of, text_sql}
+use Rattle.mysql_literals.specs.Literals.{bytes_sql, hexadecimal_sql, in_quotes, quoted_sql, sql_of}
 use Rattle.mysql_cells.specs.Values.{clock_text, date_text, day_text, digits_in, is_zero_time, micros_text, time_text, with_zero_sign, without_zero_sign}
 use Rattle.mysql_queries.specs.Written.{hex_digit, in_hexadecimal, quoted, written_byte}
 use Rattle.mysql_bytes.specs.declared.content.Content.{Content}
@@ -180,15 +179,10 @@ safe_introducer : (text : Bool) → AreSafe (if text then text_introducer else b
 safe_introducer true = (safe_above 0x5f (omega arith) (omega arith) (λ e. omega (arith, e)), (safe_letters 0x75 (omega arith) (omega arith), (safe_letters 0x74 (omega arith) (omega arith), (safe_letters 0x66 (omega arith) (omega arith), (safe_between 0x38 (omega arith) (omega arith) (λ e. omega (arith, e)), (safe_letters 0x6d (omega arith) (omega arith), (safe_letters 0x62 (omega arith) (omega arith), (safe_between 0x34 (omega arith) (omega arith) (λ e. omega (arith, e)), (safe_space, tt)))))))))
 safe_introducer false = (safe_above 0x5f (omega arith) (omega arith) (λ e. omega (arith, e)), (safe_letters 0x62 (omega arith) (omega arith), (safe_letters 0x69 (omega arith) (omega arith), (safe_letters 0x6e (omega arith) (omega arith), (safe_letters 0x61 (omega arith) (omega arith), (safe_letters 0x72 (omega arith) (omega arith), (safe_letters 0x79 (omega arith) (omega arith), (safe_space, tt))))))))
 
-text_literal : WrittenIsRead → (mode : Mode) (sp : Spelling) (in_comment : Bool) (bytes : List ℕ) → AllByRecursion (λ b. b < 256) bytes
-    → IsLiteral mode sp (text_sql mode.no_backslash_escapes in_comment bytes) (content.Bytes bytes)
-text_literal written mode sp true bytes h = written.in_comment mode sp bytes h
-text_literal written mode sp false bytes h = written.quotes mode sp bytes
-
-quoted_literal : WrittenIsRead → (mode : Mode) (sp : Spelling) (in_comment test : Bool) (bytes : List ℕ) → is_utf8 bytes ≡ test → AllByRecursion (λ b. b < 256) bytes
-    → IsLiteral mode sp (if test then text_sql mode.no_backslash_escapes in_comment bytes else in_hexadecimal bytes) (content.Bytes bytes)
-quoted_literal written mode sp in_comment true bytes e h = text_literal written mode sp in_comment bytes h
-quoted_literal written mode sp in_comment false bytes e h =
+quoted_literal : WrittenIsRead → (mode : Mode) (sp : Spelling) (test : Bool) (bytes : List ℕ) → is_utf8 bytes ≡ test → AllByRecursion (λ b. b < 256) bytes
+    → IsLiteral mode sp (if test then quoted mode.no_backslash_escapes bytes else in_hexadecimal bytes) (content.Bytes bytes)
+quoted_literal written mode sp true bytes e h = written.quotes mode sp bytes
+quoted_literal written mode sp false bytes e h =
     written.digits mode sp bytes h (λ none.
     let text : is_utf8 bytes ≡ true = ap is_utf8 none ∙ is_utf8-from_IsUtf8 [] IsUtf8-nil in
     let differs : true ≡ false = sym text ∙ e in cc)
@@ -197,10 +191,10 @@ hexadecimal_literal : WrittenIsRead → PlainIsRead → (mode : Mode) (bytes : L
 hexadecimal_literal written plain mode [] h = plain mode Hexadecimal [] tt
 hexadecimal_literal written plain mode (b ∷ bytes) h = written.introducers mode (b ∷ bytes) h (λ e. cc)
 
-bytes_literal : WrittenIsRead → PlainIsRead → (mode : Mode) (sp : Spelling) (in_comment : Bool) (bytes : List ℕ) → AllByRecursion (λ b. b < 256) bytes
-    → IsLiteral mode sp (bytes_sql mode.no_backslash_escapes sp in_comment bytes) (content.Bytes bytes)
-bytes_literal written plain mode Quoted in_comment bytes h = quoted_literal written mode Quoted in_comment (is_utf8 bytes) bytes refl h
-bytes_literal written plain mode Hexadecimal in_comment bytes h = hexadecimal_literal written plain mode bytes h
+bytes_literal : WrittenIsRead → PlainIsRead → (mode : Mode) (sp : Spelling) (bytes : List ℕ) → AllByRecursion (λ b. b < 256) bytes
+    → IsLiteral mode sp (bytes_sql mode.no_backslash_escapes sp bytes) (content.Bytes bytes)
+bytes_literal written plain mode Quoted bytes h = quoted_literal written mode Quoted (is_utf8 bytes) bytes refl h
+bytes_literal written plain mode Hexadecimal bytes h = hexadecimal_literal written plain mode bytes h
 
 -- values
 
@@ -211,18 +205,18 @@ at_both mode sp a text c meaning e f h =
     subst (λ t. IsLiteral mode sp t meaning) same (subst (λ k. IsLiteral mode sp a k) means h)
 
 each_sql_is_literal : WrittenIsRead → PlainIsRead → (value : Value) → FitsFields value → SqlIsLiteral value
-each_sql_is_literal written plain NULL h mode spelling in_comment text meaning e f = at_both mode spelling (codes "NULL") text content.Null meaning e f refl
-each_sql_is_literal written plain (Bytes bytes) h mode spelling in_comment text meaning e f =
-    at_both mode spelling (bytes_sql mode.no_backslash_escapes spelling in_comment bytes) text (content.Bytes bytes) meaning e f (bytes_literal written plain mode spelling in_comment bytes (all_bytes bytes (λ k l. h.0 k)))
-each_sql_is_literal written plain (Int (pos n)) h mode spelling in_comment text meaning e f = at_both mode spelling (decimal n) text (content.Number (pos n)) meaning e f (unsigned_number n (omega (arith, h.sfits)))
-each_sql_is_literal written plain (Int (negsuc n)) h mode spelling in_comment text meaning e f = at_both mode spelling (0x2d ∷ decimal (suc n)) text (content.Number (negsuc n)) meaning e f (negative_number n (omega (arith, h.sfits)))
-each_sql_is_literal written plain (UInt n) h mode spelling in_comment text meaning e f = at_both mode spelling (decimal n) text (content.Number (pos n)) meaning e f (unsigned_number n h)
-each_sql_is_literal written plain (Float bits) h mode spelling in_comment text meaning e f = cc
-each_sql_is_literal written plain (Double bits) h mode spelling in_comment text meaning e f = cc
-each_sql_is_literal written plain (Date year month day hour minute second micros) h mode spelling in_comment text meaning e f =
+each_sql_is_literal written plain NULL h mode spelling text meaning e f = at_both mode spelling (codes "NULL") text content.Null meaning e f refl
+each_sql_is_literal written plain (Bytes bytes) h mode spelling text meaning e f =
+    at_both mode spelling (bytes_sql mode.no_backslash_escapes spelling bytes) text (content.Bytes bytes) meaning e f (bytes_literal written plain mode spelling bytes (all_bytes bytes (λ k l. h.0 k)))
+each_sql_is_literal written plain (Int (pos n)) h mode spelling text meaning e f = at_both mode spelling (decimal n) text (content.Number (pos n)) meaning e f (unsigned_number n (omega (arith, h.sfits)))
+each_sql_is_literal written plain (Int (negsuc n)) h mode spelling text meaning e f = at_both mode spelling (0x2d ∷ decimal (suc n)) text (content.Number (negsuc n)) meaning e f (negative_number n (omega (arith, h.sfits)))
+each_sql_is_literal written plain (UInt n) h mode spelling text meaning e f = at_both mode spelling (decimal n) text (content.Number (pos n)) meaning e f (unsigned_number n h)
+each_sql_is_literal written plain (Float bits) h mode spelling text meaning e f = cc
+each_sql_is_literal written plain (Double bits) h mode spelling text meaning e f = cc
+each_sql_is_literal written plain (Date year month day hour minute second micros) h mode spelling text meaning e f =
     let safe : AreSafe (date_text year month day hour minute second micros) = safe_date year month day hour minute second micros h.0 h.1 h.2 h.3 h.4 h.5 h.6 in
     at_both mode spelling _ text _ meaning e f (plain mode spelling (date_text year month day hour minute second micros) (unquoted _ safe))
-each_sql_is_literal written plain (Time negative days hours minutes seconds micros) h mode spelling in_comment text meaning e f =
+each_sql_is_literal written plain (Time negative days hours minutes seconds micros) h mode spelling text meaning e f =
     let safe : AreSafe (time_text negative days hours minutes seconds micros) = safe_time negative days hours minutes seconds micros h.0 h.1 h.2 h.3 h.4 in
     at_both mode spelling _ text _ meaning e f (plain mode spelling (time_text negative days hours minutes seconds micros) (unquoted _ safe))
 
@@ -253,85 +247,30 @@ safe_bytes [] h = inr (refl, [], refl, tt)
 safe_bytes (b ∷ bytes) h = inl (refl, safe_append _ (in_hexadecimal (b ∷ bytes)) (safe_introducer (is_utf8 (b ∷ bytes))) (safe_hexadecimal (b ∷ bytes) h))
 
 pub each_hexadecimal_is_safe : EachHexadecimalIsSafe
-each_hexadecimal_is_safe NULL h mode in_comment text e =
+each_hexadecimal_is_safe NULL h mode text e =
     let letter : IsSafeByte 0x4c = safe_between 0x4c (omega arith) (omega arith) (λ e. omega (arith, e)) in
     safe_text (codes "NULL") text false e (inl (refl, (safe_between 0x4e (omega arith) (omega arith) (λ e. omega (arith, e)), (safe_between 0x55 (omega arith) (omega arith) (λ e. omega (arith, e)), (letter, (letter, tt))))))
-each_hexadecimal_is_safe (Bytes bytes) h mode in_comment text e = safe_text (hexadecimal_sql bytes) text (stands_in_quotes (Bytes bytes)) e (safe_bytes bytes (all_bytes bytes (λ k l. h.0 k)))
-each_hexadecimal_is_safe (Int (pos n)) h mode in_comment text e = safe_text (decimal n) text false e (inl (refl, safe_decimal n (omega (arith, h.sfits))))
-each_hexadecimal_is_safe (Int (negsuc n)) h mode in_comment text e = safe_text (0x2d ∷ decimal (suc n)) text false e (inl (refl, safe_negative (suc n) (omega (arith, h.sfits))))
-each_hexadecimal_is_safe (UInt n) h mode in_comment text e = safe_text (decimal n) text false e (inl (refl, safe_decimal n h))
-each_hexadecimal_is_safe (Float bits) h mode in_comment text e = cc
-each_hexadecimal_is_safe (Double bits) h mode in_comment text e = cc
-each_hexadecimal_is_safe (Date year month day hour minute second micros) h mode in_comment text e =
+each_hexadecimal_is_safe (Bytes bytes) h mode text e = safe_text (hexadecimal_sql bytes) text (stands_in_quotes (Bytes bytes)) e (safe_bytes bytes (all_bytes bytes (λ k l. h.0 k)))
+each_hexadecimal_is_safe (Int (pos n)) h mode text e = safe_text (decimal n) text false e (inl (refl, safe_decimal n (omega (arith, h.sfits))))
+each_hexadecimal_is_safe (Int (negsuc n)) h mode text e = safe_text (0x2d ∷ decimal (suc n)) text false e (inl (refl, safe_negative (suc n) (omega (arith, h.sfits))))
+each_hexadecimal_is_safe (UInt n) h mode text e = safe_text (decimal n) text false e (inl (refl, safe_decimal n h))
+each_hexadecimal_is_safe (Float bits) h mode text e = cc
+each_hexadecimal_is_safe (Double bits) h mode text e = cc
+each_hexadecimal_is_safe (Date year month day hour minute second micros) h mode text e =
     safe_text _ text true e (inr (refl, date_text year month day hour minute second micros, refl, safe_date year month day hour minute second micros h.0 h.1 h.2 h.3 h.4 h.5 h.6))
-each_hexadecimal_is_safe (Time negative days hours minutes seconds micros) h mode in_comment text e =
+each_hexadecimal_is_safe (Time negative days hours minutes seconds micros) h mode text e =
     let sign : Bool = negative && not (is_zero_time days hours minutes seconds micros) in
     safe_text _ text true e (inr (refl, time_text sign days hours minutes seconds micros, refl, safe_time sign days hours minutes seconds micros h.0 h.1 h.2 h.3 h.4))
 
 pub one_hexadecimal : OneHexadecimal
-one_hexadecimal NULL mode other in_comment elsewhere = refl
-one_hexadecimal (Bytes bytes) mode other in_comment elsewhere = refl
-one_hexadecimal (Int z) mode other in_comment elsewhere = refl
-one_hexadecimal (UInt n) mode other in_comment elsewhere = refl
-one_hexadecimal (Float bits) mode other in_comment elsewhere = refl
-one_hexadecimal (Double bits) mode other in_comment elsewhere = refl
-one_hexadecimal (Date year month day hour minute second micros) mode other in_comment elsewhere = refl
-one_hexadecimal (Time negative days hours minutes seconds micros) mode other in_comment elsewhere = refl
-
--- comments
-
-loose_of : (text : List ℕ) → AreSafe text → AllByRecursion (λ b. (b ≢ star) × (b ≢ slash)) text
-loose_of [] h = tt
-loose_of (b ∷ text) h = ((h.0.5, h.0.6), loose_of text h.1)
-
-loose_more : (xs ys : List ℕ) → AllByRecursion (λ b. (b ≢ star) × (b ≢ slash)) xs → AllByRecursion (λ b. (b ≢ star) × (b ≢ slash)) ys → AllByRecursion (λ b. (b ≢ star) × (b ≢ slash)) (xs ++ ys)
-loose_more [] ys h k = k
-loose_more (x ∷ xs) ys h k = (h.0, loose_more xs ys h.1 k)
-
-loose_quote : (single_quote ≢ star) × (single_quote ≢ slash)
-loose_quote = (λ e. omega (arith, e), λ e. omega (arith, e))
-
-safe_stays : WrittenBringsNoPair → (text : List ℕ) → text ≢ [] → AreSafe text → BringsNoPair text
-safe_stays written text n h = written.others text n (loose_of text h)
-
-quotes_stay : WrittenBringsNoPair → (text : List ℕ) → AreSafe text → BringsNoPair (in_quotes text)
-quotes_stay written text h = written.others (in_quotes text) (λ e. cc) (loose_quote, loose_more text (single_quote ∷ []) (loose_of text h) (loose_quote, tt))
-
-quoted_stays : WrittenBringsNoPair → (m test : Bool) (bytes : List ℕ) → AllByRecursion (λ b. b < 256) bytes → BringsNoPair (if test then text_sql m true bytes else in_hexadecimal bytes)
-quoted_stays written m true bytes h = written.quotes m bytes h
-quoted_stays written m false bytes h = written.digits bytes h
-
-hexadecimal_stays : WrittenBringsNoPair → (bytes : List ℕ) → AllByRecursion (λ b. b < 256) bytes → BringsNoPair (hexadecimal_sql bytes)
-hexadecimal_stays written [] h = quotes_stay written [] tt
-hexadecimal_stays written (b ∷ bytes) h = written.introducers (b ∷ bytes) h
-
-bytes_stay : WrittenBringsNoPair → (m : Bool) (sp : Spelling) (bytes : List ℕ) → AllByRecursion (λ b. b < 256) bytes → BringsNoPair (bytes_sql m sp true bytes)
-bytes_stay written m Quoted bytes h = quoted_stays written m (is_utf8 bytes) bytes h
-bytes_stay written m Hexadecimal bytes h = hexadecimal_stays written bytes h
-
-brings_same : (a text : List ℕ) → Some a ≡ Some text → BringsNoPair a → BringsNoPair text
-brings_same a text e h = let same : a ≡ text = cc in subst BringsNoPair same h
-
-some_digits : (n : ℕ) → n < 2 ^ 64 → decimal n ≢ []
-some_digits n h e = let l : 0 < length (decimal n) = decimal_nonempty n h in let z : length (decimal n) ≡ 0 = ap length e in omega (arith, l, z)
-
-pub each_stays : WrittenBringsNoPair → EachStaysInComment
-each_stays written NULL h mode spelling text e =
-    let letter : IsSafeByte 0x4c = safe_between 0x4c (omega arith) (omega arith) (λ e. omega (arith, e)) in
-    brings_same (codes "NULL") text e (safe_stays written (codes "NULL") (λ e. cc)
-    (safe_between 0x4e (omega arith) (omega arith) (λ e. omega (arith, e)), (safe_between 0x55 (omega arith) (omega arith) (λ e. omega (arith, e)), (letter, (letter, tt)))))
-each_stays written (Bytes bytes) h mode spelling text e =
-    brings_same (bytes_sql mode.no_backslash_escapes spelling true bytes) text e (bytes_stay written mode.no_backslash_escapes spelling bytes (all_bytes bytes (λ k l. h.0 k)))
-each_stays written (Int (pos n)) h mode spelling text e = brings_same (decimal n) text e (safe_stays written (decimal n) (some_digits n (omega (arith, h.sfits))) (safe_decimal n (omega (arith, h.sfits))))
-each_stays written (Int (negsuc n)) h mode spelling text e = brings_same (0x2d ∷ decimal (suc n)) text e (safe_stays written (0x2d ∷ decimal (suc n)) (λ e. cc) (safe_negative (suc n) (omega (arith, h.sfits))))
-each_stays written (UInt n) h mode spelling text e = brings_same (decimal n) text e (safe_stays written (decimal n) (some_digits n h) (safe_decimal n h))
-each_stays written (Float bits) h mode spelling text e = cc
-each_stays written (Double bits) h mode spelling text e = cc
-each_stays written (Date year month day hour minute second micros) h mode spelling text e =
-    brings_same _ text e (quotes_stay written (date_text year month day hour minute second micros) (safe_date year month day hour minute second micros h.0 h.1 h.2 h.3 h.4 h.5 h.6))
-each_stays written (Time negative days hours minutes seconds micros) h mode spelling text e =
-    let sign : Bool = negative && not (is_zero_time days hours minutes seconds micros) in
-    brings_same _ text e (quotes_stay written (time_text sign days hours minutes seconds micros) (safe_time sign days hours minutes seconds micros h.0 h.1 h.2 h.3 h.4))
+one_hexadecimal NULL mode other = refl
+one_hexadecimal (Bytes bytes) mode other = refl
+one_hexadecimal (Int z) mode other = refl
+one_hexadecimal (UInt n) mode other = refl
+one_hexadecimal (Float bits) mode other = refl
+one_hexadecimal (Double bits) mode other = refl
+one_hexadecimal (Date year month day hour minute second micros) mode other = refl
+one_hexadecimal (Time negative days hours minutes seconds micros) mode other = refl
 
 -- UTF-8
 
@@ -432,7 +371,7 @@ number_is_utf8 n h = safe_is_utf8 (decimal n) (safe_decimal n h)
 
 pub sql_is_utf8 : (m : Bool) (value : Value) (text : List ℕ) → FitsFields value → sql_of m value ≡ Some text → IsUtf8 text
 sql_is_utf8 m NULL text h e = let same : codes "NULL" ≡ text = cc in subst IsUtf8 same (ascii_is_utf8 (codes "NULL") (omega arith, (omega arith, (omega arith, (omega arith, tt)))))
-sql_is_utf8 m (Bytes bytes) text h e = let same : quoted_sql m false bytes ≡ text = cc in subst IsUtf8 same (bytes_are_utf8 m (is_utf8 bytes) bytes refl (all_bytes bytes (λ k l. h.0 k)))
+sql_is_utf8 m (Bytes bytes) text h e = let same : quoted_sql m bytes ≡ text = cc in subst IsUtf8 same (bytes_are_utf8 m (is_utf8 bytes) bytes refl (all_bytes bytes (λ k l. h.0 k)))
 sql_is_utf8 m (Int (pos n)) text h e = let same : decimal n ≡ text = cc in subst IsUtf8 same (number_is_utf8 n (omega (arith, h.sfits)))
 sql_is_utf8 m (Int (negsuc n)) text h e =
     let same : 0x2d ∷ decimal (suc n) ≡ text = cc in

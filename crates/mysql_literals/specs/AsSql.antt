@@ -1,15 +1,13 @@
--- How a value's SQL text is appended, that it is a literal of the value's content, and that it
--- leaves comments as they are. MySQL Reference Manual, "Literal Values": "String Literals" (escape
--- sequences), "Hexadecimal Literals", "Date and Time Literals"; "Character Set Introducers";
--- "Comments"; "Server SQL Modes" (NO_BACKSLASH_ESCAPES).
+-- How a value's SQL text is appended, and that it is a literal of the value's content. MySQL
+-- Reference Manual, "Literal Values": "String Literals" (escape sequences), "Hexadecimal Literals",
+-- "Date and Time Literals"; "Character Set Introducers"; "Server SQL Modes" (NO_BACKSLASH_ESCAPES).
 use Rattle.std.specs.Prelude.{◌≡◌, ◌≢◌, ◌⊎◌, ℕ, ◌<◌, Bool, false, true}
 use Rattle.std.specs.Prelude.{List, [], ◌∷◌, ◌++◌, length, take, Option, Some, None, Result, Ok, Err}
 use Rattle.std.specs.List.{AllByRecursion}
 use Rattle.mysql_queries.specs.Tokens.{backslash, backtick, double_quote, single_quote, slash, star}
-use Rattle.mysql_queries.specs.Comments.{BringsNoPair}
 use Rattle.mysql_queries.specs.Literals.{IsLiteral}
 use Rattle.mysql_cells.specs.Values.{FitsFields, content_of, plain_content}
-use Rattle.mysql_literals.specs.Literals.{in_quotes, literal_at, spelled_sql}
+use Rattle.mysql_literals.specs.Literals.{in_quotes, literal_of, spelled_sql}
 use Rattle.mysql_bytes.specs.declared.content.Content.{Content}
 use Rattle.mysql_bytes.specs.declared.mode.Mode.{Mode}
 use Rattle.mysql_bytes.specs.declared.spelling.Spelling.{Spelling}
@@ -38,21 +36,16 @@ PutsLiteral None old new (Err e) = (e ≡ as_sql_error.Float) × (new ≡ old)
 -- The SQL text of a value for a mode is in that mode and its spelling a literal of what the value
 -- means, the sign of an all-zero time kept in both.
 abbrev pub SqlIsLiteral : Value → Type 0
-SqlIsLiteral value = (mode : Mode) (spelling : Spelling) (in_comment : Bool) (text : List ℕ) (content : Content) →
-    spelled_sql mode.no_backslash_escapes spelling in_comment value ≡ Some text →
+SqlIsLiteral value = (mode : Mode) (spelling : Spelling) (text : List ℕ) (content : Content) →
+    spelled_sql mode.no_backslash_escapes spelling value ≡ Some text →
     plain_content value ≡ Some content → IsLiteral mode spelling text content
 
 -- The literal that is bound for a value and a mode is in that mode and its spelling a literal of its
--- content, in a comment and elsewhere.
+-- content.
 abbrev pub HasLiteral : Value → Type 0
-HasLiteral value = (mode : Mode) (spelling : Spelling) (in_comment : Bool) (text : List ℕ) (content : Content) →
-    literal_at mode spelling in_comment value ≡ Some text →
+HasLiteral value = (mode : Mode) (spelling : Spelling) (text : List ℕ) (content : Content) →
+    literal_of mode spelling value ≡ Some text →
     content_of value ≡ Some content → IsLiteral mode spelling text content
-
--- The literal that is bound for a value in a comment brings no `/*` and no `*/` into it.
-abbrev pub StaysInComment : Value → Type 0
-StaysInComment value = (mode : Mode) (spelling : Spelling) (text : List ℕ) →
-    literal_at mode spelling true value ≡ Some text → BringsNoPair text
 
 -- A byte of ASCII that no mode, no character set and no comment takes otherwise: none of the three
 -- quotes, no backslash, no star and no slash.
@@ -70,25 +63,21 @@ stands_in_quotes _ = false
 -- In hexadecimal spelling the literal of a value has safe bytes alone, but for the two quotes
 -- around a date, a time and no bytes.
 abbrev pub HexadecimalIsSafe : Value → Type 0
-HexadecimalIsSafe value = (mode : Mode) (in_comment : Bool) (text : List ℕ) →
-    literal_at mode Hexadecimal in_comment value ≡ Some text →
+HexadecimalIsSafe value = (mode : Mode) (text : List ℕ) →
+    literal_of mode Hexadecimal value ≡ Some text →
     ((stands_in_quotes value ≡ false) × AllByRecursion IsSafeByte text) ⊎
     ((stands_in_quotes value ≡ true) × (inside : List ℕ) × (text ≡ in_quotes inside) ×
     AllByRecursion IsSafeByte inside)
 
--- Hexadecimal spelling is the same for each mode, in a comment and elsewhere.
+-- Hexadecimal spelling is the same for each mode.
 abbrev pub OneHexadecimal : Type 0
-OneHexadecimal = (value : Value) (mode other : Mode) (in_comment elsewhere : Bool) →
-    literal_at mode Hexadecimal in_comment value ≡ literal_at other Hexadecimal elsewhere value
+OneHexadecimal = (value : Value) (mode other : Mode) →
+    literal_of mode Hexadecimal value ≡ literal_of other Hexadecimal value
 
 -- That holds of each value whose numbers fit their fields.
 abbrev pub EachHexadecimalIsSafe : Type 0
 EachHexadecimalIsSafe = (value : Value) → FitsFields value → HexadecimalIsSafe value
 
--- So does what is said of comments.
-abbrev pub EachStaysInComment : Type 0
-EachStaysInComment = (value : Value) → FitsFields value → StaysInComment value
-
--- And so do both that are said of literals.
+-- So do both that are said of literals.
 abbrev pub EachSqlIsLiteral : Type 0
 EachSqlIsLiteral = (value : Value) → FitsFields value → SqlIsLiteral value × HasLiteral value

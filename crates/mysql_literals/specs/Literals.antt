@@ -1,11 +1,11 @@
 -- The literal of a value in a query. MySQL Reference Manual, "Literal Values": "String Literals",
 -- "Numeric Literals", "Date and Time Literals", "Hexadecimal Literals", "NULL Values"; "Character Set
--- Introducers"; "Comments"; of the SQL mode NO_BACKSLASH_ESCAPES: "Server SQL Modes".
-use Rattle.std.specs.Prelude.{ℕ, Bool, false, if◌then◌else◌, List, [], ◌∷◌, ◌++◌, codes, Option, Some, None}
+-- Introducers"; of the SQL mode NO_BACKSLASH_ESCAPES: "Server SQL Modes".
+use Rattle.std.specs.Prelude.{ℕ, Bool, if◌then◌else◌, List, [], ◌∷◌, ◌++◌, codes, Option, Some, None}
 use Rattle.std.specs.Fmt.{decimal, signed_decimal}
 use Rattle.std.specs.Str.{is_utf8}
 use Rattle.mysql_queries.specs.Tokens.{single_quote}
-use Rattle.mysql_queries.specs.Written.{in_hexadecimal, introduced, quoted, quoted_in_comment}
+use Rattle.mysql_queries.specs.Written.{in_hexadecimal, introduced, quoted}
 use Rattle.mysql_bytes.specs.declared.mode.Mode.{Mode}
 use Rattle.mysql_bytes.specs.declared.spelling.Spelling.{Spelling}
 use Rattle.mysql_bytes.specs.declared.spelling.Spelling.TheVariants.{Quoted, Hexadecimal}
@@ -17,16 +17,11 @@ use Rattle.mysql_cells.specs.declared.value.Value.TheVariants.{NULL, Bytes, Int,
 abbrev pub in_quotes : List ℕ → List ℕ
 in_quotes text = single_quote ∷ (text ++ single_quote ∷ [])
 
--- bytes between quotes, in a place in a comment that a server may skip or in another one
-abbrev pub text_sql : (no_backslash_escapes : Bool) → (in_comment : Bool) → List ℕ → List ℕ
-text_sql no_backslash_escapes in_comment bytes =
-    if in_comment then quoted_in_comment no_backslash_escapes bytes else quoted no_backslash_escapes bytes
-
 -- bytes that are UTF-8 between quotes, for a server in NO_BACKSLASH_ESCAPES or for another, and
 -- others in hexadecimal
-abbrev pub quoted_sql : (no_backslash_escapes : Bool) → (in_comment : Bool) → List ℕ → List ℕ
-quoted_sql no_backslash_escapes in_comment bytes =
-    if is_utf8 bytes then text_sql no_backslash_escapes in_comment bytes else in_hexadecimal bytes
+abbrev pub quoted_sql : (no_backslash_escapes : Bool) → List ℕ → List ℕ
+quoted_sql no_backslash_escapes bytes =
+    if is_utf8 bytes then quoted no_backslash_escapes bytes else in_hexadecimal bytes
 
 -- bytes in hexadecimal behind an introducer, and none between quotes
 abbrev pub hexadecimal_sql : List ℕ → List ℕ
@@ -34,34 +29,28 @@ hexadecimal_sql [] = in_quotes []
 hexadecimal_sql (b ∷ bytes) = introduced (b ∷ bytes)
 
 -- a byte string by its spelling
-abbrev pub bytes_sql : (no_backslash_escapes : Bool) → Spelling → (in_comment : Bool) → List ℕ → List ℕ
-bytes_sql no_backslash_escapes Quoted in_comment bytes = quoted_sql no_backslash_escapes in_comment bytes
-bytes_sql no_backslash_escapes Hexadecimal in_comment bytes = hexadecimal_sql bytes
+abbrev pub bytes_sql : (no_backslash_escapes : Bool) → Spelling → List ℕ → List ℕ
+bytes_sql no_backslash_escapes Quoted bytes = quoted_sql no_backslash_escapes bytes
+bytes_sql no_backslash_escapes Hexadecimal bytes = hexadecimal_sql bytes
 
--- The SQL text of a value, by the mode of the server that reads it, the spelling of byte strings,
--- and whether it stands in a comment that a server may skip. Floats have none.
-abbrev pub spelled_sql : (no_backslash_escapes : Bool) → Spelling → (in_comment : Bool) → Value → Option (List ℕ)
-spelled_sql no_backslash_escapes spelling in_comment NULL = Some (codes "NULL")
-spelled_sql no_backslash_escapes spelling in_comment (Bytes bytes) =
-    Some (bytes_sql no_backslash_escapes spelling in_comment bytes)
-spelled_sql no_backslash_escapes spelling in_comment (Int z) = Some (signed_decimal z)
-spelled_sql no_backslash_escapes spelling in_comment (UInt n) = Some (decimal n)
-spelled_sql no_backslash_escapes spelling in_comment (Float bits) = None
-spelled_sql no_backslash_escapes spelling in_comment (Double bits) = None
-spelled_sql no_backslash_escapes spelling in_comment (Date year month day hour minute second micros) =
+-- The SQL text of a value, by the mode of the server that reads it and the spelling of byte strings.
+-- Floats have none.
+abbrev pub spelled_sql : (no_backslash_escapes : Bool) → Spelling → Value → Option (List ℕ)
+spelled_sql no_backslash_escapes spelling NULL = Some (codes "NULL")
+spelled_sql no_backslash_escapes spelling (Bytes bytes) = Some (bytes_sql no_backslash_escapes spelling bytes)
+spelled_sql no_backslash_escapes spelling (Int z) = Some (signed_decimal z)
+spelled_sql no_backslash_escapes spelling (UInt n) = Some (decimal n)
+spelled_sql no_backslash_escapes spelling (Float bits) = None
+spelled_sql no_backslash_escapes spelling (Double bits) = None
+spelled_sql no_backslash_escapes spelling (Date year month day hour minute second micros) =
     Some (in_quotes (date_text year month day hour minute second micros))
-spelled_sql no_backslash_escapes spelling in_comment (Time negative days hours minutes seconds micros) =
+spelled_sql no_backslash_escapes spelling (Time negative days hours minutes seconds micros) =
     Some (in_quotes (time_text negative days hours minutes seconds micros))
 
 -- The SQL text of a value with byte strings in quotes.
 abbrev pub sql_of : (no_backslash_escapes : Bool) → Value → Option (List ℕ)
-sql_of no_backslash_escapes value = spelled_sql no_backslash_escapes Quoted false value
+sql_of no_backslash_escapes value = spelled_sql no_backslash_escapes Quoted value
 
 -- the literal that is bound for a value: its SQL text, an all-zero time taken as positive
-abbrev pub literal_at : Mode → Spelling → (in_comment : Bool) → Value → Option (List ℕ)
-literal_at mode spelling in_comment value =
-    spelled_sql mode.no_backslash_escapes spelling in_comment (without_zero_sign value)
-
--- the literal that stands for a value by itself, in no comment
 abbrev pub literal_of : Mode → Spelling → Value → Option (List ℕ)
-literal_of mode spelling value = literal_at mode spelling false value
+literal_of mode spelling value = spelled_sql mode.no_backslash_escapes spelling (without_zero_sign value)

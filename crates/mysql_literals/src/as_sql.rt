@@ -4,7 +4,7 @@
 //!     let text = value.as_sql(alloc, no_backslash_escape)?;
 
 ghost use Rattle.mysql_literals.specs.AsSql.{EachHexadecimalIsSafe, EachSqlIsLiteral, HasLiteral, OneHexadecimal};
-ghost use Rattle.mysql_literals.specs.AsSql.{EachStaysInComment, PutsLiteral, PutsSql, SqlIsLiteral, StaysInComment};
+ghost use Rattle.mysql_literals.specs.AsSql.{PutsLiteral, PutsSql, SqlIsLiteral};
 ghost use Rattle.mysql_queries.specs.Sql.{default_mode};
 ghost use Rattle.mysql_literals.specs.Literals.{literal_of, spelled_sql, sql_of};
 ghost use Rattle.mysql_cells.specs.Values.{with_zero_sign};
@@ -19,7 +19,7 @@ use mysql_bytes::{Mode, Spelling};
 use mysql_cells::Value;
 use mysql_cells::date_text::is_zero_time;
 use mysql_cells::laws::fields_fit;
-use mysql_queries::laws::{content_of_a_spelling, literals_bring_no_pair};
+use mysql_queries::laws::content_of_a_spelling;
 use std::alloc::{AllocError, AllocFailed, Global};
 use thiserror::Error;
 
@@ -56,73 +56,51 @@ pub fn sql_text_is_a_literal()
     content_of_a_spelling();
 }
 
-/// In hexadecimal spelling literals are the same for each mode, in a comment and elsewhere, and have
-/// safe bytes alone.
+/// In hexadecimal spelling literals are the same for each mode, and have safe bytes alone.
 ///
 /// Those are bytes below 80 but the three quotes, the backslash, the star and the slash. Quotes are
-/// around a date, a time and no bytes. So a literal is one in every mode and in every comment. It is
-/// one in every character set in which bytes below 80 that follow one another are themselves.
+/// around a date, a time and no bytes. So a literal is one in every mode. It is one in every character
+/// set in which bytes below 80 that follow one another are themselves.
 pub fn hexadecimal_is_safe()
     ensures one { OneHexadecimal }
     ensures safe { EachHexadecimalIsSafe }
 {}
 
-/// A literal that is bound in a comment brings no `/*` and no `*/` into it.
-///
-/// That holds in each mode and spelling.
-pub fn literals_stay_in_comments()
-    ensures { EachStaysInComment }
-{
-    literals_bring_no_pair();
-}
-
-/// The SQL text of a value is a literal of what it means. So is the literal that is bound for it,
-/// which leaves comments as they are.
+/// The SQL text of a value is a literal of what it means. So is the literal that is bound for it.
 fn text_is_a_literal(value: &Value)
     ensures plain { SqlIsLiteral value.now }
     ensures literal { HasLiteral value.now }
-    ensures comment { StaysInComment value.now }
 {
     sql_text_is_a_literal();
-    literals_stay_in_comments();
     fields_fit(value);
 }
 
 /// Appends the SQL text of a value for a server in a mode.
 ///
-/// Byte strings are by their spelling. In a comment that a server may skip they have no `/*` and no
-/// `*/`. The sign of an all-zero time is written only where it is kept. A refusal may leave a part
-/// behind.
+/// Byte strings are by their spelling. The sign of an all-zero time is written only where it is kept.
+/// A refusal may leave a part behind.
 ///
 /// # Errors
 /// - `Float` for a float: nothing is appended then.
 /// - `Memory`
 ///
-/// Follows the MySQL Reference Manual, "Literal Values", "Character Set Introducers", "Comments".
+/// Follows the MySQL Reference Manual, "Literal Values", "Character Set Introducers".
 pub fn put_sql(
     out: &mut Vec<u8>,
     value: &Value,
     no_backslash_escape: bool,
     spelling: Spelling,
-    in_comment: bool,
     zero_sign: bool,
 ) -> Result<(), AsSqlError>
-    ensures text { PutsSql (spelled_sql no_backslash_escape spelling in_comment (with_zero_sign zero_sign value.now))
+    ensures text { PutsSql (spelled_sql no_backslash_escape spelling (with_zero_sign zero_sign value.now))
         out.old.items out.new.items result }
     ensures plain { SqlIsLiteral value.now }
     ensures literal { HasLiteral value.now }
-    ensures comment { StaysInComment value.now }
 {
     text_is_a_literal(value);
     match value {
         Value::NULL => out.extend_from_slice(b"NULL")?,
-        Value::Bytes(bytes) => put_bytes(
-            out,
-            bytes.as_slice(),
-            no_backslash_escape,
-            spelling,
-            in_comment,
-        )?,
+        Value::Bytes(bytes) => put_bytes(out, bytes.as_slice(), no_backslash_escape, spelling)?,
         Value::Int(number) => out.extend_from_slice(Buffer::new().format(*number).as_bytes())?,
         Value::UInt(number) => out.extend_from_slice(Buffer::new().format(*number).as_bytes())?,
         Value::Float(_) | Value::Double(_) => return Err(AsSqlError::Float),
@@ -140,8 +118,7 @@ pub fn put_sql(
 
 /// Appends the literal of a value for a server in the default mode.
 ///
-/// That is its SQL text, byte strings in quotes, an all-zero time without its sign. It is for a
-/// placeholder in no comment.
+/// That is its SQL text, byte strings in quotes, an all-zero time without its sign.
 ///
 /// # Errors
 /// - `Float` for a float.
@@ -159,8 +136,7 @@ pub fn push_literal(out: &mut Vec<u8>, value: &Value) -> Result<(), AsSqlError>
 
 /// Appends the literal of a value for a server in a mode.
 ///
-/// That is its SQL text, byte strings by their spelling, an all-zero time without its sign. It is for
-/// a placeholder in no comment.
+/// That is its SQL text, byte strings by their spelling, an all-zero time without its sign.
 ///
 /// # Errors
 /// - `Float` for a float.
@@ -179,14 +155,7 @@ pub fn push_literal_in(
     ensures literal { HasLiteral value.now }
 {
     let start = out.len();
-    let put = put_sql(
-        out,
-        value,
-        mode.no_backslash_escapes,
-        spelling,
-        false,
-        false,
-    );
+    let put = put_sql(out, value, mode.no_backslash_escapes, spelling, false);
     if put.is_err() {
         out.truncate(start);
     }
@@ -227,14 +196,7 @@ impl AsSql for Value {
     fn as_sql(&self, alloc: Global, no_backslash_escape: bool) -> Result<String, AsSqlError> {
         fields_fit(self);
         let mut text = Vec::new(alloc);
-        put_sql(
-            &mut text,
-            self,
-            no_backslash_escape,
-            Spelling::Quoted,
-            false,
-            true,
-        )?;
+        put_sql(&mut text, self, no_backslash_escape, Spelling::Quoted, true)?;
         Ok(unsafe { String::from_utf8_unchecked(text) })
     }
 }

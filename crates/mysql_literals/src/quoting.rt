@@ -3,13 +3,10 @@
 
 ghost use Rattle.mysql_cells.specs.Values.{Puts};
 ghost use Rattle.mysql_literals.specs.Literals.{bytes_sql, hexadecimal_sql, in_quotes, quoted_sql};
-ghost use Rattle.mysql_queries.specs.Comments.{begins_comment, ends_comment};
-ghost use Rattle.mysql_queries.specs.Written.{hex_digit, in_hexadecimal, introduced, quoted_in_comment, written_byte};
-ghost use Rattle.mysql_queries.specs.Written.{has_pair as has_one, parted_byte, parted_bytes};
+ghost use Rattle.mysql_queries.specs.Written.{hex_digit, in_hexadecimal, introduced, written_byte};
 ghost use Rattle.std.specs.List.{flat_map};
 ghost use Rattle.std.specs.Str.{is_utf8};
-ghost use Rattle.mysql_queries.specs.Tokens.{single_quote};
-ghost use Rattle.std.specs.Prelude.{◌<◌, ◌≡◌, ◌∷◌, ◌||◌, [], Bool, IfNone, IfSome, false, true};
+ghost use Rattle.std.specs.Prelude.{◌<◌, ◌≡◌, ◌∷◌, [], Bool, IfNone, IfSome, false, true};
 
 use mysql_bytes::Spelling;
 use std::alloc::AllocError;
@@ -151,89 +148,18 @@ fn is_text(bytes: &[u8]) -> bool
     from_utf8(bytes).is_ok()
 }
 
-/// Whether two bytes are `/*` or `*/`.
-fn is_pair(a: u8, b: u8) -> bool
-    ensures { result ≡ (begins_comment a b || ends_comment a b) }
-{
-    (a == b'/' && b == b'*') || (a == b'*' && b == b'/')
-}
-
-/// Whether bytes have `/*` or `*/`.
-fn has_pair(bytes: &[u8]) -> bool
-    ensures { result ≡ has_one bytes.now }
-{
-    let mut at = 1;
-    while at < bytes.len() {
-        if is_pair(bytes[at - 1], bytes[at]) {
-            return true;
-        }
-        at += 1;
-    }
-    false
-}
-
-/// Appends a byte as it is between quotes in a comment, behind another one.
-fn put_parted_byte(out: &mut Vec<u8>, before: u8, byte: u8) -> Result<(), AllocError>
-    ensures { Puts (parted_byte before byte) out.old.items out.new.items result }
-{
-    if is_pair(before, byte) {
-        return out.extend_from_slice(&[b'\\', byte]);
-    }
-    match escape(false, byte) {
-        Some(pair) => out.extend_from_slice(&[pair.0, pair.1]),
-        None => out.extend_from_slice(&[byte]),
-    }
-}
-
-/// Appends bytes between single quotes, each `/*` and `*/` among them parted by a backslash.
-fn put_parted(out: &mut Vec<u8>, bytes: &[u8]) -> Result<(), AllocError>
-    ensures { Puts (in_quotes (parted_bytes single_quote bytes.now)) out.old.items out.new.items result }
-{
-    out.push(b'\'')?;
-    let mut before = b'\'';
-    for byte in bytes {
-        put_parted_byte(out, before, *byte)?;
-        before = *byte;
-    }
-    out.push(b'\'')?;
-    Ok(())
-}
-
-/// Appends bytes between single quotes in a comment that a server may skip.
-// Out of the way of what is written elsewhere.
-#[inline(never)]
-fn put_in_comment(
-    out: &mut Vec<u8>,
-    bytes: &[u8],
-    no_backslash_escape: bool,
-) -> Result<(), AllocError>
-    ensures { Puts (quoted_in_comment no_backslash_escape bytes.now) out.old.items out.new.items result }
-{
-    if !no_backslash_escape {
-        put_parted(out, bytes)?;
-    } else if has_pair(bytes) {
-        put_hexadecimal(out, bytes)?;
-    } else {
-        put_quoted(out, bytes, true)?;
-    }
-    Ok(())
-}
-
 /// Appends bytes between quotes where they are UTF-8, else in hexadecimal.
 fn put_by_quotes(
     out: &mut Vec<u8>,
     bytes: &[u8],
     no_backslash_escape: bool,
-    in_comment: bool,
 ) -> Result<(), AllocError>
-    ensures { Puts (quoted_sql no_backslash_escape in_comment bytes.now) out.old.items out.new.items result }
+    ensures { Puts (quoted_sql no_backslash_escape bytes.now) out.old.items out.new.items result }
 {
-    if !is_text(bytes) {
-        put_hexadecimal(out, bytes)?;
-    } else if in_comment {
-        put_in_comment(out, bytes, no_backslash_escape)?;
-    } else {
+    if is_text(bytes) {
         put_quoted(out, bytes, no_backslash_escape)?;
+    } else {
+        put_hexadecimal(out, bytes)?;
     }
     Ok(())
 }
@@ -264,19 +190,16 @@ fn put_by_digits(out: &mut Vec<u8>, bytes: &[u8]) -> Result<(), AllocError>
 }
 
 /// Appends a literal of bytes by its spelling.
-///
-/// It is for a placeholder in a comment that a server may skip, or for another one.
 pub fn put_bytes(
     out: &mut Vec<u8>,
     bytes: &[u8],
     no_backslash_escape: bool,
     spelling: Spelling,
-    in_comment: bool,
 ) -> Result<(), AllocError>
-    ensures { Puts (bytes_sql no_backslash_escape spelling in_comment bytes.now) out.old.items out.new.items result }
+    ensures { Puts (bytes_sql no_backslash_escape spelling bytes.now) out.old.items out.new.items result }
 {
     match spelling {
-        Spelling::Quoted => put_by_quotes(out, bytes, no_backslash_escape, in_comment),
+        Spelling::Quoted => put_by_quotes(out, bytes, no_backslash_escape),
         Spelling::Hexadecimal => put_by_digits(out, bytes),
     }
 }

@@ -3,9 +3,7 @@
 //! statements, and the builder of bulk requests. What such packets say in a reply, and which fronts
 //! of them are refused, stands in rows: bindings/testing/rows.
 //!
-//! A value that a test drops at its end is taken apart there, part by part. A branch is proved once
-//! for each end. Both are dear. So values go to generic functions that take them, and answers are
-//! compared there.
+//! Values go to generic functions that take them, and answers are compared there.
 #![tactic(auto)]
 
 #[cfg(test)]

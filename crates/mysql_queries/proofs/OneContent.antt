@@ -10,7 +10,8 @@ use Rattle.mysql_bytes.specs.declared.mode.Mode.{Mode}
 use Rattle.mysql_queries.specs.Queries.{is_joining}
 use Rattle.mysql_queries.proofs.Quotes.{one_inside}
 use Rattle.mysql_queries.proofs.Runs.{one_run, EndsRun}
-use Rattle.mysql_queries.proofs.Follow.{BeginsApart, or_first, not_equal, last_of}
+use Rattle.mysql_queries.proofs.Follow.{BeginsApart, or_first, not_equal}
+use Rattle.mysql_queries.specs.Alone.{last_of}
 use Rattle.mysql_queries.proofs.Spellings.{is_word, AreWord, IsWord, IsIntroducedWord, literal_form, apart_bytes, apart_otherwise}
 use Rattle.mysql_queries.proofs.Filled.{Spells, AloneFrom, rest_apart}
 use Rattle.mysql_bytes.specs.declared.spelling.Spelling.{Spelling}

@@ -1,7 +1,7 @@
 -- A text has at most one list of tokens.
 use Rattle.std.proofs.Common.{◌≡◌, ◌≢◌, ℕ, true, false, List, [], ◌∷◌, ◌++◌, refl, sym, ap, ◌∙◌, append_assoc, subst, flat_map}
 use Rattle.std.specs.List.{concat}
-use Rattle.mysql_queries.specs.Tokens.{Kind, Quoted, LineComment, BlockComment, Name, Mark, Plain, kind_of, HasShape, IsToken, AreTokens, has_escapes, AtLineEnd, AtNameEnd, is_name_byte, line_feed, star, slash, colon, question, inside_bytes}
+use Rattle.mysql_queries.specs.Tokens.{Kind, Quoted, LineComment, BlockComment, Opening, Closing, Name, Mark, Plain, kind_of, comment_start, comment_end, HasShape, IsToken, AreTokens, has_escapes, AtLineEnd, AtNameEnd, is_name_byte, line_feed, star, slash, colon, question, inside_bytes}
 use Rattle.mysql_bytes.specs.declared.mode.Mode.{Mode}
 use Rattle.mysql_queries.proofs.Quotes.{one_inside}
 use Rattle.mysql_queries.proofs.Comments.{one_comment}
@@ -30,6 +30,10 @@ one_shape m BlockComment hq t r u s i j h =
     let o : (i.inside ≡ j.inside) × (i.closing ≡ j.closing) × (r ≡ s) = one_comment i.inside i.closing r j.inside j.closing s i.ends j.ends (sym (append_assoc i.inside i.closing r) ∙ h2 ∙ append_assoc j.inside j.closing s) in
     let e : i.inside ++ i.closing ≡ j.inside ++ j.closing = rw (o.0, o.1) refl in
     (i.spelled ∙ ap (λ x. slash ∷ star ∷ x) e ∙ sym j.spelled, o.2)
+one_shape m Opening hq t r u s i j h =
+    let h' : comment_start ++ r ≡ comment_start ++ s = rw (i, j) at h in (i ∙ sym j, cc)
+one_shape m Closing hq t r u s i j h =
+    let h' : comment_end ++ r ≡ comment_end ++ s = rw (i, j) at h in (i ∙ sym j, cc)
 one_shape m Name hq t r u s i j h =
     let h' : colon ∷ (i.name ++ r) ≡ colon ∷ (j.name ++ s) = rw (i.spelled, j.spelled) at h in
     let h2 : i.name ++ r ≡ j.name ++ s = cc in
@@ -55,6 +59,8 @@ not_empty m r i = shape_not_empty m r (kind_of r) refl i
     shape_not_empty m [] LineComment e h = cc
     shape_not_empty m (b ∷ r) LineComment e h = let e' : kind_of (line_feed ∷ r) ≡ LineComment = rw h.1 at e in cc
     shape_not_empty m r BlockComment e h = let x = h.spelled in cc
+    shape_not_empty m r Opening e h = cc
+    shape_not_empty m r Closing e h = cc
     shape_not_empty m r Name e h = let x = h.spelled in cc
     shape_not_empty m r Mark e h = cc
     shape_not_empty m r Plain e (b, h) = cc

@@ -1,13 +1,13 @@
 -- The pieces and the names of a query are its slices between and at its placeholders.
-use Rattle.std.proofs.Common.{◌≡◌, ◌≢◌, ℕ, zero, suc, ◌+◌, ◌-◌, ◌≤◌, ◌<◌, true, false, List, [], ◌∷◌, ◌++◌, length, take, drop, get_or, slice_range, refl, sym, ap, ◌∙◌, inl, inr, append_assoc, arith, subst, length-append}
+use Rattle.std.proofs.Common.{◌≡◌, ◌≢◌, ℕ, zero, suc, Bool, ◌+◌, ◌-◌, ◌≤◌, ◌<◌, true, false, List, [], ◌∷◌, ◌++◌, length, take, drop, get_or, slice_range, refl, sym, ap, ◌∙◌, inl, inr, append_assoc, arith, subst, length-append}
 use Rattle.std.specs.List.{concat}
 use Rattle.std.proofs.Math.Seq.{get_or-append_seam}
 use Rattle.mysql_queries.specs.Tokens.{IsToken, AreTokens}
-use Rattle.mysql_queries.specs.Queries.{BeginsPlace, InOrder, before_first, is_name, is_place, pieces_of, places_behind, slices_between}
-use Rattle.mysql_queries.specs.Comments.{with_skipped}
+use Rattle.mysql_queries.specs.Queries.{BeginsPlace, InOrder, before_first, is_name, is_place, pieces_of, places_behind, places_of, servers_agree, slices_between}
+use Rattle.mysql_queries.proofs.Filled.{says_alone}
 use Rattle.mysql_queries.specs.Laws.{NamesAreSlices, PiecesAreSlices, PlacesInOrder}
 use Rattle.mysql_queries.specs.Parsed.{names_of, names_at}
-use Rattle.mysql_bytes.specs.declared.mode.Mode.{Mode}
+use Rattle.mysql_queries.specs.Sql.{Sql}
 use Rattle.mysql_queries.specs.declared.placeholders.Place.{Place}
 use Rattle.mysql_queries.proofs.FirstBytes.{bool_tells}
 use Rattle.mysql_queries.proofs.OneToken.{not_empty}
@@ -25,18 +25,25 @@ begins_there : (before t y : List ℕ) → t ≢ [] → is_place t ≡ true → 
 begins_there before [] y n h = absurd (n refl)
 begins_there before (b ∷ t) y n h = subst BeginsPlace (sym (get_or-append_seam before b (t ++ y) 0)) (place_begins b t h)
 
-pub in_order : (mode : Mode) (before q sk : List ℕ) (ts : List (List ℕ)) → q ≡ before ++ concat ts → AreTokens mode ts → InOrder q (length before) (places_behind q sk (length before) ts)
-in_order mode before q sk [] e i = tt
-in_order mode before q sk (t ∷ ts) e i =
-    let f : q ≡ (before ++ t) ++ concat ts = e ∙ sym (append_assoc before t (concat ts)) in
+pub in_order : (q : Sql) (agree : Bool) (bs : List (List ℕ)) (before : List ℕ) (ts : List (List ℕ)) → q.text ≡ before ++ concat ts → AreTokens q.mode ts → InOrder q.text (length before) (places_behind q agree bs (length before) ts)
+in_order q agree bs before [] e i = tt
+in_order q agree bs before (t ∷ ts) e i =
+    let f : q.text ≡ (before ++ t) ++ concat ts = e ∙ sym (append_assoc before t (concat ts)) in
     let n : length (before ++ t) ≡ length before + length t = length-append before t in
-    let k : (others : List ℕ) → InOrder q (length before + length t) (places_behind q others (length before + length t) ts) = λ others. subst (λ m. InOrder q m (places_behind q others m ts)) n (in_order mode (before ++ t) q others ts f i.1) in
-    let size : length q ≡ length before + (length t + length (concat ts)) = ap length e ∙ length-append before (t ++ concat ts) ∙ ap (λ m. length before + m) (length-append t (concat ts)) in
-    let some : t ≢ [] = λ h. not_empty mode (concat ts) (subst (λ y. IsToken mode y (concat ts)) h i.0) in
+    let k : InOrder q.text (length before + length t) (places_behind q agree (t ∷ bs) (length before + length t) ts) = subst (λ m. InOrder q.text m (places_behind q agree (t ∷ bs) m ts)) n (in_order q agree (t ∷ bs) (before ++ t) ts f i.1) in
+    let size : length q.text ≡ length before + (length t + length (concat ts)) = ap length e ∙ length-append before (t ++ concat ts) ∙ ap (λ m. length before + m) (length-append t (concat ts)) in
+    let some : t ≢ [] = λ h. not_empty q.mode (concat ts) (subst (λ y. IsToken q.mode y (concat ts)) h i.0) in
     let more : 0 < length t = nonempty t some in
     elim (bool_tells (is_place t)) [
-      | inl p ↦ (rw p (omega arith, omega arith, omega (arith, size), subst (λ y. BeginsPlace (get_or y (length before) 0)) (sym e) (begins_there before t (concat ts) some p), refl, k sk))
-      | inr p ↦ (rw p (in_order_before q (length before) (length before + length t) (places_behind q (with_skipped q (length before) sk) (length before + length t) ts) (omega arith) (k (with_skipped q (length before) sk))))
+      | inl p ↦ (rw p (
+        omega arith,
+        omega arith,
+        omega (arith, size),
+        subst (λ y. BeginsPlace (get_or y (length before) 0)) (sym e) (begins_there before t (concat ts) some p),
+        (λ a. (says_alone q.mode agree q.text (length before) (length before + length t) bs ts a).apart),
+        k,
+      ))
+      | inr p ↦ (rw p (in_order_before q.text (length before) (length before + length t) (places_behind q agree (t ∷ bs) (length before + length t) ts) (omega arith) k))
     ]
   where
     nonempty : (t : List ℕ) → t ≢ [] → 0 < length t
@@ -60,21 +67,20 @@ first_slice q t n m (p ∷ ps) e l h =
 pub behind : (before y q : List ℕ) → q ≡ before ++ y → drop (length before) q ≡ y
 behind before y q e = ap (drop (length before)) e ∙ drop_front before y
 
-pub pieces_at : (mode : Mode) (before q sk : List ℕ) (ts : List (List ℕ)) → q ≡ before ++ concat ts → AreTokens mode ts → pieces_of ts ≡ slices_between q (length before) (places_behind q sk (length before) ts)
-pieces_at mode before q sk [] e i = ap (λ y. y ∷ []) (sym (behind before [] q e))
-pieces_at mode before q sk (t ∷ ts) e i =
-    let f : q ≡ (before ++ t) ++ concat ts = e ∙ sym (append_assoc before t (concat ts)) in
+pub pieces_at : (q : Sql) (agree : Bool) (bs : List (List ℕ)) (before : List ℕ) (ts : List (List ℕ)) → q.text ≡ before ++ concat ts → AreTokens q.mode ts → pieces_of ts ≡ slices_between q.text (length before) (places_behind q agree bs (length before) ts)
+pieces_at q agree bs before [] e i = ap (λ y. y ∷ []) (sym (behind before [] q.text e))
+pieces_at q agree bs before (t ∷ ts) e i =
+    let f : q.text ≡ (before ++ t) ++ concat ts = e ∙ sym (append_assoc before t (concat ts)) in
     let n : length (before ++ t) ≡ length before + length t = length-append before t in
     let m : ℕ = length before + length t in
-    let k : (others : List ℕ) → pieces_of ts ≡ slices_between q m (places_behind q others m ts) = λ others. subst (λ j. pieces_of ts ≡ slices_between q j (places_behind q others j ts)) n (pieces_at mode (before ++ t) q others ts f i.1) in
-    let other : List ℕ = with_skipped q (length before) sk in
-    let o : InOrder q m (places_behind q other m ts) = subst (λ j. InOrder q j (places_behind q other j ts)) n (in_order mode (before ++ t) q other ts f i.1) in
-    let later : drop m q ≡ concat ts = ap (λ j. drop j q) (sym n) ∙ behind (before ++ t) (concat ts) q f in
-    let here : drop (length before) q ≡ t ++ drop m q = behind before (t ++ concat ts) q e ∙ ap (λ y. t ++ y) (sym later) in
+    let k : pieces_of ts ≡ slices_between q.text m (places_behind q agree (t ∷ bs) m ts) = subst (λ j. pieces_of ts ≡ slices_between q.text j (places_behind q agree (t ∷ bs) j ts)) n (pieces_at q agree (t ∷ bs) (before ++ t) ts f i.1) in
+    let o : InOrder q.text m (places_behind q agree (t ∷ bs) m ts) = subst (λ j. InOrder q.text j (places_behind q agree (t ∷ bs) j ts)) n (in_order q agree (t ∷ bs) (before ++ t) ts f i.1) in
+    let later : drop m q.text ≡ concat ts = ap (λ j. drop j q.text) (sym n) ∙ behind (before ++ t) (concat ts) q.text f in
+    let here : drop (length before) q.text ≡ t ++ drop m q.text = behind before (t ++ concat ts) q.text e ∙ ap (λ y. t ++ y) (sym later) in
     elim (bool_tells (is_place t)) [
       | inl p ↦ (let z : length before - length before ≡ 0 = omega arith in
-          rw p (ap (λ ys. [] ∷ ys) (k sk) ∙ ap (λ j. take j (drop (length before) q) ∷ slices_between q m (places_behind q sk m ts)) (sym z)))
-      | inr p ↦ (rw p (ap (before_first t) (k other) ∙ first_slice q t (length before) m (places_behind q other m ts) here refl o))
+          rw p (ap (λ ys. [] ∷ ys) k ∙ ap (λ j. take j (drop (length before) q.text) ∷ slices_between q.text m (places_behind q agree (t ∷ bs) m ts)) (sym z)))
+      | inr p ↦ (rw p (ap (before_first t) k ∙ first_slice q.text t (length before) m (places_behind q agree (t ∷ bs) m ts) here refl o))
     ]
 
 pub no_name_token : (t : List ℕ) → is_place t ≡ false → is_name t ≡ false
@@ -91,25 +97,25 @@ token_slice q t rest n e = ap (λ j. take j (drop n q)) (omega-minus n (length t
     omega-minus : (a b : ℕ) → a + b - a ≡ b
     omega-minus a b = omega arith
 
-pub names_there : (mode : Mode) (before q sk : List ℕ) (ts : List (List ℕ)) → q ≡ before ++ concat ts → AreTokens mode ts → names_of ts ≡ names_at q (places_behind q sk (length before) ts)
-names_there mode before q sk [] e i = refl
-names_there mode before q sk (t ∷ ts) e i =
-    let f : q ≡ (before ++ t) ++ concat ts = e ∙ sym (append_assoc before t (concat ts)) in
+pub names_there : (q : Sql) (agree : Bool) (bs : List (List ℕ)) (before : List ℕ) (ts : List (List ℕ)) → q.text ≡ before ++ concat ts → AreTokens q.mode ts → names_of ts ≡ names_at q.text (places_behind q agree bs (length before) ts)
+names_there q agree bs before [] e i = refl
+names_there q agree bs before (t ∷ ts) e i =
+    let f : q.text ≡ (before ++ t) ++ concat ts = e ∙ sym (append_assoc before t (concat ts)) in
     let n : length (before ++ t) ≡ length before + length t = length-append before t in
     let m : ℕ = length before + length t in
-    let k : (others : List ℕ) → names_of ts ≡ names_at q (places_behind q others m ts) = λ others. subst (λ j. names_of ts ≡ names_at q (places_behind q others j ts)) n (names_there mode (before ++ t) q others ts f i.1) in
-    let here : drop 1 (slice_range q (length before) m) ≡ drop 1 t = ap (drop 1) (token_slice q t (concat ts) (length before) (behind before (t ++ concat ts) q e)) in
+    let k : names_of ts ≡ names_at q.text (places_behind q agree (t ∷ bs) m ts) = subst (λ j. names_of ts ≡ names_at q.text (places_behind q agree (t ∷ bs) j ts)) n (names_there q agree (t ∷ bs) (before ++ t) ts f i.1) in
+    let here : drop 1 (slice_range q.text (length before) m) ≡ drop 1 t = ap (drop 1) (token_slice q.text t (concat ts) (length before) (behind before (t ++ concat ts) q.text e)) in
     elim (bool_tells (is_place t)) [
       | inl p ↦ elim (bool_tells (is_name t)) [
-        | inl r ↦ (rw (p, r) (ap (λ ys. drop 1 t ∷ ys) (k sk) ∙ ap (λ y. y ∷ names_at q (places_behind q sk m ts)) (sym here)))
-        | inr r ↦ (rw (p, r) (k sk))
+        | inl r ↦ (rw (p, r) (ap (λ ys. drop 1 t ∷ ys) k ∙ ap (λ y. y ∷ names_at q.text (places_behind q agree (t ∷ bs) m ts)) (sym here)))
+        | inr r ↦ (rw (p, r) k)
       ]
-      | inr p ↦ (let r : is_name t ≡ false = no_name_token t p in rw (p, r) (k (with_skipped q (length before) sk)))
+      | inr p ↦ (let r : is_name t ≡ false = no_name_token t p in rw (p, r) k)
     ]
 
 -- what stands where the code looks past the last placeholder
 abbrev pub no_place : Place
-no_place = record { start = 0; end = 0; name = false; alone = false; in_comment = false }
+no_place = record { start = 0; end = 0; name = false; alone = false }
 
 -- a placeholder, and the later ones behind it
 pub record Next (query : List ℕ) (at : ℕ) (p : Place) (ps : List Place) : Type 0 where
@@ -132,7 +138,7 @@ next_in_order query at places k h o =
     record { from = n.0; some = n.1; in_range = n.2; before = omega arith; rest = n.5 }
 
 pub places_in_order : PlacesInOrder
-places_in_order query places h = subst (InOrder query.text 0) (sym h.2) (in_order query.mode [] query.text [] h.0 (sym h.1.joined) h.1.each)
+places_in_order query places h = subst (InOrder query.text 0) (sym h.2) (in_order query (servers_agree 0 h.0) [] [] h.0 (sym h.1.joined) h.1.each)
 
 pub no_places_left : (places : List Place) (k : ℕ) → length places ≤ k → drop k places ≡ []
 no_places_left [] zero h = refl
@@ -141,7 +147,7 @@ no_places_left (p ∷ places) zero h = absurd (omega arith)
 no_places_left (p ∷ places) (suc k) h = no_places_left places k (omega arith)
 
 pub pieces_are_slices : PiecesAreSlices
-pieces_are_slices query tokens h = pieces_at query.mode [] query.text [] tokens (sym h.joined) h.each
+pieces_are_slices query tokens h = pieces_at query (servers_agree 0 tokens) [] [] tokens (sym h.joined) h.each
 
 pub names_are_slices : NamesAreSlices
-names_are_slices query tokens h = names_there query.mode [] query.text [] tokens (sym h.joined) h.each
+names_are_slices query tokens h = names_there query (servers_agree 0 tokens) [] [] tokens (sym h.joined) h.each

@@ -1,7 +1,7 @@
 -- Writing a query with question marks and listing its names, placeholder by placeholder.
 use Rattle.std.proofs.Common.{◌≡◌, ℕ, ◌+◌, ◌<◌, true, false, ◌||◌, inl, inr, List, [], ◌∷◌, ◌++◌, length, drop, get_or, slice_range, refl, sym, ap, ◌∙◌, append_assoc, subst, arith}
 use Rattle.std.specs.List.{concat, join_with_byte}
-use Rattle.mysql_queries.specs.Tokens.{question, IsToken, AreTokens, HasShape, kind_of, Kind, Quoted, LineComment, BlockComment, Name, Mark, Plain}
+use Rattle.mysql_queries.specs.Tokens.{question, IsToken, AreTokens, HasShape, kind_of, Kind, Quoted, LineComment, BlockComment, Opening, Closing, Name, Mark, Plain}
 use Rattle.mysql_queries.specs.Queries.{is_name_kind, is_mark_kind, is_name, is_place, before_first, pieces_of, slices_between, HasPlaces, IsParsed}
 use Rattle.mysql_queries.specs.Parsed.{names_of, names_at, HasNames}
 use Rattle.mysql_queries.specs.Sql.{Sql}
@@ -51,6 +51,8 @@ mark_kind : (k : Kind) → is_name_kind k || is_mark_kind k ≡ true → is_name
 mark_kind (Quoted q) h n = cc
 mark_kind LineComment h n = cc
 mark_kind BlockComment h n = cc
+mark_kind Opening h n = cc
+mark_kind Closing h n = cc
 mark_kind Name h n = cc
 mark_kind Mark h n = refl
 mark_kind Plain h n = cc

@@ -2,9 +2,9 @@
 use Rattle.std.proofs.Common.{◌≡◌, ◌≢◌, ℕ, Bool, zero, suc, ◌≤◌, true, false, ◌⊎◌, List, [], ◌∷◌, ◌++◌, length, refl, sym, ap, ◌∙◌, inl, inr, append_assoc, arith, subst, flat_map, length-append}
 use Rattle.std.specs.List.{AllByRecursion}
 use Rattle.std.proofs.lemmas.Bool.Decides.{eqb_tells}
-use Rattle.mysql_queries.specs.Tokens.{Kind, Quoted, LineComment, BlockComment, Name, Mark, Plain, kind_of, Inside, Byte, Escape, Doubled, IsInside, HasShape, IsToken, HasTokens, is_name_byte, line_feed, star, slash, colon, question, backslash, inside_bytes, has_escapes, Closes, EndsBlock}
+use Rattle.mysql_queries.specs.Tokens.{Kind, Quoted, LineComment, BlockComment, Opening, Closing, Name, Mark, Plain, kind_of, comment_start, comment_end, exclamation, Inside, Byte, Escape, Doubled, IsInside, HasShape, IsToken, HasTokens, is_name_byte, line_feed, star, slash, colon, question, backslash, inside_bytes, has_escapes, Closes, EndsBlock}
 use Rattle.mysql_bytes.specs.declared.mode.Mode.{Mode}
-use Rattle.mysql_queries.proofs.FirstBytes.{bool_tells, Tells, kind_tells, block_second}
+use Rattle.mysql_queries.proofs.FirstBytes.{bool_tells, Tells, kind_tells, block_second, opening_second, closing_second}
 use Rattle.mysql_queries.proofs.OneToken.{not_empty}
 
 -- what stands inside a quoted token, what closes it and the rest
@@ -147,6 +147,12 @@ shape_first m b x BlockComment h =
       joined = ap (λ y. y ∷ x) h.0 ∙ ap (λ y. slash ∷ y) (s.1 ∙ ap (λ y. star ∷ y) (o.joined ∙ sym (append_assoc o.inside o.closing o.rest)));
       shape = record { inside = o.inside; closing = o.closing; spelled = refl; ends = o.ends };
     }
+shape_first m b x Opening h =
+    let s : (y : List ℕ) × (x ≡ star ∷ exclamation ∷ y) = opening_second x h.1 in
+    record { token = comment_start; rest = s.0; joined = ap (λ y. y ∷ x) h.0 ∙ ap (λ y. slash ∷ y) s.1; shape = refl }
+shape_first m b x Closing h =
+    let s : (y : List ℕ) × (x ≡ slash ∷ y) = closing_second x h.1 in
+    record { token = comment_end; rest = s.0; joined = ap (λ y. y ∷ x) h.0 ∙ ap (λ y. star ∷ y) s.1; shape = refl }
 shape_first m b x Name h =
     let o : RunOf (λ c. is_name_byte c ≡ true) (λ c. is_name_byte c ≡ false) x = some_run _ _ (λ c. bool_tells (is_name_byte c)) x in
     record {

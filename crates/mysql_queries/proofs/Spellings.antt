@@ -2,12 +2,13 @@
 use Rattle.std.proofs.Common.{◌≡◌, ◌≢◌, ℕ, Bool, true, false, ◌||◌, ◌==◌, ◌⊎◌, List, [], ◌∷◌, ◌++◌, map, refl, sym, ap, ◌∙◌, inl, inr, append-nil, arith, subst, flat_map, codes, ℤ}
 use Rattle.std.specs.List.{concat, AllByRecursion}
 use Rattle.std.proofs.lemmas.Bool.Decides.{nat_tests}
-use Rattle.mysql_queries.specs.Tokens.{has_escapes, Quoted, Plain, kind_of, is_within, IsQuoted, HasShape, IsToken, AreTokens, HasTokens, BeginsOtherwise, single_quote, star, dash, inside_bytes}
+use Rattle.mysql_queries.specs.Tokens.{has_escapes, Quoted, Plain, kind_of, is_within, IsQuoted, HasShape, IsToken, AreTokens, HasTokens, BeginsOtherwise, single_quote, slash, star, dash, inside_bytes}
 use Rattle.mysql_queries.specs.Literals.{lower, is_digit, IsNumber, IsString, is_hex, SpellsInHex, IsHexLiteral, IsIntroduced, IsIntroducer, IsLiteral, text_introducer, binary_introducer}
 use Rattle.mysql_bytes.specs.declared.content.Content.{Content}
 use Rattle.mysql_bytes.specs.declared.content.Content.TheVariants.{Null, Number, Bytes}
 use Rattle.mysql_bytes.specs.declared.mode.Mode.{Mode}
 use Rattle.mysql_queries.specs.Queries.{is_joining}
+use Rattle.mysql_queries.specs.Alone.{is_opening, is_opening_kind}
 use Rattle.mysql_queries.proofs.FirstBytes.{bool_tells}
 use Rattle.mysql_queries.proofs.Follow.{BeginsApart, or_true, or_first, not_equal}
 use Rattle.mysql_bytes.specs.declared.spelling.Spelling.{Spelling}
@@ -112,24 +113,24 @@ pub record LiteralStart (spelling : List ℕ) : Type 0 where
   pub joined : spelling ≡ first ∷ others
   pub no_star : first ≢ star
   pub no_mark : first ≢ 0x21
-  pub no_plus : first ≢ 0x2b
+  pub no_slash : first ≢ slash
 
 word_start : (spelling : List ℕ) → IsWord spelling → LiteralStart spelling
-word_start spelling w = elim w.spelled [ inl e ↦ of_run spelling w.run w.each w.some e | inr e ↦ record { first = dash; others = w.run; joined = e; no_star = λ k. absurd (omega arith); no_mark = λ k. absurd (omega arith); no_plus = λ k. absurd (omega arith) } ]
+word_start spelling w = elim w.spelled [ inl e ↦ of_run spelling w.run w.each w.some e | inr e ↦ record { first = dash; others = w.run; joined = e; no_star = λ k. absurd (omega arith); no_mark = λ k. absurd (omega arith); no_slash = λ k. absurd (omega arith) } ]
   where
     of_run : (spelling run : List ℕ) → AreWord run → run ≢ [] → spelling ≡ run → LiteralStart spelling
     of_run spelling [] h n e = absurd (n refl)
-    of_run spelling (b ∷ run) h n e = record { first = b; others = run; joined = e; no_star = apart_bytes is_word b star h.0 refl; no_mark = apart_bytes is_word b 0x21 h.0 refl; no_plus = apart_bytes is_word b 0x2b h.0 refl }
+    of_run spelling (b ∷ run) h n e = record { first = b; others = run; joined = e; no_star = apart_bytes is_word b star h.0 refl; no_mark = apart_bytes is_word b 0x21 h.0 refl; no_slash = apart_bytes is_word b slash h.0 refl }
 
 introduced_start : (spelling : List ℕ) → IsIntroducedWord spelling → LiteralStart spelling
 introduced_start spelling w = elim w.is [
-  | inl e ↦ record { first = 0x5f; others = codes "utf8mb4 " ++ w.run; joined = w.spelled ∙ ap (λ y. y ++ w.run) e; no_star = λ k. absurd (omega arith); no_mark = λ k. absurd (omega arith); no_plus = λ k. absurd (omega arith) }
-  | inr e ↦ record { first = 0x5f; others = codes "binary " ++ w.run; joined = w.spelled ∙ ap (λ y. y ++ w.run) e; no_star = λ k. absurd (omega arith); no_mark = λ k. absurd (omega arith); no_plus = λ k. absurd (omega arith) }
+  | inl e ↦ record { first = 0x5f; others = codes "utf8mb4 " ++ w.run; joined = w.spelled ∙ ap (λ y. y ++ w.run) e; no_star = λ k. absurd (omega arith); no_mark = λ k. absurd (omega arith); no_slash = λ k. absurd (omega arith) }
+  | inr e ↦ record { first = 0x5f; others = codes "binary " ++ w.run; joined = w.spelled ∙ ap (λ y. y ++ w.run) e; no_star = λ k. absurd (omega arith); no_mark = λ k. absurd (omega arith); no_slash = λ k. absurd (omega arith) }
 ]
 
 pub literal_start : (mode : Mode) (sp : Spelling) (spelling : List ℕ) (content : Content) → IsLiteral mode sp spelling content → LiteralStart spelling
 literal_start mode sp spelling content h = elim (literal_form mode sp spelling content h) [
-  | inl s ↦ record { first = single_quote; others = flat_map (inside_bytes single_quote) s.1.parts ++ single_quote ∷ []; joined = s.1.spelled; no_star = λ k. absurd (omega arith); no_mark = λ k. absurd (omega arith); no_plus = λ k. absurd (omega arith) }
+  | inl s ↦ record { first = single_quote; others = flat_map (inside_bytes single_quote) s.1.parts ++ single_quote ∷ []; joined = s.1.spelled; no_star = λ k. absurd (omega arith); no_mark = λ k. absurd (omega arith); no_slash = λ k. absurd (omega arith) }
   | inr (inl w) ↦ word_start spelling w
   | inr (inr w) ↦ introduced_start spelling w
 ]
@@ -168,7 +169,8 @@ bare_kind b x h =
     let e6 : (b == 0x2f) ≡ false = not_equal b 0x2f (apart_bytes is_bare b 0x2f h refl) in
     let e7 : (b == 0x3a) ≡ false = not_equal b 0x3a (apart_bytes is_bare b 0x3a h refl) in
     let e8 : (b == 0x3f) ≡ false = not_equal b 0x3f (apart_bytes is_bare b 0x3f h refl) in
-    rw (e1, e2, e3, e4, e5, e6, e7, e8) refl
+    let e9 : (b == 0x2a) ≡ false = not_equal b 0x2a (apart_bytes is_bare b 0x2a h refl) in
+    rw (e1, e2, e3, e4, e5, e6, e7, e8, e9) refl
 
 dash_kind : (b : ℕ) (x : List ℕ) → is_word b ≡ true → kind_of (dash ∷ b ∷ x) ≡ Plain
 dash_kind b [] h = let e : (b == dash) ≡ false = not_equal b dash (apart_bytes is_word b dash h refl) in rw e refl
@@ -197,32 +199,43 @@ dash_tokens : (mode : Mode) (run : List ℕ) → AreWord run → run ≢ [] → 
 dash_tokens mode [] h n us k = absurd (n refl)
 dash_tokens mode (b ∷ run) h n us k = (plain_token mode dash (b ∷ concat (singles run ++ us)) (dash_kind b (concat (singles run ++ us)) h.0), word_tokens mode (b ∷ run) h us k)
 
+-- none of them is `/*!`
+abbrev pub BeginNoComment : List (List ℕ) → Type 0
+BeginNoComment ts = AllByRecursion (λ t. is_opening t ≡ false) ts
+
+bare_no_opening : (run : List ℕ) → AreBare run → BeginNoComment (singles run)
+bare_no_opening [] h = tt
+bare_no_opening (b ∷ run) h = (ap is_opening_kind (bare_kind b [] h.0), bare_no_opening run h.1)
+
 -- the tokens of a literal, which stay its tokens before what begins apart
 pub record LiteralTokens (mode : Mode) (spelling : List ℕ) : Type 0 where
   pub tokens : List (List ℕ)
   pub has : HasTokens mode spelling tokens
   pub stay : (us : List (List ℕ)) → AreTokens mode us → BeginsApart (concat us) → AreTokens mode (tokens ++ us)
+  pub no_opening : BeginNoComment tokens
 
 append_nil_lists : (xs : List (List ℕ)) → xs ++ [] ≡ xs
 append_nil_lists xs = append-nil xs
 
-singles_tokens : (mode : Mode) (spelling : List ℕ) → ((us : List (List ℕ)) → AreTokens mode us → AreTokens mode (singles spelling ++ us)) → LiteralTokens mode spelling
-singles_tokens mode spelling h = record {
+singles_tokens : (mode : Mode) (spelling : List ℕ) → ((us : List (List ℕ)) → AreTokens mode us → AreTokens mode (singles spelling ++ us)) → BeginNoComment (singles spelling) → LiteralTokens mode spelling
+singles_tokens mode spelling h n = record {
   tokens = singles spelling;
   has = record { joined = ap concat (sym (append_nil_lists (singles spelling))) ∙ concat_singles spelling [] ∙ append-nil spelling; each = subst (AreTokens mode) (append_nil_lists (singles spelling)) (h [] tt) };
   stay = λ us k _. h us k;
+  no_opening = n;
 }
 
 word_literal : (mode : Mode) (spelling : List ℕ) → IsWord spelling → LiteralTokens mode spelling
 word_literal mode spelling w = elim w.spelled [
-  | inl e ↦ subst (LiteralTokens mode) (sym e) (singles_tokens mode w.run (word_tokens mode w.run w.each))
-  | inr e ↦ subst (LiteralTokens mode) (sym e) (singles_tokens mode (dash ∷ w.run) (dash_tokens mode w.run w.each w.some))
+  | inl e ↦ subst (LiteralTokens mode) (sym e) (singles_tokens mode w.run (word_tokens mode w.run w.each) (bare_no_opening w.run (words_bare w.run w.each)))
+  | inr e ↦ subst (LiteralTokens mode) (sym e) (singles_tokens mode (dash ∷ w.run) (dash_tokens mode w.run w.each w.some) (refl, bare_no_opening w.run (words_bare w.run w.each)))
 ]
 
 introduced_literal : (mode : Mode) (spelling : List ℕ) → IsIntroducedWord spelling → LiteralTokens mode spelling
 introduced_literal mode spelling w =
     let bare : AreBare w.introducer = elim w.is [ inl e ↦ subst AreBare (sym e) text_bare | inr e ↦ subst AreBare (sym e) binary_bare ] in
-    subst (LiteralTokens mode) (sym w.spelled) (singles_tokens mode (w.introducer ++ w.run) (bare_tokens mode (w.introducer ++ w.run) (bare_append w.introducer w.run bare (words_bare w.run w.each))))
+    let all : AreBare (w.introducer ++ w.run) = bare_append w.introducer w.run bare (words_bare w.run w.each) in
+    subst (LiteralTokens mode) (sym w.spelled) (singles_tokens mode (w.introducer ++ w.run) (bare_tokens mode (w.introducer ++ w.run) all) (bare_no_opening (w.introducer ++ w.run) all))
 
 pub apart_otherwise : (r : List ℕ) → BeginsApart r → BeginsOtherwise single_quote r
 apart_otherwise [] h = tt
@@ -239,6 +252,7 @@ string_literal mode spelling bytes s = record {
   tokens = spelling ∷ [];
   has = record { joined = append-nil spelling; each = (string_token mode spelling bytes s [] tt, tt) };
   stay = λ us k a. (string_token mode spelling bytes s (concat us) (apart_otherwise (concat us) a), k);
+  no_opening = (ap is_opening s.spelled, tt);
 }
 
 pub literal_tokens : (mode : Mode) (sp : Spelling) (spelling : List ℕ) (content : Content) → IsLiteral mode sp spelling content → LiteralTokens mode spelling

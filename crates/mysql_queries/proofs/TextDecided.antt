@@ -4,7 +4,7 @@ use Rattle.std.specs.List.{AllByRecursion}
 use Rattle.std.specs.Cmp.Lexicographic.{pointwise}
 use Rattle.mysql_queries.specs.Laws.{TextIsDecided}
 use Rattle.mysql_queries.specs.Tokens.{HasTokens}
-use Rattle.mysql_queries.specs.Queries.{Alternates, HasPlaces, places_from, slices_between}
+use Rattle.mysql_queries.specs.Queries.{Alternates, HasPlaces, places_of, slices_between}
 use Rattle.mysql_bytes.specs.declared.content.Content.{Content}
 use Rattle.mysql_bytes.specs.declared.mode.Mode.{Mode}
 use Rattle.mysql_queries.specs.declared.placeholders.Place.{Place}
@@ -59,7 +59,7 @@ read_tells m sp query at (p ∷ places) o a text = elim (front_tells (slice_rang
 pub text_is_decided : TextIsDecided
 text_is_decided query a text =
     let t : (tokens : List (List ℕ)) × HasTokens query.mode query.text tokens = some_tokens query.mode query.text in
-    let places : List Place = places_from query.text 0 t.0 in
+    let places : List Place = places_of query t.0 in
     let has : HasPlaces query places = (t.0, t.1, refl) in
     elim (read_tells query.mode query.spelling query.text 0 places (places_in_order query places has) (a places has) text) [
       | inl k ↦ inl (k.0, sliced query text places k.0 has k.1)

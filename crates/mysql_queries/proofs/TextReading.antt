@@ -8,7 +8,7 @@ use Rattle.mysql_queries.specs.LiteralRuns.{IsLiteralRun}
 use Rattle.mysql_queries.specs.LiteralViews.{IsNoLiteral}
 use Rattle.mysql_queries.specs.Laws.{FilledIsRead}
 use Rattle.mysql_queries.specs.Sql.{Sql}
-use Rattle.mysql_queries.specs.Queries.{Alternates, AllAlone, AreLiterals, BeginsPlace, HasPlaces, InOrder, Lexes, Slices, interleaved, is_joining, places_from, slices_between}
+use Rattle.mysql_queries.specs.Queries.{Alternates, AllAlone, AreLiterals, BeginsPlace, HasPlaces, InOrder, Lexes, Slices, interleaved, is_joining, places_of, slices_between}
 use Rattle.mysql_bytes.specs.declared.content.Content.{Content}
 use Rattle.mysql_bytes.specs.declared.mode.Mode.{Mode}
 use Rattle.mysql_queries.specs.declared.placeholders.Place.{Place}
@@ -88,7 +88,7 @@ rest_free m sp query at (p ∷ ps) contents rest o l f h =
     front_apart query at p.start (r.spelling ++ r.rest) rest o.0 (omega arith) o.3 (free_rest query at l f) r.joined
 
 free_end : (query : List ℕ) (at : ℕ) (p : Place) (ps : List Place) → InOrder query at (p ∷ ps) → p.alone ≡ true → IsFree query p.end
-free_end query at p ps o a = (and_true _ _ (sym o.4 ∙ a)).1
+free_end query at p ps o a = (and_true _ _ (o.4 a)).1
 
 -- the literal of a reading is the run that stands there
 pub run_there : (m : Mode) (sp : Spelling) (query : List ℕ) (at : ℕ) (p : Place) (ps : List Place) (contents : List Content) (text : List ℕ) → InOrder query at (p ∷ ps) → p.alone ≡ true → (r : FirstRead m sp query at p ps contents text) → IsLiteralRun m sp r.spelling r.rest
@@ -173,7 +173,7 @@ sliced query text places contents h k = record {
 
 pub unsliced : (query : Sql) (text : List ℕ) (places : List Place) (contents : List Content) → HasPlaces query places → Slices query text contents → Alternates query.mode query.spelling (slices_between query.text 0 places) contents text
 unsliced query text places contents h k =
-    let e : places ≡ places_from query.text 0 k.tokens = one_places query places (places_from query.text 0 k.tokens) h (k.tokens, k.has, refl) in
+    let e : places ≡ places_of query k.tokens = one_places query places (places_of query k.tokens) h (k.tokens, k.has, refl) in
     subst (λ y. Alternates query.mode query.spelling y contents text) (pieces_are_slices query k.tokens k.has ∙ ap (slices_between query.text 0) (sym e)) k.alternates
 
 pub all_alone : (query : Sql) (places : List Place) → HasPlaces query places → AllByRecursion (λ place. place.alone ≡ true) places → AllAlone query

@@ -2,14 +2,12 @@
 use Rattle.std.proofs.Common.{◌≡◌, ◌≢◌, ℕ, ◌/◌, ◌%◌, ◌<◌, Bool, true, false, not, ◌&&◌, ◌||◌, ◌==◌, ◌⊎◌, if◌then◌else◌, List, [], ◌∷◌, ◌++◌, flat_map, refl, sym, ap, ◌∙◌, inl, inr, arith, subst}
 use Rattle.std.specs.List.{AllByRecursion}
 use Rattle.std.proofs.lemmas.Bool.Decides.{nat_tests, eqb_tells}
-use Rattle.mysql_queries.specs.Tokens.{Inside, Byte, Escape, Doubled, IsInside, inside_bytes, single_quote, double_quote, backslash, star, slash}
+use Rattle.mysql_queries.specs.Tokens.{Inside, Byte, Escape, Doubled, IsInside, inside_bytes, single_quote, double_quote, backslash}
 use Rattle.mysql_queries.specs.Literals.{IsHexLiteral, IsIntroducer, IsLiteral, IsString, SpellsInHex, binary_introducer, inside_content, is_hex, hex_value, text_introducer}
 use Rattle.mysql_bytes.specs.declared.mode.Mode.{Mode}
 use Rattle.mysql_bytes.specs.declared.content.Content.TheVariants.{Bytes}
 use Rattle.std.specs.Str.{is_utf8}
-use Rattle.mysql_queries.specs.Comments.{begins_comment, ends_comment}
-use Rattle.mysql_queries.specs.Written.{has_pair, in_hexadecimal, parted_byte, parted_bytes, quoted_in_comment, written_byte, quoted, hex_digit}
-use Rattle.mysql_queries.proofs.FirstBytes.{bool_tells, or_cases, same_number}
+use Rattle.mysql_queries.specs.Written.{in_hexadecimal, written_byte, quoted, hex_digit}
 use Rattle.mysql_queries.specs.Laws.{PlainIsRead, WrittenIsRead}
 use Rattle.mysql_bytes.specs.declared.spelling.Spelling.{Spelling}
 
@@ -118,59 +116,6 @@ all_hexadecimal (b ∷ bytes) h =
 hex_literal : (bytes : List ℕ) → AllByRecursion (λ b. b < 256) bytes → bytes ≢ [] → IsHexLiteral (in_hexadecimal bytes) bytes
 hex_literal bytes h n = record { digits = flat_map (λ b. hex_digit (b / 16) ∷ hex_digit (b % 16) ∷ []) bytes; spelled = refl; spells = all_hexadecimal bytes h; some = n }
 
--- in a comment
-
--- the part that a byte behind another is written as
-record PartedAs (before b : ℕ) : Type 0 where
-  part : Inside
-  inside : IsInside true single_quote part
-  spelled : parted_byte before b ≡ inside_bytes single_quote part
-  read : b ∷ [] ≡ inside_content part
-
-and_second : (p q : Bool) → (p && q) ≡ true → q ≡ true
-and_second true q h = h
-and_second false q h = let f : false ≡ true = h in cc
-
--- a star and a slash are what a backslash makes of them
-kept : (b : ℕ) → (b ≡ star) ⊎ (b ≡ slash) → b ∷ [] ≡ inside_content (Escape b)
-kept b (inl e) = subst (λ y. y ∷ [] ≡ inside_content (Escape y)) (sym e) refl
-kept b (inr e) = subst (λ y. y ∷ [] ≡ inside_content (Escape y)) (sym e) refl
-
-second_of_pair : (before b : ℕ) → (begins_comment before b || ends_comment before b) ≡ true → (b ≡ star) ⊎ (b ≡ slash)
-second_of_pair before b h = elim (or_cases (begins_comment before b) (ends_comment before b) h) [
-  | inl k ↦ inl (same_number b star (and_second (before == slash) (b == star) k))
-  | inr k ↦ inr (same_number b slash (and_second (before == star) (b == slash) k))
-]
-
-parted_as : (before b : ℕ) → PartedAs before b
-parted_as before b = elim (bool_tells (begins_comment before b || ends_comment before b)) [
-  | inl h ↦ record { part = Escape b; inside = refl; spelled = rw h refl; read = kept b (second_of_pair before b h) }
-  | inr h ↦ (let w : WrittenAs false b = escaped_as b in record { part = w.part; inside = w.inside; spelled = rw h w.spelled; read = w.read })
-]
-
-all_parted : (before : ℕ) (bytes : List ℕ) → SpelledAs true (parted_bytes before bytes) bytes
-all_parted before [] = record { parts = []; inside = tt; spelled = refl; read = refl }
-all_parted before (b ∷ bytes) =
-    let w : PartedAs before b = parted_as before b in
-    let o : SpelledAs true (parted_bytes b bytes) bytes = all_parted b bytes in
-    record {
-      parts = w.part ∷ o.parts;
-      inside = (w.inside, o.inside);
-      spelled = ap (λ y. y ++ parted_bytes b bytes) w.spelled ∙ ap (λ y. inside_bytes single_quote w.part ++ y) o.spelled;
-      read = ap (λ y. b ∷ y) o.read ∙ ap (λ y. y ++ flat_map inside_content o.parts) w.read;
-    }
-
-some_pair : (bytes : List ℕ) → has_pair bytes ≡ true → bytes ≢ []
-some_pair bytes h e = let f : has_pair [] ≡ true = subst (λ y. has_pair y ≡ true) e h in let g : false ≡ true = f in cc
-
-in_comment_as : (no_backslash_escapes : Bool) (bytes : List ℕ) → AllByRecursion (λ b. b < 256) bytes
-    → IsString (not no_backslash_escapes) (quoted_in_comment no_backslash_escapes bytes) bytes ⊎ IsHexLiteral (quoted_in_comment no_backslash_escapes bytes) bytes
-in_comment_as false bytes h = inl (in_quotes true (parted_bytes single_quote bytes) bytes (all_parted single_quote bytes))
-in_comment_as true bytes h = elim (bool_tells (has_pair bytes)) [
-  | inl p ↦ rw p (inr (hex_literal bytes h (some_pair bytes p)))
-  | inr p ↦ rw p (inl (in_quotes false (flat_map (written_byte true) bytes) bytes (all_written true bytes)))
-]
-
 introducer_of : (text : Bool) → IsIntroducer (if text then text_introducer else binary_introducer)
 introducer_of true = inl refl
 introducer_of false = inr refl
@@ -178,7 +123,6 @@ introducer_of false = inr refl
 pub written_is_read : WrittenIsRead
 written_is_read = record {
   quotes = quoted_read;
-  in_comment = λ mode sp bytes h. elim (in_comment_as mode.no_backslash_escapes bytes h) [ inl k ↦ inl k | inr k ↦ inr (inl k) ];
   digits = λ mode sp bytes h n. inr (inl (hex_literal bytes h n));
   introducers = λ mode bytes h n. inr (inr (record {
     allowed = refl;

@@ -1,17 +1,17 @@
 -- The laws of tokens, literals and queries, over any mode of the server that reads them and any
 -- spelling of byte strings. MySQL Reference Manual, "Literal Values", "Character Set Introducers" and
 -- "Comments".
-use Rattle.std.specs.List.{AllByRecursion, IsAmong, concat}
-use Rattle.mysql_queries.specs.Comments.{BringsNoPair, begins_skipped, is_open, open_behind, pairs}
-use Rattle.mysql_queries.specs.Written.{quoted, quoted_in_comment, in_hexadecimal, introduced}
-use Rattle.std.specs.Prelude.{◌≡◌, ◌≢◌, ◌⊎◌, ◌<◌, ◌+◌, ◌++◌, ℕ, Bool, true, length, List, [], ◌∷◌, codes, negsuc}
-use Rattle.std.specs.Prelude.{◌≤◌, flat_map, slice_range}
-use Rattle.mysql_queries.specs.Tokens.{HasTokens, backslash, single_quote, slash, star}
+use Rattle.std.specs.List.{AllByRecursion, concat}
+use Rattle.mysql_queries.specs.Alone.{begins, is_opening, servers_agree}
+use Rattle.mysql_queries.specs.Servers.{Server, HasTokensAt, tokens_at}
+use Rattle.mysql_queries.specs.Written.{quoted, in_hexadecimal, introduced}
+use Rattle.std.specs.Prelude.{◌≡◌, ◌≢◌, ◌⊎◌, ◌<◌, ◌++◌, ℕ, Bool, true, false, length, List, [], ◌∷◌, codes, negsuc}
+use Rattle.mysql_queries.specs.Tokens.{HasTokens, is_digit, backslash, single_quote}
 use Rattle.mysql_queries.specs.Literals.{IsLiteral}
 use Rattle.mysql_bytes.specs.declared.content.Content.{Content}
 use Rattle.mysql_bytes.specs.declared.content.Content.TheVariants.{Null, Number, Bytes}
 use Rattle.mysql_queries.specs.Queries.{Slices, Lexes, AllAlone, AreLiterals, HasPlaces, InOrder, interleaved}
-use Rattle.mysql_queries.specs.Queries.{StayInComments, is_joining, pieces_of, places_from, slices_between, stretch}
+use Rattle.mysql_queries.specs.Queries.{is_joining, pieces_of, places_of, slices_between}
 use Rattle.mysql_queries.specs.Parsed.{names_of, names_at}
 use Rattle.mysql_queries.specs.LiteralRuns.{EndsBefore, IsLiteralRun}
 use Rattle.mysql_queries.specs.Sql.{Sql, default_mode}
@@ -58,12 +58,12 @@ OnePlaces = (query : Sql) (places others : List Place) → HasPlaces query place
 -- The pieces of a query are its slices before, between and after its placeholders.
 abbrev pub PiecesAreSlices : Type 0
 PiecesAreSlices = (query : Sql) (tokens : List (List ℕ)) → HasTokens query.mode query.text tokens →
-    pieces_of tokens ≡ slices_between query.text 0 (places_from query.text 0 tokens)
+    pieces_of tokens ≡ slices_between query.text 0 (places_of query tokens)
 
 -- The names of a query are its slices at the placeholders that are names, without their colons.
 abbrev pub NamesAreSlices : Type 0
 NamesAreSlices = (query : Sql) (tokens : List (List ℕ)) → HasTokens query.mode query.text tokens →
-    names_of tokens ≡ names_at query.text (places_from query.text 0 tokens)
+    names_of tokens ≡ names_at query.text (places_of query tokens)
 
 -- The placeholders of a query stand one after another.
 abbrev pub PlacesInOrder : Type 0
@@ -125,9 +125,6 @@ pub record WrittenIsRead : Type 0 where
   -- in quotes
   pub quotes : (mode : Mode) (spelling : Spelling) (bytes : List ℕ) →
       IsLiteral mode spelling (quoted mode.no_backslash_escapes bytes) (Bytes bytes)
-  -- in quotes, in a place in a comment
-  pub in_comment : (mode : Mode) (spelling : Spelling) (bytes : List ℕ) → AllByRecursion (λ b. b < 256) bytes →
-      IsLiteral mode spelling (quoted_in_comment mode.no_backslash_escapes bytes) (Bytes bytes)
   -- in hexadecimal, where they are not none
   pub digits : (mode : Mode) (spelling : Spelling) (bytes : List ℕ) → AllByRecursion (λ b. b < 256) bytes →
       bytes ≢ [] → IsLiteral mode spelling (in_hexadecimal bytes) (Bytes bytes)
@@ -135,50 +132,30 @@ pub record WrittenIsRead : Type 0 where
   pub introducers : (mode : Mode) (bytes : List ℕ) → AllByRecursion (λ b. b < 256) bytes →
       bytes ≢ [] → IsLiteral mode Hexadecimal (introduced bytes) (Bytes bytes)
 
--- What a writer makes of bytes in a place in a comment brings no `/*` and no `*/` into it.
-pub record WrittenBringsNoPair : Type 0 where
-  pub quotes : (no_backslash_escapes : Bool) (bytes : List ℕ) → AllByRecursion (λ b. b < 256) bytes →
-      BringsNoPair (quoted_in_comment no_backslash_escapes bytes)
-  pub digits : (bytes : List ℕ) → AllByRecursion (λ b. b < 256) bytes → BringsNoPair (in_hexadecimal bytes)
-  pub introducers : (bytes : List ℕ) → AllByRecursion (λ b. b < 256) bytes → BringsNoPair (introduced bytes)
-  -- nor does a text without a star and a slash, as numbers, dates and times are
-  pub others : (text : List ℕ) → text ≢ [] → AllByRecursion (λ b. (b ≢ star) × (b ≢ slash)) text → BringsNoPair text
-
--- Where no literal brings in a pair, a query's pieces with literals between them have the `/*` and
--- the `*/` of the pieces, in order, and no other.
-abbrev pub FilledHasThePairs : Type 0
-FilledHasThePairs = (pieces literals : List (List ℕ)) → length pieces ≡ length literals + 1 →
-    AllByRecursion BringsNoPair literals → pairs (interleaved pieces literals) ≡ flat_map pairs pieces
-
--- A query with literals in its places is one stretch, from its first byte to its last; and from
--- where a comment begins that a server may skip to each place that it is open at, a stretch has the
--- `/*` and the `*/` of the query there, in order, and no other.
-pub record CommentsKeepTheirPairs : Type 0 where
-  pub whole : (query : Sql) (places : List Place) (literals : List (List ℕ)) → HasPlaces query places →
-      length literals ≡ length places →
-      interleaved (slices_between query.text 0 places) literals ≡
-      stretch query.text 0 (length query.text) places literals
-  pub same : (query : Sql) (before behind : List (List ℕ)) (places : List Place) (literals : List (List ℕ))
-      (place : Place) → HasTokens query.mode query.text (before ++ behind) → begins_skipped (concat behind) ≡ true →
-      HasPlaces query places → StayInComments places literals → IsAmong places place →
-      length (concat before) + 3 ≤ place.start →
-      is_open (slice_range query.text (length (concat before) + 3) place.start) ≡ true →
-      pairs (stretch query.text (length (concat before) + 3) place.start places literals) ≡
-      pairs (slice_range query.text (length (concat before) + 3) place.start)
-
--- A server that counts the comments that are open counts over such a literal as if it weren't there.
-abbrev pub NoPairIsNotCounted : Type 0
-NoPairIsNotCounted = (literal : List ℕ) → BringsNoPair literal → (before after : List ℕ) (n : ℕ) →
-    open_behind n (before ++ (literal ++ after)) ≡ open_behind (open_behind n before) after
-
--- A comment that is open behind bytes was open all along: so a place between where it begins and a
--- place in it is in it too.
-abbrev pub OpenAllAlong : Type 0
-OpenAllAlong = (before after : List ℕ) → is_open (before ++ after) ≡ true → is_open before ≡ true
-
 -- Without bytes that a mode takes otherwise a text in quotes is a literal of itself in each mode:
 -- that of a date or a time, and that of no bytes.
 abbrev pub PlainIsRead : Type 0
 PlainIsRead = (mode : Mode) (spelling : Spelling) (bytes : List ℕ) →
     AllByRecursion (λ b. (b ≢ single_quote) × (b ≢ backslash)) bytes →
     IsLiteral mode spelling (single_quote ∷ (bytes ++ single_quote ∷ [])) (Bytes bytes)
+
+-- Where a placeholder of a query stands alone, servers agree about the query.
+abbrev pub AloneIsAgreed : Type 0
+AloneIsAgreed = (query : Sql) (tokens : List (List ℕ)) → HasTokens query.mode query.text tokens → AllAlone query →
+    places_of query tokens ≢ [] → servers_agree 0 tokens ≡ true
+
+-- Where servers agree about a query, a comment of it whose inside is read has no version: each with
+-- one is a token, which holds no placeholder.
+abbrev pub NoVersionIsRead : Type 0
+NoVersionIsRead = (before : List (List ℕ)) (token : List ℕ) (behind : List (List ℕ)) →
+    servers_agree 0 (before ++ token ∷ behind) ≡ true → is_opening token ≡ true →
+    begins is_digit (concat behind) ≡ false
+
+-- Of a query whose placeholders stand alone, each text has the same tokens at each server but for the
+-- insides of the query's own comments with a version: at one that skips them each is one token, as the
+-- text's tokens have it, and one that runs them takes each apart.
+abbrev pub ServersReadAlike : Type 0
+ServersReadAlike = (query : Sql) (text : List ℕ) (contents : List Content) (tokens : List (List ℕ)) → AllAlone query →
+    contents ≢ [] → Slices query text contents → HasTokens query.mode text tokens → (server : Server) →
+    HasTokensAt server query.mode text (tokens_at server tokens) ×
+    ((others : List (List ℕ)) → HasTokensAt server query.mode text others → others ≡ tokens_at server tokens)

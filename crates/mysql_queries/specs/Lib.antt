@@ -1,8 +1,9 @@
 pub mod Tokens
 pub mod Sql
 pub mod Literals
-pub mod Comments
+pub mod Alone
 pub mod Queries
+pub mod Servers
 pub mod Written
 pub mod Laws
 pub mod Scanning
@@ -11,7 +12,7 @@ pub mod LiteralRuns
 pub mod LiteralViews
 pub mod Parsed
 pub mod PlaceKinds
-pub mod SkippedComments
+pub mod Placing
 pub mod Query
 pub mod ParsedQuery
 pub mod TextViews

@@ -7,6 +7,7 @@ use Rattle.std.specs.Prelude.{◌⊎◌, List, [], ◌∷◌, ◌++◌, map, fol
 use Rattle.std.specs.List.{AllByRecursion}
 use Rattle.mysql_bytes.specs.declared.content.Content.{Content}
 use Rattle.mysql_bytes.specs.declared.content.Content.TheVariants.{Null, Number, Bytes}
+pub use Rattle.mysql_queries.specs.Tokens.{is_digit}
 use Rattle.mysql_queries.specs.Tokens.{is_within, single_quote, backslash, dash, Inside, Byte, Escape, Doubled}
 use Rattle.mysql_queries.specs.Tokens.{inside_bytes, IsInside, has_escapes}
 use Rattle.mysql_bytes.specs.declared.mode.Mode.{Mode}
@@ -16,9 +17,6 @@ use Rattle.mysql_bytes.specs.declared.spelling.Spelling.TheVariants.{Hexadecimal
 -- an ASCII letter in lower case
 abbrev pub lower : ℕ → ℕ
 lower b = if is_within 0x41 0x5a b then b + 0x20 else b
-
-abbrev pub is_digit : ℕ → Bool
-is_digit b = is_within 0x30 0x39 b
 
 -- the number of a row of digits
 abbrev pub digits_value : List ℕ → ℕ

@@ -1,10 +1,12 @@
 -- What stands at a place of a text.
 -- MySQL Reference Manual, "String Literals".
-use Rattle.std.specs.Prelude.{◌≡◌, ◌≢◌, ℕ, ◌+◌, ◌≤◌, Bool, true, not, ◌||◌, ◌==◌, List, [], ◌∷◌, ◌++◌, length, drop}
+use Rattle.std.specs.Prelude.{◌≡◌, ◌≢◌, ℕ, ◌+◌, ◌≤◌, Bool, true, not, ◌&&◌, ◌||◌, ◌==◌, List, [], ◌∷◌, ◌++◌, length}
+use Rattle.std.specs.Prelude.{drop}
 use Rattle.std.specs.Prelude.{slice_index}
 use Rattle.std.specs.List.{AllByRecursion}
 use Rattle.mysql_queries.specs.Tokens.{Inside, Byte, Escape, Doubled, backslash, inside_bytes, IsInside, Closes}
-use Rattle.mysql_queries.specs.Tokens.{single_quote, is_quote, hash, dash, slash, colon, question}
+use Rattle.mysql_queries.specs.Tokens.{single_quote, is_quote, hash, dash, slash, star, colon, question, bracket}
+use Rattle.mysql_queries.specs.Tokens.{dollar}
 use Rattle.mysql_queries.specs.declared.strings.Part.{Part}
 use Rattle.mysql_queries.specs.declared.strings.Part.TheVariants as parts
 
@@ -38,6 +40,11 @@ abbrev pub IsRun : (escapes : Bool) → List ℕ → Type 0
 IsRun escapes bytes = AllByRecursion (λ b. (b ≢ single_quote) × (escapes ≡ true → b ≢ backslash)) bytes
 
 -- a byte that is a token by itself whatever follows it: it begins no string, quoted identifier,
--- comment or name, and is no question mark
+-- comment or name, ends no comment, and is no question mark
 abbrev pub is_plain : ℕ → Bool
-is_plain b = not (is_quote b || (b == hash) || (b == dash) || (b == slash) || (b == colon) || (b == question))
+is_plain b =
+    not (is_quote b || (b == hash) || (b == dash) || (b == slash) || (b == star) || (b == colon) || (b == question))
+
+-- such a byte at which no server reads otherwise, whatever follows it
+abbrev pub is_quiet : ℕ → Bool
+is_quiet b = is_plain b && not ((b == bracket) || (b == dollar))

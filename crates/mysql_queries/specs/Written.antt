@@ -1,10 +1,9 @@
 -- The spellings that a writer chooses for bytes, by the mode of the server that reads them. MySQL
 -- Reference Manual, "String Literals" (escape sequences), "Hexadecimal Literals", "Character Set
--- Introducers", "Comments", "Server SQL Modes" (NO_BACKSLASH_ESCAPES).
-use Rattle.std.specs.Prelude.{Bool, true, ℕ, ◌+◌, ◌/◌, ◌%◌, ◌==◌, ◌||◌, nat_lt, if◌then◌else◌}
-use Rattle.std.specs.Prelude.{List, [], ◌∷◌, ◌++◌, length, flat_map}
+-- Introducers", "Server SQL Modes" (NO_BACKSLASH_ESCAPES).
+use Rattle.std.specs.Prelude.{Bool, ℕ, ◌+◌, ◌/◌, ◌%◌, ◌==◌, ◌||◌, nat_lt, if◌then◌else◌}
+use Rattle.std.specs.Prelude.{List, [], ◌∷◌, ◌++◌, flat_map}
 use Rattle.std.specs.Str.{is_utf8}
-use Rattle.mysql_queries.specs.Comments.{begins_comment, ends_comment, pairs}
 use Rattle.mysql_queries.specs.Literals.{binary_introducer, text_introducer}
 use Rattle.mysql_queries.specs.Tokens.{single_quote, double_quote, backslash}
 
@@ -42,26 +41,3 @@ in_hexadecimal bytes = 0x30 ∷ 0x78 ∷ flat_map (λ b. hex_digit (b / 16) ∷ 
 -- `_utf8mb4 ` before bytes that are UTF-8, `_binary ` before others, and the bytes in hexadecimal
 abbrev pub introduced : List ℕ → List ℕ
 introduced bytes = (if is_utf8 bytes then text_introducer else binary_introducer) ++ in_hexadecimal bytes
-
--- whether `/*` or `*/` stands among bytes
-abbrev pub has_pair : List ℕ → Bool
-has_pair bytes = nat_lt 0 (length (pairs bytes))
-
--- A byte inside quotes with escapes that stands behind another one, in a place in a comment: there a
--- slash behind a star, and a star behind a slash, has a backslash before it too.
-abbrev pub parted_byte : ℕ → ℕ → List ℕ
-parted_byte before b =
-    if begins_comment before b || ends_comment before b then backslash ∷ b ∷ [] else escaped_byte b
-
--- bytes that stand so, one behind another, the first of them behind this one
-abbrev pub parted_bytes : ℕ → List ℕ → List ℕ
-parted_bytes before [] = []
-parted_bytes before (b ∷ bytes) = parted_byte before b ++ parted_bytes b bytes
-
--- Bytes in single quotes in a place in a comment. Where backslashes escape, one parts each `/*` and
--- `*/`; where they don't, bytes that have one are in hexadecimal.
-abbrev pub quoted_in_comment : (no_backslash_escapes : Bool) → List ℕ → List ℕ
-quoted_in_comment no_backslash_escapes bytes =
-    if no_backslash_escapes
-    then (if has_pair bytes then in_hexadecimal bytes else quoted true bytes)
-    else single_quote ∷ (parted_bytes single_quote bytes ++ single_quote ∷ [])

@@ -1,27 +1,25 @@
 //! Laws of tokens, literals and queries. The functions change nothing: their contracts are the laws.
 
 ghost use Rattle.mysql_queries.specs.Laws.{
-  CommentsKeepTheirPairs,
-  FilledHasThePairs,
+  AloneIsAgreed,
   FilledIsRead,
   LexedIsSliced,
   LiteralIsRun,
   NamesAreSlices,
-  NoPairIsNotCounted,
+  NoVersionIsRead,
   OneContent,
   OnePlaces,
   OneRead,
   OneReading,
   OneTokens,
-  OpenAllAlong,
   PiecesAreSlices,
   PlainIsRead,
   PlacesInOrder,
+  ServersReadAlike,
   SlicedIsLexed,
   SomeTokens,
   TextIsDecided,
   WorkedSpellings,
-  WrittenBringsNoPair,
   WrittenIsRead,
 };
 
@@ -70,15 +68,13 @@ pub fn filled_text_is_read()
     ensures { FilledIsRead }
 {}
 
-/// In a comment that a server may skip no literal begins or ends a comment.
+/// Servers that run comments with a version and those that skip them read texts alike.
 ///
-/// Take a query with literals for its placeholders, from where such a comment begins to a placeholder
-/// in it. It has the `/*` and the `*/` of the query itself, in order, and no others. So a server that
-/// skips the comment skips to the query's own end of it, by counting comments inside or not.
-pub fn literals_bring_no_pair()
-    ensures written { WrittenBringsNoPair }
-    ensures filled { FilledHasThePairs }
-    ensures comments { CommentsKeepTheirPairs }
-    ensures counted { NoPairIsNotCounted }
-    ensures all_along { OpenAllAlong }
+/// Take a query whose placeholders stand alone, and a text over it. Each server has the text's own
+/// tokens. One that runs such a comment has the tokens of its inside in place of it. It holds no
+/// placeholder, since a comment whose inside is read has no version.
+pub fn servers_read_alike()
+    ensures alone { AloneIsAgreed }
+    ensures version { NoVersionIsRead }
+    ensures servers { ServersReadAlike }
 {}

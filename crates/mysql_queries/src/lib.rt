@@ -1,6 +1,6 @@
 //! Queries and the texts made of them: tokens, placeholders, literals, and what a text is read as.
 //!
-//! The crates of values, sessions and SQL modes use it. A user names most of it by `mysql_values`.
+//! The crates of literals, values, digests and sessions use it. A user names most of it by `mysql_values`.
 //!
 //! | question | call |
 //! |---|---|
@@ -14,6 +14,7 @@
 //!     let contents = read_text(alloc, b"SELECT :a", query.places(), b"SELECT 5")?;
 #![tactic(auto)]
 
+mod alone;
 mod hexadecimal;
 pub mod laws;
 pub mod literals;
@@ -21,7 +22,6 @@ pub mod named_params;
 mod numbers;
 pub mod parsed_query;
 pub mod placeholders;
-mod skipped;
 mod strings;
 pub mod texts;
 pub mod tokens;

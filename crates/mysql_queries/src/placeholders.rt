@@ -4,18 +4,34 @@
 //!     let stand_alone = first_not_alone(&places).is_none();
 //!     let is_refused = is_mixed(&places);
 
-ghost use Rattle.mysql_queries.specs.PlaceKinds.{is_place_kind, place_of_kind};
-ghost use Rattle.mysql_queries.specs.SkippedComments.{Counts};
-ghost use Rattle.mysql_queries.specs.Tokens.{kind_of};
-ghost use Rattle.mysql_queries.specs.Queries.{HasPlaces, first_not_alone as first_apart, is_joining};
-ghost use Rattle.mysql_queries.specs.Queries.{is_mixed as has_both_kinds, is_name_kind, stands_alone};
+ghost use Rattle.mysql_queries.specs.Alone.{is_joining, is_name_kind, meets_string, stands_apart};
+ghost use Rattle.mysql_queries.specs.PlaceKinds.{is_place_kind};
+ghost use Rattle.mysql_queries.specs.Placing.{not_alone, place_between};
+ghost use Rattle.mysql_queries.specs.Tokens.{HasTokens, kind_of};
+ghost use Rattle.mysql_queries.specs.Queries.{HasPlaces, first_not_alone as first_apart};
+ghost use Rattle.mysql_queries.specs.Queries.{is_mixed as has_both_kinds};
 ghost use Rattle.mysql_queries.specs.Sql.{read_by_default, read_in};
 ghost use Rattle.mysql_queries.specs.TokenKinds.{kind_view};
 ghost use Rattle.std.specs.List.{AllByRecursion, list_any};
-ghost use Rattle.std.specs.Prelude.{◌<◌, ◌≡◌, ◌≤◌, IfNone, IfOk, IfSome, List, drop, false, length, not, true, ℕ};
+ghost use Rattle.std.specs.Prelude.{
+  ◌<◌,
+  ◌≡◌,
+  ◌≤◌,
+  IfNone,
+  IfOk,
+  IfSome,
+  List,
+  drop,
+  false,
+  length,
+  map,
+  not,
+  true,
+  ℕ,
+};
 
-use crate::skipped::{Skipped, begins_skipped};
-use crate::tokens::{TokenKind, kind_at, plain_end, token_end};
+use crate::alone::{SoFar, string_first};
+use crate::tokens::{TokenKind, kind_at, quiet_end, token_end};
 use mysql_bytes::Mode;
 use std::alloc::{AllocError, Global};
 
@@ -26,12 +42,11 @@ pub struct Place {
     pub end: usize,
     /// Whether it is a name.
     pub name: bool,
-    /// Whether no neighbouring byte can run together with a literal in its place.
-    pub alone: bool,
-    /// Whether it is in a comment that a server may skip, from `/*!` or `/*+` to its end.
+    /// Whether it stands alone: a literal in its place is read as that literal by each server.
     ///
-    /// A literal there is spelled so that it neither ends that comment nor begins one.
-    pub in_comment: bool,
+    /// No neighbouring byte can run together with the literal, no string stands beside it, and servers
+    /// agree about the query.
+    pub alone: bool,
 }
 
 // A `1` at each byte that could run together with a literal.
@@ -51,10 +66,10 @@ fn joining(b: u8) -> bool
     JOINING[usize::from(b)] == b'1'
 }
 
-fn alone_at(query: &[u8], start: usize, end: usize) -> bool
+fn apart(query: &[u8], start: usize, end: usize) -> bool
     requires order { start ≤ end }
     requires in_range { end ≤ length query.now }
-    ensures { result ≡ stands_alone query.now start end }
+    ensures { result ≡ stands_apart query.now start end }
 {
     let before = start == 0 || (!joining(query[start - 1]) && query[start - 1] != b'-');
     let after = end == query.len() || !joining(query[end]);
@@ -73,46 +88,64 @@ fn is_name_of(kind: TokenKind) -> Option<bool>
         TokenKind::Quoted(_) => None,
         TokenKind::LineComment => None,
         TokenKind::BlockComment => None,
+        TokenKind::Opening => None,
+        TokenKind::Closing => None,
         TokenKind::Plain => None,
     }
 }
 
-/// The placeholder that a token of this kind is in the query, and the count up to it; None of a token
-/// that is none.
+/// The placeholder that a token of this kind is in the query, if servers agree about the query; None
+/// of a token that is none.
 fn place_of(
     query: &[u8],
-    skipped: Skipped,
+    so_far: SoFar,
     kind: TokenKind,
     start: usize,
     end: usize,
-) -> Option<(Place, Skipped)>
-    requires counted { skipped.behind ≤ start }
+    mode: Mode,
+) -> Option<Place>
     requires order { start < end }
     requires in_range { end ≤ length query.now }
-    requires open { skipped.open ≤ skipped.behind }
-    requires kind { kind_view kind ≡ kind_of (drop start query.now) }
-    ensures found { IfSome result (λ p. (is_place_kind (kind_view kind) ≡ true) ×
-        ((begun : List ℕ) → Counts query.now begun skipped →
-        (p.0 ≡ place_of_kind query.now begun (kind_view kind) start end) × Counts query.now begun p.1) ×
-        (p.1.behind ≡ start)) }
+    ensures found { IfSome result (λ place. (is_place_kind (kind_view kind) ≡ true) ×
+        ((behind : List (List ℕ)) → HasTokens mode (drop end query.now) behind →
+        place ≡ place_between query.now (kind_view kind) start end so_far.opening so_far.string
+        (meets_string mode behind))) }
     ensures none { IfNone result (is_place_kind (kind_view kind) ≡ false) }
 {
     let name = is_name_of(kind)?;
-    let counted = skipped.up_to(query, start);
-    let place = Place {
+    let alone = apart(query, start, end)
+        && !so_far.opening
+        && !so_far.string
+        && !string_first(&query[end..], mode);
+    Some(Place {
         start,
         end,
         name,
-        alone: alone_at(query, start, end),
-        in_comment: counted.open > 0,
-    };
-    Some((place, counted))
+        alone,
+    })
+}
+
+/// The placeholders of a query about which servers disagree: none stands alone.
+fn none_alone(alloc: Global, places: &[Place]) -> Result<Vec<Place>, AllocError>
+    ensures { IfOk result (λ v. v.items ≡ map not_alone places.now) }
+{
+    let mut found = Vec::new(alloc);
+    for place in places {
+        found.push(Place {
+            start: place.start,
+            end: place.end,
+            name: place.name,
+            alone: false,
+        })?;
+    }
+    Ok(found)
 }
 
 /// The placeholders of a query, in order.
 ///
-/// Strings, quoted identifiers and comments hold none. The text from `/*!` or `/*+` to its end is
-/// read as the query's own. A placeholder there says that it is in such a comment.
+/// Strings, quoted identifiers and comments hold none. Hints are comments, and so is a simple version
+/// comment, as `/*!50000 x */`. The inside of another comment that begins with `/*!` is read as the
+/// query's own.
 ///
 /// **Read as** by a server in the default mode: [`places_in`] takes the mode.
 ///
@@ -125,8 +158,9 @@ pub fn places(alloc: Global, query: &[u8]) -> Result<Vec<Place>, AllocError>
 
 /// The placeholders of a query as a server in this mode reads it, in order.
 ///
-/// Strings, quoted identifiers and comments hold none. The text from `/*!` or `/*+` to its end is
-/// read as the query's own. A placeholder there says that it is in such a comment.
+/// Strings, quoted identifiers and comments hold none. Hints are comments, and so is a simple version
+/// comment, as `/*!50000 x */`. The inside of another comment that begins with `/*!` is read as the
+/// query's own.
 ///
 /// Promise: exactly the placeholders of the query are listed (`HasPlaces`).
 ///
@@ -136,21 +170,27 @@ pub fn places_in(alloc: Global, query: &[u8], mode: Mode) -> Result<Vec<Place>, 
     ensures { IfOk result (λ v. HasPlaces (read_in mode query.now) v.items) }
 {
     let mut found = Vec::new(alloc);
-    let mut skipped = Skipped::new();
-    let mut at = plain_end(query, 0);
+    let mut at = quiet_end(query, 0);
+    let mut so_far = SoFar::new().behind_quiet(&query[..at]);
     while at < query.len() {
         let rest = &query[at..];
         let kind = kind_at(rest);
-        let end = at + token_end(rest, kind, mode);
-        if let Some((place, counted)) = place_of(query, skipped, kind, at, end) {
+        let len = token_end(rest, kind, mode);
+        let end = at + len;
+        if let Some(place) = place_of(query, so_far, kind, at, end, mode) {
             found.push(place)?;
-            skipped = counted;
-        } else if begins_skipped(rest) {
-            skipped = skipped.with_begun(query, at);
         }
-        at = plain_end(query, end);
+        let next = quiet_end(query, end);
+        so_far = so_far
+            .behind(rest, kind, len, mode)
+            .behind_quiet(&query[end..next]);
+        at = next;
     }
-    Ok(found)
+    if so_far.agree {
+        Ok(found)
+    } else {
+        none_alone(alloc, &found)
+    }
 }
 
 fn any_name(places: &[Place]) -> bool

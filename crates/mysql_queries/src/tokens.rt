@@ -1,18 +1,24 @@
 //! The tokens of a SQL text.
 
-ghost use Rattle.mysql_queries.specs.Scanning.{ClosesAt, PartAt, is_plain as is_plain_byte};
+ghost use Rattle.mysql_queries.specs.Scanning.{ClosesAt, PartAt, is_quiet as is_quiet_byte};
 ghost use Rattle.mysql_queries.specs.Tokens.{
   AtLineEnd,
   IsBlockComment,
   IsName,
   IsQuoted,
   IsToken,
+  begins_end,
   goes_on_as_block,
+  goes_on_as_closing,
   goes_on_as_dashes,
   goes_on_as_name,
+  goes_on_as_opening,
   has_escapes,
+  is_digit,
   is_name_byte,
   is_name_start,
+  is_simple as begins_simple,
+  is_simple_byte,
   kind_of,
   line_feed,
   colon,
@@ -20,7 +26,7 @@ ghost use Rattle.mysql_queries.specs.Tokens.{
   star,
 };
 ghost use Rattle.mysql_queries.specs.TokenKinds.{kind_view};
-ghost use Rattle.std.specs.List.{AllByRecursion};
+ghost use Rattle.std.specs.List.{AllByRecursion, prefix_len};
 ghost use Rattle.std.specs.Prelude.{
   ◌+◌,
   ◌<◌,
@@ -152,13 +158,91 @@ fn dashes_follow(after: &[u8]) -> bool
     }
 }
 
+// A `1` at each byte that a simple version comment may hold behind its first digit.
+static SIMPLE: [u8; 256] = *b"\
+    01111111111111111111111111111111\
+    11000110110110101111111111011110\
+    11111111111111111111111111100111\
+    01111111111111111111111111111111\
+    00000000000000000000000000000000\
+    00000000000000000000000000000000\
+    00000000000000000000000000000000\
+    00000000000000000000000000000000";
+
+/// Whether a simple version comment may hold a byte.
+pub fn is_simple_one(b: u8) -> bool
+    ensures { result ≡ is_simple_byte b }
+{
+    SIMPLE[usize::from(b)] == b'1'
+}
+
+/// How many simple bytes come first.
+fn simple_len(text: &[u8]) -> usize
+    ensures in_range { result ≤ length text.now }
+    ensures len { result ≡ prefix_len is_simple_byte text.now }
+{
+    let mut at = 0;
+    while at < text.len() && is_simple_one(text[at]) {
+        at += 1;
+    }
+    at
+}
+
+fn end_follows(after: &[u8]) -> bool
+    ensures { result ≡ begins_end after.now }
+{
+    match after {
+        [a, b, ..] => *a == b'*' && *b == b'/',
+        _ => false,
+    }
+}
+
+/// Whether what follows `/*!` is a simple version comment.
+///
+/// No byte is looked at but those of the comment and one more. None of them begins another one, so a
+/// text is looked at once, also where no such comment ends.
+fn is_simple(after: &[u8]) -> bool
+    ensures { result ≡ begins_simple after.now }
+{
+    match after {
+        [] => false,
+        [b, ..] => {
+            b'0' <= *b
+                && *b <= b'9'
+                && {
+                    let inside = &after[1..];
+                    end_follows(&inside[simple_len(inside)..])
+                }
+        }
+    }
+}
+
 fn block_follows(after: &[u8]) -> bool
     ensures { result ≡ goes_on_as_block after.now }
 {
     match after {
         [] => false,
         [b] => *b == b'*',
-        [b, c, ..] => *b == b'*' && !(*c == b'!' || *c == b'+'),
+        [b, c, ..] => *b == b'*' && (*c != b'!' || is_simple(&after[2..])),
+    }
+}
+
+fn opening_follows(after: &[u8]) -> bool
+    ensures { result ≡ goes_on_as_opening after.now }
+{
+    match after {
+        [b, c, ..] => *b == b'*' && *c == b'!',
+        _ => false,
+    }
+}
+
+fn closing_follows(after: &[u8]) -> bool
+    ensures { result ≡ goes_on_as_closing after.now }
+{
+    match after {
+        [] => false,
+        [b] => *b == b'/',
+        [b, c, ..] => *b == b'/' && *c != b'*',
     }
 }
 
@@ -172,11 +256,16 @@ fn name_follows(after: &[u8]) -> bool
 }
 
 /// The kind of a token. A string or a quoted identifier is known by its quote.
+///
+/// A version comment that is a simple one, and a hint, is a comment. The inside of another one is
+/// read: what begins it and what ends it are tokens, `/*!` and `*/`.
 #[derive(Clone, Copy, Debug, PartialEq, Eq)]
 pub enum TokenKind {
     Quoted(u8),
     LineComment,
     BlockComment,
+    Opening,
+    Closing,
     Name,
     Mark,
     Plain,
@@ -196,6 +285,10 @@ pub fn kind_at(text: &[u8]) -> TokenKind
         TokenKind::LineComment
     } else if b == b'/' && block_follows(after) {
         TokenKind::BlockComment
+    } else if b == b'/' && opening_follows(after) {
+        TokenKind::Opening
+    } else if b == b'*' && closing_follows(after) {
+        TokenKind::Closing
     } else if b == b':' && name_follows(after) {
         TokenKind::Name
     } else if b == b'?' {
@@ -217,41 +310,43 @@ pub fn token_end(text: &[u8], kind: TokenKind, mode: Mode) -> usize
         TokenKind::Quoted(quote) => quoted_end(text, quote, escapes_in(mode, quote)),
         TokenKind::LineComment => line_end(text),
         TokenKind::BlockComment => block_end(text),
+        TokenKind::Opening => 3,
+        TokenKind::Closing => 2,
         TokenKind::Name => name_end(text),
         TokenKind::Mark => 1,
         TokenKind::Plain => 1,
     }
 }
 
-// A `1` at each byte that is a token by itself. Comparisons in its place would branch on the kind
-// of each byte, which is hard to predict.
-static PLAIN: [u8; 256] = *b"\
+// A `1` at each byte that is a token by itself, and at which no server reads otherwise. Comparisons
+// in its place would branch on the kind of each byte, which is hard to predict.
+static QUIET: [u8; 256] = *b"\
     11111111111111111111111111111111\
-    11001110111110101111111111011110\
-    11111111111111111111111111111111\
+    11000110110110101111111111011110\
+    11111111111111111111111111101111\
     01111111111111111111111111111111\
     11111111111111111111111111111111\
     11111111111111111111111111111111\
     11111111111111111111111111111111\
     11111111111111111111111111111111";
 
-/// Whether a byte is a token by itself, whatever follows it.
-fn is_plain(b: u8) -> bool
-    ensures { result ≡ is_plain_byte b }
+/// Whether a byte is a token by itself, and no server reads otherwise, whatever follows it.
+fn is_quiet(b: u8) -> bool
+    ensures { result ≡ is_quiet_byte b }
 {
-    PLAIN[usize::from(b)] == b'1'
+    QUIET[usize::from(b)] == b'1'
 }
 
 /// Where the bytes from a place on end that are tokens by themselves, whatever follows them.
-pub fn plain_end(text: &[u8], start: usize) -> usize
+pub fn quiet_end(text: &[u8], start: usize) -> usize
     requires { start ≤ length text.now }
     ensures from { start ≤ result }
     ensures in_range { result ≤ length text.now }
-    ensures run { (k : ℕ) → start ≤ k → k < result → is_plain_byte (slice_index text.now k) ≡ true }
-    ensures stops { result < length text.now → is_plain_byte (slice_index text.now result) ≡ false }
+    ensures run { (k : ℕ) → start ≤ k → k < result → is_quiet_byte (slice_index text.now k) ≡ true }
+    ensures stops { result < length text.now → is_quiet_byte (slice_index text.now result) ≡ false }
 {
     let mut at = start;
-    while at < text.len() && is_plain(text[at]) {
+    while at < text.len() && is_quiet(text[at]) {
         at += 1;
     }
     at

@@ -3,7 +3,7 @@
 use Rattle.std.specs.Prelude.{ℕ, Bool, List, length}
 use Rattle.std.specs.List.{join_with_byte, list_all}
 use Rattle.mysql_values.specs.Place.{Place}
-use Rattle.mysql_values.specs.Queries.{HasPlaces, IsParsed, pieces_of, places_from}
+use Rattle.mysql_values.specs.Queries.{HasPlaces, IsParsed, pieces_of, places_of}
 use Rattle.mysql_values.specs.Sql.{Sql}
 use Rattle.mysql_values.specs.Tokens.{question}
 
@@ -27,7 +27,7 @@ statement_of query tokens id =
         sql = query;
         parsed =
             join_with_byte question (pieces_of tokens);
-        places = places_from query.text 0 tokens;
+        places = places_of query tokens;
       };
       id = id;
     }

@@ -4,7 +4,7 @@ use Rattle.std.specs.List.{AllByRecursion, flat_map}
 use Rattle.mysql_wire.specs.Bytes.{AreBytes}
 use Rattle.mysql_values.specs.Sql.{Sql}
 use Rattle.mysql_values.specs.Laws.{OneTokens}
-use Rattle.mysql_values.specs.Queries.{places_from}
+use Rattle.mysql_values.specs.Queries.{places_of}
 use Rattle.mysql_values.specs.Tokens.{HasTokens}
 use Rattle.mysql_receive.specs.Audit.{Reads, nothing, next}
 use Rattle.mysql_receive.specs.InForce.{StatementState, after, nothing_yet}
@@ -44,7 +44,7 @@ reads_carried c s n payloads reads counts is h (next {payload = p} {payloads = p
 -- ---- streams
 
 counts_places : OneTokens → (query : Sql) (tokens : List (List ℕ)) (id : ℕ) → HasTokens query.mode query.text tokens → CountsPlaces (statement_of query tokens id)
-counts_places one query tokens id has others also = ap (λ ts. length (places_from query.text 0 ts)) (one query.mode query.text others tokens also has)
+counts_places one query tokens id has others also = ap (λ ts. length (places_of query ts)) (one query.mode query.text others tokens also has)
 
 pub carried_sets_fill : OneTokens → CarriedSetsFillPlaces
 carried_sets_fill one query tokens id limit stream audit has bytes says =
@@ -54,10 +54,10 @@ carried_sets_fill one query tokens id limit stream audit has bytes says =
     let first = says.2.2.each in
     let front = all_front AreBytes first.front first.left (subst (AllByRecursion AreBytes) first.cut payloads) in
     let reads = reads_carried c nothing_yet 0 first.front says.2.2.reads counts (nothing_in_force c) front first.each in
-    let places : place_count c.query ≡ length (places_from query.text 0 tokens) = sym (counts tokens has) in
-    all_mapped (Fills (place_count c.query)) (FillsPlaces (places_from query.text 0 tokens)) audit.sets (λ set fills. record {
+    let places : place_count c.query ≡ length (places_of query tokens) = sym (counts tokens has) in
+    all_mapped (Fills (place_count c.query)) (FillsPlaces (places_of query tokens)) audit.sets (λ set fills. record {
       count = fills.0 ∙ places;
       each = fills.1;
-      right = λ number. values_are_right (refusals.WrongCount number) (λ place. refusals.Float number place) (length (places_from query.text 0 tokens)) set (fills.0 ∙ places);
+      right = λ number. values_are_right (refusals.WrongCount number) (λ place. refusals.Float number place) (length (places_of query tokens)) set (fills.0 ∙ places);
     })
     (subst (AllByRecursion (Fills (place_count c.query))) (sym says.2.2.sets) reads)

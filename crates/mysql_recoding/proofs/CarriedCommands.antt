@@ -8,7 +8,7 @@ use Rattle.mysql_wire.specs.Bytes.{AreBytes}
 use Rattle.mysql_wire.specs.Wire.{◌>>=◌}
 use Rattle.mysql_values.specs.Content.{Content}
 use Rattle.mysql_values.specs.Content.TheVariants as content
-use Rattle.mysql_values.specs.Queries.{pieces_of, places_from}
+use Rattle.mysql_values.specs.Queries.{pieces_of, places_of}
 use Rattle.mysql_values.specs.Tokens.{HasTokens}
 use Rattle.mysql_receive.specs.declared.fault.StreamFault.{StreamFault}
 use Rattle.mysql_receive.specs.declared.fault.StreamFault.TheVariants.{BadBulk, BadExecute, NoRows, NoTypes, NotPrepared, PiecesBeforeBulk, WrongId}
@@ -137,13 +137,13 @@ alone_without_sets c s body sets e =
 
 -- the placeholders are as many by any tokens of the query
 abbrev pub CountsPlaces : Statement → Type 0
-CountsPlaces c = (tokens : List (List ℕ)) → HasTokens c.query.sql.mode c.query.sql.text tokens → length (places_from c.query.sql.text 0 tokens) ≡ place_count c.query
+CountsPlaces c = (tokens : List (List ℕ)) → HasTokens c.query.sql.mode c.query.sql.text tokens → length (places_of c.query.sql tokens) ≡ place_count c.query
 
 contents_carried : (c : Statement) (body : List ℕ) (contents : Set) → CountsPlaces c → AreBytes body → TextReadsAs c.query.sql body contents → Fills (place_count c.query) contents
 contents_carried c body contents counts h reads =
     let slices = reads.0 in
     let carried = text_carried c.query.sql.mode c.query.sql.spelling (pieces_of slices.tokens) contents body h slices.alternates in
-    let pieces = pieces_length c.query.sql.text 0 slices.tokens in
+    let pieces = pieces_length c.query.sql slices.tokens in
     let places = counts slices.tokens slices.has in
     (omega (arith, carried.0, pieces, places), carried.1)
 

@@ -7,10 +7,10 @@ use Rattle.std.proofs.lemmas.Bool.Decides.{nat_tests}
 use Rattle.mysql_wire.specs.Bytes.{AreBytes}
 use Rattle.mysql_values.specs.Mode.{Mode}
 use Rattle.mysql_values.specs.Spelling.{Spelling}
-use Rattle.mysql_values.specs.Comments.{with_skipped}
+use Rattle.mysql_values.specs.Sql.{Sql}
 use Rattle.mysql_values.specs.Content.{Content}
 use Rattle.mysql_values.specs.Content.TheVariants as content
-use Rattle.mysql_values.specs.Queries.{Alternates, before_first, is_place, pieces_of, places_behind, places_from}
+use Rattle.mysql_values.specs.Queries.{Alternates, before_first, is_place, pieces_of, places_behind, places_of, servers_agree}
 use Rattle.mysql_values.specs.Literals.{IsLiteral, IsNumber, IsString, SpellsInHex, digits_value, escaped, hex_value, inside_content, is_hex}
 use Rattle.mysql_values.specs.Tokens.{Byte, Doubled, Escape, Inside, backslash, has_escapes, inside_bytes, single_quote}
 use Rattle.mysql_recoding.specs.Laws.{IsCarried}
@@ -110,14 +110,14 @@ before_first_length token [] n e = absurd (omega arith)
 before_first_length token (piece ∷ pieces) n e = e
 
 -- one piece more than placeholders
-pieces_behind_length : (query skipped : List ℕ) (start : ℕ) (tokens : List (List ℕ)) → length (pieces_of tokens) ≡ length (places_behind query skipped start tokens) + 1
-pieces_behind_length query skipped start [] = refl
-pieces_behind_length query skipped start (token ∷ tokens) = by (is_place token) (pieces_behind_length query skipped (start + length token) tokens) (pieces_behind_length query (with_skipped query start skipped) (start + length token) tokens) refl
+pieces_behind_length : (query : Sql) (agree : Bool) (before : List (List ℕ)) (start : ℕ) (tokens : List (List ℕ)) → length (pieces_of tokens) ≡ length (places_behind query agree before start tokens) + 1
+pieces_behind_length query agree before start [] = refl
+pieces_behind_length query agree before start (token ∷ tokens) = by (is_place token) (pieces_behind_length query agree (token ∷ before) (start + length token) tokens) refl
   where
-    by : (place : Bool) → length (pieces_of tokens) ≡ length (places_behind query skipped (start + length token) tokens) + 1 → length (pieces_of tokens) ≡ length (places_behind query (with_skipped query start skipped) (start + length token) tokens) + 1 → is_place token ≡ place
-        → length (pieces_of (token ∷ tokens)) ≡ length (places_behind query skipped start (token ∷ tokens)) + 1
-    by true later other e = rw e (omega (arith, later))
-    by false later other e = rw e (before_first_length token (pieces_of tokens) (length (places_behind query (with_skipped query start skipped) (start + length token) tokens)) other)
+    by : (place : Bool) → length (pieces_of tokens) ≡ length (places_behind query agree (token ∷ before) (start + length token) tokens) + 1 → is_place token ≡ place
+        → length (pieces_of (token ∷ tokens)) ≡ length (places_behind query agree before start (token ∷ tokens)) + 1
+    by true later e = rw e (omega (arith, later))
+    by false later e = rw e (before_first_length token (pieces_of tokens) (length (places_behind query agree (token ∷ before) (start + length token) tokens)) later)
 
-pub pieces_length : (query : List ℕ) (start : ℕ) (tokens : List (List ℕ)) → length (pieces_of tokens) ≡ length (places_from query start tokens) + 1
-pieces_length query start tokens = pieces_behind_length query [] start tokens
+pub pieces_length : (query : Sql) (tokens : List (List ℕ)) → length (pieces_of tokens) ≡ length (places_of query tokens) + 1
+pieces_length query tokens = pieces_behind_length query (servers_agree 0 tokens) [] 0 tokens

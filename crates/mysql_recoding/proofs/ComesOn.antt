@@ -10,7 +10,7 @@ use Rattle.mysql_wire.specs.Laws.{HasOneSplit}
 use Rattle.mysql_wire.specs.Stream.{framings}
 use Rattle.mysql_wire.specs.Stream.Numbering.{EachFromZero}
 use Rattle.mysql_values.specs.Sql.{Sql}
-use Rattle.mysql_values.specs.Queries.{places_from}
+use Rattle.mysql_values.specs.Queries.{places_of}
 use Rattle.mysql_bulk_builder.specs.Causes.{first_some}
 use Rattle.mysql_receive.specs.Audit.{Audit, AuditOf, Audited}
 use Rattle.mysql_receive.specs.GoingOn.{ReceiverState}
@@ -160,9 +160,9 @@ module _ (one_split : HasOneSplit) (one_audit : ThereIsOneAudit) (query : Sql) (
   id_is = ap (λ (statement : Statement). statement.id) n.about.2
 
   -- what was said over the recoder's terms is said over the query's
-  over_query : (P : ℕ → ℕ → ℕ → Type 0) → P start.terms.statement.id start.terms.places start.terms.limit → P id (length (places_from query.text 0 n.tokens)) limit
+  over_query : (P : ℕ → ℕ → ℕ → Type 0) → P start.terms.statement.id start.terms.places start.terms.limit → P id (length (places_of query n.tokens)) limit
   over_query P holds =
-      subst (λ (l : ℕ). P id (length (places_from query.text 0 n.tokens)) l) n.limit_is
+      subst (λ (l : ℕ). P id (length (places_of query n.tokens)) l) n.limit_is
       (subst (λ (places : ℕ). P id places start.terms.limit) n.places
       (subst (λ (i : ℕ). P i start.terms.places start.terms.limit) id_is holds))
 
@@ -183,11 +183,11 @@ module _ (one_split : HasOneSplit) (one_audit : ThereIsOneAudit) (query : Sql) (
   -- what speaks against the sets of the stream speaks against those to come
   cause_on : (more : List Set) → cause_of Execute (statement_of query n.tokens id) limit (map Ok (values_of_sets (sets ++ more))) ≡ sets_cause start.terms now.count more
   cause_on more =
-      let here : executions_cause id (length (places_from query.text 0 n.tokens)) limit 0 (sets ++ more) ≡ sets_cause start.terms now.count more =
+      let here : executions_cause id (length (places_of query n.tokens)) limit 0 (sets ++ more) ≡ sets_cause start.terms now.count more =
       sym (over_query (λ i places l. executions_cause start.terms.statement.id start.terms.places start.terms.limit 0 (sets ++ more) ≡ executions_cause i places l 0 (sets ++ more)) refl)
       ∙ causes_join start.terms sets more s.none ∙ ap (λ (k : ℕ). sets_cause start.terms k more) (sym s.count) in
-      ap (λ (c : Option Refusal). first_some (c ∷ executions_cause id (length (places_from query.text 0 n.tokens)) limit 0 (sets ++ more) ∷ None ∷ [])) n.none
-      ∙ or_none (executions_cause id (length (places_from query.text 0 n.tokens)) limit 0 (sets ++ more)) ∙ here
+      ap (λ (c : Option Refusal). first_some (c ∷ executions_cause id (length (places_of query n.tokens)) limit 0 (sets ++ more) ∷ None ∷ [])) n.none
+      ∙ or_none (executions_cause id (length (places_of query n.tokens)) limit 0 (sets ++ more)) ∙ here
 
   -- nothing speaks against those that came
   free : (ending : End) → sets_refused (statement_of query n.tokens id) limit (record { sets = sets; ending = ending }) ≡ None

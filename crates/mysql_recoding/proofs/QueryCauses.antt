@@ -5,7 +5,7 @@ use Rattle.std.proofs.lemmas.List.{append-nil}
 use Rattle.mysql_values.specs.Sql.{Sql}
 use Rattle.mysql_values.specs.Laws.{OneTokens}
 use Rattle.mysql_values.specs.Parsed.{Parsed}
-use Rattle.mysql_values.specs.Queries.{is_mixed, places_from}
+use Rattle.mysql_values.specs.Queries.{is_mixed, places_of}
 use Rattle.mysql_values.specs.Tokens.{HasTokens}
 use Rattle.mysql_receive.specs.Query.{IsQuery, Statement, statement_of}
 use Rattle.mysql_command_rules.specs.declared.refusal.Refusal.{Refusal}
@@ -40,7 +40,7 @@ pub can_be_prepared : OneTokens → (query : Sql) (parsed : Parsed) (places : �
 can_be_prepared once query parsed places s id limit old new empty p = record {
   tokens = p.0;
   has = p.1;
-  places_are = s.count ∙ ap (λ t. length (places_from query.text 0 t)) (once query.mode query.text s.tokens p.0 s.has p.1);
+  places_are = s.count ∙ ap (λ t. length (places_of query t)) (once query.mode query.text s.tokens p.0 s.has p.1);
   none = p.2;
   prepare_is = p.3 ∙ ap (λ l. l ++ stream_of (prepare_of (statement_of query p.0 id) ∷ [])) empty ∙ append-nil _;
 }

@@ -11,7 +11,7 @@ use Rattle.std.specs.Option.{option_map, option_or}
 use Rattle.mysql_wire.specs.Bytes.{AreBytes}
 use Rattle.mysql_values.specs.Sql.{Sql}
 use Rattle.mysql_values.specs.Place.{Place}
-use Rattle.mysql_values.specs.Queries.{HasMixed, is_mixed, places_from}
+use Rattle.mysql_values.specs.Queries.{HasMixed, is_mixed, places_of}
 use Rattle.mysql_values.specs.Tokens.{HasTokens}
 use Rattle.mysql_values.specs.Value.{Value}
 use Rattle.mysql_receive.specs.Audit.{Audit, AuditOf}
@@ -60,7 +60,7 @@ mixed_is_cause one_audit query id limit stream bytes mixed =
       first = first found.0 (mixed.2 ∙ ap is_mixed mixed.1.2);
     }
   where
-    first : (audit : Audit) → true ≡ is_mixed (places_from query.text 0 mixed.1.0) → recoding_cause (statement_of query mixed.1.0 id) limit audit ≡ Some errors.Mixed
+    first : (audit : Audit) → true ≡ is_mixed (places_of query mixed.1.0) → recoding_cause (statement_of query mixed.1.0 id) limit audit ≡ Some errors.Mixed
     first audit is = rw (sym is)
 
 -- the audit that was received of pieces is that of the bytes that they make one after another
@@ -79,7 +79,7 @@ pub end_is_cause : (query : Sql) (id limit : ℕ) (stream : List ℕ) (audit : A
 end_is_cause query id limit stream audit error one says (inl memory) = inl memory.0
 end_is_cause query id limit stream audit error one says (inr cause) =
     let tokens : List (List ℕ) = one.1.0 in
-    let places : List Place = places_from query.text 0 tokens in
+    let places : List Place = places_of query tokens in
     let sets : Option RecodeError = option_map error_for (cause_of Execute (statement_of query tokens id) limit (map Ok (values_of_sets audit.sets))) in
     let alone : is_mixed places ≡ false = sym (one.2 ∙ ap is_mixed one.1.2) in
     inr record {

@@ -4,7 +4,7 @@ use Rattle.std.specs.List.{AllByRecursion}
 use Rattle.mysql_wire.specs.Stream.{framings}
 use Rattle.mysql_wire.specs.Stream.Numbering.{EachFromZero}
 use Rattle.mysql_values.specs.Sql.{Sql}
-use Rattle.mysql_values.specs.Queries.{places_from}
+use Rattle.mysql_values.specs.Queries.{places_of}
 use Rattle.mysql_receive.specs.Audit.{Audit, AuditOf}
 use Rattle.mysql_receive.specs.Reading.{Set}
 use Rattle.mysql_receive.specs.declared.audit.End.TheVariants.{Whole}
@@ -25,7 +25,7 @@ use Rattle.mysql_recoding.proofs.SentContents.{one_contents, sets_fit, sets_held
 
 -- wherever what is sent of them stands, the sets are sent by execute, and can be read back
 sent_where : ExecutionsHaveSizes → (query : Sql) (id limit : ℕ) (stream old new : List ℕ) → limit < 2 ^ 64 → (is : Recodes query id limit stream old new)
-    → AllByRecursion (FillsPlaces (places_from query.text 0 is.tokens)) is.audit.sets → (before behind : List ℕ) → behind ≡ before ++ framings (payloads_of is.sent) EachFromZero
+    → AllByRecursion (FillsPlaces (places_of query is.tokens)) is.audit.sets → (before behind : List ℕ) → behind ≡ before ++ framings (payloads_of is.sent) EachFromZero
     → SentReadable Execute query (all_given_in_places (values_of_sets is.audit.sets)) id limit before behind
 sent_where sizes query id limit stream old new small is fill before behind there =
     let statement : Statement = statement_of query is.tokens id in
@@ -61,7 +61,7 @@ carry_the_same fill_places are_carried sizes query id limit stream old recoded f
     (sent_where sizes query id limit stream old (old ++ recoded) small is fill [] recoded (appended query id limit stream old recoded is)) in
     let audit : AuditOf query id limit recoded (record { sets = carried.contents; ending = Whole }) =
     subst (λ (bytes : List ℕ). AuditOf query id limit bytes (record { sets = carried.contents; ending = Whole })) (sym carried.appended) carried.audit in
-    let same : carried.contents ≡ sets = one_contents carried.contents sets (sym carried.each ∙ sets_held (places_from query.text 0 is.tokens) sets fill) in
+    let same : carried.contents ≡ sets = one_contents carried.contents sets (sym carried.each ∙ sets_held (places_of query is.tokens) sets fill) in
     subst (λ (l : List Set). AuditOf query id limit recoded (record { sets = l; ending = Whole })) same audit
 
 -- the same sets, to the end of a whole stream

@@ -10,7 +10,7 @@ use Rattle.mysql_wire.specs.Framing.{framing}
 use Rattle.mysql_wire.specs.Stream.{framings}
 use Rattle.mysql_wire.specs.Stream.Numbering.{EachFromZero}
 use Rattle.mysql_values.specs.Sql.{Sql}
-use Rattle.mysql_values.specs.Queries.{places_from}
+use Rattle.mysql_values.specs.Queries.{places_of}
 use Rattle.mysql_values.specs.Tokens.{HasTokens}
 use Rattle.mysql_bulk_builder.specs.Causes.{first_some}
 use Rattle.mysql_receive.specs.declared.audit.End.TheVariants.{Whole}
@@ -82,7 +82,7 @@ pub record IsNewRecoder (query : Sql) (id limit : ℕ) (r : RecoderState) : Type
   pub has : HasTokens query.mode query.text tokens
   pub about : IsAbout r.terms.statement query id
   pub limit_is : r.terms.limit ≡ limit
-  pub places : r.terms.places ≡ length (places_from query.text 0 tokens)
+  pub places : r.terms.places ≡ length (places_of query tokens)
   pub none : query_cause Execute (statement_of query tokens id) (limit - 4) ≡ None
   pub received : r.received ≡ fresh_receiver
   pub count : r.count ≡ 0

@@ -11,7 +11,7 @@ use Rattle.mysql_values.specs.Content.{Content}
 use Rattle.mysql_values.specs.Content.TheVariants as content
 use Rattle.mysql_values.specs.Contents.{content_value}
 use Rattle.mysql_values.specs.Place.{Place}
-use Rattle.mysql_values.specs.Queries.{places_from}
+use Rattle.mysql_values.specs.Queries.{places_of}
 use Rattle.mysql_values.specs.Tokens.{HasTokens}
 use Rattle.mysql_receive.specs.declared.audit.End.TheVariants.{Whole}
 use Rattle.mysql_receive.specs.Audit.{Audit, AuditOf}
@@ -47,7 +47,7 @@ abbrev pub CarriedSetsFillPlaces : Type 0
 CarriedSetsFillPlaces =
     (query : Sql) (tokens : List (List ℕ)) (id limit : ℕ) (stream : List ℕ) (audit : Audit) →
     HasTokens query.mode query.text tokens → AreBytes stream
-    → AuditOf query id limit stream audit → AllByRecursion (FillsPlaces (places_from query.text 0 tokens)) audit.sets
+    → AuditOf query id limit stream audit → AllByRecursion (FillsPlaces (places_of query tokens)) audit.sets
 
 -- What recoding appends, in fewer than 2 ^ 64 bytes, carries the sets of the stream that was recoded, to its end.
 abbrev pub RecodingsCarryTheSame : Type 0

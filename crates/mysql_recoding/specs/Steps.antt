@@ -5,7 +5,7 @@ use Rattle.std.specs.Option.{option_map}
 use Rattle.mysql_wire.specs.Bytes.{AreBytes}
 use Rattle.mysql_wire.specs.Framing.{framing}
 use Rattle.mysql_values.specs.Sql.{Sql}
-use Rattle.mysql_values.specs.Queries.{places_from}
+use Rattle.mysql_values.specs.Queries.{places_of}
 use Rattle.mysql_values.specs.Tokens.{HasTokens}
 use Rattle.mysql_receive.specs.declared.fault.StreamFault.{StreamFault}
 use Rattle.mysql_receive.specs.Audit.{Audit}
@@ -27,7 +27,7 @@ use Rattle.mysql_recoding.specs.AsItComes.{recoder_state, sets_cause, with_taken
 pub record CanBePrepared (query : Sql) (id limit places : ℕ) (prepare : List ℕ) : Type 0 where
   pub tokens : List (List ℕ)
   pub has : HasTokens query.mode query.text tokens
-  pub places_are : places ≡ length (places_from query.text 0 tokens)
+  pub places_are : places ≡ length (places_of query tokens)
   pub none : query_cause Execute (statement_of query tokens id) (limit - 4) ≡ None
   pub prepare_is : prepare ≡ framing (prepare_command (statement_of query tokens id).query.parsed) 0
 

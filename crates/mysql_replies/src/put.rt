@@ -115,13 +115,19 @@ fn set_behind(alloc: Global, events: &EventReader, known: bool, ok: OkPacket<'st
 {
     match rows_due(alloc, events, known) {
         Stepped::Moved(listed, part) => {
+            // Each `drop` is one step of the proof, in place of one for each part of a variant.
             if is_rows(events.due()) {
+                drop(ok);
                 Stepped::Moved(listed, part)
             } else {
+                drop(listed);
                 Stepped::Moved(Listed::One(ended(part, ok)), Part::Nothing)
             }
         }
-        Stepped::Failed(part) => Stepped::Failed(part),
+        Stepped::Failed(part) => {
+            drop(ok);
+            Stepped::Failed(part)
+        }
     }
 }
 
@@ -210,8 +216,14 @@ fn put_columns_end(
             stmt,
             params,
             columns,
-        } => statement_at(events, stmt, params, columns),
-        other => Stepped::Moved(Listed::None, other),
+        } => {
+            drop(ok);
+            statement_at(events, stmt, params, columns)
+        }
+        other => {
+            drop(ok);
+            Stepped::Moved(Listed::None, other)
+        }
     }
 }
 
@@ -318,7 +330,10 @@ fn put_whole(part: Part, found: ReplyResult) -> Stepped
 {
     match part {
         Part::Nothing => Stepped::Moved(Listed::One(found), Part::Nothing),
-        other => Stepped::Moved(Listed::None, other),
+        other => {
+            drop(found);
+            Stepped::Moved(Listed::None, other)
+        }
     }
 }
 

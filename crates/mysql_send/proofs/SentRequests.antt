@@ -15,7 +15,7 @@ use Rattle.mysql_values.specs.declared.params.Params.{Params}
 use Rattle.mysql_values.specs.declared.params.SetError.{SetError}
 use Rattle.mysql_values.specs.Laws.{OneTokens}
 use Rattle.mysql_values.specs.Parsed.{Parsed, names_of}
-use Rattle.mysql_values.specs.Queries.{places_from}
+use Rattle.mysql_values.specs.Queries.{places_of}
 use Rattle.mysql_values.specs.Value.{Value}
 use Rattle.mysql_bulk_builder.specs.Bulk.{bulk_command, type_of_value}
 use Rattle.mysql_bulk_builder.specs.declared.search.BulkPart.{BulkPart}
@@ -143,7 +143,7 @@ refused_prepare query sets id limit refusal (inr why) =
       tokens = why.0;
       has = why.1;
       first = first_is (query_cause Bulk (statement_of query why.0 id) (limit - 4)) _ refusal
-          (first_is (prepare_cause (statement_of query why.0 id).query (limit - 4)) (cause_if (length (places_from query.text 0 why.0) == 0) refusals.NoPlaces) refusal why.2);
+          (first_is (prepare_cause (statement_of query why.0 id).query (limit - 4)) (cause_if (length (places_of query why.0) == 0) refusals.NoPlaces) refusal why.2);
     })
 
 -- no placeholders are the cause where nothing speaks against the prepare
@@ -170,24 +170,24 @@ module _ (once : OneTokens) (query : Sql) (parsed : Parsed) (places : ℕ) (s : 
         tokens = s.tokens;
         has = s.has;
         first = first_is (query_cause Bulk (statement_of query s.tokens id) (limit - 4)) _ refusals.NoPlaces
-            (no_places_cause (prepare_cause (statement_of query s.tokens id).query (limit - 4)) (length (places_from query.text 0 s.tokens) == 0) prepared (subst (λ (n : ℕ). (n == 0) ≡ true) (sym none ∙ s.count) refl));
+            (no_places_cause (prepare_cause (statement_of query s.tokens id).query (limit - 4)) (length (places_of query s.tokens) == 0) prepared (subst (λ (n : ℕ). (n == 0) ≡ true) (sym none ∙ s.count) refl));
       })
 
   -- nothing speaks against the query
   no_query_cause : places ≢ 0 → query_cause Bulk (statement_of query s.tokens id) (limit - 4) ≡ None
-  no_query_cause some = query_none (prepare_cause (statement_of query s.tokens id).query (limit - 4)) (length (places_from query.text 0 s.tokens) == 0) prepared (subst (λ (n : ℕ). (n == 0) ≡ false) s.count (ne_eqb places 0 some))
+  no_query_cause some = query_none (prepare_cause (statement_of query s.tokens id).query (limit - 4)) (length (places_of query s.tokens) == 0) prepared (subst (λ (n : ℕ). (n == 0) ≡ false) s.count (ne_eqb places 0 some))
 
   -- what was said over the statement's names and count is said over the tokens'
-  over_tokens : (P : ℕ → List Given → Type 0) → P places (given_up_to sets stop parsed.names) → P (length (places_from query.text 0 s.tokens)) (given_up_to sets stop (names_of s.tokens))
+  over_tokens : (P : ℕ → List Given → Type 0) → P places (given_up_to sets stop parsed.names) → P (length (places_of query s.tokens)) (given_up_to sets stop (names_of s.tokens))
   over_tokens P holds =
-      subst (λ (names : List (List ℕ)). P (length (places_from query.text 0 s.tokens)) (given_up_to sets stop names)) s.names_are
+      subst (λ (names : List (List ℕ)). P (length (places_of query s.tokens)) (given_up_to sets stop names)) s.names_are
       (subst (λ (n : ℕ). P n (given_up_to sets stop parsed.names)) s.count holds)
 
   -- a set is refused
   refused_sets : places ≢ 0 → (refusal : Refusal) → RefusesSets (record { places = places; bytes = limit - 4 }) (given_up_to sets stop parsed.names) refusal → RefusesGiven Bulk query (given_up_to sets stop) id limit refusal
   refused_sets some refusal (inl memory) = inl memory
   refused_sets some refusal (inr this) =
-      let cause : first_of_sets (set_cause no_command (length (places_from query.text 0 s.tokens)) (limit - 4)) 0 (given_up_to sets stop (names_of s.tokens)) ≡ Some refusal =
+      let cause : first_of_sets (set_cause no_command (length (places_of query s.tokens)) (limit - 4)) 0 (given_up_to sets stop (names_of s.tokens)) ≡ Some refusal =
       over_tokens (λ n given. first_of_sets (set_cause no_command n (limit - 4)) 0 given ≡ Some refusal) this in
       inr (record {
         tokens = s.tokens;
@@ -197,7 +197,7 @@ module _ (once : OneTokens) (query : Sql) (parsed : Parsed) (places : ℕ) (s : 
 
   module _ (rows : List Row) (g : GivesRows (record { places = places; bytes = limit - 4 }) (given_up_to sets stop parsed.names) rows) where
     -- the rows are given over the tokens
-    given : GivesRows (limits_of (places_from query.text 0 s.tokens) limit) (given_up_to sets stop (names_of s.tokens)) rows
+    given : GivesRows (limits_of (places_of query s.tokens) limit) (given_up_to sets stop (names_of s.tokens)) rows
     given = over_tokens (λ n given. GivesRows (record { places = n; bytes = limit - 4 }) given rows) g
 
     -- the values of the sets are the rows
@@ -208,8 +208,8 @@ module _ (once : OneTokens) (query : Sql) (parsed : Parsed) (places : ℕ) (s : 
     refused_rows : places ≢ 0 → (refusal : Refusal) → RefusesRows places (limit - 4) rows refusal → RefusesGiven Bulk query (given_up_to sets stop) id limit refusal
     refused_rows some refusal (inl memory) = inl memory
     refused_rows some refusal (inr this) =
-        let cause : bulk_cause (length (places_from query.text 0 s.tokens)) (limit - 4) (values_of (given_up_to sets stop (names_of s.tokens))) ≡ Some refusal =
-        ap (λ l. bulk_cause (length (places_from query.text 0 s.tokens)) (limit - 4) l) values ∙ ap (λ n. bulk_cause n (limit - 4) rows) (sym s.count) ∙ this in
+        let cause : bulk_cause (length (places_of query s.tokens)) (limit - 4) (values_of (given_up_to sets stop (names_of s.tokens))) ≡ Some refusal =
+        ap (λ l. bulk_cause (length (places_of query s.tokens)) (limit - 4) l) values ∙ ap (λ n. bulk_cause n (limit - 4) rows) (sym s.count) ∙ this in
         inr (record {
           tokens = s.tokens;
           has = s.has;
@@ -219,8 +219,8 @@ module _ (once : OneTokens) (query : Sql) (parsed : Parsed) (places : ℕ) (s : 
     -- the prepare and the requests of all rows were sent
     pub all_requested : places ≢ 0 → (new : List ℕ) → AppendsRequests id places (limit - 4) rows mid new → SentReadable Bulk query (given_up_to sets stop) id limit old new
     all_requested some new sent =
-        let a : AppendsRequests id (length (places_from query.text 0 s.tokens)) (limit - 4) rows mid new = subst (λ (n : ℕ). AppendsRequests id n (limit - 4) rows mid new) s.count sent in
-        let columns = length (places_from query.text 0 s.tokens) in
+        let a : AppendsRequests id (length (places_of query s.tokens)) (limit - 4) rows mid new = subst (λ (n : ℕ). AppendsRequests id n (limit - 4) rows mid new) s.count sent in
+        let columns = length (places_of query s.tokens) in
         let requests = framings (requests_from id columns rows 0 a.cut) EachFromZero in
         record {
           sends = record {

@@ -13,7 +13,7 @@ use Rattle.mysql_values.specs.Sql.{Sql}
 use Rattle.mysql_values.specs.Laws.{OneTokens}
 use Rattle.mysql_values.specs.Params.{values_over}
 use Rattle.mysql_values.specs.Parsed.{Parsed, names_of}
-use Rattle.mysql_values.specs.Queries.{is_mixed, places_from}
+use Rattle.mysql_values.specs.Queries.{is_mixed, places_of}
 use Rattle.mysql_values.specs.Tokens.{HasTokens}
 use Rattle.mysql_values.specs.Value.{Value}
 use Rattle.mysql_values.specs.declared.params.Params.{Params}
@@ -70,7 +70,7 @@ module _ (query : Sql) (parsed : Parsed) (places : ℕ) (s : IsStatement query p
   statement = statement_of query s.tokens id
 
   module _ (few : places ≤ max_places) where
-    few_enough : nat_lt max_places (length (places_from query.text 0 s.tokens)) ≡ false
+    few_enough : nat_lt max_places (length (places_of query s.tokens)) ≡ false
     few_enough = subst (λ (n : ℕ). nat_lt max_places n ≡ false) s.count (le-ltb max_places places few)
 
     -- a prepare that is too long
@@ -79,7 +79,7 @@ module _ (query : Sql) (parsed : Parsed) (places : ℕ) (s : IsStatement query p
         inr (
           s.tokens,
           s.has,
-          too_long_cause (is_mixed (places_from query.text 0 s.tokens)) (nat_lt max_places (length (places_from query.text 0 s.tokens))) (nat_lt room (length (prepare_command statement.query.parsed))) _ s.one_kind few_enough
+          too_long_cause (is_mixed (places_of query s.tokens)) (nat_lt max_places (length (places_of query s.tokens))) (nat_lt room (length (prepare_command statement.query.parsed))) _ s.one_kind few_enough
               (subst (λ (l : List ℕ). nat_lt room (length (prepare_command l)) ≡ true) s.query_is (lt-ltb room (length (prepare_command parsed.query)) (omega (arith, over)))),
         )
 
@@ -89,7 +89,7 @@ module _ (query : Sql) (parsed : Parsed) (places : ℕ) (s : IsStatement query p
     prepared short old mid more new start at front put framed = (
       s.tokens,
       s.has,
-      prepare_none (is_mixed (places_from query.text 0 s.tokens)) (nat_lt max_places (length (places_from query.text 0 s.tokens))) (nat_lt room (length (prepare_command statement.query.parsed))) s.one_kind few_enough
+      prepare_none (is_mixed (places_of query s.tokens)) (nat_lt max_places (length (places_of query s.tokens))) (nat_lt room (length (prepare_command statement.query.parsed))) s.one_kind few_enough
           (subst (λ (l : List ℕ). nat_lt room (length (prepare_command l)) ≡ false) s.query_is (le-ltb room (length (prepare_command parsed.query)) (omega (arith, short)))),
       framed_prepare parsed.query old mid more new start at front put framed ∙ ap (λ l. old ++ framing (prepare_command l) 0) s.query_is ∙ ap (λ l. old ++ l) (sym (append-nil _)),
     )
@@ -142,7 +142,7 @@ module _ (query : Sql) (parsed : Parsed) (places : ℕ) (s : IsStatement query p
     pub one_refused : (refusal : Refusal) → RefusesExecution id (record { places = places; bytes = limit - 4 }) set values refusal → RefusesOne Execute query id limit set given refusal
     one_refused refusal (inl memory) = inl memory
     one_refused refusal (inr this) =
-        inr (s.tokens, s.has, ap (λ g. set_cause (whole_execution id) (length (places_from query.text 0 s.tokens)) (limit - 4) set g) gives ∙ subst (λ (n : ℕ). set_cause (whole_execution id) n (limit - 4) set (Ok values) ≡ Some refusal) s.count this)
+        inr (s.tokens, s.has, ap (λ g. set_cause (whole_execution id) (length (places_of query s.tokens)) (limit - 4) set g) gives ∙ subst (λ (n : ℕ). set_cause (whole_execution id) n (limit - 4) set (Ok values) ≡ Some refusal) s.count this)
 
     -- what is answered of it, where the id and the count are the statement's
     pub one_put : (answer : Result (Unit {0}) Refusal) (number count : ℕ) (old new : List ℕ) → number ≡ id → count ≡ places → OnOk answer (AppendsExecution number (record { places = count; bytes = limit - 4 }) set values old new)
@@ -174,8 +174,8 @@ some_second : (a b c : Option Refusal) (x : Refusal) → a ≡ None → b ≡ So
 some_second a b c x none some = rw (none, some) refl
 
 module _ (once : OneTokens) (query : Sql) (parsed : Parsed) (places : ℕ) (s : IsStatement query parsed places) (id limit : ℕ) (sets : List (List Value)) (old mid : List ℕ) (p : AppendsPrepare query id (limit - 4) old mid) where
-  same : (tokens : List (List ℕ)) → HasTokens query.mode query.text tokens → places ≡ length (places_from query.text 0 tokens)
-  same tokens has = s.count ∙ ap (λ t. length (places_from query.text 0 t)) (once query.mode query.text s.tokens tokens s.has has)
+  same : (tokens : List (List ℕ)) → HasTokens query.mode query.text tokens → places ≡ length (places_of query tokens)
+  same tokens has = s.count ∙ ap (λ t. length (places_of query t)) (once query.mode query.text s.tokens tokens s.has has)
 
   -- they are sent behind the prepare
   pub all_sent : SentInTurn → FurtherSetsAreSent → (new : List ℕ) → AppendsMore id (record { places = places; bytes = limit - 4 }) 0 sets mid new → SentReadable Execute query (all_given_in_places sets) id limit old new

@@ -18,7 +18,7 @@ use Rattle.mysql_values.specs.declared.bind.BindError.{BindError}
 use Rattle.mysql_values.specs.declared.bind.BindError.TheVariants as bind_error
 use Rattle.mysql_values.specs.Tokens.{HasTokens}
 use Rattle.mysql_values.specs.Place.{Place}
-use Rattle.mysql_values.specs.Queries.{HasPlaces, first_not_alone, interleaved, is_mixed, pieces_of, places_from}
+use Rattle.mysql_values.specs.Queries.{HasPlaces, first_not_alone, interleaved, is_mixed, pieces_of, places_of}
 use Rattle.mysql_values.specs.Laws.{OneTokens, PiecesAreSlices}
 use Rattle.mysql_values.specs.Params.{IsMeaning, values_over}
 use Rattle.mysql_values.specs.Parsed.{names_of}
@@ -64,7 +64,7 @@ not_made law query sets id limit number old out s refusal (inr why) =
 
 -- and else there is none
 pub no_cause : (query : Sql) (places : List Place) → HasPlaces query places → is_mixed places ≡ false → first_not_alone places ≡ None
-    → (tokens : List (List ℕ)) × HasTokens query.mode query.text tokens × (places_cause (places_from query.text 0 tokens) ≡ None)
+    → (tokens : List (List ℕ)) × HasTokens query.mode query.text tokens × (places_cause (places_of query tokens) ≡ None)
 no_cause query places has one alone = (has.0, has.1, ap (λ p. places_cause p) (sym has.2) ∙ rw (one, alone) refl)
 
 -- ---- one set
@@ -122,18 +122,18 @@ module _ (slices : PiecesAreSlices) (once : OneTokens) (query : Sql) (places : L
   given names = given_by names params
 
   -- the placeholders that were found are those of the tokens
-  places_are : (tokens : List (List ℕ)) → HasTokens query.mode query.text tokens → places ≡ places_from query.text 0 tokens
-  places_are tokens are = has.2 ∙ ap (λ t. places_from query.text 0 t) (once query.mode query.text has.0 tokens has.1 are)
+  places_are : (tokens : List (List ℕ)) → HasTokens query.mode query.text tokens → places ≡ places_of query tokens
+  places_are tokens are = has.2 ∙ ap (λ t. places_of query t) (once query.mode query.text has.0 tokens has.1 are)
 
-  behind : (tokens : List (List ℕ)) → HasTokens query.mode query.text tokens → (rest : Option BindError) → (if is_mixed (places_from query.text 0 tokens) then Some bind_error.Mixed else alone_cause (first_not_alone (places_from query.text 0 tokens)) rest) ≡ rest
+  behind : (tokens : List (List ℕ)) → HasTokens query.mode query.text tokens → (rest : Option BindError) → (if is_mixed (places_of query tokens) then Some bind_error.Mixed else alone_cause (first_not_alone (places_of query tokens)) rest) ≡ rest
   behind tokens are rest =
-      behind_places (is_mixed (places_from query.text 0 tokens)) (first_not_alone (places_from query.text 0 tokens)) rest (ap is_mixed (sym (places_are tokens are)) ∙ one) (ap first_not_alone (sym (places_are tokens are)) ∙ alone)
+      behind_places (is_mixed (places_of query tokens)) (first_not_alone (places_of query tokens)) rest (ap is_mixed (sym (places_are tokens are)) ∙ one) (ap first_not_alone (sym (places_are tokens are)) ∙ alone)
 
   -- why no text is bound for a set is a refusal of it
   pub refused : (error : BindError) → (error ≡ bind_error.Memory) ⊎ IsBindCause query params error → RefusesOne Text query id limit set given (refusal_by set error)
   refused error (inl memory) = inl (ap (λ e. refusal_by set e) memory)
   refused error (inr b) =
-      let count : ℕ = length (places_from query.text 0 b.0) in
+      let count : ℕ = length (places_of query b.0) in
       let this : bound_cause count (values_over (names_of b.0) params) ≡ Some error = sym (behind b.0 b.1 (bound_cause count (values_over (names_of b.0) params))) ∙ b.2 in
       inr (b.0, b.1, set_refusal (whole_command Text (statement_of query b.0 id)) count (limit - 4) set (values_over (names_of b.0) params) error this)
 
@@ -144,7 +144,7 @@ module _ (slices : PiecesAreSlices) (once : OneTokens) (query : Sql) (places : L
     -- the text that was bound is the text of the query with the set's values
     same_text : text ≡ query_text_of (statement_of query b.tokens id).query b.values
     same_text =
-        let found : List (Option (List ℕ)) = literals_in query (places_from query.text 0 b.tokens) b.values in
+        let found : List (Option (List ℕ)) = literals_in query b.values in
         b.spelled ∙ ap (λ l. interleaved (pieces_of b.tokens) l) (sym (literal_texts found b.literals b.each))
         ∙ ap (λ pieces. interleaved pieces (map (λ literal. unwrap_or literal []) found)) (slices query b.tokens b.has)
 
@@ -154,7 +154,7 @@ module _ (slices : PiecesAreSlices) (once : OneTokens) (query : Sql) (places : L
     -- its size alone can be a cause
     set_by_size : cause_of_set Text (statement_of query b.tokens id) limit set (Ok b.values) ≡ cause_if (nat_lt (limit - 4) (length (command b.values))) (refusals.PacketTooLarge set)
     set_by_size =
-        let count : ℕ = length (places_from query.text 0 b.tokens) in
+        let count : ℕ = length (places_of query b.tokens) in
         let good : bound_cause count (Ok b.values) ≡ None = sym (behind b.tokens b.has (bound_cause count (Ok b.values))) ∙ b.none in
         by_size (values_cause (refusals.WrongCount set) (λ place. refusals.Float set place) count b.values) (nat_lt (limit - 4) (length (command b.values))) (refusals.PacketTooLarge set)
         (as_refusal set count b.values ∙ ap (λ c. option_map (λ error. refusal_by set error) c) good)

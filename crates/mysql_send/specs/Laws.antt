@@ -3,7 +3,7 @@
 use Rattle.std.specs.Prelude.{◌≡◌, ℕ, List, ◌++◌, length}
 use Rattle.mysql_values.specs.Sql.{Sql}
 use Rattle.mysql_values.specs.Parsed.{names_of}
-use Rattle.mysql_values.specs.Queries.{places_from}
+use Rattle.mysql_values.specs.Queries.{places_of}
 use Rattle.mysql_values.specs.Value.{Value}
 use Rattle.mysql_command_rules.specs.declared.road.Road.TheVariants.{Execute}
 use Rattle.mysql_command_rules.specs.Reading.{SentReadable}
@@ -17,5 +17,5 @@ FurtherSetsAreSent =
     (query : Sql) (sets : List (List ℕ) → List Given) (id limit first : ℕ)
     (more : List (List Value)) (old mid new : List ℕ)
     → (sent : SentReadable Execute query sets id limit old mid) → length (sets (names_of sent.sends.tokens)) ≡ first
-    → AppendsMore id (limits_of (places_from query.text 0 sent.sends.tokens) limit) first more mid new
+    → AppendsMore id (limits_of (places_of query sent.sends.tokens) limit) first more mid new
     → SentReadable Execute query (λ names. sets names ++ all_given_in_places more names) id limit old new

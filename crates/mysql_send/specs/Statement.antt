@@ -4,7 +4,7 @@ use Rattle.std.specs.Prelude.{◌≡◌, ◌⊎◌, ℕ, false, List, [], ◌∷
 use Rattle.std.specs.List.{join_with_byte}
 use Rattle.mysql_values.specs.Sql.{Sql}
 use Rattle.mysql_values.specs.Parsed.{Parsed, names_of}
-use Rattle.mysql_values.specs.Queries.{is_mixed, pieces_of, places_from}
+use Rattle.mysql_values.specs.Queries.{is_mixed, pieces_of, places_of}
 use Rattle.mysql_values.specs.Tokens.{HasTokens, question}
 use Rattle.mysql_receive.specs.Query.{statement_of}
 use Rattle.mysql_command_rules.specs.declared.refusal.Refusal.{Refusal}
@@ -27,8 +27,8 @@ pub record IsStatement (query : Sql) (parsed : Parsed) (places : ℕ) : Type 0 w
   pub has : HasTokens query.mode query.text tokens
   pub query_is : parsed.query ≡ join_with_byte question (pieces_of tokens)
   pub names_are : parsed.names ≡ names_of tokens
-  pub count : places ≡ length (places_from query.text 0 tokens)
-  pub one_kind : is_mixed (places_from query.text 0 tokens) ≡ false
+  pub count : places ≡ length (places_of query tokens)
+  pub one_kind : is_mixed (places_of query tokens) ≡ false
 
 -- the prepare of a query's statement is appended: nothing speaks against it, with a payload of at
 -- most so many bytes

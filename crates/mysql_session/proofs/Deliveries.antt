@@ -6,7 +6,7 @@ use Rattle.mysql_wire.specs.Bytes.{AreBytes}
 use Rattle.mysql_values.specs.Sql.{Sql}
 use Rattle.mysql_values.specs.Laws.{OneTokens}
 use Rattle.mysql_values.specs.Parsed.{names_of}
-use Rattle.mysql_values.specs.Queries.{is_place, places_from}
+use Rattle.mysql_values.specs.Queries.{is_place, places_of}
 use Rattle.mysql_values.specs.Value.{Value}
 use Rattle.mysql_receive.specs.declared.audit.End.TheVariants.{Whole}
 use Rattle.mysql_receive.specs.Audit.{Audit, AuditOf}
@@ -156,7 +156,7 @@ further goes_on delivers once query sets limit first more old mid new small leas
     let tokens : a.tokens ≡ d.tokens = once query.sql.mode query.sql.text a.tokens d.tokens a.has d.has in
     delivers Execute query.sql (λ names. sets names ++ all_given_in_places more names) query.id limit old new small least short bytes
     (goes_on query.sql sets query.id limit first more old mid new (record { sends = sent_of Execute query.sql sets query.id limit old mid d; readable = d.readable }) count
-    (subst (λ (t : List (List ℕ)). AppendsMore query.id (limits_of (places_from query.sql.text 0 t) limit) first more mid new) tokens a.appends))
+    (subst (λ (t : List (List ℕ)). AppendsMore query.id (limits_of (places_of query.sql t) limit) first more mid new) tokens a.appends))
 
 pub received : DeliveriesAreReceived
 received road query sets id limit old new pieces answer d appended is known =

@@ -7,7 +7,7 @@ use Rattle.mysql_values.specs.Laws.{OneTokens}
 use Rattle.mysql_values.specs.Params.{values_over}
 use Rattle.mysql_values.specs.Parsed.{names_of}
 use Rattle.mysql_values.specs.Place.{Place}
-use Rattle.mysql_values.specs.Queries.{HasMixed, HasPlaces, first_not_alone, is_mixed, places_from}
+use Rattle.mysql_values.specs.Queries.{HasMixed, HasPlaces, first_not_alone, is_mixed, places_of}
 use Rattle.mysql_values.specs.Tokens.{HasTokens}
 use Rattle.mysql_values.specs.Value.{Value}
 use Rattle.mysql_values.specs.Values.{first_float}
@@ -99,10 +99,10 @@ together_not Bulk statement room rows =
 -- ---- what is refused
 
 -- the placeholders of a query of one kind are of one kind
-one_kind : OneTokens → (query : Sql) (tokens : List (List ℕ)) → HasTokens query.mode query.text tokens → HasMixed query false → is_mixed (places_from query.text 0 tokens) ≡ false
+one_kind : OneTokens → (query : Sql) (tokens : List (List ℕ)) → HasTokens query.mode query.text tokens → HasMixed query false → is_mixed (places_of query tokens) ≡ false
 one_kind once query tokens has mixed =
     let found : HasPlaces query mixed.0 = mixed.1 in
-    ap (λ t. is_mixed (places_from query.text 0 t)) (once query.mode query.text tokens found.0 has found.1) ∙ ap is_mixed (sym found.2) ∙ sym mixed.2
+    ap (λ t. is_mixed (places_of query t)) (once query.mode query.text tokens found.0 has found.1) ∙ ap is_mixed (sym found.2) ∙ sym mixed.2
 
 -- so are those that were found of it
 pub one_kind_of : OneTokens → (query : Sql) (places : List Place) → HasPlaces query places → HasMixed query false → is_mixed places ≡ false
@@ -111,7 +111,7 @@ one_kind_of once query places has mixed = ap is_mixed has.2 ∙ one_kind once qu
 -- where one of them doesn't stand alone no text is bound
 pub not_alone : (query : Sql) (places : List Place) (params : Params) (place : ℕ) → HasPlaces query places → is_mixed places ≡ false → first_not_alone places ≡ Some place → IsBindCause query params (bind_error.NotAlone place)
 not_alone query places params place has one apart =
-    (has.0, has.1, by (is_mixed (places_from query.text 0 has.0)) (first_not_alone (places_from query.text 0 has.0)) _ (ap is_mixed (sym has.2) ∙ one) (ap first_not_alone (sym has.2) ∙ apart))
+    (has.0, has.1, by (is_mixed (places_of query has.0)) (first_not_alone (places_of query has.0)) _ (ap is_mixed (sym has.2) ∙ one) (ap first_not_alone (sym has.2) ∙ apart))
   where
     by : (mixed : Bool) (found : Option ℕ) (rest : Option BindError) → mixed ≡ false → found ≡ Some place → (if mixed then Some bind_error.Mixed else alone_cause found rest) ≡ Some (bind_error.NotAlone place)
     by mixed found rest kind here = rw (kind, here) refl
@@ -133,7 +133,7 @@ never_mixed once road query sets id limit refusal one (inr why) = λ same.
 pub never_mixed_text : OneTokens → (query : Sql) (params : Params) (error : BindError) → HasMixed query false → (error ≡ bind_error.Memory) ⊎ IsBindCause query params error → error ≢ bind_error.Mixed
 never_mixed_text once query params error one (inl memory) = λ same. cc (sym memory ∙ same)
 never_mixed_text once query params error one (inr why) =
-    by (is_mixed (places_from query.text 0 why.0)) (one_kind once query why.0 why.1 one) (first_not_alone (places_from query.text 0 why.0)) (length (places_from query.text 0 why.0)) (values_over (names_of why.0) params) why.2
+    by (is_mixed (places_of query why.0)) (one_kind once query why.0 why.1 one) (first_not_alone (places_of query why.0)) (length (places_of query why.0)) (values_over (names_of why.0) params) why.2
   where
     given_not : (count : ℕ) (over : Result (List Value) ParamsError) → given_cause count over ≢ Some bind_error.Mixed
     given_not count (Err wrong) = λ same. cc same

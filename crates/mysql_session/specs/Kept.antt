@@ -3,7 +3,7 @@
 -- statement's id), "COM_STMT_EXECUTE".
 use Rattle.std.specs.Prelude.{◌≡◌, ◌⊎◌, ◌<◌, ◌≤◌, ℕ, List, length, false, true}
 use Rattle.mysql_values.specs.Place.{Place}
-use Rattle.mysql_values.specs.Queries.{HasMixed, places_from}
+use Rattle.mysql_values.specs.Queries.{HasMixed, places_of}
 use Rattle.mysql_values.specs.Sql.{Sql}
 use Rattle.mysql_values.specs.Tokens.{HasTokens}
 use Rattle.mysql_values.specs.Value.{Value}
@@ -39,8 +39,8 @@ pub record AppendsFurther (query : KeptQuery) (limit first : ℕ) (sets : List (
     (old new : List ℕ) : Type 0 where
   pub tokens : List (List ℕ)
   pub has : HasTokens query.sql.mode query.sql.text tokens
-  pub few : length (places_from query.sql.text 0 tokens) ≤ max_places
-  pub appends : AppendsMore query.id (limits_of (places_from query.sql.text 0 tokens) limit) first sets old new
+  pub few : length (places_of query.sql tokens) ≤ max_places
+  pub appends : AppendsMore query.id (limits_of (places_of query.sql tokens) limit) first sets old new
 
 -- why further executions are refused, with these placeholders
 pub data WhyRefused (id : ℕ) (places : List Place) (limit first : ℕ) (sets : List (List Value))
@@ -57,4 +57,4 @@ pub record RefusesFurther (query : KeptQuery) (limit first : ℕ) (sets : List (
     (refusal : Refusal) : Type 0 where
   pub tokens : List (List ℕ)
   pub has : HasTokens query.sql.mode query.sql.text tokens
-  pub why : WhyRefused query.id (places_from query.sql.text 0 tokens) limit first sets refusal
+  pub why : WhyRefused query.id (places_of query.sql tokens) limit first sets refusal

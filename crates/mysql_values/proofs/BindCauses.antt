@@ -4,8 +4,7 @@ use Rattle.std.specs.List.{AllByRecursion, position_from}
 use Rattle.std.specs.Option.{option_map}
 use Rattle.std.proofs.lemmas.Bool.{cases_Bool}
 use Rattle.std.proofs.lemmas.Bool.Decides.{nat_tests}
-use Rattle.mysql_queries.specs.Comments.{with_skipped}
-use Rattle.mysql_queries.specs.Queries.{HasPlaces, Slices, StayInComments, Lexes, first_not_alone, interleaved, is_place, is_mixed, places_behind, pieces_of, slices_between}
+use Rattle.mysql_queries.specs.Queries.{HasPlaces, Slices, Lexes, first_not_alone, interleaved, is_place, is_mixed, places_behind, servers_agree, pieces_of, slices_between}
 use Rattle.mysql_queries.specs.Laws.{FilledIsRead, NamesAreSlices, PiecesAreSlices}
 use Rattle.mysql_queries.specs.Parsed.{names_at, names_of}
 use Rattle.mysql_queries.specs.Sql.{Sql, default_mode}
@@ -20,7 +19,7 @@ use Rattle.mysql_values.specs.declared.params.ParamsError.TheVariants.{Missing, 
 use Rattle.mysql_values.specs.declared.bind.BindError.{BindError}
 use Rattle.mysql_values.specs.declared.bind.BindError.TheVariants as bind_error
 use Rattle.mysql_queries.specs.declared.placeholders.Place.{Place}
-use Rattle.mysql_values.proofs.TextWritten.{Contents, all_stay, contents_of, no_floats}
+use Rattle.mysql_values.proofs.TextWritten.{Contents, contents_of, no_floats}
 
 abbrev mode_of : Bool → Bool → Mode
 mode_of no_backslash_escapes ansi_quotes = record { no_backslash_escapes = no_backslash_escapes; ansi_quotes = ansi_quotes }
@@ -82,12 +81,14 @@ pub float_is_cause : NamesAreSlices → (query : Sql) (params : Params) (places 
 float_is_cause law query params places values place h m a o n f =
     values_are_cause law query params places (bind_error.Float place) h m a (ap (given_cause (length places)) o ∙ counted_cause (length places) values n ∙ ap float_error f)
 
-places_count : (query sk : List ℕ) (at : ℕ) (ts : List (List ℕ)) → length (places_behind query sk at ts) ≡ length (filter is_place ts)
-places_count query sk at [] = refl
-places_count query sk at (t ∷ ts) = elim (cases_Bool (is_place t)) [
-  | inl p ↦ (let k : length (places_behind query sk (at + length t) ts) ≡ length (filter is_place ts) = places_count query sk (at + length t) ts in rw p (omega (arith, k)))
-  | inr p ↦ (rw p (places_count query (with_skipped query at sk) (at + length t) ts))
-]
+places_count : (query : Sql) (agree : Bool) (before : List (List ℕ)) (at : ℕ) (ts : List (List ℕ)) → length (places_behind query agree before at ts) ≡ length (filter is_place ts)
+places_count query agree before at [] = refl
+places_count query agree before at (t ∷ ts) =
+    let k : length (places_behind query agree (t ∷ before) (at + length t) ts) ≡ length (filter is_place ts) = places_count query agree (t ∷ before) (at + length t) ts in
+    elim (cases_Bool (is_place t)) [
+      | inl p ↦ (rw p (omega (arith, k)))
+      | inr p ↦ (rw p k)
+    ]
 
 pieces_here : PiecesAreSlices → (query : Sql) (places : List Place) → (h : HasPlaces query places) → slices_between query.text 0 places ≡ pieces_of h.0
 pieces_here law query places h = ap (slices_between query.text 0) h.2 ∙ sym (law query h.0 h.1)
@@ -96,9 +97,9 @@ pieces_here law query places h = ap (slices_between query.text 0) h.2 ∙ sym (l
 pub bind_ok : NamesAreSlices → PiecesAreSlices → FilledIsRead → (query : Sql) (params : Params) (places : List Place) (values : List Value) (before after : List ℕ) → HasPlaces query places → is_mixed places ≡ false → first_not_alone places ≡ None
     → values_over (names_at query.text places) params ≡ Ok values → length values ≡ length places → (text : List ℕ) → after ≡ before ++ text → IsFilled query places values text → Binds query params before after
 bind_ok names pieces read query params places values before after h m a o n text e f =
-    let c : Contents query values f.literals = contents_of query places values f.literals n f.each f.have in
+    let c : Contents query values f.literals = contents_of query values f.literals f.each f.have in
     let over : values_over (names_of h.0) params ≡ Ok values = ap (λ ns. values_over ns params) (sym (names_are names query places h)) ∙ o in
-    let none : bind_cause places (Ok values) ≡ None = cause_later places (Ok values) m a ∙ counted_cause (length places) values n ∙ ap float_error (no_floats query places values f.literals 0 n f.each) in
+    let none : bind_cause places (Ok values) ≡ None = cause_later places (Ok values) m a ∙ counted_cause (length places) values n ∙ ap float_error (no_floats query values f.literals 0 f.each) in
     let r : Slices query text c.contents × Lexes query text c.contents = subst (λ y. Slices query y c.contents × Lexes query y c.contents) (sym f.spelled) (read query places f.literals c.contents h (each_alone 0 places a) (c.count ∙ n) c.are) in
     record {
       text = text;
@@ -110,12 +111,11 @@ bind_ok names pieces read query params places values before after h m a o n text
         over = over;
         none = subst (λ ps. bind_cause ps (Ok values) ≡ None) h.2 none;
         literals = f.literals;
-        each = ap (λ ps. literals_in query ps values) (sym h.2) ∙ f.each;
+        each = f.each;
         spelled = f.spelled ∙ ap (λ ps. interleaved ps f.literals) (pieces_here pieces query places h);
       };
-      comments = subst (λ ps. StayInComments ps f.literals) h.2 (all_stay query places values f.literals n f.each f.stay);
       contents = c.contents;
-      meaning = record { tokens = h.0; has = h.1; values = values; over = over; count = n ∙ ap length h.2 ∙ places_count query.text [] 0 h.0; each = c.each };
+      meaning = record { tokens = h.0; has = h.1; values = values; over = over; count = n ∙ ap length h.2 ∙ places_count query (servers_agree 0 h.0) [] 0 h.0; each = c.each };
       sliced = r.0;
       lexed = r.1;
     }

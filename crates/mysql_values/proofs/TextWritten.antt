@@ -2,14 +2,14 @@
 use Rattle.std.proofs.Common.{◌≡◌, ℕ, zero, suc, ◌+◌, ◌≤◌, ◌<◌, Bool, true, false, List, [], ◌∷◌, ◌++◌, length, take, drop, get_or, map, slice_range, refl, sym, ap, ◌∙◌, append_assoc, append-nil, arith, subst, Option, Ok, Err, Some, None, is_none, take-append-drop, take_all}
 use Rattle.std.specs.List.{AllByRecursion, position_from}
 use Rattle.std.proofs.lemmas.List.{map-append, take_at}
-use Rattle.mysql_queries.specs.Queries.{AreLiterals, InOrder, StayInComments, interleaved, slices_between}
+use Rattle.mysql_queries.specs.Queries.{AreLiterals, InOrder, interleaved, slices_between}
 use Rattle.mysql_queries.specs.Sql.{Sql}
 use Rattle.mysql_cells.specs.Values.{content_of}
-use Rattle.mysql_literals.specs.Literals.{literal_at}
-use Rattle.mysql_literals.specs.AsSql.{HasLiteral, PutsSql, StaysInComment}
+use Rattle.mysql_literals.specs.Literals.{literal_of}
+use Rattle.mysql_literals.specs.AsSql.{HasLiteral, PutsSql}
 use Rattle.mysql_literals.specs.declared.as_sql.AsSqlError.{AsSqlError}
 use Rattle.mysql_literals.specs.declared.as_sql.AsSqlError.TheVariants as as_sql_error
-use Rattle.mysql_values.specs.Binding.{IsFilled, literal_in, literals_in}
+use Rattle.mysql_values.specs.Binding.{IsFilled, literals_in}
 use Rattle.mysql_bytes.specs.declared.content.Content.{Content}
 use Rattle.mysql_bytes.specs.declared.mode.Mode.{Mode}
 use Rattle.mysql_bytes.specs.declared.spelling.Spelling.{Spelling}
@@ -20,7 +20,7 @@ use Rattle.mysql_values.proofs.Looked.{from_place, none_left}
 
 -- what stands where the code looks past the last placeholder
 abbrev pub no_place : Place
-no_place = record { start = 0; end = 0; name = false; alone = false; in_comment = false }
+no_place = record { start = 0; end = 0; name = false; alone = false }
 
 -- slices with literals between them
 abbrev pub filled : List ℕ → ℕ → List Place → List (List ℕ) → List ℕ
@@ -37,9 +37,8 @@ pub record WrittenTo (query : Sql) (places : List Place) (values : List Value) (
   pub in_range : at ≤ length query.text
   pub literals : List (List ℕ)
   pub written : List ℕ
-  pub each : literals_in query (take k places) (take k values) ≡ map Some literals
+  pub each : literals_in query (take k values) ≡ map Some literals
   pub have : AllByRecursion HasLiteral (take k values)
-  pub stay : AllByRecursion StaysInComment (take k values)
   pub appended : after ≡ before ++ written
   pub onward : (others : List (List ℕ)) → filled query.text 0 places (literals ++ others) ≡ written ++ filled query.text at left others
 
@@ -51,7 +50,6 @@ written_none query places values before h = record {
   written = [];
   each = refl;
   have = tt;
-  stay = tt;
   appended = sym (append-nil before);
   onward = λ others. refl;
 }
@@ -62,23 +60,14 @@ taken_more f [] k x e h = absurd (omega arith)
 taken_more f (y ∷ xs) zero x e h = ap (λ z. f z ∷ []) (sym e)
 taken_more f (y ∷ xs) (suc k) x e h = let n : suc k + 1 ≡ suc (k + 1) = omega arith in rw n (ap (λ zs. f y ∷ zs) (taken_more f xs k x e (omega arith)))
 
--- one literal more
-literals_more : {A : Type 0} → (f : A → Value) (query : Sql) (places : List Place) (xs : List A) (k : ℕ) (x : A) → k < length places → k < length xs → x ≡ get_or xs k x
-    → literals_in query (take (k + 1) places) (take (k + 1) (map f xs)) ≡ literals_in query (take k places) (take k (map f xs)) ++ literal_in query (get_or places k no_place) (f x) ∷ []
-literals_more f query [] xs k x h l e = absurd (omega arith)
-literals_more f query (p ∷ places) [] k x h l e = absurd (omega arith)
-literals_more f query (p ∷ places) (y ∷ xs) zero x h l e = ap (λ z. literal_in query p (f z) ∷ []) (sym e)
-literals_more f query (p ∷ places) (y ∷ xs) (suc k) x h l e =
-    let n : suc k + 1 ≡ suc (k + 1) = omega arith in rw n (ap (λ zs. literal_in query p (f y) ∷ zs) (literals_more f query places xs k x (omega arith) (omega arith) e))
-
 all_more : (P : Value → Type 0) (values : List Value) (value : Value) → AllByRecursion P values → P value → AllByRecursion P (values ++ value ∷ [])
 all_more P [] value h k = (k, tt)
 all_more P (v ∷ values) value h k = (h.0, all_more P values value h.1 k)
 
 pub written_more : {A : Type 0} → (f : A → Value) (query : Sql) (places : List Place) (xs : List A) (at k : ℕ) (before after next text : List ℕ) (x : A) → WrittenTo query places (map f xs) at (drop k places) k before after → k < length places → k < length xs
-    → x ≡ get_or xs k x → literal_in query (get_or places k no_place) (f x) ≡ Some text → HasLiteral (f x) → StaysInComment (f x) → next ≡ (after ++ slice_range query.text at (get_or places k no_place).start) ++ text
+    → x ≡ get_or xs k x → literal_of query.mode query.spelling (f x) ≡ Some text → HasLiteral (f x) → next ≡ (after ++ slice_range query.text at (get_or places k no_place).start) ++ text
     → WrittenTo query places (map f xs) (get_or places k no_place).end (drop (k + 1) places) (k + 1) before next
-written_more f query places xs at k before after next text x w h l e t has stays n =
+written_more f query places xs at k before after next text x w h l e t has n =
     let p = get_or places k no_place in
     let o : InOrder query.text at (p ∷ drop (k + 1) places) = subst (InOrder query.text at) (from_place places k no_place h) w.order in
     let piece : List ℕ = slice_range query.text at p.start in
@@ -88,9 +77,8 @@ written_more f query places xs at k before after next text x w h l e t has stays
       in_range = o.2;
       literals = w.literals ++ text ∷ [];
       written = (w.written ++ piece) ++ text;
-      each = literals_more f query places xs k x h l e ∙ ap (λ ys. ys ++ literal_in query p (f x) ∷ []) w.each ∙ ap (λ y. map Some w.literals ++ y ∷ []) t ∙ sym (map-append Some w.literals (text ∷ []));
+      each = ap (literals_in query) more ∙ map-append (λ value. literal_of query.mode query.spelling value) (take k (map f xs)) (f x ∷ []) ∙ ap (λ ys. ys ++ literal_of query.mode query.spelling (f x) ∷ []) w.each ∙ ap (λ y. map Some w.literals ++ y ∷ []) t ∙ sym (map-append Some w.literals (text ∷ []));
       have = subst (AllByRecursion HasLiteral) (sym more) (all_more HasLiteral (take k (map f xs)) (f x) w.have has);
-      stay = subst (AllByRecursion StaysInComment) (sym more) (all_more StaysInComment (take k (map f xs)) (f x) w.stay stays);
       appended = n ∙ ap (λ y. (y ++ piece) ++ text) w.appended ∙ ap (λ y. y ++ text) (append_assoc before w.written piece) ∙ append_assoc before (w.written ++ piece) text;
       onward = λ others. ap (filled query.text 0 places) (append_assoc w.literals (text ∷ []) others) ∙ w.onward (text ∷ others) ∙ ap (λ y. w.written ++ y) (filled_more query.text at places k text others h)
           ∙ sym (append_assoc w.written piece (text ++ filled query.text p.end (drop (k + 1) places) others)) ∙ sym (append_assoc (w.written ++ piece) text (filled query.text p.end (drop (k + 1) places) others));
@@ -106,16 +94,14 @@ pub written_end : (query : Sql) (places : List Place) (values : List Value) (at 
     → next ≡ after ++ drop at query.text → (text : List ℕ) × (next ≡ before ++ text) × IsFilled query places values text
 written_end query places values at k before after next w h l n =
     let all : take k values ≡ values = taken_all values k (omega (arith, h, l)) in
-    let each_place : take k places ≡ places = taken_all places k h in
     let onward : filled query.text 0 places w.literals ≡ w.written ++ drop at query.text =
     ap (filled query.text 0 places) (sym (append-nil w.literals)) ∙ w.onward [] ∙ ap (λ ps. w.written ++ filled query.text at ps []) (none_left places k h) ∙ ap (λ y. w.written ++ y) (append-nil (drop at query.text)) in (
       w.written ++ drop at query.text,
       n ∙ ap (λ y. y ++ drop at query.text) w.appended ∙ append_assoc before w.written (drop at query.text),
       record {
         literals = w.literals;
-        each = ap (λ ps. literals_in query ps values) (sym each_place) ∙ ap (literals_in query (take k places)) (sym all) ∙ w.each;
+        each = ap (literals_in query) (sym all) ∙ w.each;
         have = subst (AllByRecursion HasLiteral) all w.have;
-        stay = subst (AllByRecursion StaysInComment) all w.stay;
         spelled = sym onward;
       },
     )
@@ -143,25 +129,25 @@ put_kept None old new e h = ap (take (length old)) h.1 ∙ take_all (length old)
 put_kept (Some text) old new e h = h.1
 
 -- a value with a literal has a content
-has_content : (m : Mode) (spelling : Spelling) (in_comment : Bool) (value : Value) (text : List ℕ) → literal_at m spelling in_comment value ≡ Some text → (content : Content) × (content_of value ≡ Some content)
-has_content m spelling in_comment NULL text h = (_, refl)
-has_content m spelling in_comment (Bytes bytes) text h = (_, refl)
-has_content m spelling in_comment (Int z) text h = (_, refl)
-has_content m spelling in_comment (UInt n) text h = (_, refl)
-has_content m spelling in_comment (Float bits) text h = cc
-has_content m spelling in_comment (Double bits) text h = cc
-has_content m spelling in_comment (Date year month day hour minute second micros) text h = (_, refl)
-has_content m spelling in_comment (Time negative days hours minutes seconds micros) text h = (_, refl)
+has_content : (m : Mode) (spelling : Spelling) (value : Value) (text : List ℕ) → literal_of m spelling value ≡ Some text → (content : Content) × (content_of value ≡ Some content)
+has_content m spelling NULL text h = (_, refl)
+has_content m spelling (Bytes bytes) text h = (_, refl)
+has_content m spelling (Int z) text h = (_, refl)
+has_content m spelling (UInt n) text h = (_, refl)
+has_content m spelling (Float bits) text h = cc
+has_content m spelling (Double bits) text h = cc
+has_content m spelling (Date year month day hour minute second micros) text h = (_, refl)
+has_content m spelling (Time negative days hours minutes seconds micros) text h = (_, refl)
 
-no_literal_no_content : (m : Mode) (spelling : Spelling) (in_comment : Bool) (value : Value) → literal_at m spelling in_comment value ≡ None → content_of value ≡ None
-no_literal_no_content m spelling in_comment NULL h = cc
-no_literal_no_content m spelling in_comment (Bytes bytes) h = cc
-no_literal_no_content m spelling in_comment (Int z) h = cc
-no_literal_no_content m spelling in_comment (UInt n) h = cc
-no_literal_no_content m spelling in_comment (Float bits) h = refl
-no_literal_no_content m spelling in_comment (Double bits) h = refl
-no_literal_no_content m spelling in_comment (Date year month day hour minute second micros) h = cc
-no_literal_no_content m spelling in_comment (Time negative days hours minutes seconds micros) h = cc
+no_literal_no_content : (m : Mode) (spelling : Spelling) (value : Value) → literal_of m spelling value ≡ None → content_of value ≡ None
+no_literal_no_content m spelling NULL h = cc
+no_literal_no_content m spelling (Bytes bytes) h = cc
+no_literal_no_content m spelling (Int z) h = cc
+no_literal_no_content m spelling (UInt n) h = cc
+no_literal_no_content m spelling (Float bits) h = refl
+no_literal_no_content m spelling (Double bits) h = refl
+no_literal_no_content m spelling (Date year month day hour minute second micros) h = cc
+no_literal_no_content m spelling (Time negative days hours minutes seconds micros) h = cc
 
 abbrev is_float : Value → Bool
 is_float value = is_none (content_of value)
@@ -173,57 +159,41 @@ pub record Contents (query : Sql) (values : List Value) (literals : List (List �
   pub are : AreLiterals query.mode query.spelling literals contents
   pub count : length literals ≡ length values
 
-pub contents_of : (query : Sql) (places : List Place) (values : List Value) (literals : List (List ℕ)) → length values ≡ length places → literals_in query places values ≡ map Some literals → AllByRecursion HasLiteral values → Contents query values literals
-contents_of query [] [] [] n e h = record { contents = []; each = refl; are = tt; count = refl }
-contents_of query [] [] (l ∷ literals) n e h = cc
-contents_of query [] (v ∷ values) literals n e h = absurd (omega (arith, n))
-contents_of query (p ∷ places) [] literals n e h = absurd (omega (arith, n))
-contents_of query (p ∷ places) (v ∷ values) [] n e h = cc
-contents_of query (p ∷ places) (v ∷ values) (l ∷ literals) n e h =
-    let first : literal_in query p v ≡ Some l = cc in
-    let later : literals_in query places values ≡ map Some literals = cc in
-    let c : (content : Content) × (content_of v ≡ Some content) = has_content query.mode query.spelling p.in_comment v l first in
-    let o : Contents query values literals = contents_of query places values literals (omega (arith, n)) later h.1 in
+pub contents_of : (query : Sql) (values : List Value) (literals : List (List ℕ)) → literals_in query values ≡ map Some literals → AllByRecursion HasLiteral values → Contents query values literals
+contents_of query [] [] e h = record { contents = []; each = refl; are = tt; count = refl }
+contents_of query [] (l ∷ literals) e h = cc
+contents_of query (v ∷ values) [] e h = cc
+contents_of query (v ∷ values) (l ∷ literals) e h =
+    let first : literal_of query.mode query.spelling v ≡ Some l = cc in
+    let later : literals_in query values ≡ map Some literals = cc in
+    let c : (content : Content) × (content_of v ≡ Some content) = has_content query.mode query.spelling v l first in
+    let o : Contents query values literals = contents_of query values literals later h.1 in
     let m : length literals ≡ length values = o.count in
-    record { contents = c.0 ∷ o.contents; each = ap (λ y. y ∷ map content_of values) c.1 ∙ ap (λ ys. Some c.0 ∷ ys) o.each; are = (h.0 query.mode query.spelling p.in_comment l c.0 first c.1, o.are); count = omega (arith, m) }
+    record { contents = c.0 ∷ o.contents; each = ap (λ y. y ∷ map content_of values) c.1 ∙ ap (λ ys. Some c.0 ∷ ys) o.each; are = (h.0 query.mode query.spelling l c.0 first c.1, o.are); count = omega (arith, m) }
 
--- in the places in comments they leave comments as they are
-pub all_stay : (query : Sql) (places : List Place) (values : List Value) (literals : List (List ℕ)) → length values ≡ length places → literals_in query places values ≡ map Some literals → AllByRecursion StaysInComment values → StayInComments places literals
-all_stay query [] [] [] n e h = tt
-all_stay query [] [] (l ∷ literals) n e h = cc
-all_stay query [] (v ∷ values) literals n e h = absurd (omega (arith, n))
-all_stay query (p ∷ places) [] literals n e h = absurd (omega (arith, n))
-all_stay query (p ∷ places) (v ∷ values) [] n e h = cc
-all_stay query (p ∷ places) (v ∷ values) (l ∷ literals) n e h =
-    let first : literal_in query p v ≡ Some l = cc in
-    let later : literals_in query places values ≡ map Some literals = cc in
-    (λ inside. h.0 query.mode query.spelling l (ap (λ b. literal_at query.mode query.spelling b v) (sym inside) ∙ first), all_stay query places values literals (omega (arith, n)) later h.1)
-
-pub no_floats : (query : Sql) (places : List Place) (values : List Value) (literals : List (List ℕ)) (i : ℕ) → length values ≡ length places → literals_in query places values ≡ map Some literals → position_from is_float i values ≡ None
-no_floats query places [] literals i n e = refl
-no_floats query [] (v ∷ values) literals i n e = absurd (omega (arith, n))
-no_floats query (p ∷ places) (v ∷ values) [] i n e = cc
-no_floats query (p ∷ places) (v ∷ values) (l ∷ literals) i n e =
-    let first : literal_in query p v ≡ Some l = cc in
-    let later : literals_in query places values ≡ map Some literals = cc in
-    let c : (content : Content) × (content_of v ≡ Some content) = has_content query.mode query.spelling p.in_comment v l first in
+pub no_floats : (query : Sql) (values : List Value) (literals : List (List ℕ)) (i : ℕ) → literals_in query values ≡ map Some literals → position_from is_float i values ≡ None
+no_floats query [] literals i e = refl
+no_floats query (v ∷ values) [] i e = cc
+no_floats query (v ∷ values) (l ∷ literals) i e =
+    let first : literal_of query.mode query.spelling v ≡ Some l = cc in
+    let later : literals_in query values ≡ map Some literals = cc in
+    let c : (content : Content) × (content_of v ≡ Some content) = has_content query.mode query.spelling v l first in
     let some : is_float v ≡ false = ap is_none c.1 in
-    rw some (no_floats query places values literals (i + 1) (omega (arith, n)) later)
+    rw some (no_floats query values literals (i + 1) later)
 
--- the first value that has no literal in its place is the first float
-pub float_at : {A : Type 0} → (query : Sql) (f : A → Value) (places : List Place) (xs : List A) (k i : ℕ) (place : Place) (x : A) (literals : List (List ℕ)) → literals_in query (take k places) (take k (map f xs)) ≡ map Some literals → k < length places → k < length xs → x ≡ get_or xs k x
-    → literal_in query place (f x) ≡ None → position_from is_float i (map f xs) ≡ Some (i + k)
-float_at query f places [] k i place x literals e h l g n = absurd (omega arith)
-float_at query f [] (y ∷ xs) k i place x literals e h l g n = absurd (omega arith)
-float_at query f (p ∷ places) (y ∷ xs) zero i place x literals e h l g n =
-    let none : is_float (f y) ≡ true = ap is_none (ap (λ z. content_of (f z)) (sym g) ∙ no_literal_no_content query.mode query.spelling place.in_comment (f x) n) in
+-- the first value that has no literal is the first float
+pub float_at : {A : Type 0} → (query : Sql) (f : A → Value) (xs : List A) (k i : ℕ) (x : A) (literals : List (List ℕ)) → literals_in query (take k (map f xs)) ≡ map Some literals → k < length xs → x ≡ get_or xs k x
+    → literal_of query.mode query.spelling (f x) ≡ None → position_from is_float i (map f xs) ≡ Some (i + k)
+float_at query f [] k i x literals e l g n = absurd (omega arith)
+float_at query f (y ∷ xs) zero i x literals e l g n =
+    let none : is_float (f y) ≡ true = ap is_none (ap (λ z. content_of (f z)) (sym g) ∙ no_literal_no_content query.mode query.spelling (f x) n) in
     let j : i ≡ i + zero = omega arith in
     rw none (ap Some j)
-float_at query f (p ∷ places) (y ∷ xs) (suc k) i place x [] e h l g n = cc
-float_at query f (p ∷ places) (y ∷ xs) (suc k) i place x (literal ∷ literals) e h l g n =
-    let first : literal_in query p (f y) ≡ Some literal = cc in
-    let later : literals_in query (take k places) (take k (map f xs)) ≡ map Some literals = cc in
-    let c : (content : Content) × (content_of (f y) ≡ Some content) = has_content query.mode query.spelling p.in_comment (f y) literal first in
+float_at query f (y ∷ xs) (suc k) i x [] e l g n = cc
+float_at query f (y ∷ xs) (suc k) i x (literal ∷ literals) e l g n =
+    let first : literal_of query.mode query.spelling (f y) ≡ Some literal = cc in
+    let later : literals_in query (take k (map f xs)) ≡ map Some literals = cc in
+    let c : (content : Content) × (content_of (f y) ≡ Some content) = has_content query.mode query.spelling (f y) literal first in
     let some : is_float (f y) ≡ false = ap is_none c.1 in
     let j : i + 1 + k ≡ i + suc k = omega arith in
-    rw some (float_at query f places xs k (i + 1) place x literals later (omega arith) (omega arith) g n ∙ ap Some j)
+    rw some (float_at query f xs k (i + 1) x literals later (omega arith) g n ∙ ap Some j)

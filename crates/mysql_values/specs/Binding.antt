@@ -1,20 +1,20 @@
 -- The text that a query and a parameter set make for a server in the query's mode, with byte strings
 -- in the query's spelling, and why there is none.
--- MySQL Reference Manual, "Literal Values", "Comments" and "PREPARE Statement" (parameter markers).
+-- MySQL Reference Manual, "Literal Values" and "PREPARE Statement" (parameter markers).
 use Rattle.std.specs.Prelude.{◌≡◌, ◌⊎◌, ℕ, ◌==◌, List, [], ◌∷◌, ◌++◌, map, length, Option, Some, None, Result, Ok}
 use Rattle.std.specs.Prelude.{Err}
 use Rattle.std.specs.Prelude.{if◌then◌else◌}
 use Rattle.std.specs.List.{AllByRecursion}
 use Rattle.std.specs.Option.{option_map}
 use Rattle.mysql_queries.specs.Tokens.{HasTokens}
-use Rattle.mysql_queries.specs.Queries.{first_not_alone, interleaved, is_mixed, pieces_of, places_from, slices_between}
-use Rattle.mysql_queries.specs.Queries.{Lexes, Slices, StayInComments}
+use Rattle.mysql_queries.specs.Queries.{first_not_alone, interleaved, is_mixed, pieces_of, places_of, slices_between}
+use Rattle.mysql_queries.specs.Queries.{Lexes, Slices}
 use Rattle.mysql_queries.specs.Sql.{Sql}
 use Rattle.mysql_bytes.specs.declared.content.Content.{Content}
 use Rattle.mysql_queries.specs.Parsed.{names_of}
 use Rattle.mysql_cells.specs.Values.{first_float}
-use Rattle.mysql_literals.specs.Literals.{literal_at}
-use Rattle.mysql_literals.specs.AsSql.{HasLiteral, StaysInComment}
+use Rattle.mysql_literals.specs.Literals.{literal_of}
+use Rattle.mysql_literals.specs.AsSql.{HasLiteral}
 use Rattle.mysql_values.specs.Params.{IsMeaning, values_over}
 use Rattle.mysql_cells.specs.declared.value.Value.{Value}
 use Rattle.mysql_queries.specs.declared.placeholders.Place.{Place}
@@ -57,19 +57,12 @@ bind_cause places over = if is_mixed places then Some bind_error.Mixed else alon
 abbrev pub IsBindCause : Sql → Params → BindError → Type 0
 IsBindCause query params error =
     (tokens : List (List ℕ)) × HasTokens query.mode query.text tokens ×
-    (bind_cause (places_from query.text 0 tokens) (values_over (names_of tokens) params) ≡
+    (bind_cause (places_of query tokens) (values_over (names_of tokens) params) ≡
     Some error)
 
--- the literal of a value in a place of the query
-abbrev pub literal_in : Sql → Place → Value → Option (List ℕ)
-literal_in query place value = literal_at query.mode query.spelling place.in_comment value
-
--- the literal of each value in the place beside it
-abbrev pub literals_in : Sql → List Place → List Value → List (Option (List ℕ))
-literals_in query [] values = []
-literals_in query (place ∷ places) [] = []
-literals_in query (place ∷ places) (value ∷ values) =
-    literal_in query place value ∷ literals_in query places values
+-- the literal of each value for the query's mode, in its spelling
+abbrev pub literals_in : Sql → List Value → List (Option (List ℕ))
+literals_in query values = map (λ value. literal_of query.mode query.spelling value) values
 
 -- the text that is bound: the query's pieces with the literal of each value between them; no cause speaks against it
 pub record IsBound (query : Sql) (params : Params) (text : List ℕ) : Type 0 where
@@ -77,27 +70,25 @@ pub record IsBound (query : Sql) (params : Params) (text : List ℕ) : Type 0 wh
   pub has : HasTokens query.mode query.text tokens
   pub values : List Value
   pub over : values_over (names_of tokens) params ≡ Ok values
-  pub none : bind_cause (places_from query.text 0 tokens) (Ok values) ≡ None
+  pub none : bind_cause (places_of query tokens) (Ok values) ≡ None
   pub literals : List (List ℕ)
-  pub each : literals_in query (places_from query.text 0 tokens) values ≡ map Some literals
+  pub each : literals_in query values ≡ map Some literals
   pub spelled : text ≡ interleaved (pieces_of tokens) literals
 
 -- a text between the placeholders of a query: its pieces with the literals of the values between
--- them, each a literal of its content that leaves comments as they are
+-- them, each a literal of its content
 pub record IsFilled (query : Sql) (places : List Place) (values : List Value) (text : List ℕ) : Type 0 where
   pub literals : List (List ℕ)
-  pub each : literals_in query places values ≡ map Some literals
+  pub each : literals_in query values ≡ map Some literals
   pub have : AllByRecursion HasLiteral values
-  pub stay : AllByRecursion StaysInComment values
   pub spelled : text ≡ interleaved (slices_between query.text 0 places) literals
 
 -- The text of the set over the query is appended, and reads as the set's meaning, by its pieces and
--- by its tokens. No literal in a comment begins or ends one.
+-- by its tokens.
 pub record Binds (query : Sql) (params : Params) (old new : List ℕ) : Type 0 where
   pub text : List ℕ
   pub appended : new ≡ old ++ text
   pub bound : IsBound query params text
-  pub comments : StayInComments (places_from query.text 0 bound.tokens) bound.literals
   pub contents : List Content
   pub meaning : IsMeaning query params contents
   pub sliced : Slices query text contents

@@ -1,7 +1,8 @@
 pub use Rattle.mysql_buf.specs.Bytes
 pub use Rattle.mysql_fields.specs.declared.error.WireError
 pub use Rattle.mysql_queries.specs.Tokens
-pub use Rattle.mysql_queries.specs.Comments
+pub use Rattle.mysql_queries.specs.Alone
+pub use Rattle.mysql_queries.specs.Servers
 pub use Rattle.mysql_queries.specs.Literals
 pub use Rattle.mysql_queries.specs.Queries
 pub use Rattle.mysql_queries.specs.Written

@@ -48,7 +48,7 @@ pub enum BindError {
     #[error("the query has both named and positional parameters: use one kind")]
     Mixed,
     /// The first placeholder that does not stand alone, counted from 0.
-    #[error("placeholder {0} does not stand alone: put blanks around it")]
+    #[error("placeholder {0} does not stand alone: a neighbour joins it, or servers read it differently")]
     NotAlone(usize),
     /// The set gives the query no values. This is never `Memory`.
     #[error(transparent)]
@@ -146,14 +146,7 @@ fn put_text<'a>(
     for i in 0..places.len() {
         let place = places[i];
         out.extend_from_slice(&query[at..place.start])?;
-        match put_sql(
-            out,
-            listed[i],
-            mode.no_backslash_escapes,
-            spelling,
-            place.in_comment,
-            false,
-        ) {
+        match put_sql(out, listed[i], mode.no_backslash_escapes, spelling, false) {
             Ok(()) => at = place.end,
             Err(AsSqlError::Float) => return Err(BindError::Float(i)),
             Err(AsSqlError::Memory) => return Err(BindError::Memory),
@@ -316,14 +309,11 @@ pub fn bind_text_at(
 /// backslash (`is_safe_to_quote`). For a server in another mode a value may end its literal, and
 /// what stands behind the quote is read as SQL. [`bind_text_in`] takes the mode.
 ///
-/// Between `/*!` or `/*+` and its end no literal holds `/*` or `*/`; they are written `/\*` and `*\/`
-/// there. So a server that skips such a comment skips to the query's own end of it.
-///
 /// An all-zero time is written without its sign.
 ///
 /// Promise: the text has the query's tokens with one literal in each place, and is read as the
-/// set's meaning. Literals bring no `/*` and no `*/` into a comment. Else it is refused exactly for
-/// its causes, the first one (`Binds`, `Lexes`, `Slices`, `StayInComments`, `IsBindCause`).
+/// set's meaning. Else it is refused exactly for its causes, the first one (`Binds`, `Lexes`,
+/// `Slices`, `IsBindCause`).
 ///
 /// # Errors
 /// - `Mixed`.
@@ -358,13 +348,9 @@ pub fn bind_text(
 /// is so too. Its literals are texts and strings of bytes also where a number is wanted, as in an
 /// execution.
 ///
-/// Between `/*!` or `/*+` and its end no literal holds `/*` or `*/`. By `Spelling::Quoted` a
-/// backslash parts them; in NO_BACKSLASH_ESCAPES bytes that hold one are `0x` and digits there.
-///
 /// Promise: the text has the query's tokens with one literal in each place, and is read in this
-/// mode and spelling as the set's meaning. Literals bring no `/*` and no `*/` into a comment. Else
-/// it is refused exactly for its causes, the first one (`Binds`, `Lexes`, `Slices`,
-/// `StayInComments`, `IsBindCause`).
+/// mode and spelling as the set's meaning. Else it is refused exactly for its causes, the first one
+/// (`Binds`, `Lexes`, `Slices`, `IsBindCause`).
 ///
 /// # Errors
 /// - `Mixed`.

@@ -121,7 +121,7 @@ const DIGESTS: [Row; 43] = [
     ),
     // Comments, blanks and operators.
     (DEFAULT, b"a/* b */c -- d\n# e\nf", b"a c f"),
-    (DEFAULT, b"/*! A */", b"/ * ! a * /"),
+    (DEFAULT, b"/*! A */", b"a"),
     (
         DEFAULT,
         b"a>=1 <=> !b&&c||d:=e",

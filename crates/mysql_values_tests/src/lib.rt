@@ -5,8 +5,6 @@
 //!
 //! At most one allocation of a run is refused. So a call that answers that memory was refused is
 //! made once more, and then has to answer.
-//!
-//! A function costs the prover seconds whatever it asserts, a row of a table nothing.
 #![tactic(auto)]
 
 #[cfg(test)]

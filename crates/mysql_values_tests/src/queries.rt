@@ -10,11 +10,11 @@ use std::alloc::{AllocError, Global};
 use std::borrow::CowSlice;
 use tests_support::{Assert, assert_answer, assert_bytes, given_values, once_more};
 
-/// Start, end, whether a name, whether it stands alone.
+/// Start, end, whether a name, whether it is alone.
 type Expected = (usize, usize, bool, bool);
 
 /// A query, the same with question marks in the places of its names, and its places. Then come
-/// whether they are of both kinds, and the first that doesn't stand alone.
+/// whether they are of both kinds, and the first that isn't alone.
 type Row = (
     &'static [u8],
     &'static [u8],
@@ -61,9 +61,9 @@ const QUERIES: [Row; 26] = [
     (
         b"'it''s :a \\' ?' :b",
         b"'it''s :a \\' ?' ?",
-        &[(16, 18, true, true)],
+        &[(16, 18, true, false)],
         false,
-        None,
+        Some(0),
     ),
     (b"# :a\n:b", b"# :a\n?", &[(5, 7, true, true)], false, None),
     (b"-- ?\n?", b"-- ?\n?", &[(5, 6, false, true)], false, None),
@@ -146,24 +146,56 @@ const QUERIES: [Row; 26] = [
     (b"SELECT 1", b"SELECT 1", &[], false, None),
 ];
 
-/// A query, and of each placeholder whether it is in a comment that a server may skip.
-const COMMENTS: [(&[u8], &[bool]); 13] = [
-    (b"/*! ? */ ?", &[true, false]),
-    (b"/*+ ? */ ?", &[true, false]),
-    (b"/* ! */ ?", &[false]),
-    (b"/*M! */ ?", &[false]),
-    (b"'/*!' ?", &[false]),
-    (b"# /*!\n?", &[false]),
-    // A comment inside counts, also one that could be skipped by itself.
-    (b"/*! /* x */ ? */ ?", &[true, false]),
-    (b"/*! /*! */ ? */ ?", &[true, false]),
+/// A query, and of each placeholder whether it is alone.
+const ALONE: [(&[u8], &[bool]); 37] = [
+    // Hints are comments, and so is a simple version comment.
+    (b"/*+ ? */ ?", &[true]),
+    (b"SELECT /*+ SET_VAR(time_zone = ?) */ 1", &[]),
+    (b"SELECT /*+ user's */ ?", &[true]),
+    (
+        b"SELECT /*+ MAX_EXECUTION_TIME(1000) */* FROM t WHERE id = ?",
+        &[true],
+    ),
+    (
+        b"SELECT /*!40001 SQL_NO_CACHE */ * FROM t WHERE id > ?",
+        &[true],
+    ),
+    (b"/* ! */ ?", &[true]),
+    (b"# /*!\n?", &[true]),
+    (b"SELECT */* it's */ FROM t WHERE id = ?", &[true]),
+    // A comment without a version is run by every server.
+    (b"/*! ? */ ?", &[true, true]),
+    (b"SELECT /*! :a */", &[true]),
+    (b"? /*!? */ /*+ :a */ ?", &[true, false, true]),
+    (b"SELECT /*!?", &[false]),
+    // Others are read otherwise by some.
+    (b"SELECT 1 /*!80000 + ? */", &[false]),
+    (b"/*! /* x */ ? */ ?", &[false, false]),
+    (b"/*! /*! */ ? */ ?", &[false, false]),
     (b"/*! /*! */ */ ?", &[false]),
-    // Quotes don't.
     (b"/*! '*/' ?", &[false]),
-    (b"/*! '/*' */ ?", &[true]),
-    // A slash that ends one may begin the next.
-    (b"/*! */*! ? */ ?", &[true, false]),
-    (b"? /*!? */ /*+ :a */ ?", &[false, true, true, false]),
+    (b"/*! '/*' */ ?", &[false]),
+    (b"/*! */*! ? */ ?", &[false, false]),
+    (b"SELECT 2 /*! */*'3', '*/ ? '", &[false]),
+    (b"SELECT 2 /*! * ? */, ?", &[false, false]),
+    (b"SELECT 2 /*! ? */* ?", &[false]),
+    (b"SELECT 1 /*!99999 /*! */ , ?", &[false]),
+    (b"SELECT /*!99999 'a' */ ?", &[false]),
+    (b"SELECT ?, 1 /*!99999 'a' */", &[false]),
+    // So are these.
+    (b"/*M! */ ?", &[false]),
+    (b"SELECT /*M! 1, */ ?", &[false]),
+    (b"SELECT a[1], ?", &[false]),
+    (b"SELECT 1 AS $$, ?", &[false]),
+    (b"SELECT $a$ ? $a$", &[false]),
+    (b"SELECT a$$b$$, ?", &[true]),
+    (b"SELECT $1, ?", &[true]),
+    // A string next to one is one with it.
+    (b"'/*!' ?", &[false]),
+    (b"SELECT ? 'al'", &[false]),
+    (b"SELECT 'al' /* c */ ?", &[false]),
+    (b"SELECT ? /*!50000 */ 'al'", &[false]),
+    (b"SELECT ? `al`, `b` ?", &[true, true]),
 ];
 
 fn assert_places(assert: &impl Assert, found: &[Place], wanted: &[Expected]) {
@@ -214,14 +246,14 @@ fn parsed_queries(rt: HostRuntime) {
 }
 
 #[test]
-fn comments(rt: HostRuntime) {
+fn alone(rt: HostRuntime) {
     let assert = Asserting(&rt);
     let alloc = rt.alloc();
-    for (query, wanted) in COMMENTS {
+    for (query, wanted) in ALONE {
         let list = once_more(&assert, places(alloc, query), places(alloc, query));
         assert.holds(list.len() == wanted.len());
-        for (place, in_comment) in list.iter().zip(wanted.iter()) {
-            assert.holds(place.in_comment == *in_comment);
+        for (place, stands_alone) in list.iter().zip(wanted.iter()) {
+            assert.holds(place.alone == *stands_alone);
         }
         drop(list);
     }

@@ -1,8 +1,6 @@
 //! How a test of this crate ends, and the values and sets of its tables.
 //!
-//! A value that a function drops at its end is taken apart there, part by part, which is dear to
-//! prove. So a test hands each value to a generic function that takes it, be it `drop`: at a type
-//! parameter that is one call.
+//! A test hands each value to a generic function that takes it, be it `drop`.
 
 ghost use Rattle.std.specs.Prelude.{◌≡◌, true};
 

@@ -7,8 +7,7 @@
 //! At most one allocation of a run is refused. So a call that answers that memory was refused is
 //! looked at for what has to stand then. It is made once more, and then has to answer.
 //!
-//! A function costs the prover seconds whatever it asserts, a row of a table nothing. So there are
-//! few functions, and their tests go over tables.
+//! There are few functions, and their tests go over tables.
 #![tactic(auto)]
 
 #[cfg(test)]

@@ -3,13 +3,13 @@ use Rattle.std.proofs.Common.{◌≡◌, ℕ, true, false, List, [], ◌∷◌, 
 use Rattle.std.specs.List.{AllByRecursion}
 use Rattle.mysql_queries.specs.Laws.{OnePlaces, OneTokens}
 use Rattle.mysql_queries.specs.Literals.{IsLiteral, is_digit}
-use Rattle.mysql_queries.specs.Queries.{Alternates, pieces_of, places_from}
+use Rattle.mysql_queries.specs.Queries.{Alternates, pieces_of, places_of}
 use Rattle.mysql_queries.specs.Sql.{default_mode, read_by_default, read_in}
 use Rattle.mysql_bytes.specs.declared.spelling.Spelling.TheVariants.{Hexadecimal, Quoted}
 use Rattle.mysql_queries.specs.Tokens.{Byte, HasTokens}
 use Rattle.mysql_bytes.specs.declared.content.Content.{Content}
 use Rattle.mysql_bytes.specs.declared.content.Content.TheVariants.{Null, Number, Bytes}
-use Rattle.mysql_witnesses.specs.Queries.{ClosedCommentsAreLeft, CommentsInsideCount, EachOpenerCounts, IdentifiersHaveNoEscapes, PiecesFollowLiteralsAtOnce, ansi_quotes, quoted_backslash}
+use Rattle.mysql_witnesses.specs.Queries.{HintsAreComments, IdentifiersHaveNoEscapes, OthersPartServers, PiecesFollowLiteralsAtOnce, QuotesMakeNoSimpleComment, SimpleCommentsPartNone, ansi_quotes, quoted_backslash}
 
 -- ---- an identifier
 
@@ -35,54 +35,94 @@ has_quoted = record {
 pub identifiers_have_no_escapes : OnePlaces → IdentifiersHaveNoEscapes
 unfolding quoted_tokens
 identifiers_have_no_escapes one places has =
-    one (read_in ansi_quotes quoted_backslash) places (places_from quoted_backslash 0 quoted_tokens) has (quoted_tokens, has_quoted, refl)
+    one (read_in ansi_quotes quoted_backslash) places (places_of (read_in ansi_quotes quoted_backslash) quoted_tokens) has (quoted_tokens, has_quoted, refl)
 
--- ---- comments that a server may skip
+-- ---- comments
 
--- `/*!*/ ?`
-closed_tokens : List (List ℕ)
-closed_tokens = (0x2f ∷ []) ∷ (0x2a ∷ []) ∷ (0x21 ∷ []) ∷ (0x2a ∷ []) ∷ (0x2f ∷ []) ∷ (0x20 ∷ []) ∷ (0x3f ∷ []) ∷ []
+-- `/*+?*/?`
+hint_tokens : List (List ℕ)
+hint_tokens = codes "/*+?*/" ∷ codes "?" ∷ []
 
-has_closed : HasTokens default_mode (codes "/*!*/ ?") closed_tokens
-unfolding closed_tokens
-has_closed = record { joined = refl; each = ((0x2f, refl), ((0x2a, refl), ((0x21, refl), ((0x2a, refl), ((0x2f, refl), ((0x20, refl), (refl, tt))))))) }
-
-pub closed_comments_are_left : OnePlaces → ClosedCommentsAreLeft
-unfolding closed_tokens
-closed_comments_are_left one places has =
-    one (read_by_default (codes "/*!*/ ?")) places (places_from (codes "/*!*/ ?") 0 closed_tokens) has (closed_tokens, has_closed, refl)
-
--- `/*!/**/?`
-inner_tokens : List (List ℕ)
-inner_tokens = (0x2f ∷ []) ∷ (0x2a ∷ []) ∷ (0x21 ∷ []) ∷ (0x2f ∷ 0x2a ∷ 0x2a ∷ 0x2f ∷ []) ∷ (0x3f ∷ []) ∷ []
-
-has_inner : HasTokens default_mode (codes "/*!/**/?") inner_tokens
-unfolding inner_tokens
-has_inner = record {
+has_hint : HasTokens default_mode (codes "/*+?*/?") hint_tokens
+unfolding hint_tokens
+has_hint = record {
   joined = refl;
-  each = ((0x2f, refl), ((0x2a, refl), ((0x21, refl), (record { inside = []; closing = 0x2a ∷ 0x2f ∷ []; spelled = refl; ends = inl (refl, tt) }, (refl, tt)))));
+  each = (record { inside = codes "+?"; closing = codes "*/"; spelled = refl; ends = inl (refl, ((λ e. absurd (omega arith)), ((λ e. absurd (omega arith)), tt))) }, (refl, tt));
 }
 
-pub comments_inside_count : OnePlaces → CommentsInsideCount
-unfolding inner_tokens
-comments_inside_count one places has =
-    one (read_by_default (codes "/*!/**/?")) places (places_from (codes "/*!/**/?") 0 inner_tokens) has (inner_tokens, has_inner, refl)
+pub hints_are_comments : OnePlaces → HintsAreComments
+unfolding hint_tokens
+hints_are_comments one places has =
+    one (read_by_default (codes "/*+?*/?")) places (places_of (read_by_default (codes "/*+?*/?")) hint_tokens) has (hint_tokens, has_hint, refl)
 
--- `/*!/*!*/?`
-each_tokens : List (List ℕ)
-each_tokens = (0x2f ∷ []) ∷ (0x2a ∷ []) ∷ (0x21 ∷ []) ∷ (0x2f ∷ []) ∷ (0x2a ∷ []) ∷ (0x21 ∷ []) ∷ (0x2a ∷ []) ∷ (0x2f ∷ []) ∷ (0x3f ∷ []) ∷ []
+-- `/*!9'*/?'`
+quote_tokens : List (List ℕ)
+quote_tokens = codes "/*!" ∷ codes "9" ∷ codes "'*/?'" ∷ []
 
-has_each : HasTokens default_mode (codes "/*!/*!*/?") each_tokens
-unfolding each_tokens
-has_each = record {
+has_quote : HasTokens default_mode (codes "/*!9'*/?'") quote_tokens
+unfolding quote_tokens
+has_quote = record {
   joined = refl;
-  each = ((0x2f, refl), ((0x2a, refl), ((0x21, refl), ((0x2f, refl), ((0x2a, refl), ((0x21, refl), ((0x2a, refl), ((0x2f, refl), (refl, tt)))))))));
+  each = (
+    refl,
+    (
+      (0x39, refl),
+      (
+        record {
+          parts = Byte 0x2a ∷ Byte 0x2f ∷ Byte 0x3f ∷ [];
+          closing = 0x27 ∷ [];
+          inside = (((λ e. absurd (omega arith)), λ k e. absurd (omega arith)), (((λ e. absurd (omega arith)), λ k e. absurd (omega arith)), (((λ e. absurd (omega arith)), λ k e. absurd (omega arith)), tt)));
+          spelled = refl;
+          closes = inl (refl, tt);
+        },
+        tt,
+      ),
+    ),
+  );
 }
 
-pub each_opener_counts : OnePlaces → EachOpenerCounts
-unfolding each_tokens
-each_opener_counts one places has =
-    one (read_by_default (codes "/*!/*!*/?")) places (places_from (codes "/*!/*!*/?") 0 each_tokens) has (each_tokens, has_each, refl)
+pub quotes_make_no_simple_comment : OnePlaces → QuotesMakeNoSimpleComment
+unfolding quote_tokens
+quotes_make_no_simple_comment one places has =
+    one (read_by_default (codes "/*!9'*/?'")) places (places_of (read_by_default (codes "/*!9'*/?'")) quote_tokens) has (quote_tokens, has_quote, refl)
+
+-- `/*!9*b*/?`
+other_tokens : List (List ℕ)
+other_tokens = codes "/*!" ∷ codes "9" ∷ codes "*" ∷ codes "b" ∷ codes "*/" ∷ codes "?" ∷ []
+
+has_other : HasTokens default_mode (codes "/*!9*b*/?") other_tokens
+unfolding other_tokens
+has_other = record { joined = refl; each = (refl, ((0x39, refl), ((0x2a, refl), ((0x62, refl), (refl, (refl, tt)))))) }
+
+pub others_part_servers : OnePlaces → OthersPartServers
+unfolding other_tokens
+others_part_servers one places has =
+    one (read_by_default (codes "/*!9*b*/?")) places (places_of (read_by_default (codes "/*!9*b*/?")) other_tokens) has (other_tokens, has_other, refl)
+
+-- `/*!9b*/?` and `/*!*/?`
+version_tokens : List (List ℕ)
+version_tokens = codes "/*!9b*/" ∷ codes "?" ∷ []
+
+has_version : HasTokens default_mode (codes "/*!9b*/?") version_tokens
+unfolding version_tokens
+has_version = record {
+  joined = refl;
+  each = (record { inside = codes "!9b"; closing = codes "*/"; spelled = refl; ends = inl (refl, ((λ e. absurd (omega arith)), ((λ e. absurd (omega arith)), ((λ e. absurd (omega arith)), tt)))) }, (refl, tt));
+}
+
+run_tokens : List (List ℕ)
+run_tokens = codes "/*!" ∷ codes "*/" ∷ codes "?" ∷ []
+
+has_run : HasTokens default_mode (codes "/*!*/?") run_tokens
+unfolding run_tokens
+has_run = record { joined = refl; each = (refl, (refl, (refl, tt))) }
+
+pub simple_comments_part_none : OnePlaces → SimpleCommentsPartNone
+unfolding version_tokens run_tokens
+simple_comments_part_none one = record {
+  version = λ places has. one (read_by_default (codes "/*!9b*/?")) places (places_of (read_by_default (codes "/*!9b*/?")) version_tokens) has (version_tokens, has_version, refl);
+  none = λ places has. one (read_by_default (codes "/*!*/?")) places (places_of (read_by_default (codes "/*!*/?")) run_tokens) has (run_tokens, has_run, refl);
+}
 
 -- ---- a text over a query
 

@@ -7,7 +7,7 @@ use Rattle.mysql_witnesses.specs.Values.{EachPlaceHasItsValue, ZeroTimesAreBound
 
 pub zero_times_are_bound_without_sign : ZeroTimesAreBoundWithoutSign
 unfolding digits
-zero_times_are_bound_without_sign mode spelling in_comment = refl
+zero_times_are_bound_without_sign mode spelling = refl
 
 both : (a b : Value) (values : List Value) → Some a ∷ Some b ∷ [] ≡ map Some values → values ≡ a ∷ b ∷ []
 both a b [] e = cc

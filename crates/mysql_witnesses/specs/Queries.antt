@@ -1,6 +1,6 @@
 -- What the definitions of queries exclude: their tokens, their mode, and texts over them. MySQL
--- Reference Manual, "Server SQL Modes", "Schema Object Names", "Literal Values", "Comments", "PREPARE Statement";
--- MySQL: Client/Server Protocol, "Status Flags".
+-- Reference Manual, "Server SQL Modes", "Schema Object Names", "Literal Values", "Comments", "Optimizer
+-- Hints", "PREPARE Statement"; MySQL: Client/Server Protocol, "Status Flags".
 use Rattle.std.specs.Prelude.{◌≡◌, ℕ, ◌+◌, Bool, true, false, List, [], ◌∷◌, codes, Some, None}
 use Rattle.mysql_bytes.specs.Modes.{mode_of_sql_mode, mode_of_status}
 use Rattle.mysql_queries.specs.Queries.{HasPlaces, Slices}
@@ -15,10 +15,9 @@ ansi_quotes = record { no_backslash_escapes = false; ansi_quotes = true }
 abbrev pub no_backslash_escapes : Mode
 no_backslash_escapes = record { no_backslash_escapes = true; ansi_quotes = false }
 
--- a question mark that stands alone at a place, in a comment that a server may skip or in none
-abbrev pub question_at : ℕ → Bool → Place
-question_at start in_comment =
-    record { start = start; end = start + 1; name = false; alone = true; in_comment = in_comment }
+-- a question mark at a place, that stands alone or not
+abbrev pub question_at : ℕ → (alone : Bool) → Place
+question_at start alone = record { start = start; end = start + 1; name = false; alone = alone }
 
 -- `"\" ?`
 abbrev pub quoted_backslash : List ℕ
@@ -30,26 +29,34 @@ quoted_backslash = 0x22 ∷ 0x5c ∷ 0x22 ∷ 0x20 ∷ 0x3f ∷ []
 -- MySQL Reference Manual, "Server SQL Modes" (ANSI_QUOTES), "Schema Object Names".
 abbrev pub IdentifiersHaveNoEscapes : Type 0
 IdentifiersHaveNoEscapes = (places : List Place) → HasPlaces (read_in ansi_quotes quoted_backslash) places →
-    places ≡ question_at 4 false ∷ []
+    places ≡ question_at 4 true ∷ []
 
--- In `/*!*/ ?` the comment is closed before the placeholder. Excluded: a place behind a closed comment
--- that counts as one in it. MySQL Reference Manual, "Comments".
-abbrev pub ClosedCommentsAreLeft : Type 0
-ClosedCommentsAreLeft = (places : List Place) → HasPlaces (read_by_default (codes "/*!*/ ?")) places →
-    places ≡ question_at 6 false ∷ []
+-- `/*+?*/?` has one placeholder, behind the hint. Excluded: a hint whose inside is read.
+-- MySQL Reference Manual, "Optimizer Hints", "Comments".
+abbrev pub HintsAreComments : Type 0
+HintsAreComments = (places : List Place) → HasPlaces (read_by_default (codes "/*+?*/?")) places →
+    places ≡ question_at 6 true ∷ []
 
--- In `/*!/**/?` a comment stands inside, and the outer one is open at the placeholder. Excluded: one
--- that looks at the last `/*` before the place, which is closed. MySQL Reference Manual, "Comments".
-abbrev pub CommentsInsideCount : Type 0
-CommentsInsideCount = (places : List Place) → HasPlaces (read_by_default (codes "/*!/**/?")) places →
-    places ≡ question_at 7 true ∷ []
+-- `/*!9'*/?'` has none: a server that runs the comment reads a string in it. Excluded: a version
+-- comment with a quote that is taken for a simple one. MySQL Reference Manual, "Comments".
+abbrev pub QuotesMakeNoSimpleComment : Type 0
+QuotesMakeNoSimpleComment = (places : List Place) → HasPlaces (read_by_default (codes "/*!9'*/?'")) places →
+    places ≡ []
 
--- In `/*!/*!*/?` one stands inside that could be skipped by itself. Excluded: one that looks at the
--- last opener alone: a server that counts comments is still in the first.
+-- In `/*!9*b*/?` the placeholder doesn't stand alone: one server skips the comment, and another reads
+-- its inside. Excluded: a placeholder that stands alone behind a version comment that isn't simple.
 -- MySQL Reference Manual, "Comments".
-abbrev pub EachOpenerCounts : Type 0
-EachOpenerCounts = (places : List Place) → HasPlaces (read_by_default (codes "/*!/*!*/?")) places →
-    places ≡ question_at 8 true ∷ []
+abbrev pub OthersPartServers : Type 0
+OthersPartServers = (places : List Place) → HasPlaces (read_by_default (codes "/*!9*b*/?")) places →
+    places ≡ question_at 8 false ∷ []
+
+-- In `/*!9b*/?` it does, and in `/*!*/?`, which every server runs up to one end. Excluded: a reader
+-- that lets no placeholder behind `/*!` stand alone. MySQL Reference Manual, "Comments".
+pub record SimpleCommentsPartNone : Type 0 where
+  pub version : (places : List Place) → HasPlaces (read_by_default (codes "/*!9b*/?")) places →
+      places ≡ question_at 7 true ∷ []
+  pub none : (places : List Place) → HasPlaces (read_by_default (codes "/*!*/?")) places →
+      places ≡ question_at 5 true ∷ []
 
 -- Of `sql_mode` blanks around a name don't count, and a name that isn't known tells that, as MSSQL
 -- does. Excluded: a mode that is told in spite of it. MySQL Reference Manual, "Server SQL Modes";

@@ -1,10 +1,10 @@
 -- What the definitions of values exclude: their texts, their cells, and parameter sets that are made
 -- of lists. MySQL Reference Manual, "Literal Values", "Server SQL Modes", "PREPARE Statement"; MySQL:
 -- Client/Server Protocol, "Binary Protocol Value".
-use Rattle.std.specs.Prelude.{◌≡◌, ◌^◌, pos, Bool, true, false, [], ◌∷◌, codes, Some, None, Ok, Vec}
+use Rattle.std.specs.Prelude.{◌≡◌, ◌^◌, pos, true, false, [], ◌∷◌, codes, Some, None, Ok, Vec}
 use Rattle.std.specs.declared.alloc.Global.{Global}
 use Rattle.mysql_cells.specs.Cells.{cell_at}
-use Rattle.mysql_literals.specs.Literals.{in_quotes, literal_at, sql_of}
+use Rattle.mysql_literals.specs.Literals.{in_quotes, literal_of, sql_of}
 use Rattle.mysql_bytes.specs.declared.spelling.Spelling.{Spelling}
 use Rattle.mysql_bytes.specs.declared.spelling.Spelling.TheVariants.{Hexadecimal, Quoted}
 use Rattle.mysql_cells.specs.declared.value.Value.{Value}
@@ -31,38 +31,32 @@ QuotesAreEscapedElse = sql_of false (Bytes (0x27 ∷ [])) ≡ Some (0x27 ∷ 0x5
 -- In hexadecimal spelling no bytes are `''`. Excluded: `0x`, also behind an introducer, which is no
 -- literal. MySQL Reference Manual, "Hexadecimal Literals", "Character Set Introducers".
 abbrev pub NoBytesStandInQuotes : Type 0
-NoBytesStandInQuotes = (mode : Mode) (in_comment : Bool) →
-    literal_at mode Hexadecimal in_comment (Bytes []) ≡ Some (0x27 ∷ 0x27 ∷ [])
+NoBytesStandInQuotes = (mode : Mode) →
+    literal_of mode Hexadecimal (Bytes []) ≡ Some (0x27 ∷ 0x27 ∷ [])
 
 -- In it `1` is `_utf8mb4 0x31`. Excluded: `0x31`, which is the number 49 where a server wants one.
 -- MySQL Reference Manual, "Hexadecimal Literals", "Character Set Introducers".
 abbrev pub TextsAreNoNumbers : Type 0
-TextsAreNoNumbers = (mode : Mode) (in_comment : Bool) →
-    literal_at mode Hexadecimal in_comment (Bytes (0x31 ∷ [])) ≡ Some (codes "_utf8mb4 0x31")
+TextsAreNoNumbers = (mode : Mode) →
+    literal_of mode Hexadecimal (Bytes (0x31 ∷ [])) ≡ Some (codes "_utf8mb4 0x31")
 
 -- Bytes that aren't UTF-8 are behind `_binary`. Excluded: `_utf8mb4` before them, for which a server
 -- refuses the statement. MySQL Reference Manual, "Character Set Introducers".
 abbrev pub OtherBytesAreBinary : Type 0
-OtherBytesAreBinary = (mode : Mode) (in_comment : Bool) →
-    literal_at mode Hexadecimal in_comment (Bytes (0xff ∷ [])) ≡ Some (codes "_binary 0xFF")
+OtherBytesAreBinary = (mode : Mode) →
+    literal_of mode Hexadecimal (Bytes (0xff ∷ [])) ≡ Some (codes "_binary 0xFF")
 
--- In a comment `*/` is `'*\/'`, and for a server in NO_BACKSLASH_ESCAPES `0x2A2F`; elsewhere it is
--- `'*/'` for both. Excluded: the same in each place. MySQL Reference Manual, "Comments".
-pub record CommentsArePartedInComments : Type 0 where
-  pub parted : (ansi_quotes : Bool) →
-      literal_at (record { no_backslash_escapes = false; ansi_quotes = ansi_quotes }) Quoted true
-      (Bytes (0x2a ∷ 0x2f ∷ [])) ≡ Some (in_quotes (0x2a ∷ 0x5c ∷ 0x2f ∷ []))
-  pub without_escapes : (ansi_quotes : Bool) →
-      literal_at (record { no_backslash_escapes = true; ansi_quotes = ansi_quotes }) Quoted true
-      (Bytes (0x2a ∷ 0x2f ∷ [])) ≡ Some (codes "0x2A2F")
-  pub elsewhere : (mode : Mode) →
-      literal_at mode Quoted false (Bytes (0x2a ∷ 0x2f ∷ [])) ≡ Some (in_quotes (0x2a ∷ 0x2f ∷ []))
+-- `*/` is `'*/'`, whatever stands around it. Excluded: one that a backslash parts, which is the same
+-- content, and not the text that is promised. MySQL Reference Manual, "String Literals".
+abbrev pub CommentsAreNotParted : Type 0
+CommentsAreNotParted = (mode : Mode) →
+    literal_of mode Quoted (Bytes (0x2a ∷ 0x2f ∷ [])) ≡ Some (in_quotes (0x2a ∷ 0x2f ∷ []))
 
 -- A negative time of all zeros is bound as `'000:00:00'`. Excluded: one with its dash, which means
 -- something else than an execution of it. MySQL Reference Manual, "The TIME Type".
 abbrev pub ZeroTimesAreBoundWithoutSign : Type 0
-ZeroTimesAreBoundWithoutSign = (mode : Mode) (spelling : Spelling) (in_comment : Bool) →
-    literal_at mode spelling in_comment (Time true 0 0 0 0 0) ≡ Some (in_quotes (codes "000:00:00"))
+ZeroTimesAreBoundWithoutSign = (mode : Mode) (spelling : Spelling) →
+    literal_of mode spelling (Time true 0 0 0 0 0) ≡ Some (in_quotes (codes "000:00:00"))
 
 -- CELLS
 

@@ -3,10 +3,10 @@
 //! That `+5` is no number, which a wrong reader takes for one, is a theorem of `mysql_queries`
 //! (`content_of_a_spelling`).
 
-ghost use Rattle.mysql_witnesses.specs.Queries.{ClosedCommentsAreLeft, CommentsInsideCount};
-ghost use Rattle.mysql_witnesses.specs.Queries.{EachBitTellsItsMode, EachOpenerCounts};
+ghost use Rattle.mysql_witnesses.specs.Queries.{EachBitTellsItsMode, HintsAreComments};
 ghost use Rattle.mysql_witnesses.specs.Queries.{IdentifiersHaveNoEscapes, NamesTellAModeOrNone};
-ghost use Rattle.mysql_witnesses.specs.Queries.{PiecesFollowLiteralsAtOnce};
+ghost use Rattle.mysql_witnesses.specs.Queries.{OthersPartServers, PiecesFollowLiteralsAtOnce};
+ghost use Rattle.mysql_witnesses.specs.Queries.{QuotesMakeNoSimpleComment, SimpleCommentsPartNone};
 
 use mysql_queries::laws::tokens_of_a_text;
 
@@ -17,11 +17,12 @@ pub fn identifiers_have_no_escapes()
     tokens_of_a_text();
 }
 
-/// A placeholder is in a comment that a server may skip where one that began before it is still open.
-pub fn comments_are_counted()
-    ensures closed { ClosedCommentsAreLeft }
-    ensures inside { CommentsInsideCount }
-    ensures each { EachOpenerCounts }
+/// A hint and a simple version comment are comments; behind another version comment no placeholder is alone.
+pub fn comments_that_part_servers()
+    ensures hints { HintsAreComments }
+    ensures quotes { QuotesMakeNoSimpleComment }
+    ensures others { OthersPartServers }
+    ensures simple { SimpleCommentsPartNone }
 {
     tokens_of_a_text();
 }

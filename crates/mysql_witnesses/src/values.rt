@@ -1,7 +1,7 @@
 //! Values: their texts, their cells, conversions, and parameter sets that are made of lists.
 
 ghost use Rattle.std.specs.Prelude.{◌≡◌, IfSome};
-ghost use Rattle.mysql_witnesses.specs.Values.{CommentsArePartedInComments, EachPlaceHasItsValue};
+ghost use Rattle.mysql_witnesses.specs.Values.{CommentsAreNotParted, EachPlaceHasItsValue};
 ghost use Rattle.mysql_witnesses.specs.Values.{EqualNamesAreRefused, OtherBytesAreBinary, TextsAreNoNumbers};
 ghost use Rattle.mysql_witnesses.specs.Values.{LargeNumbersStayPositive, LongValuesAreRefused};
 ghost use Rattle.mysql_witnesses.specs.Values.{NoBytesStandInQuotes, QuotesAreDoubledWithoutEscapes};
@@ -30,10 +30,10 @@ pub fn introducers_tell_what_bytes_are()
     ensures others { OtherBytesAreBinary }
 {}
 
-/// `*/` is parted in a comment that a server may skip, and left as it is elsewhere.
+/// `*/` is left as it is, beside any bytes.
 #[tactic(auto, unfolding(bitflags::proofs::OnLiterals::bitflags_on_literals))]
-pub fn comments_are_parted_in_comments()
-    ensures { CommentsArePartedInComments }
+pub fn comments_are_not_parted()
+    ensures { CommentsAreNotParted }
 {}
 
 /// A negative time of all zeros is bound without its sign.

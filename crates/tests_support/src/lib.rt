@@ -1,9 +1,7 @@
 //! Words that the crates of tests share, and, in `rows`, the fields of rows of data.
 //!
 //! A library must not end the process, and so what a test finds is handed to an `Assert`. Each
-//! crate of tests has one, in which `holds` asserts. A branch in a test is dear to prove, the more
-//! so while values that have to be dropped are alive. So the branches stand here, in functions that
-//! take what was found.
+//! crate of tests has one, in which `holds` asserts.
 //!
 //! At most one allocation of a run is refused. So a call that answers that memory was refused is
 //! made once more, and then has to answer.

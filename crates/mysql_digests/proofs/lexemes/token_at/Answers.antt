@@ -1,5 +1,5 @@
 use Rattle.std.proofs.Common.{◌≡◌, true, false, sym, ap, ◌∙◌, refl}
-use Rattle.mysql_queries.specs.Tokens.{LineComment, BlockComment, Name, Mark, Plain, Kind}
+use Rattle.mysql_queries.specs.Tokens.{LineComment, BlockComment, Opening, Closing, Name, Mark, Plain, Kind}
 use Rattle.mysql_digests.specs.Digest.{Gap, Value}
 use Rattle.mysql_queries.specs.TokenKinds.{kind_view}
 use Rattle.mysql_queries.specs.declared.tokens.TokenKind.{TokenKind}
@@ -23,6 +23,12 @@ returns-in-LineComment-clause-lexeme c = token_begins c.args.mode LineComment c.
 
 pub returns-in-BlockComment-clause-lexeme : goal.returns-in-BlockComment-clause-lexeme
 returns-in-BlockComment-clause-lexeme c = token_begins c.args.mode BlockComment c.args.text.now c.token_end-end.result Gap c.token_end-end.ensures.token (kind_is c.kind_at-kind.ensures c.in-BlockComment.is) (λ ls. refl)
+
+pub returns-in-Opening-clause-lexeme : goal.returns-in-Opening-clause-lexeme
+returns-in-Opening-clause-lexeme c = token_begins c.args.mode Opening c.args.text.now c.token_end-end.result Gap c.token_end-end.ensures.token (kind_is c.kind_at-kind.ensures c.in-Opening.is) (λ ls. refl)
+
+pub returns-in-Closing-clause-lexeme : goal.returns-in-Closing-clause-lexeme
+returns-in-Closing-clause-lexeme c = token_begins c.args.mode Closing c.args.text.now c.token_end-end.result Gap c.token_end-end.ensures.token (kind_is c.kind_at-kind.ensures c.in-Closing.is) (λ ls. refl)
 
 pub returns-in-Name-clause-lexeme : goal.returns-in-Name-clause-lexeme
 returns-in-Name-clause-lexeme c = token_begins c.args.mode Name c.args.text.now c.token_end-end.result Value c.token_end-end.ensures.token (kind_is c.kind_at-kind.ensures c.in-Name.is) (λ ls. refl)

@@ -1,23 +1,26 @@
-use Rattle.std.proofs.Common.{◌≡◌, ◌<◌, ◌≤◌, ◌+◌, ◌++◌, [], ◌∷◌, true, false, length, take, drop, arith, subst, sym, ap, ◌∙◌, length-drop}
-use Rattle.mysql_queries.specs.Comments.{begins_skipped}
+use Rattle.std.proofs.Common.{◌≡◌, ◌<◌, ◌≤◌, ◌+◌, ◌-◌, ◌++◌, [], ◌∷◌, List, ℕ, true, false, length, take, drop, map, arith, subst, sym, ap, ◌∙◌, length-drop}
 use Rattle.mysql_queries.specs.Tokens.{IsToken, kind_of}
 use Rattle.mysql_queries.specs.Sql.{read_in}
 use Rattle.mysql_queries.specs.TokenKinds.{kind_view}
-use Rattle.mysql_queries.proofs.Counting.{past_opener}
-use Rattle.mysql_queries.proofs.PlaceLists.{Come, come_all, come_begun, come_first, come_none, come_place, come_up_to, kind_of_end, to_end, token_there}
+use Rattle.mysql_queries.specs.declared.alone.SoFar.{SoFar}
+use Rattle.mysql_queries.proofs.PlaceLists.{Behind, BehindQuiet, Come, behind_there, apart_places, come_all, come_apart, come_first, come_none, come_place, come_up_to, kind_of_end, to_end, token_there}
 use Rattle.mysql_queries.proofs.placeholders.places_in.Goals as goal
-use Rattle.mysql_queries.proofs.placeholders.places_in.Goals.{in-Some+in_ok-push, in_default+then-begins_skipped, in_default+else-begins_skipped}
+use Rattle.mysql_queries.proofs.placeholders.places_in.Goals.{in-Some+in_ok-push, in_default}
 
 pub loop-at-init : goal.loop-at-init
 loop-at-init c =
-    let sql = read_in c.args.mode c.args.query.now in
-    let none : c.new-skipped.result.behind ≤ 0 = (c.new-skipped.ensures []).in_range in
+    let query = c.args.query.now in
+    let sql = read_in c.args.mode query in
+    let end = c.quiet_end-at.result in
+    let e = c.behind_quiet-so_far.ensures in
+    let z : end - 0 ≡ end = omega arith in
+    let quiet : BehindQuiet c.new.result c.behind_quiet-so_far.result (take end query) = record { none = e.none; last = e.last; opening = e.opening; string = e.string; agree = e.agree } in
     record {
-      in_range = c.plain_end-at.ensures.in_range;
-      counted = omega arith;
-      come = subst (Come sql c.plain_end-at.result c.new-skipped.result) (sym c.new-found.ensures.items)
-          (come_up_to sql 0 c.plain_end-at.result c.new-skipped.result [] c.plain_end-at.ensures.from c.plain_end-at.ensures.in_range c.plain_end-at.ensures.run
-          (come_first sql c.new-skipped.result (c.new-skipped.ensures c.args.query.now)));
+      in_range = c.quiet_end-at.ensures.in_range;
+      come = subst (Come sql end c.behind_quiet-so_far.result) (sym c.new-found.ensures.items)
+          (come_up_to sql 0 end c.new.result c.behind_quiet-so_far.result [] c.quiet_end-at.ensures.from c.quiet_end-at.ensures.in_range c.quiet_end-at.ensures.run
+          (subst (λ n. BehindQuiet c.new.result c.behind_quiet-so_far.result (take n query)) (sym z) quiet)
+          (come_first sql c.new.result c.new.ensures.last c.new.ensures.opening c.new.ensures.string c.new.ensures.agree));
     }
 
 pub loop-at-preserved : goal.loop-at-preserved
@@ -25,47 +28,39 @@ loop-at-preserved c =
     let query = c.args.query.now in
     let sql = read_in c.args.mode query in
     let at = c.loop-at.at in
-    let len = c.token_end.result in
-    let skipped = c.loop-at.skipped in
+    let len = c.token_end-len.result in
+    let so_far = c.loop-at.so_far in
     let found = c.loop-at.found.items in
     let kind = kind_view c.kind_at-kind.result in
-    let next = c.plain_end-at-in-loop-at.result in
-    let later = c.match-place_of.skipped in
+    let next = c.quiet_end-next.result in
+    let later = c.behind.result in
     let more = c.match-place_of.found.items in
-    let short : len ≤ length (drop at query) = subst (λ y. len ≤ length y) (to_end query at) c.token_end.ensures.in_range in
-    let in_range : at + len ≤ length query = omega (arith, length-drop at query, c.loop-at-test.true) in
-    let is_token : IsToken c.args.mode (take len (drop at query)) (drop len (drop at query)) = token_there c.args.mode query at len c.token_end.ensures.token in
+    let short : len ≤ length (drop at query) = subst (λ y. len ≤ length y) (to_end query at) c.token_end-len.ensures.in_range in
+    let in_range : at + len ≤ length query = omega (arith, length-drop at query, c.loop-at-test.true, short) in
+    let is_token : IsToken c.args.mode (take len (drop at query)) (drop len (drop at query)) = token_there c.args.mode query at len c.token_end-len.ensures.token in
     let of_kind : kind ≡ kind_of (drop at query) = c.kind_at-kind.ensures ∙ kind_of_end query at in
-    let from : at + len ≤ next = c.plain_end-at-in-loop-at.ensures.from in
-    let some : 0 < len = c.token_end.ensures.some in
-    let come : Come sql at skipped found = c.loop-at.invariant.come in
-    let after : (later.behind ≤ next) × Come sql (at + len) later more = elim c.match-place_of.branch [
+    let b = c.behind.ensures in
+    let behind : Behind c.args.mode so_far later kind (take len (drop at query)) (drop (at + len) query) =
+    behind_there c.args.mode query at len so_far later kind (take (length query - at) (drop at query)) (to_end query at) c.token_end-len.ensures.some short b.last b.opening b.string b.agree in
+    let come : Come sql at so_far found = c.loop-at.invariant.come in
+    let after : Come sql (at + len) later more = elim c.match-place_of.branch [
       | in-Some+in_ok-push w ↦ (let e : more ≡ found ++ w.in-Some.place ∷ [] = ap (λ v. v.items) w.found-is ∙ w.in_ok-push.ensures.items in
-          let p = w.in-Some.ensures.found in (
-            subst (λ s. s.behind ≤ next) (sym w.skipped-is) (omega (arith, p.2, from)),
-            subst (λ s. Come sql (at + len) s more) (sym w.skipped-is)
-                (subst (Come sql (at + len) w.in-Some.counted) (sym e)
-                (come_place sql at len skipped w.in-Some.counted found kind w.in-Some.place in_range come is_token of_kind p.0 p.1)),
-          ))
-      | in_default+then-begins_skipped w ↦ (let begins : begins_skipped (drop at query) ≡ true = ap begins_skipped (sym (to_end query at)) ∙ sym w.if-begins_skipped.ensures in
-          let beyond : at + 3 ≤ next = past_opener query at next begins (omega (arith, from, some)) c.plain_end-at-in-loop-at.ensures.stops in (
-            subst (λ s. s.behind ≤ next) (sym w.skipped-is) (omega (arith, w.with_begun-skipped.ensures.behind, beyond)),
-            subst (λ s. Come sql (at + len) s more) (sym w.skipped-is)
-                (subst (Come sql (at + len) w.with_begun-skipped.result) (sym (ap (λ v. v.items) w.found-is))
-                (come_begun sql at len skipped w.with_begun-skipped.result found kind in_range come is_token of_kind w.in_default.ensures.none w.with_begun-skipped.ensures.counts)),
-          ))
-      | in_default+else-begins_skipped w ↦ (let begins : begins_skipped (drop at query) ≡ false = ap begins_skipped (sym (to_end query at)) ∙ sym w.if-begins_skipped.ensures in (
-        subst (λ s. s.behind ≤ next) (sym w.skipped-is) (omega (arith, c.loop-at.invariant.counted, from)),
-        subst (λ s. Come sql (at + len) s more) (sym w.skipped-is)
-            (subst (Come sql (at + len) skipped) (sym (ap (λ v. v.items) w.found-is))
-            (come_none sql at len skipped found kind in_range come is_token of_kind w.in_default.ensures.none begins)),
-      ))
+          let p = w.in-Some.ensures.found in
+          subst (Come sql (at + len) later) (sym e) (come_place sql at len so_far later found kind w.in-Some.place in_range come is_token of_kind behind p.0 p.1))
+      | in_default w ↦ (subst (Come sql (at + len) later) (sym (ap (λ v. v.items) w.found-is)) (come_none sql at len so_far later found kind in_range come is_token of_kind behind w.in_default.ensures.none))
     ] in
+    let q = c.behind_quiet-so_far-in-loop-at.ensures in
+    let quiet : BehindQuiet later c.behind_quiet-so_far-in-loop-at.result (take (next - (at + len)) (drop (at + len) query)) = record { none = q.none; last = q.last; opening = q.opening; string = q.string; agree = q.agree } in
     record {
-      in_range = c.plain_end-at-in-loop-at.ensures.in_range;
-      counted = after.0;
-      come = come_up_to sql (at + len) next later more from c.plain_end-at-in-loop-at.ensures.in_range c.plain_end-at-in-loop-at.ensures.run after.1;
+      in_range = c.quiet_end-next.ensures.in_range;
+      come = come_up_to sql (at + len) next later c.behind_quiet-so_far-in-loop-at.result more c.quiet_end-next.ensures.from c.quiet_end-next.ensures.in_range c.quiet_end-next.ensures.run quiet after;
     }
 
-pub returns : goal.returns
-returns c = come_all (read_in c.args.mode c.args.query.now) c.loop-at.at c.loop-at.skipped c.loop-at.found.items c.loop-at-test.false c.loop-at.invariant.come
+pub returns-then-so_far : goal.returns-then-so_far
+returns-then-so_far c = come_all (read_in c.args.mode c.args.query.now) c.loop-at.at c.loop-at.so_far c.loop-at.found.items c.loop-at-test.false c.loop-at.invariant.come c.if-so_far.true
+
+pub returns-else-so_far : goal.returns-else-so_far
+returns-else-so_far c =
+    let sql = read_in c.args.mode c.args.query.now in
+    apart_places sql c.loop-at.found.items c.deref.result.now c.none_alone.result c.deref.ensures.value
+    (come_apart sql c.loop-at.at c.loop-at.so_far c.loop-at.found.items c.loop-at-test.false c.loop-at.invariant.come c.if-so_far.false) c.none_alone.ensures

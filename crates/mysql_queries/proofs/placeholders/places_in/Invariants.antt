@@ -6,8 +6,7 @@ use Rattle.mysql_queries.proofs.placeholders.places_in.Given as goal
 abbrev pub invariant-loop-at : goal.invariant-loop-at
 invariant-loop-at l = record {
   in_range : l.at ≤ length l.query;
-  counted : l.skipped.behind ≤ l.at;
-  come : Come (read_in l.mode l.query) l.at l.skipped l.found.items;
+  come : Come (read_in l.mode l.query) l.at l.so_far l.found.items;
 }
 
 abbrev pub decreases-loop-at : goal.decreases-loop-at

@@ -1,7 +1,7 @@
 use Rattle.std.proofs.Common.{◌≡◌, ◌⊎◌, ◌++◌, ◌-◌, Err, Ok, Some, length, map, drop, get_or, arith, take_all, length-drop, subst, sym, ap, ◌∙◌, inr}
 use Rattle.std.proofs.lemmas.List.{length-map}
 use Rattle.mysql_queries.specs.Sql.{read_by}
-use Rattle.mysql_values.specs.Binding.{literal_in}
+use Rattle.mysql_literals.specs.Literals.{literal_of}
 use Rattle.mysql_values.specs.Params.{values_over}
 use Rattle.mysql_values.specs.declared.params.ParamsError.TheVariants.{Memory}
 use Rattle.std.proofs.lemmas.Result.{err_from_is_err_and}
@@ -30,27 +30,27 @@ pub returns-in-Err-Float-clause-err : goal.returns-in-Err-Float-clause-err
 returns-in-Err-Float-clause-err c =
     let listed = c.as_slice-listed.result.now in
     let n : length listed ≡ length c.args.places.now = ap length c.as_slice-listed.ensures.value ∙ omega (arith, c.if-len-places.false, c.len.ensures, c.list_values_over_names.new.values.ok.0) in
-    let none = no_text_put (literal_in (read_by c.args.mode c.args.spelling c.args.query.now) (get_or c.args.places.now c.loop-i.i no_place) c.index-listed-i.result.now) c.extend_from_slice.new.self.items c.put_sql.new.out.items c.in-Err-Float.field-0 c.in-Err-Float.ensures.text c.in-Err-Float.field-0-is in
+    let none = no_text_put (literal_of c.args.mode c.args.spelling c.index-listed-i.result.now) c.extend_from_slice.new.self.items c.put_sql.new.out.items c.in-Err-Float.field-0 c.in-Err-Float.ensures.text c.in-Err-Float.field-0-is in
     inr (float_is_cause c.pieces_of_a_query.ensures.names (read_by c.args.mode c.args.spelling c.args.query.now) c.args.params.now c.args.places.now (map (λ value. value.now) listed) c.loop-i.i c.requires.places c.requires.one_kind c.requires.alone
     (ap (λ ns. values_over ns c.args.params.now) (sym c.requires.names) ∙ c.in_ok-list_values_over_names.ensures.ok ∙ ap (λ vs. Ok (map (λ value. value.now) vs)) (sym c.as_slice-listed.ensures.value))
     (length-map listed (λ value. value.now) ∙ n)
-    (float_at (read_by c.args.mode c.args.spelling c.args.query.now) (λ value. value.now) c.args.places.now listed c.loop-i.i 0 (get_or c.args.places.now c.loop-i.i no_place) c.index-listed-i.result c.loop-i.invariant.literals c.loop-i.invariant.each c.loop-i-test.true (omega (arith, c.loop-i-test.true, n)) c.index-listed-i.is none ∙ ap Some (omega arith)))
+    (float_at (read_by c.args.mode c.args.spelling c.args.query.now) (λ value. value.now) listed c.loop-i.i 0 c.index-listed-i.result c.loop-i.invariant.literals c.loop-i.invariant.each (omega (arith, c.loop-i-test.true, n)) c.index-listed-i.is none ∙ ap Some (omega arith)))
 
 pub returns-in-Err-Float-clause-kept : goal.returns-in-Err-Float-clause-kept
 returns-in-Err-Float-clause-kept c = written_kept c.loop-i.invariant _ c.extend_from_slice.new.self.items c.put_sql.new.out.items c.in_ok-extend_from_slice.ensures.items
-    (put_kept (literal_in (read_by c.args.mode c.args.spelling c.args.query.now) (get_or c.args.places.now c.loop-i.i no_place) c.index-listed-i.result.now) c.extend_from_slice.new.self.items c.put_sql.new.out.items c.in-Err-Float.field-0 c.in-Err-Float.ensures.text)
+    (put_kept (literal_of c.args.mode c.args.spelling c.index-listed-i.result.now) c.extend_from_slice.new.self.items c.put_sql.new.out.items c.in-Err-Float.field-0 c.in-Err-Float.ensures.text)
 
 pub returns-in-Err-Memory-clause-kept : goal.returns-in-Err-Memory-clause-kept
 returns-in-Err-Memory-clause-kept c = written_kept c.loop-i.invariant _ c.extend_from_slice.new.self.items c.put_sql.new.out.items c.in_ok-extend_from_slice.ensures.items
-    (put_kept (literal_in (read_by c.args.mode c.args.spelling c.args.query.now) (get_or c.args.places.now c.loop-i.i no_place) c.index-listed-i.result.now) c.extend_from_slice.new.self.items c.put_sql.new.out.items c.in-Err-Memory.field-0 c.in-Err-Memory.ensures.text)
+    (put_kept (literal_of c.args.mode c.args.spelling c.index-listed-i.result.now) c.extend_from_slice.new.self.items c.put_sql.new.out.items c.in-Err-Memory.field-0 c.in-Err-Memory.ensures.text)
 
 pub loop-i-preserved : goal.loop-i-preserved
 loop-i-preserved c =
     let listed = c.as_slice-listed.result.now in
     let n : length listed ≡ length c.args.places.now = ap length c.as_slice-listed.ensures.value ∙ omega (arith, c.if-len-places.false, c.len.ensures, c.list_values_over_names.new.values.ok.0) in
-    let t = text_put (literal_in (read_by c.args.mode c.args.spelling c.args.query.now) (get_or c.args.places.now c.loop-i.i no_place) c.index-listed-i.result.now) c.extend_from_slice.new.self.items c.put_sql.new.out.items c.in-Ok.ensures.text in
+    let t = text_put (literal_of c.args.mode c.args.spelling c.index-listed-i.result.now) c.extend_from_slice.new.self.items c.put_sql.new.out.items c.in-Ok.ensures.text in
     written_more (λ value. value.now) (read_by c.args.mode c.args.spelling c.args.query.now) c.args.places.now listed c.loop-i.at c.loop-i.i c.args.out.now.items c.loop-i.out.items c.put_sql.new.out.items t.0 c.index-listed-i.result c.loop-i.invariant c.loop-i-test.true
-    (omega (arith, c.loop-i-test.true, n)) c.index-listed-i.is t.1 c.put_sql.ensures.literal c.put_sql.ensures.comment (t.2 ∙ ap (λ y. y ++ t.0) c.in_ok-extend_from_slice.ensures.items)
+    (omega (arith, c.loop-i-test.true, n)) c.index-listed-i.is t.1 c.put_sql.ensures.literal (t.2 ∙ ap (λ y. y ++ t.0) c.in_ok-extend_from_slice.ensures.items)
 
 pub returns-clause-ok : goal.returns-clause-ok
 returns-clause-ok c =
