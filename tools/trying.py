@@ -8,6 +8,7 @@ copied into one repository and made one crate, of which each crate is a module.
 """
 
 import contextlib
+import ctypes
 import os
 import pathlib
 import re
@@ -77,17 +78,32 @@ def spare_hint(tried):
                 os.kill(int(pid), signal.SIGKILL)
 
 
+# By this processes whose parent has ended become those of this one.
+PR_SET_CHILD_SUBREAPER = 36
+
+
+def wait_for_orphans():
+    """Waits for what `rt try` killed as it ended, so that its time is counted as this process's."""
+    latest = time.monotonic() + 5
+    with contextlib.suppress(ChildProcessError):
+        while time.monotonic() < latest:
+            if os.waitpid(-1, os.WNOHANG) == (0, 0):
+                time.sleep(0.01)
+
+
 @contextlib.contextmanager
 def begun(words, folder, room, said):
     """Begins `rt try` with these words, whose files are below room/try until it is ended."""
     (room / "try").mkdir()
     how = {"env": {**os.environ, "TMPDIR": str(room / "try")}, "stdin": subprocess.DEVNULL}
+    ctypes.CDLL(None).prctl(PR_SET_CHILD_SUBREAPER, 1, 0, 0, 0)
     tried = subprocess.Popen(["rt", "try", *words], cwd=folder, stdout=said, stderr=said, **how)
     try:
         yield tried
     finally:
         tried.terminate()
         tried.wait()
+        wait_for_orphans()
 
 
 def keep_module(room):

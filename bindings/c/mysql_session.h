@@ -444,8 +444,9 @@ uint32_t mysql_session_value_text(mysql_session_handle *sets, size_t set, size_t
  * mysql_session_flag) tell the mode of the server that reads the text. MYSQL_SESSION_HEXADECIMAL
  * says nothing here.
  * Strings, numbers, placeholders, NULL, TRUE and FALSE are `?`. Values between commas are `?, ...`,
- * alone in parentheses `(...)`. Comments are left out, and words are in lower case. The digest has
- * at most three times the bytes of the text.
+ * alone in parentheses `(...)`. Comments are left out, and words are in lower case. Where servers
+ * begin to read the text differently the digest ends with a mark, a comment of three dots. It has at
+ * most three times the bytes of the text and ten.
  * Answers OK, or why nothing is appended, in this order: NO_SUCH_MODE, EMPTY_HANDLE, OTHER_KIND,
  * MEMORY. */
 uint32_t mysql_session_digest(const uint8_t *text, size_t len, uint32_t flags,

@@ -976,7 +976,8 @@ def digest(text: Text, *, mode: Mode = Mode()) -> bytes:
     Strings, numbers, placeholders, NULL, TRUE and FALSE are `?`, and a number's sign goes with it.
     Values between commas are `?, ...`. Alone in parentheses they are `(...)`, one value `(?)`, and
     such rows between commas `(...) /* , ... */`. Comments and blanks are one space, as there is
-    between all else. Words are in lower case. The digest has at most three times the bytes of the text.
+    between all else. Words are in lower case. Where servers begin to read the text differently the
+    digest ends with `/* ... */`. It has at most three times the bytes of the text and ten.
 
     The mode is that of the server that reads the text: a string may end elsewhere in another. (MySQL
     Reference Manual, "Performance Schema Statement Digests and Sampling".)

@@ -13,8 +13,8 @@ use crate::raw;
 /// Strings, numbers, placeholders, NULL, TRUE and FALSE are `?`, and a number's sign goes with it.
 /// Values between commas are `?, ...`. Alone in parentheses they are `(...)`, one value `(?)`, and
 /// such rows between commas `(...) /* , ... */`. Comments and blanks are one space, as there is
-/// between all else. Words are in lower case. The digest has at most three times the bytes of
-/// the text.
+/// between all else. Words are in lower case. Where servers begin to read the text differently the
+/// digest ends with `/* ... */`. It has at most three times the bytes of the text and ten.
 ///
 /// The text is one for a server whose SQL mode has neither NO_BACKSLASH_ESCAPES nor ANSI_QUOTES.
 /// For a server in another mode [`digest_in`] takes the mode: a string may end elsewhere there.

@@ -4,14 +4,16 @@ use Rattle.std.specs.List.{AllByRecursion}
 use Rattle.mysql_queries.specs.Laws.{OneTokens}
 use Rattle.mysql_queries.specs.Literals.{is_digit, AreDigits, IsString, IsIntroducer, IsLiteral, text_introducer, binary_introducer}
 use Rattle.mysql_queries.specs.Scanning.{is_plain}
-use Rattle.mysql_queries.specs.Tokens.{Kind, Quoted, Plain, kind_of, HasShape, HasTokens, has_escapes, single_quote, dash, goes_on_as_dashes}
+use Rattle.mysql_queries.specs.Tokens.{Kind, Quoted, Plain, kind_of, HasShape, HasTokens, has_escapes, single_quote, dash, bracket, dollar, slash, goes_on_as_dashes}
 use Rattle.mysql_bytes.specs.declared.content.Content.{Content}
 use Rattle.mysql_bytes.specs.declared.mode.Mode.{Mode}
 use Rattle.mysql_bytes.specs.declared.spelling.Spelling.{Spelling}
 use Rattle.mysql_digests.specs.Digest.{Lexeme, Gap, Value, Word, Operator, Byte, Piece, with_operator_byte, with_bytes, with_token, with_value, with_word, lexemes_of, pieces_behind, awaits_exponent, value_follows}
 use Rattle.mysql_digests.specs.declared.left_out.Before.TheVariants.{Apart, Joined, Exponent}
 use Rattle.mysql_digests.proofs.Lexing.{NoWord, all_plain, front, singles, singles_lexemes, singles_tokens, word_bytes}
-use Rattle.mysql_digests.proofs.LiteralForms.{IsValueWord, string, word, negative, introduced, literal_form, digits_value_word}
+use Rattle.mysql_digests.proofs.LiteralForms.{IsValueWord, is_letter_or_digit, word_each, string, word, negative, introduced, literal_form, digits_value_word}
+use Rattle.mysql_queries.specs.Alone.{begins}
+use Rattle.mysql_digests.proofs.Disputes.{is_safe}
 use Rattle.mysql_digests.proofs.TokenKinds.{apart_bytes, not_equal}
 
 -- what makes one value of the pieces, and joins no operator before it
@@ -51,6 +53,14 @@ pub record Forms (m : Mode) (tokens : List (List ℕ)) : Type 0 where
   pub form : List Lexeme
   pub is : IsForm form
   pub stands : (others : List (List ℕ)) → NoWord (lexemes_of m others) → lexemes_of m (tokens ++ others) ≡ form ++ lexemes_of m others
+  pub safe : AllByRecursion (λ t. begins is_safe t ≡ true) tokens
+
+letter_safe : (b : ℕ) → is_letter_or_digit b ≡ true → is_safe b ≡ true
+letter_safe b h = rw (not_equal b bracket (apart_bytes is_letter_or_digit b bracket h refl), not_equal b dollar (apart_bytes is_letter_or_digit b dollar h refl), not_equal b slash (apart_bytes is_letter_or_digit b slash h refl)) refl
+
+letters_safe : (w : List ℕ) → AllByRecursion (λ b. is_letter_or_digit b ≡ true) w → AllByRecursion (λ t. begins is_safe t ≡ true) (singles w)
+letters_safe [] h = tt
+letters_safe (b ∷ w) h = (letter_safe b h.0, letters_safe w h.1)
 
 string_token : (m : Mode) (text bytes : List ℕ) → IsString (has_escapes m single_quote) text bytes → kind_of text ≡ Quoted single_quote
 string_token m text bytes h = ap kind_of h.spelled
@@ -70,17 +80,19 @@ string_forms m text bytes h = record {
   form = Value ∷ [];
   is = value_form;
   stands = λ others n. ap (λ (k : Kind). with_token m k text (lexemes_of m others)) (string_token m text bytes h);
+  safe = (ap (begins is_safe) h.spelled, tt);
 }
 
 word_stands : (w : List ℕ) (ls : List Lexeme) → IsValueWord w → NoWord ls → with_bytes w ls ≡ Word w ∷ ls
 word_stands [] ls h n = absurd (h.some refl)
-word_stands (b ∷ w) ls h n = word_bytes b w ls h.each n
+word_stands (b ∷ w) ls h n = word_bytes b w ls (word_each (b ∷ w) h.each) n
 
 word_forms : (m : Mode) (w : List ℕ) → IsValueWord w → Forms m (singles w)
 word_forms m w h = record {
   form = Word w ∷ [];
   is = word_form w h;
-  stands = λ others n. singles_lexemes m w others (all_plain w h.each) ∙ word_stands w (lexemes_of m others) h n;
+  stands = λ others n. singles_lexemes m w others (all_plain w (word_each w h.each)) ∙ word_stands w (lexemes_of m others) h n;
+  safe = letters_safe w h.each;
 }
 
 no_dash : (d : ℕ) → is_digit d ≡ true → (d == dash) ≡ false
@@ -102,7 +114,8 @@ negative_forms m d ds h = record {
   is = negative_form d ds h;
   stands = λ others n.
       let v : IsValueWord (d ∷ ds) = digits_value_word d ds h in
-      ap (λ (y : List Lexeme). Byte dash ∷ y) (singles_lexemes m (d ∷ ds) others (all_plain (d ∷ ds) v.each) ∙ word_stands (d ∷ ds) (lexemes_of m others) v n);
+      ap (λ (y : List Lexeme). Byte dash ∷ y) (singles_lexemes m (d ∷ ds) others (all_plain (d ∷ ds) (word_each (d ∷ ds) v.each)) ∙ word_stands (d ∷ ds) (lexemes_of m others) v n);
+  safe = (refl, letters_safe (d ∷ ds) (digits_value_word d ds h).each);
 }
 
 introduced_plain : (introducer : List ℕ) → IsIntroducer introducer → AllByRecursion (λ b. is_plain b ≡ true) introducer
@@ -124,15 +137,17 @@ introduced_forms m introducer w (inl e) h = subst (λ y. Forms m (singles (y ++ 
   form = Word (codes "_utf8mb4") ∷ Gap ∷ Word w ∷ [];
   is = text_form w h;
   stands = λ others n.
-      singles_lexemes m (text_introducer ++ w) others (plain_join text_introducer w (introduced_plain text_introducer (inl refl)) (all_plain w h.each))
+      singles_lexemes m (text_introducer ++ w) others (plain_join text_introducer w (introduced_plain text_introducer (inl refl)) (all_plain w (word_each w h.each)))
       ∙ text_stands w (lexemes_of m others) ∙ ap (λ y. Word (codes "_utf8mb4") ∷ Gap ∷ y) (word_stands w (lexemes_of m others) h n);
+  safe = (refl, (refl, (refl, (refl, (refl, (refl, (refl, (refl, (refl, letters_safe w h.each)))))))));
 })
 introduced_forms m introducer w (inr e) h = subst (λ y. Forms m (singles (y ++ w))) (sym e) (record {
   form = Word (codes "_binary") ∷ Gap ∷ Word w ∷ [];
   is = binary_form w h;
   stands = λ others n.
-      singles_lexemes m (binary_introducer ++ w) others (plain_join binary_introducer w (introduced_plain binary_introducer (inr refl)) (all_plain w h.each))
+      singles_lexemes m (binary_introducer ++ w) others (plain_join binary_introducer w (introduced_plain binary_introducer (inr refl)) (all_plain w (word_each w h.each)))
       ∙ binary_stands w (lexemes_of m others) ∙ ap (λ y. Word (codes "_binary") ∷ Gap ∷ y) (word_stands w (lexemes_of m others) h n);
+  safe = (refl, (refl, (refl, (refl, (refl, (refl, (refl, (refl, letters_safe w h.each))))))));
 })
 
 no_tokens : (m : Mode) → HasTokens m [] []
@@ -145,10 +160,10 @@ all_singles m text h = subst (HasTokens m text) (append-nil (singles text)) (sub
 pub literal_forms : (m : Mode) (sp : Spelling) (one : OneTokens) (text : List ℕ) (content : Content) (tokens : List (List ℕ)) → IsLiteral m sp text content → HasTokens m text tokens → Forms m tokens
 literal_forms m sp one text content tokens l h = elim (literal_form m sp text content l) [
   | string bytes k ↦ subst (Forms m) (one m text (text ∷ []) tokens (string_tokens m text bytes k) h) (string_forms m text bytes k)
-  | word k ↦ subst (Forms m) (one m text (singles text) tokens (all_singles m text (all_plain text k.each)) h) (word_forms m text k)
+  | word k ↦ subst (Forms m) (one m text (singles text) tokens (all_singles m text (all_plain text (word_each text k.each))) h) (word_forms m text k)
   | negative digits e k ↦ negative_case digits e k
   | introduced introducer w i e k ↦ subst (Forms m)
-      (one m text (singles (introducer ++ w)) tokens (subst (λ y. HasTokens m y (singles (introducer ++ w))) (sym e) (all_singles m (introducer ++ w) (plain_join introducer w (introduced_plain introducer i) (all_plain w k.each)))) h)
+      (one m text (singles (introducer ++ w)) tokens (subst (λ y. HasTokens m y (singles (introducer ++ w))) (sym e) (all_singles m (introducer ++ w) (plain_join introducer w (introduced_plain introducer i) (all_plain w (word_each w k.each))))) h)
       (introduced_forms m introducer w i k)
 ]
   where
@@ -156,5 +171,5 @@ literal_forms m sp one text content tokens l h = elim (literal_form m sp text co
     negative_case [] e k = absurd (k.some refl)
     negative_case (d ∷ ds) e k =
         subst (Forms m) (one m text ((dash ∷ []) ∷ singles (d ∷ ds)) tokens
-        (subst (λ y. HasTokens m y ((dash ∷ []) ∷ singles (d ∷ ds))) (sym e) (dash_tokens m d ds (singles (d ∷ ds)) k.each.0 (all_singles m (d ∷ ds) (all_plain (d ∷ ds) (digits_value_word d ds k.each).each)))) h)
+        (subst (λ y. HasTokens m y ((dash ∷ []) ∷ singles (d ∷ ds))) (sym e) (dash_tokens m d ds (singles (d ∷ ds)) k.each.0 (all_singles m (d ∷ ds) (all_plain (d ∷ ds) (word_each (d ∷ ds) (digits_value_word d ds k.each).each))))) h)
         (negative_forms m d ds k.each)

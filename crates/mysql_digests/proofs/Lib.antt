@@ -5,7 +5,9 @@ pub mod LeftOut
 pub mod HeldPieces
 pub mod Reading
 pub mod LiteralForms
+pub mod Disputes
 pub mod Forms
 pub mod Same
+pub mod Insides
 pub mod LawProofs
 pub mod Worked

@@ -13,7 +13,7 @@ use Rattle.mysql_bytes.specs.declared.mode.Mode.{Mode}
 use Rattle.mysql_bytes.specs.declared.spelling.Spelling.{Spelling}
 use Rattle.mysql_digests.specs.Digest.{is_value, is_word_byte, begins_number, is_string_prefix, ends_in_e, awaits_exponent, dot}
 use Rattle.mysql_queries.proofs.FirstBytes.{bool_tells}
-use Rattle.mysql_digests.proofs.TokenKinds.{digit_word, plain_by}
+use Rattle.mysql_digests.proofs.TokenKinds.{plain_by}
 
 pub or_first : (p q : Bool) → p ≡ true → (p || q) ≡ true
 or_first true q h = refl
@@ -43,17 +43,22 @@ lower_word b l h e = elim (bool_tells (is_within 0x41 0x5a b)) [
   | inr k ↦ let f : lower b ≡ b = rw k refl in or_last _ (is_within 0x61 0x7a b) (subst (λ c. is_within 0x61 0x7a c ≡ true) (sym e ∙ f) h)
 ]
 
--- Bytes of a word, and a value by itself: neither a string nor an exponent goes on behind it.
+-- Letters and digits, and a value by itself: neither a string nor an exponent goes on behind it.
 pub record IsValueWord (word : List ℕ) : Type 0 where
-  pub each : AllByRecursion (λ b. is_word_byte b ≡ true) word
+  pub each : AllByRecursion (λ b. is_letter_or_digit b ≡ true) word
   pub some : word ≢ []
   pub value : is_value word ≡ true
   pub no_prefix : is_string_prefix word ≡ false
   pub no_exponent : awaits_exponent word ≡ false
 
-digits_words : (digits : List ℕ) → AllByRecursion (λ b. is_digit b ≡ true) digits → AllByRecursion (λ b. is_word_byte b ≡ true) digits
+-- its bytes are those of a word
+pub word_each : (word : List ℕ) → AllByRecursion (λ b. is_letter_or_digit b ≡ true) word → AllByRecursion (λ b. is_word_byte b ≡ true) word
+word_each [] h = tt
+word_each (b ∷ word) h = (letter_word b h.0, word_each word h.1)
+
+digits_words : (digits : List ℕ) → AllByRecursion (λ b. is_digit b ≡ true) digits → AllByRecursion (λ b. is_letter_or_digit b ≡ true) digits
 digits_words [] h = tt
-digits_words (b ∷ digits) h = (digit_word b h.0, digits_words digits h.1)
+digits_words (b ∷ digits) h = (or_first _ _ (or_first _ _ h.0), digits_words digits h.1)
 
 number_begins : (b : ℕ) (bytes : List ℕ) → is_digit b ≡ true → begins_number (b ∷ bytes) ≡ true
 number_begins b [] h = h
@@ -90,12 +95,12 @@ digits_value_word b digits h = record {
   no_exponent = and_last (begins_number (b ∷ digits)) (ends_in_e (b ∷ digits)) (digits_no_e b digits h);
 }
 
-spells_words : (digits bytes : List ℕ) → SpellsInHex digits bytes → AllByRecursion (λ b. is_word_byte b ≡ true) digits
+spells_words : (digits bytes : List ℕ) → SpellsInHex digits bytes → AllByRecursion (λ b. is_letter_or_digit b ≡ true) digits
 spells_words [] [] h = tt
 spells_words [] (b ∷ bytes) h = elim h [ ]
 spells_words (a ∷ []) bytes h = elim h [ ]
 spells_words (a ∷ c ∷ digits) [] h = elim h [ ]
-spells_words (a ∷ c ∷ digits) (b ∷ bytes) h = (letter_word a (hex_word a h.0), (letter_word c (hex_word c h.1), spells_words digits bytes h.3))
+spells_words (a ∷ c ∷ digits) (b ∷ bytes) h = (hex_word a h.0, (hex_word c h.1, spells_words digits bytes h.3))
 
 hex_no_exponent : (digits : List ℕ) → awaits_exponent (0x30 ∷ 0x78 ∷ digits) ≡ false
 hex_no_exponent [] = refl
@@ -129,7 +134,7 @@ null_value a b c d e f g h =
     ∙ ap (λ y. bytes_eq (0x6e ∷ 0x75 ∷ y ∷ to_ascii_lowercase d ∷ []) (str_to_ascii_lowercase (codes "null"))) ec
     ∙ ap (λ y. bytes_eq (0x6e ∷ 0x75 ∷ 0x6c ∷ y ∷ []) (str_to_ascii_lowercase (codes "null"))) ed in
     record {
-      each = (letter_word a (lower_word a 0x6e refl e), (letter_word b (lower_word b 0x75 refl f), (letter_word c (lower_word c 0x6c refl g), (letter_word d (lower_word d 0x6c refl h), tt))));
+      each = (lower_word a 0x6e refl e, (lower_word b 0x75 refl f, (lower_word c 0x6c refl g, (lower_word d 0x6c refl h, tt))));
       some = λ x. cc;
       value = or_first _ _ (or_first _ _ (or_last _ _ n));
       no_prefix = refl;

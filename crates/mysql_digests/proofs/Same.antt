@@ -5,20 +5,22 @@ use Rattle.std.specs.List.{concat}
 use Rattle.mysql_queries.specs.Laws.{OneTokens}
 use Rattle.mysql_queries.specs.LiteralRuns.{EndsBefore}
 use Rattle.mysql_queries.specs.Queries.{is_joining, is_name_kind, is_mark_kind, is_place, Replaces}
-use Rattle.mysql_queries.specs.Tokens.{Kind, Quoted, LineComment, BlockComment, Opening, Closing, Name, Mark, Plain, kind_of, HasShape, AreTokens, IsQuoted, is_quote, quotes_identifier, has_escapes, inside_bytes, dash, colon, question}
+use Rattle.mysql_queries.specs.Tokens.{Kind, Quoted, LineComment, BlockComment, Opening, Closing, Name, Mark, Plain, kind_of, HasShape, IsToken, AreTokens, IsQuoted, dollar, is_quote, quotes_identifier, has_escapes, inside_bytes, dash, colon, question}
 use Rattle.mysql_bytes.specs.declared.content.Content.{Content}
 use Rattle.mysql_bytes.specs.declared.mode.Mode.{Mode}
 use Rattle.mysql_bytes.specs.declared.spelling.Spelling.{Spelling}
-use Rattle.mysql_digests.specs.Digest.{Lexeme, Gap, Value, Word, Operator, Identifier, Byte, Piece, with_operator_byte, with_word_byte, with_byte, with_bytes, with_token, with_value, with_lexeme, lexemes_of, pieces_behind, is_left_out, before_next, may_sign, is_exponent, is_power, is_string_prefix, digit_follows, value_follows, is_blank, is_word_byte, is_operator_byte}
+use Rattle.mysql_digests.specs.Digest.{Lexeme, Gap, Value, Word, Operator, Identifier, Byte, Piece, agreed, is_cut, is_disputed, with_operator_byte, with_word_byte, with_byte, with_bytes, with_token, with_value, with_lexeme, lexemes_of, pieces_behind, is_left_out, before_next, may_sign, is_exponent, is_power, is_string_prefix, digit_follows, value_follows, is_blank, is_word_byte, is_operator_byte}
 use Rattle.mysql_digests.specs.declared.left_out.Before.{Before}
 use Rattle.mysql_digests.specs.declared.left_out.Before.TheVariants.{Apart, Joined, Exponent, Power}
 use Rattle.mysql_queries.proofs.Filled.{AloneFrom}
 use Rattle.mysql_queries.proofs.Follow.{BeginsApart, IsApart}
-use Rattle.mysql_queries.specs.Alone.{last_of}
-use Rattle.mysql_queries.proofs.FirstBytes.{and_true, bool_tells, HasQuote, kind_has_quote, Tells, kind_tells}
+use Rattle.mysql_queries.specs.Alone.{begins, last_of}
+use Rattle.mysql_queries.specs.Scanning.{is_plain}
+use Rattle.mysql_queries.proofs.FirstBytes.{and_true, bool_tells, same_number, HasQuote, kind_has_quote, Tells, kind_tells}
 use Rattle.mysql_digests.proofs.FirstTokens.{not_empty}
 use Rattle.mysql_digests.proofs.Forms.{Forms, IsForm, literal_forms}
-use Rattle.mysql_digests.proofs.Lexing.{NoWord, no_word_tokens, operator_step, word_step}
+use Rattle.mysql_digests.proofs.Disputes.{LastAlike, apart_no_dollar, disputed_same, ends_tag, is_dollar, last_of_all, names, place_safe, plain_single, safe_agreed, safe_undisputed, tags_replaced}
+use Rattle.mysql_digests.proofs.Lexing.{NoWord, agreed_end, agreed_on, cut_end, cut_on, no_word_tokens, operator_step, word_step}
 use Rattle.mysql_digests.proofs.LiteralForms.{or_first, or_last}
 use Rattle.mysql_digests.proofs.TokenKinds.{kind_stays}
 
@@ -251,20 +253,66 @@ apart_before : (last : ℕ) (ts : List (List ℕ)) → AloneFrom last ts → beg
 apart_before last [] a e = cc
 apart_before last (t ∷ ts) a e = (a.0 e).0
 
-pub same_tokens : (m : Mode) (sp : Spelling) (one : OneTokens) (last : ℕ) (ts : List (List ℕ)) (cs : List Content) (us : List (List ℕ)) → AreTokens m ts → AloneFrom last ts → Replaces m sp ts cs us → SameBehind (begins_place ts) (lexemes_of m ts) (lexemes_of m us)
-same_tokens m sp one last [] cs us i a h j g = ap (lexemes_of m) h.1
-same_tokens m sp one last (t ∷ ts) cs us i a (inl (p, others, e, h)) j g =
-    let s : SameBehind (begins_place ts) (lexemes_of m ts) (lexemes_of m others) = same_tokens m sp one (last_of last t) ts cs others i.1 a.1 h in
-    let k : kind_of t ≡ kind_of (t ++ concat ts) = kind_stays m t (concat ts) i.0 in
-    subst (λ y. Same j (lexemes_of m (t ∷ ts)) (lexemes_of m y)) (sym e)
-    (token_kept m j last (kind_of t) t ts (lexemes_of m ts) (lexemes_of m others) (kind_has_quote t) (subst (λ y. HasShape m y t (concat ts)) (sym k) i.0) i.1 p s (apart_before (last_of last t) ts a.1))
-same_tokens m sp one last (t ∷ ts) cs us i a (inr (p, content, next, literal, literals, others, ec, l, k, e, h)) j g =
-    let s : SameBehind (begins_place ts) (lexemes_of m ts) (lexemes_of m others) = same_tokens m sp one (last_of last t) ts next others i.1 a.1 h in
-    let free : BeginsApart (concat ts) = (a.0 p).1 in
-    let no_place : begins_place ts ≡ false = apart_no_place m ts i.1 free in
-    let same : Same true (lexemes_of m ts) (lexemes_of m others) = s true (λ b. no_form (sym b ∙ no_place)) in
-    let no_word : NoWord (lexemes_of m ts) = no_word_tokens m (concat ts) ts (record { joined = refl; each = i.1 }) (apart_no_word (concat ts) free) in
+tokens_behind : (m : Mode) (front ts : List (List ℕ)) → AreTokens m (front ++ ts) → AreTokens m ts
+tokens_behind m [] ts i = i
+tokens_behind m (t ∷ front) ts i = tokens_behind m front ts i.1
+
+-- servers agree about a text over a query up to where they agree about the query
+pub record SoFarSame (m : Mode) (place : Bool) (last other : ℕ) (ts us : List (List ℕ)) : Type 0 where
+  pub lexemes : SameBehind place (lexemes_of m (agreed last ts)) (lexemes_of m (agreed other us))
+  pub cut : is_cut last ts ≡ is_cut other us
+
+none_same : (j : Bool) (ls ms : List Lexeme) → ls ≡ [] → ms ≡ [] → Same j ls ms
+none_same j ls ms e f = subst (λ y. Same j y ms) (sym e) f
+
+last_kept : (m : Mode) (last other : ℕ) (t r : List ℕ) → IsToken m t r → last_of last t ≡ last_of other t
+last_kept m last other [] r i = absurd (not_empty m r i)
+last_kept m last other (b ∷ x) r i = refl
+
+tags_kept : (m : Mode) (sp : Spelling) (last : ℕ) (t : List ℕ) (ts : List (List ℕ)) (cs : List Content) (us : List (List ℕ)) → IsToken m t (concat ts) → AreTokens m ts → AloneFrom (last_of last t) ts → Replaces m sp ts cs us → begins is_dollar t ≡ true → ends_tag (concat ts) ≡ ends_tag (concat us)
+tags_kept m sp last [] ts cs us i k a h d = cc
+tags_kept m sp last (b ∷ x) ts cs us i k a h d =
+    let e : b ≡ dollar = same_number b dollar d in
+    let n : x ≡ [] = plain_single m b x (concat ts) i (ap is_plain e) in
+    tags_replaced m sp (last_of b x) ts cs us k a h (ap (λ y. is_joining (last_of b y)) n ∙ ap is_joining e)
+
+pub same_tokens : (m : Mode) (sp : Spelling) (one : OneTokens) (last other : ℕ) (ts : List (List ℕ)) (cs : List Content) (us : List (List ℕ)) → AreTokens m ts → AreTokens m us → AloneFrom last ts → LastAlike last other (concat ts) → Replaces m sp ts cs us → SoFarSame m (begins_place ts) last other ts us
+same_tokens m sp one last other [] cs us i iu a la h = record {
+  lexemes = λ j g. ap (λ y. lexemes_of m (agreed other y)) h.1;
+  cut = sym (ap (is_cut other) h.1);
+}
+same_tokens m sp one last other (t ∷ ts) cs us i iu a la (inl (p, others, e, h)) =
+    let both : AreTokens m (t ∷ others) = subst (AreTokens m) e iu in
+    let same : is_disputed last t ts ≡ is_disputed other t others = disputed_same m last other t ts others i.0 both.0 la (tags_kept m sp last t ts cs others i.0 i.1 a.1 h) in
+    subst (λ y. SoFarSame m (is_place t) last other (t ∷ ts) y) (sym e) (elim (bool_tells (is_disputed last t ts)) [
+      | inl d ↦ record {
+        lexemes = λ j g. none_same j (lexemes_of m (agreed last (t ∷ ts))) (lexemes_of m (agreed other (t ∷ others))) (ap (lexemes_of m) (agreed_end last t ts d)) (ap (lexemes_of m) (agreed_end other t others (sym same ∙ d)));
+        cut = cut_end last t ts d ∙ sym (cut_end other t others (sym same ∙ d));
+      }
+      | inr d ↦ (let s : SoFarSame m (begins_place ts) (last_of last t) (last_of other t) ts others = same_tokens m sp one (last_of last t) (last_of other t) ts cs others i.1 both.1 a.1 (inl (ap names (last_kept m last other t (concat ts) i.0))) h in
+          let k : kind_of t ≡ kind_of (t ++ concat ts) = kind_stays m t (concat ts) i.0 in
+          record {
+            lexemes = λ j g. subst (λ y. Same j y (lexemes_of m (agreed other (t ∷ others)))) (sym (ap (lexemes_of m) (agreed_on last t ts d)))
+                (subst (λ y. Same j (lexemes_of m (t ∷ agreed (last_of last t) ts)) y) (sym (ap (lexemes_of m) (agreed_on other t others (sym same ∙ d))))
+                (token_kept m j last (kind_of t) t ts (lexemes_of m (agreed (last_of last t) ts)) (lexemes_of m (agreed (last_of other t) others)) (kind_has_quote t) (subst (λ y. HasShape m y t (concat ts)) (sym k) i.0) i.1 p s.lexemes (apart_before (last_of last t) ts a.1)));
+            cut = cut_on last t ts d ∙ s.cut ∙ sym (cut_on other t others (sym same ∙ d));
+          })
+    ])
+same_tokens m sp one last other (t ∷ ts) cs us i iu a la (inr (p, content, next, literal, literals, others, ec, l, k, e, h)) =
+    let d : is_disputed last t ts ≡ false = safe_undisputed last t ts (place_safe t p) in
     let f : Forms m literals = literal_forms m sp one literal content literals l k in
-    let whole : lexemes_of m us ≡ f.form ++ lexemes_of m others = ap (lexemes_of m) e ∙ f.stands others (no_word_same (lexemes_of m ts) (lexemes_of m others) same no_word) in
-    subst (λ y. Same j y (lexemes_of m us)) (sym (value_kind m (kind_of t) t (lexemes_of m ts) p))
-    (inr (g p, refl, f.form, f.is, lexemes_of m others, whole, same))
+    let o = safe_agreed other literals others f.safe in
+    let free : BeginsApart (concat ts) = (a.0 p).1 in
+    let after : ℕ = last_of_all other literals in
+    let s : SoFarSame m (begins_place ts) (last_of last t) after ts others = same_tokens m sp one (last_of last t) after ts next others i.1 (tokens_behind m literals others (subst (AreTokens m) e iu)) a.1 (inr (apart_no_dollar (concat ts) free)) h in
+    let no_place : begins_place ts ≡ false = apart_no_place m ts i.1 free in
+    let ls : List Lexeme = lexemes_of m (agreed (last_of last t) ts) in
+    let ms : List Lexeme = lexemes_of m (agreed after others) in
+    let same : Same true ls ms = s.lexemes true (λ b. no_form (sym b ∙ no_place)) in
+    let no_word : NoWord ls = no_word_tokens m (last_of last t) (concat ts) ts (record { joined = refl; each = i.1 }) (apart_no_word (concat ts) free) in
+    let whole : lexemes_of m (agreed other us) ≡ f.form ++ ms = ap (λ y. lexemes_of m (agreed other y)) e ∙ ap (lexemes_of m) o.0 ∙ f.stands (agreed after others) (no_word_same ls ms same no_word) in
+    record {
+      lexemes = λ j g. subst (λ y. Same j y (lexemes_of m (agreed other us))) (sym (ap (lexemes_of m) (agreed_on last t ts d) ∙ value_kind m (kind_of t) t ls p))
+          (inr (g p, refl, f.form, f.is, ms, whole, same));
+      cut = cut_on last t ts d ∙ s.cut ∙ sym o.1 ∙ sym (ap (is_cut other) e);
+    }

@@ -63,6 +63,61 @@ comment_digest mode = (
   refl,
 )
 
+hint_digest : (mode : Mode) → IsDigest mode (codes "/*+b*/a") (codes "a")
+hint_digest mode = (
+  codes "/*+b*/" ∷ codes "a" ∷ [],
+  record {
+    joined = refl;
+    each = (
+      record { inside = codes "+b"; closing = star ∷ slash ∷ []; spelled = refl; ends = inl (refl, ((λ e. absurd (omega arith)), ((λ e. absurd (omega arith)), tt))) },
+      ((0x61, refl), tt),
+    );
+  },
+  refl,
+)
+
+simple_digest : (mode : Mode) → IsDigest mode (codes "/*!1 b*/a") (codes "a")
+simple_digest mode = (
+  codes "/*!1 b*/" ∷ codes "a" ∷ [],
+  record {
+    joined = refl;
+    each = (
+      record {
+        inside = codes "!1 b";
+        closing = star ∷ slash ∷ [];
+        spelled = refl;
+        ends = inl (refl, ((λ e. absurd (omega arith)), ((λ e. absurd (omega arith)), ((λ e. absurd (omega arith)), ((λ e. absurd (omega arith)), tt)))));
+      },
+      ((0x61, refl), tt),
+    );
+  },
+  refl,
+)
+
+opening_digest : (mode : Mode) → IsDigest mode (codes "a/*!b") (codes "a /* ... */")
+opening_digest mode = (codes "a" ∷ codes "/*!" ∷ codes "b" ∷ [], record { joined = refl; each = ((0x61, refl), (refl, ((0x62, refl), tt))) }, refl)
+
+mariadb_digest : (mode : Mode) → IsDigest mode (codes "a/*M!b*/") (codes "a /* ... */")
+mariadb_digest mode = (
+  codes "a" ∷ codes "/*M!b*/" ∷ [],
+  record {
+    joined = refl;
+    each = (
+      (0x61, refl),
+      (
+        record {
+          inside = codes "M!b";
+          closing = star ∷ slash ∷ [];
+          spelled = refl;
+          ends = inl (refl, ((λ e. absurd (omega arith)), ((λ e. absurd (omega arith)), ((λ e. absurd (omega arith)), tt))));
+        },
+        tt,
+      ),
+    );
+  },
+  refl,
+)
+
 pub worked_digests : WorkedDigests
 worked_digests = record {
   value = λ mode. plain_digest mode _ _ (refl, (refl, (refl, tt))) refl;
@@ -80,4 +135,11 @@ worked_digests = record {
   mark = mark_digest;
   comment = comment_digest;
   introducer = λ mode. plain_digest mode _ _ (refl, (refl, (refl, (refl, (refl, (refl, (refl, (refl, (refl, (refl, (refl, (refl, tt)))))))))))) refl;
+  hint = hint_digest;
+  simple = simple_digest;
+  opening = opening_digest;
+  mariadb = mariadb_digest;
+  bracket = λ mode. plain_digest mode _ _ (refl, (refl, (refl, (refl, tt)))) refl;
+  dollars = λ mode. plain_digest mode _ _ (refl, (refl, (refl, (refl, tt)))) refl;
+  dollar_word = λ mode. plain_digest mode _ _ (refl, (refl, (refl, (refl, tt)))) refl;
 }

@@ -1,11 +1,14 @@
--- The digest of a statement: its text with the values taken out, without comments, and with one space
--- between what stands in it. MySQL Reference Manual, "Performance Schema Statement Digests and
--- Sampling"; "Literal Values", "Character Set Introducers", "Comments" (what values and comments are).
+-- The digest of a statement: its text with the values taken out, without comments, and with one
+-- space between what stands in it, as far as servers agree about its tokens. MySQL Reference
+-- Manual, "Performance Schema Statement Digests and Sampling"; "Literal Values", "Character Set
+-- Introducers", "Comments" (what values and comments are).
 use Rattle.std.specs.Prelude.{◌≡◌, ℕ, ◌-◌, Bool, true, false, ◌&&◌, ◌||◌, ◌==◌, if◌then◌else◌, List, [], ◌∷◌, ◌++◌}
 use Rattle.std.specs.Prelude.{codes, length, map, take}
+use Rattle.std.specs.List.{concat}
 use Rattle.std.specs.Char.{to_ascii_lowercase}
 use Rattle.std.specs.Str.{str_eq_ignore_ascii_case}
 use Rattle.mysql_queries.specs.Literals.{is_digit}
+use Rattle.mysql_queries.specs.Alone.{is_opening, is_read_otherwise, last_of}
 use Rattle.mysql_queries.specs.Queries.{is_joining}
 use Rattle.mysql_queries.specs.Scanning.{is_plain}
 use Rattle.mysql_queries.specs.Tokens.{is_within, quotes_identifier, kind_of, Kind, Quoted, LineComment, BlockComment}
@@ -90,6 +93,22 @@ with_token mode Plain token lexemes = with_bytes token lexemes
 abbrev pub lexemes_of : Mode → List (List ℕ) → List Lexeme
 lexemes_of mode [] = []
 lexemes_of mode (token ∷ tokens) = with_token mode (kind_of token) token (lexemes_of mode tokens)
+
+-- Servers disagree about a token behind a byte, before others: it begins what some read otherwise, or
+-- a comment whose inside is read.
+abbrev pub is_disputed : ℕ → List ℕ → List (List ℕ) → Bool
+is_disputed last token behind = is_read_otherwise last (concat (token ∷ behind)) || is_opening token
+
+-- the tokens before the first about which servers disagree, behind a byte
+abbrev pub agreed : ℕ → List (List ℕ) → List (List ℕ)
+agreed last [] = []
+agreed last (token ∷ tokens) =
+    if is_disputed last token tokens then [] else token ∷ agreed (last_of last token) tokens
+
+-- whether there is such a one
+abbrev pub is_cut : ℕ → List (List ℕ) → Bool
+is_cut last [] = false
+is_cut last (token ∷ tokens) = is_disputed last token tokens || is_cut (last_of last token) tokens
 
 -- a digit comes first, or a dot and a digit
 abbrev pub begins_number : List ℕ → Bool
@@ -253,9 +272,21 @@ with_spaces (piece ∷ pieces) = with_spaces pieces ++ (text_of piece ++ space �
 abbrev pub without_last : List ℕ → List ℕ
 without_last bytes = take (length bytes - 1) bytes
 
--- the digest of a text with these tokens: the texts of its pieces, with a space between each two
+-- the mark that stands for all from the first token on about which servers disagree
+abbrev pub rest_mark : List ℕ
+rest_mark = codes "/* ... */"
+
+-- that mark behind pieces, if something is left out
+abbrev pub with_rest : Bool → List Piece → List Piece
+with_rest true pieces = Text rest_mark ∷ pieces
+with_rest false pieces = pieces
+
+-- The digest of a text with these tokens: the texts of its pieces, with a space between each two. It
+-- goes up to the first token about which servers disagree; a mark stands for all that follows.
 abbrev pub digest_of : Mode → List (List ℕ) → List ℕ
-digest_of mode tokens = without_last (with_spaces (pieces_behind Apart [] (lexemes_of mode tokens)))
+digest_of mode tokens =
+    without_last (with_spaces
+    (with_rest (is_cut 0 tokens) (pieces_behind Apart [] (lexemes_of mode (agreed 0 tokens)))))
 
 -- the bytes are the digest of the text, as a server in the mode reads it
 abbrev pub IsDigest : Mode → List ℕ → List ℕ → Type 0

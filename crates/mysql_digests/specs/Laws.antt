@@ -2,6 +2,7 @@
 -- MySQL Reference Manual, "Performance Schema Statement Digests and Sampling"; "PREPARE Statement"
 -- (parameter markers).
 use Rattle.std.specs.Prelude.{◌≡◌, ℕ, Bool, true, false, not, ◌⊎◌, List, [], ◌∷◌, codes}
+use Rattle.mysql_queries.specs.Alone.{begins_for_mariadb}
 use Rattle.mysql_queries.specs.Queries.{AllAlone, Slices}
 use Rattle.mysql_queries.specs.Sql.{Sql}
 use Rattle.mysql_queries.specs.Tokens.{HasTokens, Kind, Quoted, LineComment, BlockComment, Opening, Closing, Name, Mark}
@@ -9,7 +10,7 @@ use Rattle.mysql_queries.specs.Tokens.{Plain, kind_of}
 use Rattle.mysql_queries.specs.Tokens.{quotes_identifier}
 use Rattle.mysql_bytes.specs.declared.content.Content.{Content}
 use Rattle.mysql_bytes.specs.declared.mode.Mode.{Mode}
-use Rattle.mysql_digests.specs.Digest.{IsDigest}
+use Rattle.mysql_digests.specs.Digest.{IsDigest, agreed, is_cut}
 
 -- Each text has a digest.
 abbrev pub SomeDigest : Type 0
@@ -56,9 +57,11 @@ abbrev pub AreStrings : Mode → List ℕ → List ℕ → Type 0
 AreStrings mode token other =
     (is_string_kind mode (kind_of token) ≡ true) × (is_string_kind mode (kind_of other) ≡ true)
 
+-- both are comments, and MariaDB runs both or none
 abbrev pub AreComments : List ℕ → List ℕ → Type 0
 AreComments token other =
-    (is_comment_kind (kind_of token) ≡ true) × (is_comment_kind (kind_of other) ≡ true)
+    (is_comment_kind (kind_of token) ≡ true) × (is_comment_kind (kind_of other) ≡ true) ×
+    (begins_for_mariadb token ≡ begins_for_mariadb other)
 
 -- one by one, both are the same token, or both are strings, or both are comments
 abbrev pub DifferInside : Mode → List (List ℕ) → List (List ℕ) → Type 0
@@ -75,9 +78,17 @@ InsidesAreNotTold = (mode : Mode) (text other digest : List ℕ) (tokens others 
     HasTokens mode text tokens → HasTokens mode other others → DifferInside mode tokens others →
     IsDigest mode text digest → IsDigest mode other digest
 
+-- It tells nothing of what follows where servers begin to disagree: texts with the same tokens before
+-- that have one.
+abbrev pub RestIsNotTold : Type 0
+RestIsNotTold = (mode : Mode) (text other digest : List ℕ) (tokens others : List (List ℕ)) →
+    HasTokens mode text tokens → HasTokens mode other others → agreed 0 tokens ≡ agreed 0 others →
+    is_cut 0 tokens ≡ is_cut 0 others → IsDigest mode text digest → IsDigest mode other digest
+
 -- Digests of small texts. A value is taken out, and so are its sign, its exponent and what a string
 -- begins with, but no dash behind a word. Values, rows and comments are one each. NULL is a value in any
--- case, a word with a digit is none, and words are in lower case.
+-- case, a word with a digit is none, and words are in lower case. Hints and simple version comments are
+-- comments. Where servers disagree a mark stands for the rest, but two dollars within a word are its own.
 pub record WorkedDigests : Type 0 where
   pub value : (mode : Mode) → IsDigest mode (codes "a=5") (codes "a = ?")
   pub string : (mode : Mode) → IsDigest mode (codes "'a'") (codes "?")
@@ -94,3 +105,10 @@ pub record WorkedDigests : Type 0 where
   pub mark : (mode : Mode) → IsDigest mode (codes "a<=?") (codes "a <= ?")
   pub comment : (mode : Mode) → IsDigest mode (codes "a/**/b") (codes "a b")
   pub introducer : (mode : Mode) → IsDigest mode (codes "_binary 0x41") (codes "?")
+  pub hint : (mode : Mode) → IsDigest mode (codes "/*+b*/a") (codes "a")
+  pub simple : (mode : Mode) → IsDigest mode (codes "/*!1 b*/a") (codes "a")
+  pub opening : (mode : Mode) → IsDigest mode (codes "a/*!b") (codes "a /* ... */")
+  pub mariadb : (mode : Mode) → IsDigest mode (codes "a/*M!b*/") (codes "a /* ... */")
+  pub bracket : (mode : Mode) → IsDigest mode (codes "a[b]") (codes "a /* ... */")
+  pub dollars : (mode : Mode) → IsDigest mode (codes "$b$a") (codes "/* ... */")
+  pub dollar_word : (mode : Mode) → IsDigest mode (codes "a$b$") (codes "a$b$")

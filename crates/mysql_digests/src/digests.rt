@@ -4,7 +4,7 @@ ghost use Rattle.mysql_digests.specs.Digest.{IsDigest};
 ghost use Rattle.std.specs.Prelude.{IfOk};
 
 use crate::left_out::Before;
-use crate::lexemes::lexeme_at;
+use crate::lexemes::{disputed, lexeme_at};
 use crate::pieces::Pieces;
 use mysql_bytes::Mode;
 use std::alloc::{AllocError, Global};
@@ -18,12 +18,15 @@ use std::alloc::{AllocError, Global};
 /// Words are in lower case. Operators and quoted identifiers remain as they are; `_utf8mb4` and
 /// `_binary` go.
 ///
-/// The mode has to be that of the session. In another one a string may end elsewhere, and what
-/// follows may be part of a value. So may what follows a comment that the server skips, as
-/// `/*!99999 it's */`.
+/// A digest goes up to the first token about which servers disagree. That is a dollar quote, `/*M!`,
+/// a `[`, or a `/*!` that is no simple version comment. A mark, `/* ... */`, is for all that
+/// follows. So nothing of what a server takes for a string is told.
 ///
-/// The text is read once, in a time that grows with its length. Beside the digest, which is at most
-/// three times as long as the text, it takes two bytes for each piece of it.
+/// The mode has to be that of the session. In another one a string may end elsewhere, and what
+/// follows may be part of a value.
+///
+/// The text is read once, in a time that grows with its length. The digest is at most three times as
+/// long as the text and ten bytes. Beside it two bytes are taken for each piece of it.
 ///
 /// Promise: the digest is that of the text by its tokens (`IsDigest`).
 ///
@@ -37,9 +40,14 @@ pub fn digest(alloc: Global, mode: Mode, text: &[u8]) -> Result<Vec<u8>, AllocEr
 {
     let mut pieces = Pieces::new(alloc);
     let mut before = Before::Apart;
+    let mut last = 0;
     let mut at = 0;
     while at < text.len() {
         let rest = &text[at..];
+        if disputed(last, rest) {
+            pieces.add_rest()?;
+            return Ok(pieces.into_text());
+        }
         let (found, len) = lexeme_at(rest, mode);
         let bytes = &rest[..len];
         let after = &rest[len..];
@@ -47,6 +55,7 @@ pub fn digest(alloc: Global, mode: Mode, text: &[u8]) -> Result<Vec<u8>, AllocEr
             pieces.add(found, bytes)?;
         }
         before = before.next(found, bytes, after, mode);
+        last = rest[len - 1];
         at += len;
     }
     Ok(pieces.into_text())

@@ -3,6 +3,7 @@
 ghost use Rattle.mysql_digests.specs.Laws.{
   InsidesAreNotTold,
   OneDigest,
+  RestIsNotTold,
   SomeDigest,
   TextHasItsQuerysDigest,
   TextsHaveOneDigest,
@@ -30,9 +31,11 @@ pub fn texts_over_one_query_have_one_digest()
     one_reading();
 }
 
-/// A digest tells nothing of what is inside a string or a comment.
+/// A digest tells nothing of what is inside a string or a comment, nor of what follows where servers
+/// begin to disagree.
 pub fn digests_have_no_inside()
-    ensures { InsidesAreNotTold }
+    ensures insides { InsidesAreNotTold }
+    ensures rest { RestIsNotTold }
 {
     tokens_of_a_text();
 }

@@ -1,6 +1,6 @@
 //! What is part of a value beside it, and left out.
 
-ghost use Rattle.mysql_digests.specs.Digest.{Byte, awaits_exponent, before_next, digit_follows};
+ghost use Rattle.mysql_digests.specs.Digest.{Byte, agreed, awaits_exponent, before_next, digit_follows};
 ghost use Rattle.mysql_digests.specs.Digest.{ends_in_e, is_exponent, is_left_out, is_power};
 ghost use Rattle.mysql_digests.specs.Digest.{is_string_prefix, lexemes_of, may_sign};
 ghost use Rattle.mysql_digests.specs.Lexemes.{first_is_digit, first_is_value, lexeme_view};
@@ -98,8 +98,8 @@ fn exponent_awaited(word: &[u8]) -> bool
 
 /// What comes behind the sign of an exponent, if it is one.
 fn behind_sign(after: &[u8]) -> Before
-    ensures { (mode : Mode) (tokens : List (List ℕ)) → HasTokens mode after.now tokens →
-        result ≡ (if digit_follows (lexemes_of mode tokens) then Power else Apart) }
+    ensures { (mode : Mode) (last : ℕ) (tokens : List (List ℕ)) → HasTokens mode after.now tokens →
+        result ≡ (if digit_follows (lexemes_of mode (agreed last tokens)) then Power else Apart) }
 {
     if digit_first(after) {
         Before::Power
@@ -148,8 +148,8 @@ impl Before {
 
     /// Whether what was found is left out, with its bytes and what comes after it.
     pub fn leaves_out(self, found: Found, bytes: &[u8], after: &[u8], mode: Mode) -> bool
-        ensures { (tokens : List (List ℕ)) → HasTokens mode after.now tokens →
-            result ≡ is_left_out self (lexeme_view found bytes.now) (lexemes_of mode tokens) }
+        ensures { (last : ℕ) (tokens : List (List ℕ)) → HasTokens mode after.now tokens →
+            result ≡ is_left_out self (lexeme_view found bytes.now) (lexemes_of mode (agreed last tokens)) }
     {
         match found {
             Found::Word => self.at_power() || (string_prefix(bytes) && value_first(after, mode)),
@@ -163,8 +163,8 @@ impl Before {
 
     /// What the next one has before it.
     pub fn next(self, found: Found, bytes: &[u8], after: &[u8], mode: Mode) -> Before
-        ensures { (tokens : List (List ℕ)) → HasTokens mode after.now tokens →
-            result ≡ before_next self (lexeme_view found bytes.now) (lexemes_of mode tokens) }
+        ensures { (last : ℕ) (tokens : List (List ℕ)) → HasTokens mode after.now tokens →
+            result ≡ before_next self (lexeme_view found bytes.now) (lexemes_of mode (agreed last tokens)) }
     {
         match found {
             Found::Gap => Before::Apart,
@@ -184,8 +184,8 @@ impl Before {
 
     /// What the next one has before it, behind a byte.
     fn behind_byte(self, b: u8, after: &[u8]) -> Before
-        ensures { (mode : Mode) (tokens : List (List ℕ)) → HasTokens mode after.now tokens →
-            result ≡ before_next self (Byte b) (lexemes_of mode tokens) }
+        ensures { (mode : Mode) (last : ℕ) (tokens : List (List ℕ)) → HasTokens mode after.now tokens →
+            result ≡ before_next self (Byte b) (lexemes_of mode (agreed last tokens)) }
     {
         if self.signs_exponent(b) {
             return behind_sign(after);

@@ -2,13 +2,13 @@
 
 ghost use Rattle.mysql_digests.specs.Digest.{Piece, Text, begins_number, is_introducer, is_value};
 ghost use Rattle.mysql_digests.specs.Digest.{text_of, with_close, with_lexeme, with_mark, with_row};
-ghost use Rattle.mysql_digests.specs.Digest.{with_spaces, with_value, with_word, without_last};
+ghost use Rattle.mysql_digests.specs.Digest.{with_rest, with_spaces, with_value, with_word, without_last};
 ghost use Rattle.mysql_digests.specs.Held.{Holds, is_comma, is_open, mark_of, piece_kind, rows_of};
 ghost use Rattle.mysql_digests.specs.Held.{rows_before, values_before, values_of, values_opened};
 ghost use Rattle.mysql_digests.specs.Lexemes.{lexeme_view};
 ghost use Rattle.mysql_queries.specs.Literals.{is_digit};
 ghost use Rattle.std.specs.Char.{to_ascii_lowercase};
-ghost use Rattle.std.specs.Prelude.{◌≡◌, ◌∷◌, [], List, OnOk, map};
+ghost use Rattle.std.specs.Prelude.{◌≡◌, ◌∷◌, [], List, OnOk, map, true};
 
 use crate::lexemes::Found;
 use std::alloc::{AllocError, Global};
@@ -314,6 +314,14 @@ impl Pieces {
             return self.add_close();
         }
         self.add_text(&[b])
+    }
+
+    /// Appends the mark that stands for all that follows.
+    pub fn add_rest(&mut self) -> Result<(), AllocError>
+        ensures { OnOk result ((pieces : List Piece) → Holds pieces self.old →
+            Holds (with_rest true pieces) self.new) }
+    {
+        self.add_text(b"/* ... */")
     }
 
     /// Appends what was found, with its bytes.

@@ -58,7 +58,7 @@ fn tag_byte(b: u8) -> bool
         || b >= 0x80
 }
 
-/// Whether a token of this kind stands for nothing.
+/// Whether a token of this kind is left out: a comment, what begins or ends one, or a blank.
 fn left_out(kind: TokenKind, text: &[u8]) -> bool
     requires { 0 < length text.now }
     ensures { (len : ℕ) → 0 < len → result ≡ is_left_out_kind (kind_view kind) (take len text.now) }
@@ -75,7 +75,8 @@ fn left_out(kind: TokenKind, text: &[u8]) -> bool
     }
 }
 
-fn is_opening(kind: TokenKind) -> bool
+/// Whether a token of this kind is `/*!`, whose inside is read.
+pub fn is_opening(kind: TokenKind) -> bool
     ensures { result ≡ is_opening_kind (kind_view kind) }
 {
     matches!(kind, TokenKind::Opening)
@@ -103,7 +104,7 @@ fn string_of(kind: TokenKind, mode: Mode) -> bool
     }
 }
 
-/// Whether the first token of a text that stands for something is a string.
+/// Whether the first token of a text that isn't left out is a string.
 pub fn string_first(text: &[u8], mode: Mode) -> bool
     ensures { (tokens : List (List ℕ)) → HasTokens mode text.now tokens → result ≡ meets_string mode tokens }
 {
@@ -134,7 +135,7 @@ fn tag_len(text: &[u8]) -> usize
 /// Whether a dollar quote begins a text, behind a byte.
 ///
 /// The bytes that are looked at begin no other one: a text is looked at once.
-fn dollar_first(last: u8, text: &[u8]) -> bool
+pub fn dollar_first(last: u8, text: &[u8]) -> bool
     ensures { result ≡ begins_dollar_quote last text.now }
 {
     match text {
@@ -217,7 +218,7 @@ pub fn read_otherwise(last: u8, text: &[u8]) -> bool
     bracket_first(text) || dollar_first(last, text) || mariadb_first(text)
 }
 
-/// Whether servers agree about the first token of a text, which stands behind a byte.
+/// Whether servers agree about the first token of a text, behind a byte.
 fn agrees(last: u8, text: &[u8], kind: TokenKind, len: usize, mode: Mode) -> bool
     requires some { 0 < len }
     requires in_range { len ≤ length text.now }
@@ -242,7 +243,7 @@ pub struct SoFar {
     pub last: u8,
     /// The last token is `/*!`, whose inside is read.
     pub opening: bool,
-    /// The last token that stands for something is a string.
+    /// The last token that isn't left out is a string.
     pub string: bool,
     /// Servers agree about all of it.
     pub agree: bool,

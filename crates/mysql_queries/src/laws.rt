@@ -70,7 +70,7 @@ pub fn filled_text_is_read()
 
 /// Servers that run comments with a version and those that skip them read texts alike.
 ///
-/// Take a query whose placeholders stand alone, and a text over it. Each server has the text's own
+/// Take a query whose placeholders are alone, and a text over it. Each server has the text's own
 /// tokens. One that runs such a comment has the tokens of its inside in place of it. It holds no
 /// placeholder, since a comment whose inside is read has no version.
 pub fn servers_read_alike()

@@ -14,7 +14,7 @@
 //!     let contents = read_text(alloc, b"SELECT :a", query.places(), b"SELECT 5")?;
 #![tactic(auto)]
 
-mod alone;
+pub mod alone;
 mod hexadecimal;
 pub mod laws;
 pub mod literals;

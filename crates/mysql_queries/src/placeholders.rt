@@ -42,9 +42,9 @@ pub struct Place {
     pub end: usize,
     /// Whether it is a name.
     pub name: bool,
-    /// Whether it stands alone: a literal in its place is read as that literal by each server.
+    /// Whether it is alone: a literal in its place is read as that literal by each server.
     ///
-    /// No neighbouring byte can run together with the literal, no string stands beside it, and servers
+    /// No neighbouring byte can run together with the literal, no string is beside it, and servers
     /// agree about the query.
     pub alone: bool,
 }
@@ -125,7 +125,7 @@ fn place_of(
     })
 }
 
-/// The placeholders of a query about which servers disagree: none stands alone.
+/// The placeholders of a query about which servers disagree: none is alone.
 fn none_alone(alloc: Global, places: &[Place]) -> Result<Vec<Place>, AllocError>
     ensures { IfOk result (λ v. v.items ≡ map not_alone places.now) }
 {
@@ -218,7 +218,7 @@ fn apart_at(places: &[Place]) -> Option<usize>
     places.iter().position(|place| !place.alone)
 }
 
-/// The first placeholder that does not stand alone, counted from 0.
+/// The first placeholder that is not alone, counted from 0.
 pub fn first_not_alone(places: &[Place]) -> Option<usize>
     ensures first { result ≡ first_apart places.now }
     ensures none { IfNone result (AllByRecursion (λ place. place.alone ≡ true) places.now) }

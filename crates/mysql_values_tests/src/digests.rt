@@ -22,7 +22,7 @@ const NO_BACKSLASH_ESCAPES: Mode = Mode {
 /// A mode, a statement, and its digest.
 type Row = (Mode, &'static [u8], &'static [u8]);
 
-const DIGESTS: [Row; 43] = [
+const DIGESTS: [Row; 51] = [
     (DEFAULT, b"", b""),
     (DEFAULT, b" \t\r\n", b""),
     // The manual's own examples, with words in lower case and names without backticks.
@@ -121,7 +121,24 @@ const DIGESTS: [Row; 43] = [
     ),
     // Comments, blanks and operators.
     (DEFAULT, b"a/* b */c -- d\n# e\nf", b"a c f"),
-    (DEFAULT, b"/*! A */", b"a"),
+    (
+        DEFAULT,
+        b"SELECT /*+ MAX_EXECUTION_TIME(1) */ a /*!40001 SQL_NO_CACHE */",
+        b"select a",
+    ),
+    // Where servers disagree a mark stands for the rest.
+    (DEFAULT, b"/*! A */", b"/* ... */"),
+    (
+        DEFAULT,
+        b"SELECT 1 /*!99999 '*/' */ , 2",
+        b"select ? /* ... */",
+    ),
+    (DEFAULT, b"a /*M! 'b' */ c", b"a /* ... */"),
+    (DEFAULT, b"a = $$it's$$ , 'b'", b"a = /* ... */"),
+    (DEFAULT, b"a.$b$c$b$", b"a. /* ... */"),
+    (DEFAULT, b"a$$ $1 b$c$d", b"a$$ $1 b$c$d"),
+    (DEFAULT, b"f(1, [a'b])", b"f ( ? , /* ... */"),
+    (DEFAULT, b"'[' `$$` -- [\n a", b"? `$$` a"),
     (
         DEFAULT,
         b"a>=1 <=> !b&&c||d:=e",
