@@ -1,4 +1,4 @@
-"""Breaks long lines of sources and definitions: the half of `tools/wrap` that reads `.rt` and `.antt`."""
+"""Breaks long lines of sources, definitions and proofs: the half of `tools/wrap` that reads `.rt` and `.antt`."""
 import re
 import textwrap
 
@@ -158,7 +158,8 @@ def wrapped_source(text, rust):
     while lines:
         mark = mark_of(lines[0], rust)
         if mark is None:
-            out += cut_code(lines.pop(0), rust) if len(lines[0]) > MOST else [lines.pop(0)]
+            line = lines.pop(0)
+            out += cut_code(line, rust) if len(line) > MOST and not WHOLE.match(line) else [line]
             continue
         count = paragraph(lines, mark)
         block, lines = lines[:count], lines[count:]

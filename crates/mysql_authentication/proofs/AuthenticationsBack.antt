@@ -10,12 +10,15 @@ use Rattle.mysql_auth.specs.Packets.{SwitchFields, headed, next_factor, next_fac
 use Rattle.mysql_authentication.proofs.FirstCause.{both_passed, not-true, passed, three_passed}
 use Rattle.mysql_authentication.proofs.Packets.{both-hold, error-back, ok-back}
 use Rattle.mysql_authentication.proofs.Zeros.{front_whole}
-use Rattle.mysql_authentication.specs.Events.{Accepted, AuthMore, AuthSwitch, Denied, NextFactor, OldAuthSwitch, PluginData}
+use Rattle.mysql_authentication.specs.Events.{Accepted, AuthMore, AuthSwitch, Denied, NextFactor, OldAuthSwitch}
+use Rattle.mysql_authentication.specs.Events.{PluginData}
 use Rattle.mysql_authentication.specs.Readings.{authentication_at, multi_factor, or_fault, switch_of}
 use Rattle.mysql_authentication.specs.Statements.{AuthenticationsReadBack, HoldsError, HoldsOk}
-use Rattle.mysql_authentication.specs.Written.{accepted_cause, authentication_cause, has_no_zero, is_bare, is_normal, same}
+use Rattle.mysql_authentication.specs.Written.{accepted_cause, authentication_cause, has_no_zero, is_bare, is_normal}
+use Rattle.mysql_authentication.specs.Written.{same}
 use Rattle.mysql_authentication.specs.declared.fault.LoginFault.TheVariants.{BadSwitch}
-use Rattle.mysql_authentication.specs.declared.refusal.LoginRefusal.TheVariants.{NamelessFlags, NotAgreed, ReadsOtherwise, ZeroByte}
+use Rattle.mysql_authentication.specs.declared.refusal.LoginRefusal.TheVariants.{NamelessFlags, NotAgreed}
+use Rattle.mysql_authentication.specs.declared.refusal.LoginRefusal.TheVariants.{ReadsOtherwise, ZeroByte}
 use Rattle.mysql_field_constants.specs.Flags.{contains}
 use Rattle.mysql_ok_packets.specs.OkPackets.{OkPacket}
 use Rattle.mysql_ok_packets.specs.Written.{is_named_status, ok_packet_bytes, tells_state}
@@ -40,7 +43,8 @@ denied capabilities e holds none =
 kept_whole : (p : SwitchFields) → has_no_zero p.auth_plugin ≡ true → switch_kept p ≡ p
 kept_whole p h = rw (front_whole p.auth_plugin h) refl
 
-switch_of-more : (b : ℕ) (bytes : List ℕ) → 0 < length bytes → switch_of (b ∷ bytes) ≡ or_fault BadSwitch AuthSwitch (switch_at (b ∷ bytes))
+switch_of-more : (b : ℕ) (bytes : List ℕ) → 0 < length bytes → switch_of (b ∷ bytes) ≡
+    or_fault BadSwitch AuthSwitch (switch_at (b ∷ bytes))
 switch_of-more b [] h = absurd (omega arith)
 switch_of-more b (c ∷ bytes) h = refl
 
@@ -50,22 +54,29 @@ unfolding authentication_at switch
 switched capabilities p h =
     let bytes = null_text p.auth_plugin ++ (p.plugin_data ++ []) in
     let some : 0 < length (null_text p.auth_plugin ++ (p.plugin_data ++ [])) =
-    omega (arith, length-append (null_text p.auth_plugin) (p.plugin_data ++ []), length-append (before_first is_zero p.auth_plugin) (0 ∷ [])) in
+    omega (
+      arith,
+      length-append (null_text p.auth_plugin) (p.plugin_data ++ []),
+      length-append (before_first is_zero p.auth_plugin) (0 ∷ []),
+    ) in
     let read : switch_at (switch p) ≡ done (switch_kept p, []) = rw append-nil at (switch_at-back p [] refl) in
     switch_of-more 254 bytes some ∙ ap (or_fault BadSwitch AuthSwitch) read ∙ rw (kept_whole p h) refl
 
-factor : (capabilities : ℕ) (p : SwitchFields) → contains capabilities multi_factor ≡ true → has_no_zero p.auth_plugin ≡ true →
+factor : (capabilities : ℕ) (p : SwitchFields) → contains capabilities multi_factor ≡ true →
+    has_no_zero p.auth_plugin ≡ true →
     authentication_at capabilities (next_factor p) ≡ Ok (NextFactor p)
 unfolding authentication_at next_factor
 factor capabilities p agreed h =
-    let read : next_factor_at (next_factor p) ≡ done (switch_kept p, []) = rw append-nil at (next_factor_at-back p [] refl) in
+    let read : next_factor_at (next_factor p) ≡ done (switch_kept p, []) =
+    rw append-nil at (next_factor_at-back p [] refl) in
     rw agreed (ap (or_fault BadSwitch NextFactor) read ∙ rw (kept_whole p h) refl)
 
 more : (capabilities : ℕ) (bytes : List ℕ) → authentication_at capabilities (headed 1 bytes) ≡ Ok (AuthMore bytes)
 unfolding authentication_at headed
 more capabilities bytes = rw (append-nil bytes) refl
 
-bare : (capabilities : ℕ) (bytes : List ℕ) → is_bare capabilities bytes ≡ true → authentication_at capabilities bytes ≡ Ok (PluginData bytes)
+bare : (capabilities : ℕ) (bytes : List ℕ) → is_bare capabilities bytes ≡ true →
+    authentication_at capabilities bytes ≡ Ok (PluginData bytes)
 unfolding authentication_at
 bare capabilities [] h = cc
 bare capabilities (b ∷ bytes) h =
@@ -85,10 +96,12 @@ pub authentications_read_back : AuthenticationsReadBack
 unfolding authentication_at
 authentications_read_back capabilities (Accepted p) holds none = accepted capabilities p holds none
 authentications_read_back capabilities (Denied e) holds none = denied capabilities e holds none
-authentications_read_back capabilities (AuthSwitch p) holds none = switched capabilities p (passed (has_no_zero p.auth_plugin) ZeroByte none)
+authentications_read_back capabilities (AuthSwitch p) holds none =
+    switched capabilities p (passed (has_no_zero p.auth_plugin) ZeroByte none)
 authentications_read_back capabilities OldAuthSwitch holds none = refl
 authentications_read_back capabilities (AuthMore bytes) holds none = more capabilities bytes
 authentications_read_back capabilities (NextFactor p) holds none =
     let all = both_passed (contains capabilities multi_factor) (has_no_zero p.auth_plugin) NotAgreed ZeroByte none in
     factor capabilities p all.0 all.1
-authentications_read_back capabilities (PluginData bytes) holds none = bare capabilities bytes (passed (is_bare capabilities bytes) ReadsOtherwise none)
+authentications_read_back capabilities (PluginData bytes) holds none =
+    bare capabilities bytes (passed (is_bare capabilities bytes) ReadsOtherwise none)

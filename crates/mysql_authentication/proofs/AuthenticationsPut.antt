@@ -1,11 +1,13 @@
 -- Events that a payload of an authentication was read as are put.
-use Rattle.std.proofs.Common.{◌≡◌, ◌<◌, ◌^◌, ◌==◌, ◌||◌, ◌&&◌, if◌then◌else◌, ℕ, zero, suc, Bool, true, false, not, List, [], ◌∷◌, length, Option, None, Some, is_some, Ok}
+use Rattle.std.proofs.Common.{◌≡◌, ◌<◌, ◌^◌, ◌==◌, ◌||◌, ◌&&◌, if◌then◌else◌, ℕ, zero, suc, Bool, true, false, not}
+use Rattle.std.proofs.Common.{List, [], ◌∷◌, length, Option, None, Some, is_some, Ok}
 use Rattle.std.proofs.Common.{refl, ap, subst}
 use Rattle.std.proofs.Math.Dec.{eqb-suc-zero}
 use Rattle.mysql_auth.specs.Packets.{next_factor_at, switch_at}
 use Rattle.mysql_authentication.proofs.Packets.{both-hold}
 use Rattle.mysql_authentication.proofs.Read.{error_own, factor_own, read_as, switch_own}
-use Rattle.mysql_authentication.specs.Events.{Accepted, AuthMore, AuthSwitch, Authentication, Denied, NextFactor, OldAuthSwitch, PluginData}
+use Rattle.mysql_authentication.specs.Events.{Accepted, AuthMore, AuthSwitch, Authentication, Denied, NextFactor}
+use Rattle.mysql_authentication.specs.Events.{OldAuthSwitch, PluginData}
 use Rattle.mysql_authentication.specs.Readings.{authentication_at, multi_factor, or_fault, switch_of}
 use Rattle.mysql_authentication.specs.Statements.{AuthenticationsArePut, RefusedAuthenticationsReadOtherwise}
 use Rattle.mysql_authentication.specs.Written.{accepted_cause, authentication_bytes, authentication_cause, if_some}
@@ -25,12 +27,14 @@ id-normal None h = refl
 id-normal (Some zero) h = cc
 id-normal (Some (suc n)) h = nonzero n
 
-text-normal : (text : Option (List ℕ)) → unless_empty (or_empty text) ≡ text → if_some (λ text. not (length text == 0)) text ≡ true
+text-normal : (text : Option (List ℕ)) → unless_empty (or_empty text) ≡ text →
+    if_some (λ text. not (length text == 0)) text ≡ true
 text-normal None h = refl
 text-normal (Some []) h = cc
 text-normal (Some (b ∷ bytes)) h = nonzero (length bytes)
 
-state-normal : (tells : Bool) (state : Option (List ℕ)) → (if tells then unless_empty (or_empty state) else None) ≡ state →
+state-normal : (tells : Bool) (state : Option (List ℕ)) →
+    (if tells then unless_empty (or_empty state) else None) ≡ state →
     ((not (is_some state) || tells) ≡ true) × (if_some (λ text. not (length text == 0)) state ≡ true)
 state-normal true None h = (refl, refl)
 state-normal true (Some []) h = absurd cc
@@ -49,10 +53,12 @@ accepted capabilities bytes x all few h =
     rw (own.0.named, state.0, id, info, state.1) refl
 
 -- the cause against an event that is another one's
-moved : (capabilities : ℕ) {e f : Authentication} → e ≡ f → authentication_cause capabilities e ≡ None → authentication_cause capabilities f ≡ None
+moved : (capabilities : ℕ) {e f : Authentication} → e ≡ f → authentication_cause capabilities e ≡
+    None → authentication_cause capabilities f ≡ None
 moved capabilities h none = subst (λ (e : Authentication). authentication_cause capabilities e ≡ None) h none
 
-switched : (capabilities b : ℕ) (bytes : List ℕ) (event : Authentication) → switch_of (b ∷ bytes) ≡ Ok event → authentication_cause capabilities event ≡ None
+switched : (capabilities b : ℕ) (bytes : List ℕ) (event : Authentication) → switch_of (b ∷ bytes) ≡
+    Ok event → authentication_cause capabilities event ≡ None
 switched capabilities b [] event h =
     let same : OldAuthSwitch ≡ event = cc in moved capabilities same refl
 switched capabilities b (c ∷ bytes) event h =
@@ -60,7 +66,8 @@ switched capabilities b (c ∷ bytes) event h =
     moved capabilities read.2 (rw (switch_own (b ∷ c ∷ bytes) read.0 read.1) refl)
 
 by_byte : (capabilities b : ℕ) (bytes : List ℕ) (event : Authentication) (ok err switch more factor : Bool)
-    → (b == 0) ≡ ok → (b == 0xff) ≡ err → (b == 0xfe) ≡ switch → (b == 1) ≡ more → (b == 2 && contains capabilities multi_factor) ≡ factor
+    → (b == 0) ≡ ok → (b == 0xff) ≡ err → (b == 0xfe) ≡ switch → (b == 1) ≡ more →
+    (b == 2 && contains capabilities multi_factor) ≡ factor
     → AreBytes (b ∷ bytes) → length (b ∷ bytes) < 2 ^ 64
     → (if ok then or_fault BadOk Accepted (ok_packet_at capabilities (b ∷ bytes))
     else if err then or_fault BadError Denied (error_at capabilities (b ∷ bytes))
@@ -75,7 +82,8 @@ by_byte capabilities b bytes event true err switch more factor is0 is255 is254 i
 by_byte capabilities b bytes event false true switch more factor is0 is255 is254 is1 is2 all few h =
     let read = read_as BadError Denied (error_at capabilities (b ∷ bytes)) event h in
     moved capabilities read.2 (rw (error_own capabilities (b ∷ bytes) read.0 read.1) refl)
-by_byte capabilities b bytes event false false true more factor is0 is255 is254 is1 is2 all few h = switched capabilities b bytes event h
+by_byte capabilities b bytes event false false true more factor is0 is255 is254 is1 is2 all few h =
+    switched capabilities b bytes event h
 by_byte capabilities b bytes event false false false true factor is0 is255 is254 is1 is2 all few h =
     let same : AuthMore bytes ≡ event = cc in moved capabilities same refl
 by_byte capabilities b bytes event false false false false true is0 is255 is254 is1 is2 all few h =
@@ -90,7 +98,8 @@ pub authentications_are_put : AuthenticationsArePut
 unfolding authentication_at
 authentications_are_put capabilities [] event all few h = absurd cc
 authentications_are_put capabilities (b ∷ bytes) event all few h =
-    by_byte capabilities b bytes event (b == 0) (b == 0xff) (b == 0xfe) (b == 1) (b == 2 && contains capabilities multi_factor)
+    by_byte capabilities b bytes event (b == 0) (b == 0xff) (b == 0xfe) (b == 1) (b == 2 &&
+    contains capabilities multi_factor)
     refl refl refl refl refl all few h
 
 pub refused_read_otherwise : RefusedAuthenticationsReadOtherwise

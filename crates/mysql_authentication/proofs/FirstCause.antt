@@ -7,14 +7,16 @@ pub passed : (a : Bool) (A : LoginRefusal) → unless a A ≡ None → a ≡ tru
 passed true A h = refl
 passed false A h = cc
 
-pub both_passed : (a b : Bool) (A B : LoginRefusal) → first_cause (unless a A ∷ unless b B ∷ []) ≡ None → (a ≡ true) × (b ≡ true)
+pub both_passed : (a b : Bool) (A B : LoginRefusal) → first_cause (unless a A ∷ unless b B ∷ []) ≡
+    None → (a ≡ true) × (b ≡ true)
 both_passed true b A B h = go b B h where
   go : (b : Bool) (B : LoginRefusal) → first_cause (unless b B ∷ []) ≡ None → (true ≡ true) × (b ≡ true)
   go true B h = (refl, refl)
   go false B h = cc
 both_passed false b A B h = cc
 
-pub three_passed : (a b c : Bool) (A B C : LoginRefusal) → first_cause (unless a A ∷ unless b B ∷ unless c C ∷ []) ≡ None →
+pub three_passed : (a b c : Bool) (A B C : LoginRefusal) →
+    first_cause (unless a A ∷ unless b B ∷ unless c C ∷ []) ≡ None →
     (a ≡ true) × (b ≡ true) × (c ≡ true)
 three_passed true true true A B C h = (refl, refl, refl)
 three_passed true true false A B C h = cc
@@ -28,7 +30,8 @@ none_of_two None (Some b) h = cc
 none_of_two (Some a) two h = cc
 
 -- the first test, and what is left of the others
-pub first_passed : (a : Bool) (A : LoginRefusal) (others : List (Option LoginRefusal)) → first_cause (unless a A ∷ others) ≡ None →
+pub first_passed : (a : Bool) (A : LoginRefusal) (others : List (Option LoginRefusal)) →
+    first_cause (unless a A ∷ others) ≡ None →
     (a ≡ true) × (first_cause others ≡ None)
 first_passed true A others h = (refl, h)
 first_passed false A others h = cc

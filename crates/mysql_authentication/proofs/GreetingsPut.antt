@@ -1,5 +1,6 @@
 -- Events that a server's first payload was read as are put.
-use Rattle.std.proofs.Common.{◌≡◌, ◌≤◌, ◌-◌, ◌==◌, ◌||◌, if◌then◌else◌, ℕ, max, nat_lt, Bool, true, false, not, List, [], ◌∷◌, length, take, drop, slice_index_or, Option, None, Some, is_some, Ok, Err}
+use Rattle.std.proofs.Common.{◌≡◌, ◌≤◌, ◌-◌, ◌==◌, ◌||◌, if◌then◌else◌, ℕ, max, nat_lt, Bool, true, false, not, List}
+use Rattle.std.proofs.Common.{[], ◌∷◌, length, take, drop, slice_index_or, Option, None, Some, is_some, Ok, Err}
 use Rattle.std.proofs.Common.{refl, sym, ap, ◌∙◌, subst, eq-eqb, arith, inl, inr}
 use Rattle.std.proofs.lemmas.Bool.{cases_lt}
 use Rattle.std.proofs.lemmas.List.{get_or-drop, length-take-le}
@@ -26,7 +27,8 @@ use Rattle.mysql_fields.specs.Texts.{bare_at, null_text_at}
 use Rattle.mysql_fields.specs.Wire.{or_end, ◌>>=◌}
 use Rattle.mysql_fields.specs.declared.error.WireError.TheVariants.{TooManyBytes}
 use Rattle.mysql_handshake.specs.Capabilities.{plugin_auth, protocol_41, secure_connection}
-use Rattle.mysql_handshake.specs.Handshakes.{FixedFields, HandshakeFields, block_at, fixed_at, flags_at, handshake_at, name_at, scramble_at, scramble_fits}
+use Rattle.mysql_handshake.specs.Handshakes.{FixedFields, HandshakeFields, block_at, fixed_at, flags_at, handshake_at}
+use Rattle.mysql_handshake.specs.Handshakes.{name_at, scramble_at, scramble_fits}
 use Rattle.mysql_server_packets.specs.Packets.{ServerError, error_at, error_code_at, server_error_at}
 use Rattle.mysql_authentication.proofs.FirstCause.{same-false, same-true}
 
@@ -40,18 +42,21 @@ length_own n bytes x h = elim (cases_lt (length bytes) n) [
       subst (λ (y : List ℕ × List ℕ). length y.0 ≡ n) same (length-take-le n bytes le)
 ]
 
-status_own : (bytes : List ℕ) (x : StatusFlags × List ℕ) → named_at status_named (fixed_number_at 2) bytes ≡ Ok x → are_named all_status_flags x.0.0 ≡ true
+status_own : (bytes : List ℕ) (x : StatusFlags × List ℕ) →
+    named_at status_named (fixed_number_at 2) bytes ≡ Ok x → are_named all_status_flags x.0.0 ≡ true
 status_own bytes x h =
     let number = bind_ok (fixed_number_at 2 bytes) _ x h in
     go number.0.0 number.0.1 (are_named all_status_flags number.0.0) refl number.2 where
       go : (n : ℕ) (rest : List ℕ) (named : Bool) → are_named all_status_flags n ≡ named
-          → or_unknown (if named then Some (record { 0 = n }) else None) rest ≡ Ok x → are_named all_status_flags x.0.0 ≡ true
+          → or_unknown (if named then Some (record { 0 = n }) else None) rest ≡ Ok x →
+          are_named all_status_flags x.0.0 ≡ true
       go n rest true is e =
           let flags : StatusFlags = record { 0 = n } in
           subst (λ (y : StatusFlags × List ℕ). are_named all_status_flags y.0.0 ≡ true) (ok_same (flags, rest) x e) is
       go n rest false is e = absurd cc
 
-flags_own : (bytes : List ℕ) (x : (ℕ × ℕ × ℕ) × List ℕ) → flags_at bytes ≡ Ok x → are_named all_status_flags x.0.2 ≡ true
+flags_own : (bytes : List ℕ) (x : (ℕ × ℕ × ℕ) × List ℕ) → flags_at bytes ≡ Ok x →
+    are_named all_status_flags x.0.2 ≡ true
 unfolding flags_at
 flags_own bytes x h =
     let low = bind_ok (fixed_number_at 2 bytes) _ x h in
@@ -59,14 +64,16 @@ flags_own bytes x h =
     let status = bind_ok (named_at status_named (fixed_number_at 2) collation.0.1) _ x collation.2 in
     let high = bind_ok (upper_half_at status.0.1) _ x status.2 in
     let made : (ℕ × ℕ × ℕ) × List ℕ = ((bit_or low.0.0 high.0.0, collation.0.0, status.0.0.0), high.0.1) in
-    subst (λ (y : (ℕ × ℕ × ℕ) × List ℕ). are_named all_status_flags y.0.2 ≡ true) (ok_same made x high.2) (status_own collation.0.1 status.0 status.1)
+    subst (λ (y : (ℕ × ℕ × ℕ) × List ℕ). are_named all_status_flags y.0.2 ≡
+    true) (ok_same made x high.2) (status_own collation.0.1 status.0 status.1)
 
 -- bits without a name are dropped
 pub dropped : (m k : ℕ) → (bit_and (bit_and m k) k == bit_and m k) ≡ true
 dropped m k = eq-eqb (bit_and (bit_and m k) k) (bit_and m k) (and_assoc k m k ∙ ap (bit_and m) (and_self k))
 
 abbrev pub AreNamed : FixedFields → Type 0
-AreNamed q = (are_named all_status_flags q.status_flags ≡ true) × (are_named mariadb_capabilities q.mariadb_ext_capabilities ≡ true)
+AreNamed q = (are_named all_status_flags q.status_flags ≡ true) ×
+    (are_named mariadb_capabilities q.mariadb_ext_capabilities ≡ true)
 
 fixed_own : (bytes : List ℕ) (x : FixedFields × List ℕ) → fixed_at bytes ≡ Ok x → AreNamed x.0
 unfolding fixed_at
@@ -101,33 +108,44 @@ block_own bytes x h =
     let made : FixedFields × List ℕ = (fixed.0.0, block.0.1) in
     subst (λ (y : FixedFields × List ℕ). AreNamed y.0) (ok_same made x fixed.2) (fixed_own block.0.0 fixed.0 fixed.1)
 
-bare_own : (long : Bool) (n : ℕ) (bytes : List ℕ) (x : List ℕ × List ℕ) → (if long then Err TooManyBytes else bytes_at n bytes) ≡ Ok x → length x.0 ≡ n
+bare_own : (long : Bool) (n : ℕ) (bytes : List ℕ) (x : List ℕ × List ℕ) →
+    (if long then Err TooManyBytes else bytes_at n bytes) ≡ Ok x → length x.0 ≡ n
 bare_own true n bytes x h = absurd cc
 bare_own false n bytes x h = length_own n bytes x h
 
 abbrev pub ScrambleFits : ℕ → ℕ → Option (List ℕ) → Type 0
-ScrambleFits capabilities len text = (same (is_some text) (contains capabilities secure_connection) ≡ true) × (scramble_fits len text ≡ true)
+ScrambleFits capabilities len text =
+    (same (is_some text) (contains capabilities secure_connection) ≡ true) ×
+    (scramble_fits len text ≡ true)
 
-scramble_own : (capabilities len : ℕ) (bytes : List ℕ) (x : Option (List ℕ) × List ℕ) → scramble_at capabilities len bytes ≡ Ok x → ScrambleFits capabilities len x.0
+scramble_own : (capabilities len : ℕ) (bytes : List ℕ) (x : Option (List ℕ) × List ℕ) →
+    scramble_at capabilities len bytes ≡ Ok x → ScrambleFits capabilities len x.0
 unfolding scramble_at
 scramble_own capabilities len bytes x h = go (contains capabilities secure_connection) h where
-  go : (there : Bool) → (if there then (bare_at 247 (max 13 (len - 8)) bytes >>= λ text. Ok (Some text.0, text.1)) else Ok (None, bytes)) ≡ Ok x
+  go : (there : Bool) → (if there then
+      (bare_at 247 (max 13 (len - 8)) bytes >>= λ text. Ok (Some text.0, text.1)) else Ok (
+        None,
+        bytes,
+      )) ≡ Ok x
       → (same (is_some x.0) there ≡ true) × (scramble_fits len x.0 ≡ true)
   go true e =
       let text = bind_ok (bare_at 247 (max 13 (len - 8)) bytes) _ x e in
       let made : Option (List ℕ) × List ℕ = (Some text.0.0, text.0.1) in
       let exact = bare_own (nat_lt 247 (max 13 (len - 8))) (max 13 (len - 8)) bytes text.0 text.1 in
-      subst (λ (y : Option (List ℕ) × List ℕ). (same (is_some y.0) true ≡ true) × (scramble_fits len y.0 ≡ true)) (ok_same made x text.2)
+      subst (λ (y : Option (List ℕ) × List ℕ). (same (is_some y.0) true ≡ true) ×
+      (scramble_fits len y.0 ≡ true)) (ok_same made x text.2)
       (refl, eq-eqb (length text.0.0) (max 13 (len - 8)) exact)
   go false e =
       let made : Option (List ℕ) × List ℕ = (None, bytes) in
-      subst (λ (y : Option (List ℕ) × List ℕ). (same (is_some y.0) false ≡ true) × (scramble_fits len y.0 ≡ true)) (ok_same made x e) (refl, refl)
+      subst (λ (y : Option (List ℕ) × List ℕ). (same (is_some y.0) false ≡ true) ×
+      (scramble_fits len y.0 ≡ true)) (ok_same made x e) (refl, refl)
 
 name_own : (capabilities : ℕ) (bytes : List ℕ) (x : Option (List ℕ) × List ℕ) → name_at capabilities bytes ≡ Ok x →
     same (is_some x.0) (contains capabilities plugin_auth) ≡ true
 unfolding name_at
 name_own capabilities bytes x h = go (contains capabilities plugin_auth) h where
-  go : (there : Bool) → (if there then Ok (Some (without_zero bytes), []) else Ok (None, bytes)) ≡ done x → same (is_some x.0) there ≡ true
+  go : (there : Bool) → (if there then Ok (Some (without_zero bytes), []) else Ok (None, bytes)) ≡
+      done x → same (is_some x.0) there ≡ true
   go true e =
       let made : Option (List ℕ) × List ℕ = (Some (without_zero bytes), []) in
       subst (λ (y : Option (List ℕ) × List ℕ). same (is_some y.0) true ≡ true) (ok_same made x e) refl
@@ -140,7 +158,8 @@ first_own : (b : ℕ) (bytes : List ℕ) (x : ℕ × List ℕ) → fixed_number_
 first_own b bytes x h =
     let enough : 1 ≤ length (b ∷ bytes) = omega arith in
     let whole = ap or_end (first-enough 1 (little_number 1) (b ∷ bytes) enough) in
-    let same : (little_number 1 (b ∷ bytes), drop 1 (b ∷ bytes)) ≡ x = ok_same (little_number 1 (b ∷ bytes), drop 1 (b ∷ bytes)) x (sym whole ∙ h) in
+    let same : (little_number 1 (b ∷ bytes), drop 1 (b ∷ bytes)) ≡ x =
+    ok_same (little_number 1 (b ∷ bytes), drop 1 (b ∷ bytes)) x (sym whole ∙ h) in
     subst (λ (y : ℕ × List ℕ). y.0 ≡ b) same (omega arith)
 
 -- the code and what stands behind it
@@ -155,7 +174,8 @@ code_rest bytes x h =
     (eaten_first 3 (bytes_at 3) bytes (bytes_at-sized 3) block.0.0 block.0.1 block.1)
 
 -- a greeting that was read of bytes that begin with 10
-handshake_own : (b : ℕ) (bytes : List ℕ) (x : HandshakeFields × List ℕ) → (b == 10) ≡ true → handshake_at (b ∷ bytes) ≡ Ok x → greeted_cause x.0 ≡ None
+handshake_own : (b : ℕ) (bytes : List ℕ) (x : HandshakeFields × List ℕ) → (b == 10) ≡ true →
+    handshake_at (b ∷ bytes) ≡ Ok x → greeted_cause x.0 ≡ None
 unfolding handshake_at
 handshake_own b bytes x is h =
     let protocol = bind_ok (fixed_number_at 1 (b ∷ bytes)) _ x h in
@@ -199,7 +219,8 @@ message_own : (bytes : List ℕ) (x : ServerError × List ℕ) → error_at 0 by
 unfolding error_at error_code_at server_error_at
 message_own bytes x h =
     let code = bind_ok (error_code_at bytes) _ x h in
-    let made : ServerError × List ℕ = (record { error_code = code.0.0; sql_state = None; error_message = code.0.1 }, []) in
+    let made : ServerError × List ℕ =
+    (record { error_code = code.0.0; sql_state = None; error_message = code.0.1 }, []) in
     let rest = code_rest bytes code.0 code.1 in
     subst (λ (y : ServerError × List ℕ). y.0.error_message ≡ drop 3 bytes) (ok_same made x code.2) rest
 
@@ -207,19 +228,22 @@ early_own : (bytes : List ℕ) (x : ServerError × List ℕ) → early_error_at 
     (is_some x.0.sql_state || not (slice_index_or x.0.error_message 0 0 == 35)) ≡ true
 unfolding early_error_at
 early_own bytes x h = go (slice_index_or bytes 3 0 == 35) refl h where
-  go : (marked : Bool) → (slice_index_or bytes 3 0 == 35) ≡ marked → error_at (if marked then protocol_41 else 0) bytes ≡ Ok x
+  go : (marked : Bool) → (slice_index_or bytes 3 0 == 35) ≡ marked →
+      error_at (if marked then protocol_41 else 0) bytes ≡ Ok x
       → (is_some x.0.sql_state || not (slice_index_or x.0.error_message 0 0 == 35)) ≡ true
   go true is e = rw (same-true (is_some x.0.sql_state) (error_own 0x200 bytes x e)) refl
   go false is e =
       let other : (slice_index_or x.0.error_message 0 0 == 35) ≡ false =
-      ap (λ (text : List ℕ). slice_index_or text 0 0 == 35) (message_own bytes x e) ∙ ap (λ (n : ℕ). n == 35) (get_or-drop 3 bytes 0 0) ∙ is in
+      ap (λ (text : List ℕ). slice_index_or text 0 0 == 35) (message_own bytes x e) ∙
+      ap (λ (n : ℕ). n == 35) (get_or-drop 3 bytes 0 0) ∙ is in
       rw (same-false (is_some x.0.sql_state) (error_own 0 bytes x e), other) refl
 
 moved : {e f : Greeting} → e ≡ f → greeting_cause e ≡ None → greeting_cause f ≡ None
 moved h none = subst (λ (e : Greeting). greeting_cause e ≡ None) h none
 
 by_byte : (b : ℕ) (bytes : List ℕ) (event : Greeting) (err ten : Bool) → (b == 0xff) ≡ err → (b == 10) ≡ ten
-    → (if err then or_fault BadError Rejected (early_error_at (b ∷ bytes)) else if ten then or_fault BadGreeting Greeted (handshake_at (b ∷ bytes)) else Err OldProtocol) ≡ Ok event
+    → (if err then or_fault BadError Rejected (early_error_at (b ∷ bytes)) else if ten then or_fault
+    BadGreeting Greeted (handshake_at (b ∷ bytes)) else Err OldProtocol) ≡ Ok event
     → greeting_cause event ≡ None
 by_byte b bytes event true ten is255 is10 h =
     let read = read_as BadError Rejected (early_error_at (b ∷ bytes)) event h in

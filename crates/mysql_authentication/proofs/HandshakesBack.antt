@@ -27,17 +27,20 @@ low_half-back c rest =
     ap (λ (bytes : List ℕ). fixed_number_at 2 (bytes ++ rest)) (sym (same_low c))
     ∙ fixed_number_at-back 2 (c % 2 ^ 16) rest (omega arith)
 
-high_half-back : (c : ℕ) (rest : List ℕ) → c < 2 ^ 32 → upper_half_at (upper_half c ++ rest) ≡ Ok (c / 2 ^ 16 * 2 ^ 16, rest)
+high_half-back : (c : ℕ) (rest : List ℕ) → c < 2 ^ 32 → upper_half_at (upper_half c ++ rest) ≡
+    Ok (c / 2 ^ 16 * 2 ^ 16, rest)
 high_half-back c rest small = rw (fixed_number_at-back 2 (c / 2 ^ 16) rest (omega arith)) refl
 
 halves : (c : ℕ) → bit_or (c % 2 ^ 16) (c / 2 ^ 16 * 2 ^ 16) ≡ c
-halves c = or_comm (c % 2 ^ 16) (c / 2 ^ 16 * 2 ^ 16) ∙ or_shifted (c / 2 ^ 16) 16 (c % 2 ^ 16) (omega arith) ∙ omega arith
+halves c = or_comm (c % 2 ^ 16) (c / 2 ^ 16 * 2 ^ 16) ∙
+    or_shifted (c / 2 ^ 16) 16 (c % 2 ^ 16) (omega arith) ∙ omega arith
 
 status-back : (status : ℕ) (rest : List ℕ) → are_named all_status_flags status ≡ true → status < 2 ^ 16
     → named_at status_named (fixed_number_at 2) (little_bytes 2 status ++ rest) ≡ Ok (record { 0 = status }, rest)
 status-back status rest named fits =
     named_at-back status_named (λ flags. flags.0) (fixed_number_at 2) (little_bytes 2) (record { 0 = status }) rest
-    (flags_named-back all_status_flags (λ bits. record { 0 = bits }) status named) (fixed_number_at-back 2 status rest fits)
+    (flags_named-back all_status_flags (λ bits. record { 0 = bits }) status named)
+    (fixed_number_at-back 2 status rest fits)
 
 flags-back : (c collation status : ℕ) (rest : List ℕ) → c < 2 ^ 32 → collation < 2 ^ 8 → status < 2 ^ 16 →
     are_named all_status_flags status ≡ true
@@ -56,8 +59,10 @@ flags-back c collation status rest small few short named =
     ) refl
 
 -- the fields of fixed length
-pub fixed-back : (q : FixedFields) → q.connection_id < 2 ^ 32 → length q.scramble_1 ≡ 8 → q.capabilities < 2 ^ 32 → q.default_collation < 2 ^ 8
-    → q.status_flags < 2 ^ 16 → are_named all_status_flags q.status_flags ≡ true → q.data_length < 2 ^ 8 → q.mariadb_ext_capabilities < 2 ^ 32
+pub fixed-back : (q : FixedFields) → q.connection_id < 2 ^ 32 → length q.scramble_1 ≡ 8 →
+    q.capabilities < 2 ^ 32 → q.default_collation < 2 ^ 8
+    → q.status_flags < 2 ^ 16 → are_named all_status_flags q.status_flags ≡ true →
+    q.data_length < 2 ^ 8 → q.mariadb_ext_capabilities < 2 ^ 32
     → are_named mariadb_capabilities q.mariadb_ext_capabilities ≡ true
     → fixed_at (fixed q) ≡ Ok (q, [])
 unfolding fixed fixed_at
@@ -65,12 +70,18 @@ fixed-back q id eight caps collation status status_named len mariadb mariadb_nam
     let m = little_bytes 4 q.mariadb_ext_capabilities ++ [] in
     let r : List ℕ = replicate 6 0 ++ (little_bytes 4 q.mariadb_ext_capabilities ++ []) in
     let l = little_bytes 1 q.data_length ++ (replicate 6 0 ++ (little_bytes 4 q.mariadb_ext_capabilities ++ [])) in
-    let f = little_bytes 2 q.capabilities ++ (little_bytes 1 q.default_collation ++ (little_bytes 2 q.status_flags ++ (upper_half q.capabilities
+    let f = little_bytes 2 q.capabilities ++
+    (little_bytes 1 q.default_collation ++
+    (little_bytes 2 q.status_flags ++ (upper_half q.capabilities
     ++ (little_bytes 1 q.data_length ++ (replicate 6 0 ++ (little_bytes 4 q.mariadb_ext_capabilities ++ [])))))) in
-    let z : List ℕ = replicate 1 0 ++ (little_bytes 2 q.capabilities ++ (little_bytes 1 q.default_collation ++ (little_bytes 2 q.status_flags ++ (upper_half q.capabilities
+    let z : List ℕ = replicate 1 0 ++
+    (little_bytes 2 q.capabilities ++
+    (little_bytes 1 q.default_collation ++
+    (little_bytes 2 q.status_flags ++ (upper_half q.capabilities
     ++ (little_bytes 1 q.data_length ++ (replicate 6 0 ++ (little_bytes 4 q.mariadb_ext_capabilities ++ []))))))) in
     let all_named : bit_and q.mariadb_ext_capabilities (known_bits mariadb_capabilities) ≡ q.mariadb_ext_capabilities =
-    eqb-true (bit_and q.mariadb_ext_capabilities (known_bits mariadb_capabilities)) q.mariadb_ext_capabilities mariadb_named in
+    eqb-true (bit_and q.mariadb_ext_capabilities (known_bits mariadb_capabilities))
+    q.mariadb_ext_capabilities mariadb_named in
     rw (
       fixed_number_at-back 4 q.connection_id (q.scramble_1 ++ z) id,
       bytes_at-back 8 q.scramble_1 z eight,
@@ -85,10 +96,14 @@ fixed-back q id eight caps collation status status_named len mariadb mariadb_nam
 fixed-length : (q : FixedFields) → length q.scramble_1 ≡ 8 → length (fixed q) ≡ 31
 unfolding fixed
 fixed-length q eight =
-    let z : List ℕ = replicate 1 0 ++ (little_bytes 2 q.capabilities ++ (little_bytes 1 q.default_collation ++ (little_bytes 2 q.status_flags ++ (upper_half q.capabilities
+    let z : List ℕ = replicate 1 0 ++
+    (little_bytes 2 q.capabilities ++
+    (little_bytes 1 q.default_collation ++
+    (little_bytes 2 q.status_flags ++ (upper_half q.capabilities
     ++ (little_bytes 1 q.data_length ++ (replicate 6 0 ++ (little_bytes 4 q.mariadb_ext_capabilities ++ []))))))) in
     omega (arith, eight, length-append q.scramble_1 z)
 
-pub block-back : (q : FixedFields) (rest : List ℕ) → length q.scramble_1 ≡ 8 → fixed_at (fixed q) ≡ Ok (q, []) → block_at (fixed q ++ rest) ≡ Ok (q, rest)
+pub block-back : (q : FixedFields) (rest : List ℕ) → length q.scramble_1 ≡ 8 → fixed_at (fixed q) ≡
+    Ok (q, []) → block_at (fixed q ++ rest) ≡ Ok (q, rest)
 unfolding block_at
 block-back q rest eight back = rw (bytes_at-back 31 (fixed q) rest (fixed-length q eight), back) refl

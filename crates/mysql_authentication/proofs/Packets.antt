@@ -1,5 +1,6 @@
 -- Errors and OK packets that were written are read again.
-use Rattle.std.proofs.Common.{◌≡◌, ◌<◌, ◌^◌, ◌==◌, ◌&&◌, ◌||◌, if◌then◌else◌, ℕ, zero, suc, Bool, true, false, not, List, [], ◌∷◌, ◌++◌, length, Option, None, Some, is_some, Ok}
+use Rattle.std.proofs.Common.{◌≡◌, ◌<◌, ◌^◌, ◌==◌, ◌&&◌, ◌||◌, if◌then◌else◌, ℕ, zero, suc, Bool, true, false, not}
+use Rattle.std.proofs.Common.{List, [], ◌∷◌, ◌++◌, length, Option, None, Some, is_some, Ok}
 use Rattle.std.proofs.Common.{refl, ap, ◌∙◌, lit<}
 use Rattle.byteorder.specs.Endian.{little_bytes}
 use Rattle.mysql_authentication.specs.Statements.{HoldsError, HoldsOk, HoldsState}
@@ -10,7 +11,8 @@ use Rattle.mysql_ok_packets.specs.BackLaws.{ok_packet-back}
 use Rattle.mysql_ok_packets.specs.OkPackets.{OkPacket, ok_packet_at, unless_empty, unless_zero}
 use Rattle.mysql_ok_packets.specs.Written.{as_ok, is_named_status, ok_packet_bytes, or_empty, or_zero, tells_state}
 use Rattle.mysql_server_packets.specs.PacketLaws.{server_error_at-back}
-use Rattle.mysql_server_packets.specs.Packets.{Error, HasState, ServerError, err_packet, error_at, error_code_at, protocol_41, server_error}
+use Rattle.mysql_server_packets.specs.Packets.{Error, HasState, ServerError, err_packet, error_at, error_code_at}
+use Rattle.mysql_server_packets.specs.Packets.{protocol_41, server_error}
 
 code-back : (code : ℕ) (rest : List ℕ) → code < 2 ^ 16 →
     error_code_at (little_bytes 1 255 ++ little_bytes 2 code ++ rest) ≡ Ok (code, rest)
@@ -21,14 +23,16 @@ code-back code rest small = rw (
   fixed_number_at-back 2 code [] small,
 ) refl
 
-state-is : (protocol : Bool) (state : Option (List ℕ)) → HoldsState state → same (is_some state) protocol ≡ true → HasState protocol state
+state-is : (protocol : Bool) (state : Option (List ℕ)) → HoldsState state →
+    same (is_some state) protocol ≡ true → HasState protocol state
 state-is true None h e = cc
 state-is true (Some state) h e = h
 state-is false None h e = tt
 state-is false (Some state) h e = cc
 
 -- an error by capabilities that say whether it has a state
-pub error-back : (capabilities : ℕ) (e : ServerError) → HoldsError e → same (is_some e.sql_state) (protocol_41 capabilities) ≡ true →
+pub error-back : (capabilities : ℕ) (e : ServerError) → HoldsError e →
+    same (is_some e.sql_state) (protocol_41 capabilities) ≡ true →
     error_at capabilities (err_packet (Error e)) ≡ Ok (e, [])
 unfolding error_at
 error-back capabilities e h told =
@@ -41,12 +45,14 @@ id-kept None h = refl
 id-kept (Some zero) h = cc
 id-kept (Some (suc n)) h = refl
 
-text-kept : (text : Option (List ℕ)) → if_some (λ text. not (length text == 0)) text ≡ true → unless_empty (or_empty text) ≡ text
+text-kept : (text : Option (List ℕ)) → if_some (λ text. not (length text == 0)) text ≡ true →
+    unless_empty (or_empty text) ≡ text
 text-kept None h = refl
 text-kept (Some []) h = cc
 text-kept (Some (b ∷ bytes)) h = refl
 
-state-kept : (tells : Bool) (state : Option (List ℕ)) → (not (is_some state) || tells) ≡ true → if_some (λ text. not (length text == 0)) state ≡ true →
+state-kept : (tells : Bool) (state : Option (List ℕ)) → (not (is_some state) || tells) ≡ true →
+    if_some (λ text. not (length text == 0)) state ≡ true →
     (if tells then unless_empty (or_empty state) else None) ≡ state
 state-kept true state told normal = text-kept state normal
 state-kept false None told normal = refl

@@ -1,5 +1,6 @@
 -- Texts that end at their first zero.
-use Rattle.std.proofs.Common.{◌≡◌, ◌≤◌, ℕ, List, length, take, ◌++◌, ◌∷◌, [], ◌-◌, length-append, true, refl, ap, ◌∙◌, arith, eq-eqb}
+use Rattle.std.proofs.Common.{◌≡◌, ◌≤◌, ℕ, List, length, take, ◌++◌, ◌∷◌, [], ◌-◌, length-append, true, refl, ap, ◌∙◌}
+use Rattle.std.proofs.Common.{arith, eq-eqb}
 use Rattle.std.proofs.lemmas.Bool.{eqb-true}
 use Rattle.std.proofs.lemmas.List.{get_or-take, length-take, take_all}
 use Rattle.std.proofs.lemmas.List.Sums.{fails_before_first, position_or_len_is}
@@ -12,7 +13,8 @@ use Rattle.mysql_buf.specs.Reading.{is_zero}
 -- a text without a zero is the front before its first one
 pub front_whole : (text : List ℕ) → has_no_zero text ≡ true → before_first is_zero text ≡ text
 front_whole text h =
-    let same : length (before_first is_zero text) ≡ length text = eqb-true (length (before_first is_zero text)) (length text) h in
+    let same : length (before_first is_zero text) ≡ length text =
+    eqb-true (length (before_first is_zero text)) (length text) h in
     let cut : length (take (position_or_len is_zero text) text) ≡ length text = same in
     take_all (position_or_len is_zero text) text (omega (arith, length-take (position_or_len is_zero text) text))
 
@@ -30,7 +32,8 @@ front_has_none bytes =
     (λ h. absurd (omega arith)) in
     let whole : before_first is_zero (before_first is_zero bytes) ≡ before_first is_zero bytes =
     ap (λ (n : ℕ). take n (before_first is_zero bytes)) all ∙ take-length (before_first is_zero bytes) in
-    eq-eqb (length (before_first is_zero (before_first is_zero bytes))) (length (before_first is_zero bytes)) (ap length whole)
+    eq-eqb (length (before_first is_zero (before_first is_zero bytes)))
+    (length (before_first is_zero bytes)) (ap length whole)
 
 -- a zero behind a text is dropped
 pub last_zero : (text : List ℕ) → without_zero (text ++ 0 ∷ []) ≡ text

@@ -15,6 +15,7 @@ short_at-taken old bytes new b ones number count all is =
     let part = first-some (ones + 1) (take (ones + 1)) old (bytes, new) all in
     let taken : bytes ≡ take (ones + 1) old = ap (λ p. p.0) part.1 in
     let left : new ≡ drop (ones + 1) old = ap (λ p. p.1) part.1 in
-    let whole : number ≡ little_number (ones + 1) old = is ∙ ap (little_number (ones + 1)) taken ∙ little_from-take 0 (ones + 1) (ones + 1) old (omega arith) in
+    let whole : number ≡ little_number (ones + 1) old = is ∙ ap (little_number (ones + 1)) taken ∙
+    little_from-take 0 (ones + 1) (ones + 1) old (omega arith) in
     let there = first-enough (ones + 1) (λ bytes. little_number (ones + 1) bytes / 2 ^ (ones + 1)) old part.0 in
     rw (← count, there, whole, left) refl

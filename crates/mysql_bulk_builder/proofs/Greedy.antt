@@ -1,5 +1,6 @@
 -- Cutting n items into parts, each time the longest part that fits.
-use Rattle.std.proofs.Common.{◌≡◌, ℕ, zero, suc, ◌+◌, ◌-◌, ◌<◌, ◌≤◌, ◌⊎◌, inl, inr, List, [], ◌∷◌, length, refl, sym, subst, arith, zero-le, suc-le-suc}
+use Rattle.std.proofs.Common.{◌≡◌, ℕ, zero, suc, ◌+◌, ◌-◌, ◌<◌, ◌≤◌, ◌⊎◌, inl, inr, List, [], ◌∷◌, length, refl, sym}
+use Rattle.std.proofs.Common.{subst, arith, zero-le, suc-le-suc}
 use Rattle.std.specs.Prelude.{sum}
 use Rattle.std.specs.List.{AllByRecursion}
 use Rattle.std.proofs.lemmas.List.Sums.{sum_by-cons}
@@ -53,7 +54,9 @@ module _ (n : ℕ) (F : ℕ → ℕ → Type 0) where
   ]
 
   -- Longest parts stay ahead of every cut that fits, so they are fewest.
-  pub fewest : IsHereditary → (cut other : List ℕ) (s s' : ℕ) → s' ≤ s → s + sum cut ≡ n → s' + sum other ≡ n → AllPositive cut → AllFit s' other → AllLongest s cut → length cut ≤ length other
+  pub fewest : IsHereditary → (cut other : List ℕ) (s s' : ℕ) → s' ≤ s → s + sum cut ≡ n →
+      s' + sum other ≡ n → AllPositive cut → AllFit s' other → AllLongest s cut →
+      length cut ≤ length other
   fewest sub [] other s s' le e e' pos fit longest = zero-le
   fewest sub (c ∷ cut) [] s s' le e e' pos fit longest = absurd (omega (arith, sum-cons c cut, pos.0))
   fewest sub (c ∷ cut) (d ∷ other) s s' le e e' pos fit longest =
@@ -64,7 +67,8 @@ module _ (n : ℕ) (F : ℕ → ℕ → Type 0) where
       suc-le-suc (fewest sub cut other (s + c) (s' + d) next e1 e2 pos.1 fit.1 longest.1)
 
   -- there is only one way to choose
-  pub unique : (a b : List ℕ) (s s' : ℕ) → s ≡ s' → s + sum a ≡ n → s' + sum b ≡ n → AllPositive a → AllPositive b → AllChosen s a → AllChosen s' b → a ≡ b
+  pub unique : (a b : List ℕ) (s s' : ℕ) → s ≡ s' → s + sum a ≡ n → s' + sum b ≡ n → AllPositive a →
+      AllPositive b → AllChosen s a → AllChosen s' b → a ≡ b
   unique [] [] s s' same e e' pa pb ca cb = refl
   unique [] (d ∷ b) s s' same e e' pa pb ca cb = absurd (omega (arith, sum-cons d b, pb.0))
   unique (c ∷ a) [] s s' same e e' pa pb ca cb = absurd (omega (arith, sum-cons c a, pa.0))
@@ -82,7 +86,8 @@ module _ (n : ℕ) (F : ℕ → ℕ → Type 0) where
         | inr one ↦ omega (arith, one)
       ]
 
-      one_length : (s s' c d : ℕ) → s ≡ s' → s + c ≤ n → s' + d ≤ n → 0 < c → 0 < d → IsChosen s c → IsChosen s' d → c ≡ d
+      one_length : (s s' c d : ℕ) → s ≡ s' → s + c ≤ n → s' + d ≤ n → 0 < c → 0 < d → IsChosen s c →
+          IsChosen s' d → c ≡ d
       one_length s s' c d same wc wd pc pd a b = elim (cases_order c d) [
         | inl e ↦ e
         | inr h ↦ elim h [
@@ -92,7 +97,8 @@ module _ (n : ℕ) (F : ℕ → ℕ → Type 0) where
       ]
 
   -- where a cut fits, each item fits by itself
-  pub each_fits : IsHereditary → (cut : List ℕ) (s : ℕ) → s + sum cut ≡ n → AllFit s cut → (k : ℕ) → s ≤ k → k < n → F k 1
+  pub each_fits : IsHereditary → (cut : List ℕ) (s : ℕ) → s + sum cut ≡ n → AllFit s cut → (k : ℕ) →
+      s ≤ k → k < n → F k 1
   each_fits sub [] s e fit k le lt = absurd (omega arith)
   each_fits sub (c ∷ cut) s e fit k le lt = elim (cases_lt k (s + c)) [
     | inl inside ↦ sub s c k 1 le (omega arith) (omega arith) fit.0
@@ -100,7 +106,8 @@ module _ (n : ℕ) (F : ℕ → ℕ → Type 0) where
   ]
 
   -- where each item fits by itself, a chosen cut fits
-  pub chosen_fits : ((k : ℕ) → k < n → F k 1) → (cut : List ℕ) (s : ℕ) → s + sum cut ≡ n → AllPositive cut → AllChosen s cut → AllFit s cut
+  pub chosen_fits : ((k : ℕ) → k < n → F k 1) → (cut : List ℕ) (s : ℕ) → s + sum cut ≡ n →
+      AllPositive cut → AllChosen s cut → AllFit s cut
   chosen_fits each [] s e pos chosen = tt
   chosen_fits each (c ∷ cut) s e pos chosen =
       let here : F s c = elim chosen.0.0 [
@@ -111,7 +118,8 @@ module _ (n : ℕ) (F : ℕ → ℕ → Type 0) where
 
   module _ (decide : (s c : ℕ) → F s c ⊎ (F s c → ⊥)) where
     -- the longest part from a start, among those of at most k items, where no longer one fits
-    pub longest_of : (k s : ℕ) → 0 < k → ((m : ℕ) → k < m → s + m ≤ n → F s m → ⊥) → (c : ℕ) × (0 < c) × (c ≤ k) × IsChosen s c
+    pub longest_of : (k s : ℕ) → 0 < k → ((m : ℕ) → k < m → s + m ≤ n → F s m → ⊥) → (c : ℕ) ×
+        (0 < c) × (c ≤ k) × IsChosen s c
     longest_of zero s pos none = absurd (omega arith)
     longest_of (suc k) s pos none = elim (decide s (suc k)) [
       | inl fits ↦ (suc k, omega arith, omega arith, (inl fits, none))
@@ -128,7 +136,8 @@ module _ (n : ℕ) (F : ℕ → ℕ → Type 0) where
     ]
 
     -- the chosen cut from a start
-    pub chosen_from : (fuel s : ℕ) → s ≤ n → n ≤ s + fuel → (cut : List ℕ) × AllPositive cut × (s + sum cut ≡ n) × AllChosen s cut
+    pub chosen_from : (fuel s : ℕ) → s ≤ n → n ≤ s + fuel → (cut : List ℕ) × AllPositive cut ×
+        (s + sum cut ≡ n) × AllChosen s cut
     chosen_from zero s le enough = ([], tt, omega arith, tt)
     chosen_from (suc fuel) s le enough = elim (cases_lt s n) [
       | inl lt ↦

@@ -1,5 +1,6 @@
 -- Rows that one request holds.
-use Rattle.std.proofs.Common.{◌≡◌, ℕ, ◌-◌, ◌+◌, ◌*◌, ◌<◌, ◌≤◌, List, [], ◌∷◌, ◌++◌, length, take, get_or, below_more, None, refl, sym, ◌∙◌, ap, arith, length-append}
+use Rattle.std.proofs.Common.{◌≡◌, ℕ, ◌-◌, ◌+◌, ◌*◌, ◌<◌, ◌≤◌, List, [], ◌∷◌, ◌++◌, length, take, get_or, below_more}
+use Rattle.std.proofs.Common.{None, refl, sym, ◌∙◌, ap, arith, length-append}
 use Rattle.std.proofs.lemmas.List.{get_or_append_left, take-append-le, take_at}
 use Rattle.std.proofs.lemmas.List.Sums.{sum_by-cons}
 use Rattle.std.proofs.Math.Seq.{get_or-append_seam}
@@ -32,8 +33,10 @@ whole_is_tight room columns rows some fits =
 
 -- no row is too large for one
 pub none_too_large_within : WholeHasNoneTooLarge
-none_too_large_within room columns rows fits = none_past room columns (room - (7 + 2 * columns)) rows (omega (arith, fits)) (λ k lt.
-    let within : rows_size rows k 1 ≤ rows_size rows 0 (length rows) = sum_within row_size rows 0 (length rows) k 1 (omega arith) (omega (arith, lt)) in
+none_too_large_within room columns rows fits =
+    none_past room columns (room - (7 + 2 * columns)) rows (omega (arith, fits)) (λ k lt.
+    let within : rows_size rows k 1 ≤ rows_size rows 0 (length rows) =
+    sum_within row_size rows 0 (length rows) k 1 (omega arith) (omega (arith, lt)) in
     omega (arith, within, one_row rows k lt, fits))
 
 -- no row mixes kinds, and neither does one more
@@ -41,9 +44,14 @@ pub one_more_mixes_none : OneMoreMixesNone
 one_more_mixes_none rows row none here =
     let all : List Row = rows ++ row ∷ [] in
     let before : (j : ℕ) → j < length rows → place_where (is_of_other_kind (take j all)) (get_or all j []) ≡ None =
-    λ j less. ap (λ (l : List Row). place_where (is_of_other_kind l) (get_or all j [])) (take-append-le j rows (row ∷ []) (omega (arith, less)))
-    ∙ ap (λ (r : Row). place_where (is_of_other_kind (take j rows)) r) (get_or_append_left rows (row ∷ []) [] j less) ∙ none_before rows none j less in
+    λ j less. ap (λ (l : List Row). place_where (is_of_other_kind l) (get_or all j []))
+    (take-append-le j rows (row ∷ []) (omega (arith, less)))
+    ∙ ap (λ (r : Row). place_where (is_of_other_kind (take j rows)) r)
+    (get_or_append_left rows (row ∷ []) [] j less) ∙ none_before rows none j less in
     let last : place_where (is_of_other_kind (take (length rows) all)) (get_or all (length rows) []) ≡ None =
-    ap (λ (l : List Row). place_where (is_of_other_kind l) (get_or all (length rows) [])) (take_at rows (row ∷ []) (length rows) refl)
+    ap (λ (l : List Row). place_where (is_of_other_kind l) (get_or all (length rows) []))
+    (take_at rows (row ∷ []) (length rows) refl)
     ∙ ap (λ (r : Row). place_where (is_of_other_kind rows) r) (get_or-append_seam rows row [] []) ∙ here in
-    sym (none_mixed all (λ k lt. below_more (λ j. place_where (is_of_other_kind (take j all)) (get_or all j []) ≡ None) (length rows) before last k (omega (arith, lt, length-append rows (row ∷ [])))))
+    sym (none_mixed all (λ k lt. below_more
+    (λ j. place_where (is_of_other_kind (take j all)) (get_or all j []) ≡ None) (length rows)
+    before last k (omega (arith, lt, length-append rows (row ∷ [])))))

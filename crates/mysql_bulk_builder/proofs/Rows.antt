@@ -10,7 +10,8 @@ use Rattle.mysql_bulk_builder.specs.Cut.{Row, row_size}
 use Rattle.mysql_bulk_builder.specs.RowLists.{row_in, rows_in}
 
 pub row_size-is : (values : List Value) → row_size values ≡ sum_by (λ v. 1 + bin_len v) values
-row_size-is values = is_sum_by (λ vs. row_size vs) (λ v. 1 + bin_len v) refl (λ v vs. sum_by-cons (λ value. 1 + bin_len value) v vs) values
+row_size-is values = is_sum_by (λ vs. row_size vs) (λ v. 1 + bin_len v) refl
+    (λ v vs. sum_by-cons (λ value. 1 + bin_len value) v vs) values
 
 -- a value that takes more than what is left makes the row too large
 pub past_room : (values : List Value) (i room left : ℕ) (x : Value) → i < length values → x ≡ get_or values i x →
@@ -21,11 +22,15 @@ past_room values i room left x lt is so_far past =
     omega (arith, more, at, row_size-is values, row_size-is (take i values), so_far, past)
 
 -- a value and a row, whatever stands for a missing one
-pub value_at : (values : List (Bor Value)) (i : ℕ) (x : Bor Value) (d : Value) → i < length values → x ≡ get_or values i x → get_or (row_in values) i d ≡ x.now
-value_at values i x d lt is = get_or-map (λ (v : Bor Value). v.now) values i x d lt ∙ ap (λ (v : Bor Value). v.now) (sym is)
+pub value_at : (values : List (Bor Value)) (i : ℕ) (x : Bor Value) (d : Value) → i < length values →
+    x ≡ get_or values i x → get_or (row_in values) i d ≡ x.now
+value_at values i x d lt is = get_or-map (λ (v : Bor Value). v.now) values i x d lt ∙
+    ap (λ (v : Bor Value). v.now) (sym is)
 
-pub row_at : (rows : List (Bor (List (Bor Value)))) (i : ℕ) (x : Bor (List (Bor Value))) (d : Row) → i < length rows → x ≡ get_or rows i x → get_or (rows_in rows) i d ≡ row_in x.now
-row_at rows i x d lt is = get_or-map (λ (r : Bor (List (Bor Value))). row_in r.now) rows i x d lt ∙ ap (λ (r : Bor (List (Bor Value))). row_in r.now) (sym is)
+pub row_at : (rows : List (Bor (List (Bor Value)))) (i : ℕ) (x : Bor (List (Bor Value))) (d : Row) →
+    i < length rows → x ≡ get_or rows i x → get_or (rows_in rows) i d ≡ row_in x.now
+row_at rows i x d lt is = get_or-map (λ (r : Bor (List (Bor Value))). row_in r.now) rows i x d lt ∙
+    ap (λ (r : Bor (List (Bor Value))). row_in r.now) (sym is)
 
 -- one value more
 pub size_more : (values : List (Bor Value)) (i : ℕ) (x : Bor Value) → i < length values → x ≡ get_or values i x →
@@ -33,4 +38,10 @@ pub size_more : (values : List (Bor Value)) (i : ℕ) (x : Bor Value) → i < le
 size_more values i x lt is =
     let lt' : i < length (row_in values) = omega (arith, lt, length-map values (λ (v : Bor Value). v.now)) in
     let more = sum_by_more (λ v. 1 + bin_len v) (row_in values) i x.now lt' in
-    omega (arith, more, ap bin_len (value_at values i x x.now lt is), row_size-is (take i (row_in values)), row_size-is (take (i + 1) (row_in values)))
+    omega (
+      arith,
+      more,
+      ap bin_len (value_at values i x x.now lt is),
+      row_size-is (take i (row_in values)),
+      row_size-is (take (i + 1) (row_in values)),
+    )

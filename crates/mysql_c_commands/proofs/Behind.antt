@@ -1,5 +1,6 @@
 -- What a reader of packets leaves of a piece stands at the piece's end.
-use Rattle.std.proofs.Common.{◌≡◌, ℕ, ◌-◌, ◌+◌, ◌<◌, ◌≤◌, Bool, true, false, List, [], ◌++◌, length, drop, refl, sym, ◌∙◌, ap, arith, length-append, subst, true≢false, Option, Some, None, Ok, Err, IfSome}
+use Rattle.std.proofs.Common.{◌≡◌, ℕ, ◌-◌, ◌+◌, ◌<◌, ◌≤◌, Bool, true, false, List, [], ◌++◌, length, drop, refl, sym}
+use Rattle.std.proofs.Common.{◌∙◌, ap, arith, length-append, subst, true≢false, Option, Some, None, Ok, Err, IfSome}
 use Rattle.std.proofs.lemmas.List.{drop_all}
 use Rattle.std.proofs.Math.Seq.{drop-append-add, drop-append_seam}
 use Rattle.mysql_wire.specs.Codec.{error_of, held}
@@ -13,7 +14,8 @@ ends_with : (a b f r : List ℕ) → a ++ b ≡ f ++ r → length r ≤ length b
 ends_with a b f r e few =
     let lengths : length a + length b ≡ length f + length r = omega (arith, simp length-append at (ap length e)) in
     let count : length f ≡ length a + (length b - length r) = omega arith in
-    sym (drop-append_seam f r) ∙ ap (drop (length f)) (sym e) ∙ ap (λ n. drop n (a ++ b)) count ∙ drop-append-add a b (length b - length r)
+    sym (drop-append_seam f r) ∙ ap (drop (length f)) (sym e) ∙ ap (λ n. drop n (a ++ b)) count ∙
+    drop-append-add a b (length b - length r)
 
 -- a reader holds the bytes that came
 holds : (r : Incoming) (src : List ℕ) → held (codec_by r) src [] ≡ src
@@ -34,7 +36,8 @@ pub reads_to : (old : Incoming) (piece rest : List ℕ) (whole : Bool) (new : In
     → ReadsTo old piece (length piece - length rest) whole new
 reads_to old piece rest true new reads ends waits =
     let between = ends refl in
-    let at_end : rest ≡ drop (length piece - length rest) piece = left_behind old piece rest new reads between.0 between.1 in
+    let at_end : rest ≡ drop (length piece - length rest) piece =
+    left_behind old piece rest new reads between.0 between.1 in
     record {
       reads = subst (λ r. ReadsOn old piece true new r) at_end reads;
       within = omega arith;
@@ -43,7 +46,8 @@ reads_to old piece rest true new reads ends waits =
     }
 reads_to old piece rest false new reads ends waits =
     let over = waits refl in
-    let all : drop (length piece - length rest) piece ≡ [] = drop_all (length piece - length rest) piece (omega (arith, ap length over.0)) in
+    let all : drop (length piece - length rest) piece ≡ [] =
+    drop_all (length piece - length rest) piece (omega (arith, ap length over.0)) in
     record {
       reads = subst (λ r. ReadsOn old piece false new r) (over.0 ∙ sym all) reads;
       within = omega arith;

@@ -17,7 +17,19 @@ use Rattle.mysql_c_handles.specs.contracts.parts.Parts as Parts
 use Rattle.mysql_c_handles.specs.contracts.handle.Handle as Handle
 
 abbrev pub E : Bx
-E = record { row = Object.the_row; laws = object.the_row_laws; al = record { row = Heap.the_row; laws = heap.the_row_laws; g = ghosts; d = dict; drops = impl [] tnil dnil } }
+E = record {
+  row = Object.the_row;
+  laws = object.the_row_laws;
+  al =
+      record {
+        row = Heap.the_row;
+        laws = heap.the_row_laws;
+        g = ghosts;
+        d = dict;
+        drops =
+            impl [] tnil dnil;
+      };
+}
 
 abbrev pub ThePartsRow : RattleType
 ThePartsRow = Parts.the_row Object.the_row Heap.the_row ghosts

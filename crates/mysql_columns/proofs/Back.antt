@@ -1,7 +1,9 @@
 -- Columns that were written are read again.
 use Rattle.mysql_columns.specs.ColumnLaws.{column_at-back}
-use Rattle.mysql_columns.specs.ExtendedLaws.{extended_column_at-back, listed_column_at-back, plain_columns, values_found}
-use Rattle.mysql_columns.specs.Statements.{ColumnsReadBack, ExtendedColumnsReadBack, ListedColumnsReadBack, PlainColumnsAreColumns, ValuesAreFound}
+use Rattle.mysql_columns.specs.ExtendedLaws.{extended_column_at-back, listed_column_at-back, plain_columns}
+use Rattle.mysql_columns.specs.ExtendedLaws.{values_found}
+use Rattle.mysql_columns.specs.Statements.{ColumnsReadBack, ExtendedColumnsReadBack, ListedColumnsReadBack}
+use Rattle.mysql_columns.specs.Statements.{PlainColumnsAreColumns, ValuesAreFound}
 
 pub columns_read_back : ColumnsReadBack
 columns_read_back = column_at-back

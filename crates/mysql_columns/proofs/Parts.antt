@@ -1,5 +1,6 @@
 -- The parts of bytes that stand one after another.
-use Rattle.std.proofs.Common.{◌≡◌, ℕ, min, List, [], length, take, drop, slice_range, ◌-◌, ap, arith, sym, ◌∙◌, length-take}
+use Rattle.std.proofs.Common.{◌≡◌, ℕ, min, List, [], length, take, drop, slice_range, ◌-◌, ap, arith, sym, ◌∙◌}
+use Rattle.std.proofs.Common.{length-take}
 use Rattle.std.proofs.lemmas.List.{take_min, drop_min, take_all, drop_all, nil_from_length}
 use Rattle.std.proofs.lemmas.Slice.{between_is}
 use Rattle.mysql_columns.specs.declared.names.HeldNames.{HeldNames}

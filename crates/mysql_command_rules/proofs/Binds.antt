@@ -7,11 +7,13 @@ use Rattle.mysql_wire.specs.Reading as buffer
 use Rattle.mysql_receive.specs.declared.fault.StreamFault.{StreamFault}
 use Rattle.mysql_receive.specs.Fields.{◌>>◌, number_or, must}
 
-pub bind_ok : {A B F : Type 0} (r : Result A F) (f : A → Result B F) (y : B) → (r >>= f) ≡ Ok y → (x : A) × (r ≡ Ok x) × (f x ≡ Ok y)
+pub bind_ok : {A B F : Type 0} (r : Result A F) (f : A → Result B F) (y : B) → (r >>= f) ≡ Ok y →
+    (x : A) × (r ≡ Ok x) × (f x ≡ Ok y)
 bind_ok (Ok x) f y e = (x, refl, e)
 bind_ok (Err d) f y e = absurd cc
 
-pub bind_from : {A B F : Type 0} (r : Result A F) (f : A → Result B F) (x : A) (y : Result B F) → r ≡ Ok x → f x ≡ y → (r >>= f) ≡ y
+pub bind_from : {A B F : Type 0} (r : Result A F) (f : A → Result B F) (x : A) (y : Result B F) →
+    r ≡ Ok x → f x ≡ y → (r >>= f) ≡ y
 bind_from r f x y e h = ap (λ q. q >>= f) e ∙ h
 
 pub must_ok : {F : Type 0} (f : F) (b : Bool) (n : ℕ) → must f b ≡ Ok n → b ≡ true
@@ -27,13 +29,16 @@ end_is (Some y) x e = cc
 end_is None x e = absurd cc
 
 -- one of two, by a test
-pub if_then : {A P : Type 0} (t : Bool) (x y r : A) → (t ≡ true → x ≡ r → P) → (t ≡ false → y ≡ r → P) → (if t then x else y) ≡ r → P
+pub if_then : {A P : Type 0} (t : Bool) (x y r : A) → (t ≡ true → x ≡ r → P) →
+    (t ≡ false → y ≡ r → P) → (if t then x else y) ≡ r → P
 if_then true x y r p q e = p refl e
 if_then false x y r p q e = q refl e
 
 -- a number that passes a test, and what is read behind it
-pub number_behind : {B : Type 0} (short wrong : StreamFault) (n : ℕ) (test : ℕ → Bool) (bytes : List ℕ) (after : ℕ × List ℕ → Result B StreamFault) (y : B) →
-    (number_or short n bytes >>= λ x. must wrong (test x.0) >> after x) ≡ Ok y → (x : ℕ × List ℕ) × (buffer.little_at n bytes ≡ Some x) × (test x.0 ≡ true) × (after x ≡ Ok y)
+pub number_behind : {B : Type 0} (short wrong : StreamFault) (n : ℕ) (test : ℕ →
+    Bool) (bytes : List ℕ) (after : ℕ × List ℕ → Result B StreamFault) (y : B) →
+    (number_or short n bytes >>= λ x. must wrong (test x.0) >> after x) ≡ Ok y → (x : ℕ × List ℕ) ×
+    (buffer.little_at n bytes ≡ Some x) × (test x.0 ≡ true) × (after x ≡ Ok y)
 number_behind short wrong n test bytes after y e =
     let a = bind_ok (number_or short n bytes) (λ x. must wrong (test x.0) >> after x) y e in
     let b = bind_ok (must wrong (test a.0.0)) (λ _. after a.0) y a.2 in

@@ -1,5 +1,6 @@
 -- What holds of a query and sets against which nothing speaks by execute.
-use Rattle.std.proofs.Common.{◌≡◌, ℕ, ◌+◌, ◌≤◌, Bool, true, false, List, [], ◌∷◌, length, map, Some, None, Ok, refl, nat_lt}
+use Rattle.std.proofs.Common.{◌≡◌, ℕ, ◌+◌, ◌≤◌, Bool, true, false, List, [], ◌∷◌, length, map, Some, None, Ok, refl}
+use Rattle.std.proofs.Common.{nat_lt}
 use Rattle.std.specs.List.{AllByRecursion}
 use Rattle.std.specs.Option.{option_or}
 use Rattle.std.proofs.lemmas.Bool.{ltb-false}
@@ -17,7 +18,11 @@ use Rattle.mysql_command_rules.proofs.Held.{held}
 -- ---- the query
 
 -- of the three causes none is one
-prepare_none : (mixed many long : Bool) → option_or (cause_if mixed refusals.Mixed) (option_or (cause_if many refusals.TooManyPlaces) (option_or (cause_if long refusals.PrepareTooLarge) None)) ≡ None → (many ≡ false) × (long ≡ false)
+prepare_none : (mixed many long : Bool) →
+    option_or (cause_if mixed refusals.Mixed)
+    (option_or (cause_if many refusals.TooManyPlaces)
+    (option_or (cause_if long refusals.PrepareTooLarge) None)) ≡ None → (many ≡ false) ×
+    (long ≡ false)
 prepare_none true many long none = cc
 prepare_none false true long none = cc
 prepare_none false false true none = cc
@@ -31,7 +36,8 @@ pub record IsPreparable (query : Query) (room : ℕ) : Type 0 where
 -- so has one against whose prepare nothing speaks
 pub preparable : (query : Query) (room : ℕ) → prepare_cause query room ≡ None → IsPreparable query room
 preparable query room none =
-    let parts = prepare_none (is_mixed query.places) (nat_lt max_places (place_count query)) (nat_lt room (length (prepare_command query.parsed))) none in
+    let parts = prepare_none (is_mixed query.places) (nat_lt max_places (place_count query))
+    (nat_lt room (length (prepare_command query.parsed))) none in
     record {
       few = ltb-false max_places (place_count query) parts.0;
       short = ltb-false room (length (prepare_command query.parsed)) parts.1;
@@ -47,10 +53,16 @@ pub record IsSendable (command : List Value → List ℕ) (places room : ℕ) (v
   pub short : length (command values) ≤ room
 
 -- so may each of the sets against which nothing speaks
-pub all_sendable : (command : List Value → List ℕ) (places room number : ℕ) (sets : List (List Value)) → first_of_sets (set_cause command places room) number (map Ok sets) ≡ None
-    → AllByRecursion (λ values. AllByRecursion (λ value. FitsFields value) values) sets → AllByRecursion (IsSendable command places room) sets
+pub all_sendable : (command : List Value → List ℕ) (places room number : ℕ)
+    (sets : List (List Value)) →
+    first_of_sets (set_cause command places room) number (map Ok sets) ≡ None
+    → AllByRecursion (λ values. AllByRecursion (λ value. FitsFields value) values) sets →
+    AllByRecursion (IsSendable command places room) sets
 all_sendable command places room number [] none fit = tt
 all_sendable command places room number (values ∷ sets) none fit =
-    let parts = neither (set_cause command places room number (Ok values)) (first_of_sets (set_cause command places room) (number + 1) (map Ok sets)) none in
-    let g : IsGood command places room values = good command places room number values parts.0 in
-    (record { count = g.count_is; fit = fit.0; each = all_held 0 values g.exact; short = g.short }, all_sendable command places room (number + 1) sets parts.1 fit.1)
+    let parts = neither (set_cause command places room number (Ok values))
+    (first_of_sets (set_cause command places room) (number + 1) (map Ok sets)) none in
+    let g : IsGood command places room values = good command places room number values parts.0 in (
+      record { count = g.count_is; fit = fit.0; each = all_held 0 values g.exact; short = g.short },
+      all_sendable command places room (number + 1) sets parts.1 fit.1,
+    )

@@ -18,7 +18,8 @@ pub bytes_front : (f : StreamFault) (n : ℕ) (xs ys : List ℕ) → length xs �
 bytes_front f n xs ys is = ap (λ k. bytes_or f k (xs ++ ys)) (sym is) ∙ ap (λ o. ok_or o f) (bytes_at-append xs ys)
 
 -- a number that was written stands first
-pub number_front : (f : StreamFault) (n x : ℕ) (ys : List ℕ) → x < 256 ^ n → number_or f n (little_bytes n x ++ ys) ≡ Ok (x, ys)
+pub number_front : (f : StreamFault) (n x : ℕ) (ys : List ℕ) → x < 256 ^ n →
+    number_or f n (little_bytes n x ++ ys) ≡ Ok (x, ys)
 number_front f n x ys small = ap (λ o. ok_or o f) (little-reads_back n x ys small)
 
 -- the first byte is a number
@@ -28,8 +29,10 @@ byte_front f b ys =
     ap (λ o. ok_or o f) (first-enough 1 (little_number 1) (b ∷ ys) (omega arith)) ∙ ap (λ k. Ok (k, ys)) n
 
 -- the statement's id that was written is read
-pub id_front : (c : Statement) (id : ℕ) (rest : List ℕ) → id < 2 ^ 32 → c.id ≡ id → id_at c (little_bytes 4 id ++ rest) ≡ Ok rest
+pub id_front : (c : Statement) (id : ℕ) (rest : List ℕ) → id < 2 ^ 32 → c.id ≡ id →
+    id_at c (little_bytes 4 id ++ rest) ≡ Ok rest
 id_front c id rest small same =
-    bind_from (number_or WrongId 4 (little_bytes 4 id ++ rest)) (λ n. must WrongId (n.0 == c.id) >>= λ known. Ok n.1) (id, rest) (Ok rest)
+    bind_from (number_or WrongId 4 (little_bytes 4 id ++ rest))
+    (λ n. must WrongId (n.0 == c.id) >>= λ known. Ok n.1) (id, rest) (Ok rest)
     (number_front WrongId 4 id rest (omega (arith, small)))
     (ap (λ b. must WrongId b >>= λ known. Ok rest) (eq-eqb id c.id (sym same)))

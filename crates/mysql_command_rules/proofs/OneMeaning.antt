@@ -17,8 +17,14 @@ one_given : (xs ys : List Value) → values_given xs ≡ values_given ys → xs 
 one_given xs ys same = cc
 
 pub read_equally : OneTokens → RoadsReadEqually
-read_equally once query sets others id limit other_id other_limit stream other contents other_contents give first second =
+read_equally once query sets others id limit other_id other_limit stream other contents
+    other_contents give first second =
     let m : AreMeanings query sets contents = first.meanings in
     let n : AreMeanings query others other_contents = second.meanings in
-    let gives : map values_given m.values ≡ map values_given n.values = sym m.given ∙ ap (λ tokens. sets (names_of tokens)) (once query.mode query.text m.tokens n.tokens m.has n.has) ∙ give (names_of n.tokens) ∙ n.given in
-    one_contents contents other_contents (sym m.each ∙ ap (λ l. map (map content_of) l) (map_tells values_given one_given m.values n.values gives) ∙ n.each)
+    let gives : map values_given m.values ≡ map values_given n.values = sym m.given ∙
+    ap (λ tokens. sets (names_of tokens))
+    (once query.mode query.text m.tokens n.tokens m.has n.has) ∙ give (names_of n.tokens) ∙
+    n.given in
+    one_contents contents other_contents (sym m.each ∙
+    ap (λ l. map (map content_of) l)
+    (map_tells values_given one_given m.values n.values gives) ∙ n.each)

@@ -1,5 +1,6 @@
 -- Rows of a bulk request read back, by types that serve them.
-use Rattle.std.proofs.Common.{◌≡◌, ℕ, suc, ◌+◌, ◌<◌, ◌==◌, Bool, true, false, List, [], ◌∷◌, ◌++◌, length, get_or, map, Some, Ok, refl, sym, ◌∙◌, ap, arith, append_assoc}
+use Rattle.std.proofs.Common.{◌≡◌, ℕ, suc, ◌+◌, ◌<◌, ◌==◌, Bool, true, false, List, [], ◌∷◌, ◌++◌, length, get_or, map}
+use Rattle.std.proofs.Common.{Some, Ok, refl, sym, ◌∙◌, ap, arith, append_assoc}
 use Rattle.std.specs.Prelude.{if◌then◌else◌}
 use Rattle.std.specs.List.{AllByRecursion, flat_map, range_with_len}
 use Rattle.std.proofs.lemmas.Grind.{flat_map-append}
@@ -66,11 +67,15 @@ rows_bytes rows = row_bytes (all_values rows)
 
 -- the values of a row that are sent by the type of the value that stands for their column
 abbrev pub Serves : (ℕ → Value) → ℕ → Row → Type 0
-Serves f from row = (j : ℕ) → j < length row → is_null (get_or row j NULL) ≡ false → sent_type (f (from + j)) ≡ sent_type (get_or row j NULL)
+Serves f from row = (j : ℕ) → j < length row → is_null (get_or row j NULL) ≡ false →
+    sent_type (f (from + j)) ≡ sent_type (get_or row j NULL)
 
 -- the bytes of rows are those of the first, and of the others
 pub rows_split : (row : Row) (rows : List Row) → rows_bytes (row ∷ rows) ≡ row_bytes row ++ rows_bytes rows
-rows_split row rows = ap (λ l. flat_map param_value_bytes l) (map-append param_value_of row (all_values rows)) ∙ flat_map-append param_value_bytes (map param_value_of row) (map param_value_of (all_values rows))
+rows_split row rows = ap (λ l. flat_map param_value_bytes l)
+    (map-append param_value_of row (all_values rows)) ∙
+    flat_map-append param_value_bytes (map param_value_of row)
+    (map param_value_of (all_values rows))
 
 -- a column of nothing
 null_here : (t : ParamType) (rest : List ℕ) → column_at t (1 ∷ rest) ≡ Ok (content.Null, rest)
@@ -78,12 +83,16 @@ null_here t rest = rw (byte_front BadBulk 1 rest) refl
 
 module _ (law : WrittenCellsAreHeld) where
   -- a column of a value, by its type
-  value_here : (t : ParamType) (value : Value) (meant : Content) (rest : List ℕ) → t ≡ read_type value → FitsFields value → content_of value ≡ Some meant → column_at t (0 ∷ (cell value ++ rest)) ≡ Ok (meant, rest)
+  value_here : (t : ParamType) (value : Value) (meant : Content) (rest : List ℕ) → t ≡
+      read_type value → FitsFields value → content_of value ≡ Some meant →
+      column_at t (0 ∷ (cell value ++ rest)) ≡ Ok (meant, rest)
   value_here t value meant rest is fits means =
       rw (byte_front BadBulk 0 (cell value ++ rest), is) (law BadBulk value meant rest fits means)
 
   -- a column, by a type that serves its value
-  one_column : (t : ParamType) (value : Value) (rest : List ℕ) → (is_null value ≡ false → t ≡ read_type value) → IsHeld value → column_at t (param_value_bytes (param_value_of value) ++ rest) ≡ Ok (held value, rest)
+  one_column : (t : ParamType) (value : Value) (rest : List ℕ) →
+      (is_null value ≡ false → t ≡ read_type value) → IsHeld value →
+      column_at t (param_value_bytes (param_value_of value) ++ rest) ≡ Ok (held value, rest)
   one_column t NULL rest same is = null_here t rest
   one_column t (Bytes bytes) rest same is = value_here t (Bytes bytes) (held (Bytes bytes)) rest (same refl) is.0 is.1
   one_column t (Int z) rest same is = value_here t (Int z) (held (Int z)) rest (same refl) is.0 is.1
@@ -91,18 +100,24 @@ module _ (law : WrittenCellsAreHeld) where
   one_column t (Float bits) rest same is = value_here t (Float bits) (held (Float bits)) rest (same refl) is.0 is.1
   one_column t (Double bits) rest same is = value_here t (Double bits) (held (Double bits)) rest (same refl) is.0 is.1
   one_column t (Date year month day hour minute second micros) rest same is =
-      value_here t (Date year month day hour minute second micros) (held (Date year month day hour minute second micros)) rest (same refl) is.0 is.1
+      value_here t (Date year month day hour minute second micros)
+      (held (Date year month day hour minute second micros)) rest (same refl) is.0 is.1
   one_column t (Time negative days hours minutes seconds micros) rest same is =
-      value_here t (Time negative days hours minutes seconds micros) (held (Time negative days hours minutes seconds micros)) rest (same refl) is.0 is.1
+      value_here t (Time negative days hours minutes seconds micros)
+      (held (Time negative days hours minutes seconds micros)) rest (same refl) is.0 is.1
 
   -- the columns of a row from one on
-  columns_read : (f : ℕ → Value) (from : ℕ) (row : Row) (rest : List ℕ) → AllByRecursion IsHeld row → Serves f from row → columns_at (types_by f from (length row)) (row_bytes row ++ rest) ≡ Ok (map held row, rest)
+  columns_read : (f : ℕ → Value) (from : ℕ) (row : Row) (rest : List ℕ) →
+      AllByRecursion IsHeld row → Serves f from row →
+      columns_at (types_by f from (length row)) (row_bytes row ++ rest) ≡ Ok (map held row, rest)
   unfolding columns_at
   columns_read f from [] rest all serve = refl
   columns_read f from (value ∷ row) rest all serve =
       let here : is_null value ≡ false → read_type (f from) ≡ read_type value =
       λ some. ap (λ n. read_type (f n)) (omega arith) ∙ same_type (f (from + 0)) value (serve 0 (omega arith) some) in
-      let next : Serves f (from + 1) row = λ j inside some. ap (λ n. sent_type (f n)) (omega arith) ∙ serve (suc j) (omega arith) some in
+      let next : Serves f (from + 1) row =
+      λ j inside some. ap (λ n. sent_type (f n)) (omega arith) ∙
+      serve (suc j) (omega arith) some in
       rw (
         append_assoc (param_value_bytes (param_value_of value)) (row_bytes row) rest,
         one_column (read_type (f from)) value (row_bytes row ++ rest) here all.0,
@@ -110,13 +125,18 @@ module _ (law : WrittenCellsAreHeld) where
       ) refl
 
   -- a row, by types that serve it
-  row_read : (f : ℕ → Value) (row : Row) (rest : List ℕ) → 0 < length row → AllByRecursion IsHeld row → Serves f 0 row → row_at (types_by f 0 (length row)) (row_bytes row ++ rest) ≡ Ok (map held row, rest)
+  row_read : (f : ℕ → Value) (row : Row) (rest : List ℕ) → 0 < length row →
+      AllByRecursion IsHeld row → Serves f 0 row →
+      row_at (types_by f 0 (length row)) (row_bytes row ++ rest) ≡ Ok (map held row, rest)
   row_read f [] rest some all serve = absurd (omega arith)
   row_read f (value ∷ row) rest some all serve = columns_read f 0 (value ∷ row) rest all serve
 
   -- rows read back as their contents
-  pub rows_read : (f : ℕ → Value) (columns : ℕ) → 0 < columns → (rows : List Row) → ((k : ℕ) → k < length rows → length (get_or rows k []) ≡ columns) → ((k : ℕ) → k < length rows → AllByRecursion IsHeld (get_or rows k []))
-      → ((k : ℕ) → k < length rows → Serves f 0 (get_or rows k [])) → RowsAt (types_by f 0 columns) (rows_bytes rows) (map (map held) rows) []
+  pub rows_read : (f : ℕ → Value) (columns : ℕ) → 0 < columns → (rows : List Row) →
+      ((k : ℕ) → k < length rows → length (get_or rows k []) ≡ columns) →
+      ((k : ℕ) → k < length rows → AllByRecursion IsHeld (get_or rows k []))
+      → ((k : ℕ) → k < length rows → Serves f 0 (get_or rows k [])) →
+      RowsAt (types_by f 0 columns) (rows_bytes rows) (map (map held) rows) []
   rows_read f columns some [] arity all serve = refl
   rows_read f columns some (row ∷ rows) arity all serve =
       let as_wide : length row ≡ columns = arity 0 (omega arith) in (
@@ -124,5 +144,6 @@ module _ (law : WrittenCellsAreHeld) where
         ap (λ l. row_at (types_by f 0 columns) l) (rows_split row rows)
             ∙ ap (λ n. row_at (types_by f 0 n) (row_bytes row ++ rows_bytes rows)) (sym as_wide)
             ∙ row_read f row (rows_bytes rows) (omega arith) (all 0 (omega arith)) (serve 0 (omega arith)),
-        rows_read f columns some rows (λ k inside. arity (suc k) (omega arith)) (λ k inside. all (suc k) (omega arith)) (λ k inside. serve (suc k) (omega arith)),
+        rows_read f columns some rows (λ k inside. arity (suc k) (omega arith))
+            (λ k inside. all (suc k) (omega arith)) (λ k inside. serve (suc k) (omega arith)),
       )

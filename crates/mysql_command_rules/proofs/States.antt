@@ -11,6 +11,7 @@ pub record IsReady (s : StatementState) : Type 0 where
   pub none : (place : ℕ) → s.long_data place ≡ None
 
 -- behind an execution nothing waits, and the statement is prepared if it was
-pub execution_leaves : (c : Statement) (s : StatementState) (id : ℕ) (values : List Value) (apart : Bool) → s.prepared ≡ true → IsReady (after c s (execute_command id values apart))
+pub execution_leaves : (c : Statement) (s : StatementState) (id : ℕ) (values : List Value)
+    (apart : Bool) → s.prepared ≡ true → IsReady (after c s (execute_command id values apart))
 unfolding execution
 execution_leaves c s id values apart prepared = record { prepared = prepared; none = λ place. refl }

@@ -19,14 +19,18 @@ has_zero name = nat_lt (position_or_len is_zero name) (length name)
 
 -- what is read of a name that is written to its first zero
 pub cut : (capabilities : Capabilities) (parameters : Option InForce) (table wildcard : List ℕ) →
-    command_at capabilities parameters (command_bytes capabilities parameters (FieldList table wildcard)) ≡ FieldList (before_first is_zero table) wildcard
+    command_at capabilities parameters
+    (command_bytes capabilities parameters (FieldList table wildcard)) ≡
+    FieldList (before_first is_zero table) wildcard
 cut capabilities parameters table wildcard = rw (null_text_at-back table wildcard) refl
 
 -- a name without a zero is written whole
 pub whole : (table : List ℕ) → has_zero table ≡ false → before_first is_zero table ≡ table
-whole table h = take_all (position_or_len is_zero table) table (ltb-false (position_or_len is_zero table) (length table) h)
+whole table h = take_all (position_or_len is_zero table) table
+    (ltb-false (position_or_len is_zero table) (length table) h)
 
-pub field_lists : (capabilities : Capabilities) (parameters : Option InForce) (table wildcard : List ℕ) → has_zero table ≡ false →
+pub field_lists : (capabilities : Capabilities) (parameters : Option InForce)
+    (table wildcard : List ℕ) → has_zero table ≡ false →
     ReadsBack capabilities parameters (FieldList table wildcard)
 field_lists capabilities parameters table wildcard h =
     cut capabilities parameters table wildcard ∙ ap (λ (name : List ℕ). FieldList name wildcard) (whole table h)
@@ -34,7 +38,8 @@ field_lists capabilities parameters table wildcard h =
 same_table : (a b w : List ℕ) → FieldList a w ≡ FieldList b w → a ≡ b
 same_table a b w e = cc
 
-pub cut_lists : (capabilities : Capabilities) (parameters : Option InForce) (table wildcard : List ℕ) → has_zero table ≡ true →
+pub cut_lists : (capabilities : Capabilities) (parameters : Option InForce)
+    (table wildcard : List ℕ) → has_zero table ≡ true →
     ReadsBack capabilities parameters (FieldList table wildcard) → ⊥
 cut_lists capabilities parameters table wildcard h e =
     let same : before_first is_zero table ≡ table =

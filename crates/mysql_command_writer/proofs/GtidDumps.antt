@@ -115,7 +115,8 @@ other_is_no_gtid p payload e = cc
 -- a request that isn't read whole is another payload
 unread : (capabilities : Capabilities) (parameters : Option InForce) (p : replica.BinlogDumpGtid) →
     all_of (binlog_dump_gtid_at (binlog_dump_gtid p)) ≡ None →
-    command_at capabilities parameters (command_bytes capabilities parameters (BinlogDumpGtid p)) ≡ Other (binlog_dump_gtid p)
+    command_at capabilities parameters (command_bytes capabilities parameters (BinlogDumpGtid p)) ≡
+    Other (binlog_dump_gtid p)
 unfolding binlog_dump_gtid
 unread capabilities parameters p h = rw h refl
 
@@ -177,7 +178,10 @@ with_sids p sids = record {
 -- what is read where the block is too long
 long_fields : (p : replica.BinlogDumpGtid) → HasGtidParts p → are_named binlog_dump_flags p.flags ≡ true →
     2 ^ 32 ≤ length (block_bytes p.sids) → binlog_dump_gtid_fields_at (binlog_dump_gtid p) ≡
-    (block_at (take (2 ^ 32 - 1) (block_bytes p.sids)) >>= λ sids. Ok (with_sids p sids.0, drop (2 ^ 32 - 1) (block_bytes p.sids)))
+    (block_at (take (2 ^ 32 - 1) (block_bytes p.sids)) >>= λ sids. Ok (
+      with_sids p sids.0,
+      drop (2 ^ 32 - 1) (block_bytes p.sids),
+    ))
 unfolding binlog_dump_gtid binlog_dump_gtid_fields_at binlog_dump_gtid_front_at binlog_dump_gtid_start_at with_sids
 long_fields p n named long =
     let bytes = block_bytes p.sids in

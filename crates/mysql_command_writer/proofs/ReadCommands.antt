@@ -19,7 +19,8 @@ use Rattle.mysql_executions.specs.declared.types.Attribute.{Attribute}
 use Rattle.mysql_fields.specs.Forms.{fixed_number_at}
 use Rattle.mysql_fields.specs.Laws.{bind_ok, fixed_number_at-back, ok_same}
 use Rattle.mysql_fields.specs.Wire.{Reading, ◌>>=◌}
-use Rattle.mysql_commands.specs.Commands.{Command, Layout, all_of, alone, command_at, fields, first_of, layouts, or_other, said}
+use Rattle.mysql_commands.specs.Commands.{Command, Layout, all_of, alone, command_at, fields, first_of, layouts}
+use Rattle.mysql_commands.specs.Commands.{or_other, said}
 use Rattle.mysql_commands.specs.Commands.{Quit, Query, FieldList, Shutdown}
 use Rattle.mysql_commands.specs.Commands.{LongData}
 use Rattle.mysql_commands.specs.Commands.{Fetch, Other}
@@ -70,7 +71,8 @@ first_read {X} (Err e) f c h = absurd cc
 first_read {X} (Ok x) f c h = (x, refl, cc)
 
 -- a command without fields
-pub alone_own : (P : Command → Type 0) (command c : Command) (bytes : List ℕ) → P command → alone command bytes ≡ Some c →
+pub alone_own : (P : Command → Type 0) (command c : Command) (bytes : List ℕ) → P command →
+    alone command bytes ≡ Some c →
     P c
 alone_own P command c bytes p h = go (length bytes == 0) h where
   go : (b : Bool) → (if b then Some command else None) ≡ Some c → P c
@@ -155,7 +157,8 @@ shutdown_own capabilities parameters (b ∷ bytes) c small h =
     let low : b < 256 = small 1 in
     let whole : b % 256 ≡ b = omega arith in
     let own : IsOwn capabilities parameters (Shutdown (Some b)) = (ap (λ (n : ℕ). Shutdown (Some n)) whole, refl) in
-    subst (IsOwn capabilities parameters) read.2 (subst (λ (level : Option ℕ). IsOwn capabilities parameters (Shutdown level)) same own)
+    subst (IsOwn capabilities parameters) read.2
+    (subst (λ (level : Option ℕ). IsOwn capabilities parameters (Shutdown level)) same own)
 
 pub field_list_own : (capabilities : Capabilities) (parameters : Option InForce) (bytes : List ℕ) (c : Command) →
     fields (λ c. c) field_list_at bytes ≡ Some c → IsOwn capabilities parameters c
@@ -190,7 +193,8 @@ query_own law capabilities parameters bytes c small h = go (has_query_attributes
       subst (IsOwn capabilities parameters) same (rw asks refl, refl)
 
 -- an execution, by its law
-pub execute_own : ReadExecutionsAreWritten → (capabilities : Capabilities) (parameters : Option InForce) (bytes : List ℕ)
+pub execute_own : ReadExecutionsAreWritten →
+    (capabilities : Capabilities) (parameters : Option InForce) (bytes : List ℕ)
     (c : Command) → AreBytes bytes →
     by_statement Execute (execution_at capabilities) parameters bytes ≡ Some c → IsOwn capabilities parameters c
 execute_own law capabilities None bytes c small h = absurd cc
@@ -224,7 +228,8 @@ long_data_own capabilities parameters bytes c small h =
     let read = all_read (long_data_at bytes) (λ c. c) c h in
     let id = bind_ok (fixed_number_at 4 bytes) (λ id. fixed_number_at 2 id.1 >>=
     λ place. ok_of (LongData id.0 place.0 place.1, [])) (read.0, []) read.1 in
-    let place = bind_ok (fixed_number_at 2 id.0.1) (λ place. ok_of (LongData id.0.0 place.0 place.1, [])) (read.0, []) id.2 in
+    let place = bind_ok (fixed_number_at 2 id.0.1)
+    (λ place. ok_of (LongData id.0.0 place.0 place.1, [])) (read.0, []) id.2 in
     let first = number_read 4 bytes id.0 small id.1 in
     let second = number_read 2 id.0.1 place.0 first.1 place.1 in
     let is : LongData id.0.0 place.0.0 place.0.1 ≡ c = ap (λ (r : Reading Command). value_of r) place.2 ∙ read.2 in

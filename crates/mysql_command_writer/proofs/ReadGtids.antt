@@ -1,5 +1,6 @@
 -- A request for the binary log by sets of transactions that was read may be put.
-use Rattle.std.proofs.Common.{◌≡◌, ◌<◌, ◌^◌, ℕ, true, List, [], length, take, Option, Some, None, Ok, refl, sym, ap, subst, arith}
+use Rattle.std.proofs.Common.{◌≡◌, ◌<◌, ◌^◌, ℕ, true, List, [], length, take, Option, Some, None, Ok, refl, sym, ap}
+use Rattle.std.proofs.Common.{subst, arith}
 use Rattle.std.proofs.lemmas.List.{length-take}
 use Rattle.mysql_buf.specs.Bytes.{AreBytes}
 use Rattle.mysql_buf.specs.FirstBytes.{first-some}
@@ -44,7 +45,8 @@ text_read bytes x small h =
 abbrev pub FrontRead : (ℕ × ℕ) × List ℕ → Type 0
 FrontRead x = (x.0.0 < 2 ^ 16) × (are_named binlog_dump_flags x.0.0 ≡ true) × (x.0.1 < 2 ^ 32) × AreBytes x.1
 
-front_read : (bytes : List ℕ) (x : (ℕ × ℕ) × List ℕ) → AreBytes bytes → binlog_dump_gtid_front_at bytes ≡ Ok x → FrontRead x
+front_read : (bytes : List ℕ) (x : (ℕ × ℕ) × List ℕ) → AreBytes bytes →
+    binlog_dump_gtid_front_at bytes ≡ Ok x → FrontRead x
 unfolding binlog_dump_gtid_front_at
 front_read bytes x small h =
     let header = bind_ok (constant_at 1 30 bytes) _ x h in
@@ -63,7 +65,8 @@ pub record StartRead (start : BinlogDumpGtidStart) : Type 0 where
   pub block : length start.block < 2 ^ 32
   pub small : AreBytes start.block
 
-start_read : (bytes : List ℕ) (x : BinlogDumpGtidStart × List ℕ) → AreBytes bytes → binlog_dump_gtid_start_at bytes ≡ Ok x →
+start_read : (bytes : List ℕ) (x : BinlogDumpGtidStart × List ℕ) → AreBytes bytes →
+    binlog_dump_gtid_start_at bytes ≡ Ok x →
     StartRead x.0
 unfolding binlog_dump_gtid_start_at
 start_read bytes x small h =
@@ -74,7 +77,8 @@ start_read bytes x small h =
     let block = bind_ok (u32_text_at pos.0.1) _ x pos.2 in
     let d = text_read pos.0.1 block.0 b.1 block.1 in
     let low : pos.0.0 < 256 ^ 8 = b.0 in
-    let made : BinlogDumpGtidStart × List ℕ = (record { filename = name.0.0; pos = pos.0.0; block = block.0.0 }, block.0.1) in
+    let made : BinlogDumpGtidStart × List ℕ =
+    (record { filename = name.0.0; pos = pos.0.0; block = block.0.0 }, block.0.1) in
     subst (λ (y : BinlogDumpGtidStart × List ℕ). StartRead y.0) (ok_same made x block.2)
     (record { filename = a.0; pos = omega arith; block = d.0; small = d.1 })
 
@@ -110,7 +114,9 @@ fields_read payload x small h =
       omega (arith, d.1, b.block),
     )
 
-pub gtid_read : (payload : List ℕ) (q : replica.BinlogDumpGtid) → AreBytes payload → binlog_dump_gtid_at payload ≡ Ok (q, []) →
+pub gtid_read : (payload : List ℕ) (q : replica.BinlogDumpGtid) → AreBytes payload →
+    binlog_dump_gtid_at payload ≡ Ok (q, []) →
     MayBePut q
 unfolding binlog_dump_gtid_at
-gtid_read payload q small h = fields_read payload (q, []) small (in_block 7 binlog_dump_gtid_fields_at payload (q, []) h)
+gtid_read payload q small h =
+    fields_read payload (q, []) small (in_block 7 binlog_dump_gtid_fields_at payload (q, []) h)

@@ -15,7 +15,8 @@ use Rattle.mysql_fields.specs.declared.error.WireError.TheVariants.{UnexpectedEo
 use Rattle.mysql_login.proofs.FieldsRead.{constant_read, number_read, text_read}
 use Rattle.mysql_replication.specs.Packets as replica
 use Rattle.mysql_replication.specs.Packets.{binlog_dump_at, binlog_dump_fields_at, register_slave_at}
-use Rattle.mysql_replication.specs.Packets.{register_slave_fields_at, replica_names_at, replica_numbers_at, table_dump_at}
+use Rattle.mysql_replication.specs.Packets.{register_slave_fields_at, replica_names_at, replica_numbers_at}
+use Rattle.mysql_replication.specs.Packets.{table_dump_at}
 use Rattle.mysql_replication.specs.Packets.{whole_register_slave, whole_table_dump}
 use Rattle.mysql_command_writer.proofs.ReadCommands.{ok_of}
 use Rattle.mysql_command_writer.proofs.Replication.{HasDumpNumbers, HasReplicaNumbers}

@@ -27,13 +27,15 @@ use Rattle.mysql_command_writer.proofs.Replication.{dumps_read, replicas_read, t
 use Rattle.mysql_command_writer.specs.Laws.{IsOwn, ReadCommandsArePut}
 
 -- a change of user, by the law of its reading
-login_own : ChangedUsersReadAgain → (capabilities : Capabilities) (parameters : Option InForce) (payload : List ℕ) (c : Command) →
+login_own : ChangedUsersReadAgain →
+    (capabilities : Capabilities) (parameters : Option InForce) (payload : List ℕ) (c : Command) →
     AreBytes payload → option_map ChangeUser (first_of (change_in_force_at capabilities.protocol.0 payload)) ≡ Some c →
     IsOwn capabilities parameters c
 login_own law capabilities parameters payload c small h =
     let read = first_read (change_in_force_at capabilities.protocol.0 payload) ChangeUser c h in
     let again = law capabilities.protocol.0 payload read.0.1 read.0.0 small read.1 in
-    subst (IsOwn capabilities parameters) read.2 (logins_read capabilities parameters read.0.0 (ap first_of again), refl)
+    subst (IsOwn capabilities parameters) read.2
+    (logins_read capabilities parameters read.0.0 (ap first_of again), refl)
 
 dump_own : (capabilities : Capabilities) (parameters : Option InForce) (payload : List ℕ) (c : Command) →
     AreBytes payload → fields BinlogDump binlog_dump_at payload ≡ Some c → IsOwn capabilities parameters c
@@ -133,9 +135,11 @@ rows_own attributes executions bulks logins i p =
                                             (
                                               λ b c s h. number_own P 4 Close b c (tail_bytes 25 b s) (close_own i p) h,
                                               (
-                                                λ b c s h. number_own P 4 ResetStatement b c (tail_bytes 26 b s) (reset_own i p) h,
+                                                λ b c s h. number_own P 4 ResetStatement b c
+                                                    (tail_bytes 26 b s) (reset_own i p) h,
                                                 (
-                                                  λ b c s h. number_own P 2 SetOption b c (tail_bytes 27 b s) (option_own i p) h,
+                                                  λ b c s h. number_own P 2 SetOption b c
+                                                      (tail_bytes 27 b s) (option_own i p) h,
                                                   (
                                                     λ b c s h. fetch_own i p b c (tail_bytes 28 b s) h,
                                                     (
@@ -176,7 +180,8 @@ rows_own attributes executions bulks logins i p =
       ),
     )
 
-pub commands_are_put : ReadAttributesAreWritten → ReadExecutionsAreWritten → ReadBulksAreWritten → ChangedUsersReadAgain →
+pub commands_are_put : ReadAttributesAreWritten → ReadExecutionsAreWritten → ReadBulksAreWritten →
+    ChangedUsersReadAgain →
     ReadCommandsArePut
 commands_are_put attributes executions bulks logins capabilities parameters payload small =
     read_own capabilities parameters (rows_own attributes executions bulks logins capabilities parameters) payload small

@@ -1,6 +1,8 @@
 -- Sets of transactions that were read are such sets, and what is written of them has no more bytes.
-use Rattle.std.proofs.Common.{◌≡◌, ◌≤◌, ◌<◌, ◌+◌, ◌^◌, ◌==◌, ◌&&◌, if◌then◌else◌, ℕ, zero, suc, Bool, true, false, true≢false, List, [], ◌∷◌, ◌++◌}
-use Rattle.std.proofs.Common.{length, take, drop, Option, Some, None, is_none, unwrap_or, Ok, Err, refl, sym, ap, ◌∙◌, subst, arith}
+use Rattle.std.proofs.Common.{◌≡◌, ◌≤◌, ◌<◌, ◌+◌, ◌^◌, ◌==◌, ◌&&◌, if◌then◌else◌, ℕ, zero, suc, Bool, true, false}
+use Rattle.std.proofs.Common.{true≢false, List, [], ◌∷◌, ◌++◌}
+use Rattle.std.proofs.Common.{length, take, drop, Option, Some, None, is_none, unwrap_or, Ok, Err, refl, sym, ap, ◌∙◌}
+use Rattle.std.proofs.Common.{subst, arith}
 use Rattle.std.proofs.Common.{length-append, length-drop}
 use Rattle.std.proofs.lemmas.List.{length-take}
 use Rattle.std.specs.List.{AllByRecursion, flat_map}
@@ -23,7 +25,8 @@ use Rattle.mysql_fields.specs.declared.error.WireError.TheVariants.{UnknownValue
 use Rattle.mysql_replication.proofs.Blocks.{tag_bytes_len, tag_is_short}
 use Rattle.mysql_replication.specs.BlockLaws.{Keeps}
 use Rattle.mysql_replication.specs.Blocks.{IsInterval, IsSid, IsTagOrNone, any_tag, block_at, block_bytes, block_number}
-use Rattle.mysql_replication.specs.Blocks.{count_said, interval_at, interval_bytes, is_tag, says_tagged, sid_at, sid_bytes}
+use Rattle.mysql_replication.specs.Blocks.{count_said, interval_at, interval_bytes, is_tag, says_tagged, sid_at}
+use Rattle.mysql_replication.specs.Blocks.{sid_bytes}
 use Rattle.mysql_replication.specs.Blocks.{tag_at, tag_bytes, tag_named}
 use Rattle.mysql_replication.specs.Sids.{SidParts}
 use Rattle.mysql_replication.specs.Tags.{tag_fault}
@@ -57,13 +60,15 @@ block_takes n bytes x small h =
 -- so many elements, one after another
 module _ {X : Type 0} (P : X → Type 0) (written : X → List ℕ) (read_at : List ℕ → Reading X) where
   elements_take : ((bytes : List ℕ) (x : X × List ℕ) → AreBytes bytes → read_at bytes ≡ Ok x →
-      P x.0 × Takes bytes (length (written x.0)) x.1) → (n : ℕ) (bytes : List ℕ) (x : List X × List ℕ) → AreBytes bytes →
+      P x.0 × Takes bytes (length (written x.0)) x.1) →
+      (n : ℕ) (bytes : List ℕ) (x : List X × List ℕ) → AreBytes bytes →
       elements_at read_at n bytes ≡ Ok x →
       (length x.0 ≡ n) × AllByRecursion P x.0 × Takes bytes (length (flat_map written x.0)) x.1
   unfolding elements_at
   elements_take each zero bytes x small h =
       let made : List X × List ℕ = ([], bytes) in
-      subst (λ (y : List X × List ℕ). (length y.0 ≡ 0) × AllByRecursion P y.0 × Takes bytes (length (flat_map written y.0)) y.1)
+      subst (λ (y : List X × List ℕ). (length y.0 ≡ 0) × AllByRecursion P y.0 ×
+      Takes bytes (length (flat_map written y.0)) y.1)
       (ok_same made x h) (refl, tt, (omega arith, small))
   elements_take each (suc n) bytes x small h =
       let first = bind_ok (read_at bytes) _ x h in
@@ -145,7 +150,8 @@ tag_read (c ∷ text) tag h = go (is_tag (c ∷ text)) refl h where
       IsNamed (c ∷ text) tag
   go true is e =
       let same : Some (c ∷ text) ≡ tag = cc in
-      let fault = no_fault (tag_fault (c ∷ text)) (and_parts (is_none (tag_fault (c ∷ text))) (is_utf8 (c ∷ text)) is) in
+      let fault = no_fault (tag_fault (c ∷ text))
+      (and_parts (is_none (tag_fault (c ∷ text))) (is_utf8 (c ∷ text)) is) in
       subst (IsNamed (c ∷ text)) same (is, refl, tag_is_short (c ∷ text) fault)
   go false is e = absurd cc
 
@@ -153,7 +159,8 @@ tag_read (c ∷ text) tag h = go (is_tag (c ∷ text)) refl h where
 abbrev pub TagTakes : Bool → List ℕ → Option (List ℕ) × List ℕ → Type 0
 TagTakes tagged bytes x = IsTagOrNone x.0 × Keeps tagged x.0 × Takes bytes (length (tag_bytes tagged x.0)) x.1
 
-tag_takes : (tagged : Bool) (bytes : List ℕ) (x : Option (List ℕ) × List ℕ) → AreBytes bytes → tag_at tagged bytes ≡ Ok x →
+tag_takes : (tagged : Bool) (bytes : List ℕ) (x : Option (List ℕ) × List ℕ) → AreBytes bytes →
+    tag_at tagged bytes ≡ Ok x →
     TagTakes tagged bytes x
 tag_takes false bytes x small h =
     let made : Option (List ℕ) × List ℕ = (None, bytes) in
@@ -185,13 +192,18 @@ sid_takes tagged bytes x small h =
     let intervals = bind_ok (counted_at (fixed_number_at 8) interval_at tag.0.1) _ x tag.2 in
     let count = bind_ok (fixed_number_at 8 tag.0.1) _ intervals.0 intervals.1 in
     let three = number_takes 8 tag.0.1 count.0 two.2.1 count.1 in
-    let four = elements_take IsInterval interval_bytes interval_at interval_takes count.0.0 count.0.1 intervals.0 three.1.1 count.2 in
+    let four = elements_take IsInterval interval_bytes interval_at interval_takes count.0.0
+    count.0.1 intervals.0 three.1.1 count.2 in
     let many : count.0.0 < 256 ^ 8 = three.0 in
-    let text = length-append (tag_bytes tagged tag.0.0) (little_bytes 8 (length intervals.0.0) ++ flat_map interval_bytes intervals.0.0) in
-    let whole = length-append uuid.0.0 (tag_bytes tagged tag.0.0 ++ (little_bytes 8 (length intervals.0.0) ++ flat_map interval_bytes intervals.0.0)) in
-    let made : SidParts × List ℕ = (record { uuid = uuid.0.0; tag = tag.0.0; intervals = intervals.0.0 }, intervals.0.1) in
+    let text = length-append (tag_bytes tagged tag.0.0) (little_bytes 8 (length intervals.0.0) ++
+    flat_map interval_bytes intervals.0.0) in
+    let whole = length-append uuid.0.0 (tag_bytes tagged tag.0.0 ++
+    (little_bytes 8 (length intervals.0.0) ++ flat_map interval_bytes intervals.0.0)) in
+    let made : SidParts × List ℕ =
+    (record { uuid = uuid.0.0; tag = tag.0.0; intervals = intervals.0.0 }, intervals.0.1) in
     let sid : IsSid made.0 = record { uuid = one.0; tag = two.0; intervals = four.1; count = omega (arith, four.0) } in
-    subst (λ (y : SidParts × List ℕ). IsRead tagged y.0 × Takes bytes (length (sid_bytes tagged y.0)) y.1) (ok_same made x intervals.2)
+    subst (λ (y : SidParts × List ℕ). IsRead tagged y.0 ×
+    Takes bytes (length (sid_bytes tagged y.0)) y.1) (ok_same made x intervals.2)
     ((sid, two.1), (omega (arith, one.0, one.1.0, two.2.0, three.1.0, four.2.0, text, whole), four.2.1))
 
 -- BLOCKS
@@ -209,9 +221,12 @@ sid_fewer : (sid : SidParts) → length (sid_bytes false sid) ≤ length (sid_by
 unfolding sid_bytes
 sid_fewer sid =
     let rest : List ℕ = little_bytes 8 (length sid.intervals) ++ flat_map interval_bytes sid.intervals in
-    let one = length-append sid.uuid (tag_bytes false sid.tag ++ (little_bytes 8 (length sid.intervals) ++ flat_map interval_bytes sid.intervals)) in
-    let two = length-append sid.uuid (tag_bytes true sid.tag ++ (little_bytes 8 (length sid.intervals) ++ flat_map interval_bytes sid.intervals)) in
-    let three = length-append (tag_bytes true sid.tag) (little_bytes 8 (length sid.intervals) ++ flat_map interval_bytes sid.intervals) in
+    let one = length-append sid.uuid (tag_bytes false sid.tag ++
+    (little_bytes 8 (length sid.intervals) ++ flat_map interval_bytes sid.intervals)) in
+    let two = length-append sid.uuid (tag_bytes true sid.tag ++
+    (little_bytes 8 (length sid.intervals) ++ flat_map interval_bytes sid.intervals)) in
+    let three = length-append (tag_bytes true sid.tag) (little_bytes 8 (length sid.intervals) ++
+    flat_map interval_bytes sid.intervals) in
     omega (arith, one, two, three)
 
 fewer : (sids : List SidParts) → length (flat_map (sid_bytes false) sids) ≤ length (flat_map (sid_bytes true) sids)
@@ -243,8 +258,10 @@ block_read bytes x small h =
     let number = bind_ok (fixed_number_at 8 bytes) _ x h in
     let one = number_takes 8 bytes number.0 small number.1 in
     let tagged = says_tagged number.0.0 in
-    let sets = elements_take (IsRead (says_tagged number.0.0)) (sid_bytes (says_tagged number.0.0)) (sid_at (says_tagged number.0.0))
+    let sets = elements_take (IsRead (says_tagged number.0.0)) (sid_bytes (says_tagged number.0.0))
+    (sid_at (says_tagged number.0.0))
     (sid_takes (says_tagged number.0.0)) (count_said number.0.0) number.0.1 x one.1.1 number.2 in
     let short = not_longer (says_tagged number.0.0) (any_tag x.0) x.0 refl sets.1 in
-    let whole = length-append (little_bytes 8 (block_number (any_tag x.0) (length x.0))) (flat_map (sid_bytes (any_tag x.0)) x.0) in
+    let whole = length-append (little_bytes 8 (block_number (any_tag x.0) (length x.0)))
+    (flat_map (sid_bytes (any_tag x.0)) x.0) in
     (only_sids (says_tagged number.0.0) x.0 sets.1, omega (arith, one.1.0, sets.2.0, short, whole))

@@ -58,7 +58,8 @@ three_fail a b c x y z h = grind (arith, nat_tests)
 -- REQUESTS FOR A TABLE
 
 -- a request that is read of what was put
-tables_back : (capabilities : Capabilities) (parameters : Option InForce) (p q : replica.TableDump) → table_dump_at (table_dump p) ≡ Ok (q, []) →
+tables_back : (capabilities : Capabilities) (parameters : Option InForce)
+    (p q : replica.TableDump) → table_dump_at (table_dump p) ≡ Ok (q, []) →
     command_at capabilities parameters (command_bytes capabilities parameters (TableDump p)) ≡ TableDump q
 unfolding table_dump
 tables_back capabilities parameters p q e = rw e refl
@@ -66,7 +67,8 @@ tables_back capabilities parameters p q e = rw e refl
 tables_alone : (p : replica.TableDump) → IsTableDump p → table_dump_at (table_dump p) ≡ Ok (p, [])
 tables_alone p h = rw append-nil at (table_dump_at-back p [] h)
 
-pub tables_read : (capabilities : Capabilities) (parameters : Option InForce) (p : replica.TableDump) → whole_table_dump p ≡ true →
+pub tables_read : (capabilities : Capabilities) (parameters : Option InForce)
+    (p : replica.TableDump) → whole_table_dump p ≡ true →
     ReadsBack capabilities parameters (TableDump p)
 tables_read capabilities parameters p h =
     let fit = two_fit (length p.database) (length p.table) h in
@@ -94,7 +96,8 @@ cut_table_reads capabilities parameters p =
 same_table : (p q : replica.TableDump) → TableDump p ≡ TableDump q → p ≡ q
 same_table p q e = cc
 
-pub cut_tables : (capabilities : Capabilities) (parameters : Option InForce) (p : replica.TableDump) → whole_table_dump p ≡ false →
+pub cut_tables : (capabilities : Capabilities) (parameters : Option InForce)
+    (p : replica.TableDump) → whole_table_dump p ≡ false →
     ReadsBack capabilities parameters (TableDump p) → ⊥
 unfolding cut_table
 cut_tables capabilities parameters p h e =
@@ -122,7 +125,8 @@ pub record HasReplicaNumbers (p : replica.RegisterSlave) : Type 0 where
   pub replication_rank : p.replication_rank < 2 ^ 32
   pub master_id : p.master_id < 2 ^ 32
 
-pub replicas_read : (capabilities : Capabilities) (parameters : Option InForce) (p : replica.RegisterSlave) → HasReplicaNumbers p →
+pub replicas_read : (capabilities : Capabilities) (parameters : Option InForce)
+    (p : replica.RegisterSlave) → HasReplicaNumbers p →
     whole_register_slave p ≡ true → ReadsBack capabilities parameters (RegisterSlave p)
 replicas_read capabilities parameters p n h =
     let fit = three_fit (length p.hostname) (length p.user) (length p.password) h in
@@ -158,8 +162,10 @@ cut_replica_bytes p =
     ∙ ap (λ (name : List ℕ). of_names p (u8_str p.hostname) name (u8_str (front p.password 255))) (cut_is_same p.user)
     ∙ ap (λ (name : List ℕ). of_names p (u8_str p.hostname) (u8_str p.user) name) (cut_is_same p.password)
 
-cut_replica_reads : (capabilities : Capabilities) (parameters : Option InForce) (p : replica.RegisterSlave) → HasReplicaNumbers p →
-    command_at capabilities parameters (command_bytes capabilities parameters (RegisterSlave p)) ≡ RegisterSlave (cut_replica p)
+cut_replica_reads : (capabilities : Capabilities) (parameters : Option InForce)
+    (p : replica.RegisterSlave) → HasReplicaNumbers p →
+    command_at capabilities parameters (command_bytes capabilities parameters (RegisterSlave p)) ≡
+    RegisterSlave (cut_replica p)
 unfolding cut_replica
 cut_replica_reads capabilities parameters p n =
     let short : IsRegisterSlave (cut_replica p) = record {
@@ -177,7 +183,8 @@ cut_replica_reads capabilities parameters p n =
 same_replica : (p q : replica.RegisterSlave) → RegisterSlave p ≡ RegisterSlave q → p ≡ q
 same_replica p q e = cc
 
-pub cut_replicas : (capabilities : Capabilities) (parameters : Option InForce) (p : replica.RegisterSlave) → HasReplicaNumbers p →
+pub cut_replicas : (capabilities : Capabilities) (parameters : Option InForce)
+    (p : replica.RegisterSlave) → HasReplicaNumbers p →
     whole_register_slave p ≡ false → ReadsBack capabilities parameters (RegisterSlave p) → ⊥
 unfolding cut_replica
 cut_replicas capabilities parameters p n h e =
@@ -190,7 +197,8 @@ cut_replicas capabilities parameters p n h e =
 
 -- REQUESTS FOR THE BINARY LOG FROM A PLACE
 
-dumps_back : (capabilities : Capabilities) (parameters : Option InForce) (p q : replica.BinlogDump) → binlog_dump_at (binlog_dump p) ≡ Ok (q, []) →
+dumps_back : (capabilities : Capabilities) (parameters : Option InForce)
+    (p q : replica.BinlogDump) → binlog_dump_at (binlog_dump p) ≡ Ok (q, []) →
     command_at capabilities parameters (command_bytes capabilities parameters (BinlogDump p)) ≡ BinlogDump q
 unfolding binlog_dump
 dumps_back capabilities parameters p q e = rw e refl
@@ -201,7 +209,8 @@ pub record HasDumpNumbers (p : replica.BinlogDump) : Type 0 where
   pub flags : p.flags < 2 ^ 16
   pub server_id : p.server_id < 2 ^ 32
 
-pub dumps_read : (capabilities : Capabilities) (parameters : Option InForce) (p : replica.BinlogDump) → HasDumpNumbers p →
+pub dumps_read : (capabilities : Capabilities) (parameters : Option InForce)
+    (p : replica.BinlogDump) → HasDumpNumbers p →
     are_named binlog_dump_flags p.flags ≡ true → ReadsBack capabilities parameters (BinlogDump p)
 dumps_read capabilities parameters p n h =
     let is : IsBinlogDump p =
@@ -230,7 +239,8 @@ unfolding binlog_dump binlog_dump_at
 nameless_at p n h =
     from_block-enough 11 binlog_dump_fields_at (binlog_dump p) (omega arith) ∙ nameless_fields p n h
 
-nameless_is_other : (capabilities : Capabilities) (parameters : Option InForce) (p : replica.BinlogDump) (e : WireError) →
+nameless_is_other : (capabilities : Capabilities) (parameters : Option InForce)
+    (p : replica.BinlogDump) (e : WireError) →
     binlog_dump_at (binlog_dump p) ≡ Err e →
     command_at capabilities parameters (command_bytes capabilities parameters (BinlogDump p)) ≡ Other (binlog_dump p)
 unfolding binlog_dump
@@ -239,7 +249,8 @@ nameless_is_other capabilities parameters p e h = rw h refl
 other_is_no_dump : (p : replica.BinlogDump) (payload : List ℕ) → Other payload ≡ BinlogDump p → ⊥
 other_is_no_dump p payload e = cc
 
-pub nameless_dumps : (capabilities : Capabilities) (parameters : Option InForce) (p : replica.BinlogDump) → HasDumpNumbers p →
+pub nameless_dumps : (capabilities : Capabilities) (parameters : Option InForce)
+    (p : replica.BinlogDump) → HasDumpNumbers p →
     are_named binlog_dump_flags p.flags ≡ false → ReadsBack capabilities parameters (BinlogDump p) → ⊥
 nameless_dumps capabilities parameters p n h e = other_is_no_dump p (binlog_dump p)
     (sym (nameless_is_other capabilities parameters p UnknownValue (nameless_at p n h)) ∙ e)

@@ -7,7 +7,8 @@ use Rattle.mysql_commands.specs.Views.{HasUnclear}
 use Rattle.mysql_commands.specs.declared.command.Command.{Command as Held}
 use Rattle.mysql_commands.specs.declared.command.Command.TheVariants as held
 
-module _ (c : Capabilities) (number : ℕ) (body : List ℕ) (no_execution : number ≡ 0x17 → ⊥) (no_bulk : number ≡ 0xfa → ⊥) where
+module _ (c : Capabilities) (number : ℕ) (body : List ℕ) (no_execution : number ≡ 0x17 →
+    ⊥) (no_bulk : number ≡ 0xfa → ⊥) where
   no_values : (parameters : Option InForce) (command : Held) → HasUnclear c parameters (number ∷ body) command
   no_values (Some s) (held.Execute e) = λ is. absurd (no_execution is)
   no_values None (held.Execute e) = tt
@@ -15,7 +16,10 @@ module _ (c : Capabilities) (number : ℕ) (body : List ℕ) (no_execution : num
   no_values None (held.BulkExecute e) = tt
   no_values parameters command = tt
 
-  pub others_have_none : {E : Type 0} (parameters : Option InForce) (result : Result (Option Held) E) → IfOk result (λ found. IfSome found (λ command. HasUnclear c parameters (number ∷ body) command))
+  pub others_have_none : {E : Type 0} (parameters : Option InForce)
+      (result : Result (Option Held) E) →
+      IfOk result (λ found. IfSome found
+      (λ command. HasUnclear c parameters (number ∷ body) command))
   others_have_none parameters (Ok (Some command)) = no_values parameters command
   others_have_none parameters (Ok None) = tt
   others_have_none parameters (Err e) = tt

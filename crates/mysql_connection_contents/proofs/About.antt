@@ -32,7 +32,8 @@ use Rattle.mysql_wire.specs.Stream.Numbering.{EachFromZero}
 named : (id : ℕ) (rest : List ℕ) → id < 2 ^ 32 → id_at (little_bytes 4 id ++ rest) ≡ Some id
 named id rest small = ap (option_map (λ (x : ℕ × List ℕ). x.0)) (little-reads_back 4 id rest small)
 
-execution_is_of : (id : ℕ) (values : List Value) (apart : Bool) → id < 2 ^ 32 → IsOf id (execute_command id values apart)
+execution_is_of : (id : ℕ) (values : List Value) (apart : Bool) → id < 2 ^ 32 →
+    IsOf id (execute_command id values apart)
 unfolding execution
 execution_is_of id values apart small = record { about = refl; names = named id _ small }
 
@@ -41,13 +42,16 @@ unfolding long_data
 piece_is_of id place (Bytes bytes) small = (record { about = refl; names = named id _ small }, tt)
 piece_is_of id place value small = tt
 
-pieces_are_of : (id place : ℕ) (values : List Value) → id < 2 ^ 32 → AllByRecursion (IsOf id) (pieces_from id place values)
+pieces_are_of : (id place : ℕ) (values : List Value) → id < 2 ^ 32 →
+    AllByRecursion (IsOf id) (pieces_from id place values)
 unfolding pieces_from
 pieces_are_of id place [] small = tt
 pieces_are_of id place (value ∷ values) small =
-    all_append (IsOf id) (piece_of id place value) (pieces_from id (place + 1) values) (piece_is_of id place value small) (pieces_are_of id (place + 1) values small)
+    all_append (IsOf id) (piece_of id place value) (pieces_from id (place + 1) values)
+    (piece_is_of id place value small) (pieces_are_of id (place + 1) values small)
 
-request_is_of : (id columns : ℕ) (rows : List Row) (start : ℕ) (typing : Typing) (count : ℕ) → id < 2 ^ 32 → IsOf id (bulk_request id columns rows start typing count)
+request_is_of : (id columns : ℕ) (rows : List Row) (start : ℕ) (typing : Typing) (count : ℕ) →
+    id < 2 ^ 32 → IsOf id (bulk_request id columns rows start typing count)
 unfolding bulk_execution
 request_is_of id columns rows start Typed count small = record { about = refl; names = named id _ small }
 request_is_of id columns rows start Untyped count small = record { about = refl; names = named id _ small }
@@ -56,28 +60,39 @@ request_is_of id columns rows start Untyped count small = record { about = refl;
 
 set_is_of : (id : ℕ) (values : List Value) → id < 2 ^ 32 → AllByRecursion (IsOf id) (execution_payloads id values)
 set_is_of id values small =
-    all_append (IsOf id) (if needs_long_data values then pieces_from id 0 values else []) (execute_command id values (needs_long_data values) ∷ [])
-    (either (AllByRecursion (IsOf id)) (needs_long_data values) (pieces_from id 0 values) [] (λ is. pieces_are_of id 0 values small) (λ is. tt)) (execution_is_of id values (needs_long_data values) small, tt)
+    all_append (IsOf id) (if needs_long_data values then pieces_from id 0 values else [])
+    (execute_command id values (needs_long_data values) ∷ [])
+    (either (AllByRecursion (IsOf id)) (needs_long_data values) (pieces_from id 0 values) []
+    (λ is. pieces_are_of id 0 values small) (λ is. tt))
+    (execution_is_of id values (needs_long_data values) small, tt)
 
 pub further_sets_are_of : FurtherSetsAreOf
 further_sets_are_of id [] small = tt
 further_sets_are_of id (values ∷ sets) small =
-    all_append (IsOf id) (execution_payloads id values) (flat_map (execution_payloads id) sets) (set_is_of id values small) (further_sets_are_of id sets small)
+    all_append (IsOf id) (execution_payloads id values) (flat_map (execution_payloads id) sets)
+    (set_is_of id values small) (further_sets_are_of id sets small)
 
-requests_are_of : (statement : Statement) (sets : List Row) (parts : List (ℕ × Part)) → statement.id < 2 ^ 32 → AllByRecursion (IsOf statement.id) (payloads_of (map (λ (p : ℕ × Part). record {
-  payload = bulk_request statement.id (place_count statement.query) sets p.0 p.1.typing p.1.count;
-  sets = rows_of sets p.0 p.1.count;
-}) parts))
+requests_are_of : (statement : Statement) (sets : List Row) (parts : List (ℕ × Part)) →
+    statement.id < 2 ^ 32 → AllByRecursion (IsOf statement.id)
+    (payloads_of (map (λ (p : ℕ × Part). record {
+      payload = bulk_request statement.id (place_count statement.query) sets p.0 p.1.typing p.1.count;
+      sets = rows_of sets p.0 p.1.count;
+    }) parts))
 requests_are_of statement sets [] small = tt
-requests_are_of statement sets (p ∷ parts) small = (request_is_of statement.id (place_count statement.query) sets p.0 p.1.typing p.1.count small, requests_are_of statement sets parts small)
+requests_are_of statement sets (p ∷ parts) small = (
+  request_is_of statement.id (place_count statement.query) sets p.0 p.1.typing p.1.count small,
+  requests_are_of statement sets parts small,
+)
 
 pub sent_sets_are_of : SentSetsAreOf
 sent_sets_are_of Text statement room values sent by small are = absurd by
 sent_sets_are_of Execute statement room values sent by small are =
     subst (λ (l : List SentPayload). AllByRecursion (IsOf statement.id) (drop 1 (payloads_of l))) (sym are)
-    (subst (AllByRecursion (IsOf statement.id)) (sym (payloads_are statement values)) (further_sets_are_of statement.id values small))
+    (subst (AllByRecursion (IsOf statement.id)) (sym (payloads_are statement values))
+    (further_sets_are_of statement.id values small))
 sent_sets_are_of Bulk statement room values sent by small are =
-    subst (λ (l : List SentPayload). AllByRecursion (IsOf statement.id) (drop 1 (payloads_of l))) (sym are.2) (requests_are_of statement values (placed are.0) small)
+    subst (λ (l : List SentPayload). AllByRecursion (IsOf statement.id) (drop 1 (payloads_of l)))
+    (sym are.2) (requests_are_of statement values (placed are.0) small)
 
 -- ---- packets
 

@@ -5,7 +5,10 @@ use Rattle.std.specs.Option.{option_map}
 use Rattle.bitflags.proofs.OnLiterals.{bitflags_on_literals}
 use Rattle.mysql_buf.specs.Reading.{first}
 use Rattle.mysql_cells.specs.Cells.{cell_at}
-use Rattle.mysql_connection_contents.specs.Example.{accepts, agreed, answers, asked_text, asks, begun, by_text, by_values, bytes, sent_data, events_said, executes_bulk, executes_data, executes_values, in_bulk, ok, of_text, queries, sends_data, small, text, with_data}
+use Rattle.mysql_connection_contents.specs.Example.{accepts, agreed, answers, asked_text, asks, begun, by_text}
+use Rattle.mysql_connection_contents.specs.Example.{by_values, bytes, sent_data, events_said, executes_bulk}
+use Rattle.mysql_connection_contents.specs.Example.{executes_data, executes_values, in_bulk, ok, of_text, queries}
+use Rattle.mysql_connection_contents.specs.Example.{sends_data, small, text, with_data}
 use Rattle.mysql_connection_contents.specs.ExampleLaws.{BytesAreRead, EventsHaveContents, ExampleIsSeen}
 use Rattle.mysql_connection_contents.specs.Promise.{AllSeeTheSame}
 use Rattle.mysql_connection_rules.specs.Events.{Event}
@@ -73,7 +76,18 @@ in_force types waiting = record { count = 1; types = types; long_data = waiting;
 
 abbrev pub one : List ParameterType → List (ℕ × List ℕ) → (sent stored : ℕ) → Statements
 one types waiting sent stored = record {
-  by_id = (1, record { text = text; parameters = in_force types waiting; columns = None; prepared = 26; described = 0; sent = sent }) ∷ [];
+  by_id = (
+    1,
+    record {
+      text = text;
+      parameters = in_force types waiting;
+      columns = None;
+      prepared =
+          26;
+      described = 0;
+      sent = sent;
+    },
+  ) ∷ [];
   last = Some 1;
   stored = stored;
 }
@@ -82,13 +96,31 @@ abbrev pub waiting : List (ℕ × List ℕ)
 waiting = (0, 0x67 ∷ 0x68 ∷ []) ∷ []
 
 abbrev pub standing : Phase → (number : ℕ) → (answers : Bool) → Statements → Standing
-standing phase number answers statements = record (logged_in agreed) { phase = phase; number = number; answers = answers; statements = statements }
+standing phase number answers statements =
+    record (logged_in agreed) {
+      phase = phase;
+      number = number;
+      answers = answers;
+      statements =
+          statements;
+    }
 
 abbrev pub reply : ReplyKind → About → Phase
-reply kind about = phases.Reply (record { kind = kind; so_far = fresh None; about = about; earlier = 0; coming = 0; parameters = 0 })
+reply kind about = phases.Reply
+    (record {
+      kind = kind;
+      so_far = fresh None;
+      about = about;
+      earlier = 0;
+      coming = 0;
+      parameters =
+          0;
+    })
 
 abbrev pub pending : Refused → InForce → (sent : ℕ) → Phase
-pending how before sent = reply kinds.Binary (phases.Executing (record { id = 1; refused = how; carried = 1; before = before; sent = sent }))
+pending how before sent =
+    reply kinds.Binary (phases.Executing
+    (record { id = 1; refused = how; carried = 1; before = before; sent = sent }))
 
 abbrev pub prepared : Statements
 prepared = one [] [] 0 26
@@ -139,7 +171,8 @@ unfolding step mode_behind first bitflags_on_literals
 step_3 = refl
 
 pub step_4 : step (has_data 0 true) executing ≡ Ok (executes_data, executes 0 true)
-unfolding step mode_behind execution_at readable_head execution_head binding_at each_at types_read type_at execution_types has_nothing cell_at first bitflags_on_literals
+unfolding step mode_behind execution_at readable_head execution_head binding_at each_at types_read
+    type_at execution_types has_nothing cell_at first bitflags_on_literals
 step_4 = refl
 
 pub step_5 : step (executes 1 true) accepting ≡ Ok (accepts, has_executed 1 true)
@@ -147,7 +180,8 @@ unfolding step mode_behind mode_behind_ok ok_packet_at status_and_info_at info_a
 step_5 = refl
 
 pub step_6 : step (has_executed 0 false) executing_all ≡ Ok (executes_bulk, executes_all 0 false)
-unfolding step mode_behind bulk_execution_at bulk_head rows_at bulk_value_at each_at types_read type_at bulk_types has_nothing cell_at first bitflags_on_literals
+unfolding step mode_behind bulk_execution_at bulk_head rows_at bulk_value_at each_at types_read
+    type_at bulk_types has_nothing cell_at first bitflags_on_literals
 step_6 = refl
 
 pub step_7 : step (executes_all 1 true) accepting ≡ Ok (accepts, has_executed 1 true)
@@ -155,7 +189,8 @@ unfolding step mode_behind mode_behind_ok ok_packet_at status_and_info_at info_a
 step_7 = refl
 
 pub step_8 : step (has_executed 0 false) executing_again ≡ Ok (executes_values, executes_again 0 false)
-unfolding step mode_behind execution_at readable_head execution_head binding_at each_at types_read type_at execution_types has_nothing cell_at first bitflags_on_literals
+unfolding step mode_behind execution_at readable_head execution_head binding_at each_at types_read
+    type_at execution_types has_nothing cell_at first bitflags_on_literals
 step_8 = refl
 
 pub step_9 : step (executes_again 1 true) accepting ≡ Ok (accepts, has_executed 1 true)
@@ -179,9 +214,13 @@ abbrev pub world : Stream → Stream → Standing → World
 world client server s = record { limits = small; standing = s; unread = record { client = client; server = server } }
 
 -- the packet that stands first is read, and its payload leads on
-pub next_says : (w : World) (side : Side) (payload : List ℕ) (number : ℕ) (rest : List ℕ) (event : Event) (after : Standing) (new : World) → next w ≡ said_by w side number rest (step w.standing payload) → step w.standing payload ≡ Ok (event, after)
+pub next_says : (w : World) (side : Side) (payload : List ℕ) (number : ℕ) (rest : List ℕ)
+    (event : Event) (after : Standing) (new : World) → next w ≡
+    said_by w side number rest (step w.standing payload) → step w.standing payload ≡
+    Ok (event, after)
     → leads_on w side event (moved w side number rest after) ≡ Says event new → next w ≡ Says event new
-next_says w side payload number rest event after new found says leads = found ∙ ap (said_by w side number rest) says ∙ leads
+next_says w side payload number rest event after new found says leads = found ∙
+    ap (said_by w side number rest) says ∙ leads
 
 abbrev c5 : List ℕ
 c5 = by_text
@@ -307,11 +346,14 @@ events_have_contents = (refl, refl)
 pub example_is_seen : AllSeeTheSame → RunIsOne → ExampleIsSeen
 example_is_seen same one client server auditor connected sent =
     let see = same begun client server auditor connected in
-    let both = one begun bytes see.events events_said see.last w11 (subst (λ (s : Streams). IsRun begun s see.events see.last) sent see.run) example_run in record {
+    let both = one begun bytes see.events events_said see.last w11
+    (subst (λ (s : Streams). IsRun begun s see.events see.last) sent see.run) example_run in
+    record {
       see = see;
       events = both.0;
       asked = sym see.asked ∙ ap (filter (is_of Client)) both.0;
       answered = sym see.answered ∙ ap (filter (is_of Server)) both.0;
-      has_text = ap (λ (w : World). option_map (λ statement. statement.text) (statement_at w.standing.statements 1)) both.1;
+      has_text = ap (λ (w : World). option_map (λ statement. statement.text)
+          (statement_at w.standing.statements 1)) both.1;
       reads = λ all none. (see.auditor_has.all (all ∙ sym sent) none).0 ∙ both.0;
     }

@@ -1,5 +1,6 @@
 -- Calls of three connections by which the example's bytes went.
-use Rattle.std.proofs.Common.{◌≡◌, suc, ◌≤◌, ◌^◌, ◌+◌, inr, ℕ, true, false, List, [], ◌∷◌, ◌++◌, None, Some, Ok, length, map, drop, refl, sym, ap, subst, ◌∙◌, arith}
+use Rattle.std.proofs.Common.{◌≡◌, suc, ◌≤◌, ◌^◌, ◌+◌, inr, ℕ, true, false, List, [], ◌∷◌, ◌++◌, None, Some, Ok, length}
+use Rattle.std.proofs.Common.{map, drop, refl, sym, ap, subst, ◌∙◌, arith}
 use Rattle.std.proofs.Math.Dec.{leb}
 use Rattle.std.proofs.Math.Nat.{le_refl}
 use Rattle.std.proofs.lemmas.Bool.{leb-true}
@@ -13,10 +14,18 @@ use Rattle.bitflags.proofs.OnLiterals.{bitflags_on_literals}
 use Rattle.mysql_cells.specs.declared.value.Value.TheVariants.{Bytes}
 use Rattle.mysql_commands.specs.declared.command.Command.{Command as HeldCommand}
 use Rattle.mysql_commands.specs.declared.command.Command.TheVariants as commands
-use Rattle.mysql_connection_contents.proofs.Example.{accepting, answering, asked, asking, executes, executes_again, executes_all, executing, executing_again, executing_all, has_answer, has_data, has_executed, next_says, queried, querying, s0, sending, step_1, step_2, step_3, step_4, step_5, step_6, step_7, step_8, step_9, step_10, step_11, unread, w11 as v11, world}
+use Rattle.mysql_connection_contents.proofs.Example.{accepting, answering, asked, asking, executes, executes_again}
+use Rattle.mysql_connection_contents.proofs.Example.{executes_all, executing, executing_again, executing_all}
+use Rattle.mysql_connection_contents.proofs.Example.{has_answer, has_data, has_executed, next_says, queried, querying}
+use Rattle.mysql_connection_contents.proofs.Example.{s0, sending, step_1, step_2, step_3, step_4, step_5, step_6}
+use Rattle.mysql_connection_contents.proofs.Example.{step_7, step_8, step_9, step_10, step_11, unread, w11 as v11}
+use Rattle.mysql_connection_contents.proofs.Example.{world}
 use Rattle.mysql_connection_contents.proofs.Speaking.{grow_more, grow_none}
 use Rattle.mysql_connection_contents.specs.Calls.{Calls, Does, Done, Feed, NextEvent, Party, PutExecution, PutPackets}
-use Rattle.mysql_connection_contents.specs.Example.{accepts, answer, answers, asked_text, asks, begun, by_text, by_values, bytes, sent_data, executes_bulk, executes_data, executes_values, in_bulk, of_text, ok, prepare, queries, sends_data, small, agreed, text, values, with_data}
+use Rattle.mysql_connection_contents.specs.Example.{accepts, answer, answers, asked_text, asks, begun, by_text}
+use Rattle.mysql_connection_contents.specs.Example.{by_values, bytes, sent_data, executes_bulk, executes_data}
+use Rattle.mysql_connection_contents.specs.Example.{executes_values, in_bulk, of_text, ok, prepare, queries, sends_data}
+use Rattle.mysql_connection_contents.specs.Example.{small, agreed, text, values, with_data}
 use Rattle.mysql_connection_contents.specs.ExampleLaws.{ExampleIsMade}
 use Rattle.mysql_connection_contents.specs.Shown.{behind_login}
 use Rattle.mysql_connection_machine.specs.Machines.{Machine, length_with}
@@ -27,7 +36,8 @@ use Rattle.mysql_connection_rules.specs.Puts.{is_due, packets_for, put_on, step_
 use Rattle.mysql_connection_rules.specs.Refusals.{Written}
 use Rattle.mysql_connection_rules.specs.Standing.{Standing, kept}
 use Rattle.mysql_connection_rules.specs.Steps.{step}
-use Rattle.mysql_connection_rules.specs.Streams.{Piece, Says, World, come, leads_on, limit_of, moved, next, room, room_to_keep, said_by, stream_of}
+use Rattle.mysql_connection_rules.specs.Streams.{Piece, Says, World, come, leads_on, limit_of, moved, next, room}
+use Rattle.mysql_connection_rules.specs.Streams.{room_to_keep, said_by, stream_of}
 use Rattle.mysql_connection_rules.specs.declared.side.Side.{Side}
 use Rattle.mysql_connection_rules.specs.declared.side.Side.TheVariants.{Client, Server}
 use Rattle.mysql_connection_state.specs.Views.{event_view}
@@ -54,21 +64,43 @@ abbrev took : HeldEvent → Done
 took event = record { call = NextEvent (Ok (Some event)); appended = []; took = event_view event ∷ []; put = [] }
 
 abbrev put : Side → List ℕ → Event → Done
-put side packet event = record { call = PutPackets side packet (Ok (length packet)); appended = packet; took = []; put = event ∷ [] }
+put side packet event = record {
+  call = PutPackets side packet (Ok (length packet));
+  appended =
+      packet;
+  took = [];
+  put = event ∷ [];
+}
 
-feeding : (old : World) (side : Side) (piece : List ℕ) → (stream_of side old.unread).closed ≡ false → length_with side piece (going old) ≤ room side old.limits → Does (going old) (fed side piece) (going (come side (Piece piece) old))
+feeding : (old : World) (side : Side) (piece : List ℕ) → (stream_of side old.unread).closed ≡
+    false → length_with side piece (going old) ≤ room side old.limits →
+    Does (going old) (fed side piece) (going (come side (Piece piece) old))
 feeding old side piece is_open fits = record { before = []; does = ((is_open, fits, refl), refl, refl, refl) }
 
-taking : (old new : World) (event : HeldEvent) → next old ≡ Says (event_view event) new → Does (going old) (took event) (going new)
+taking : (old new : World) (event : HeldEvent) → next old ≡ Says (event_view event) new →
+    Does (going old) (took event) (going new)
 taking old new event h = record { before = []; does = ((tt, λ e. ((h, refl), refl)), refl, refl, refl) }
 
-putting : (old new : World) (side : Side) (packet payload : List ℕ) (event : Event) (after : Standing) → StandFirst (limit_of side old.limits) packet (payload ∷ []) (drop (length packet) packet) → side_of event ≡ side → is_due old event ≡ true
-    → step_for event old.standing payload ≡ Ok (event, after) → step old.standing payload ≡ Ok (event, after) → leb (length payload) (limit_of (side_of event) old.limits) ≡ true → leb (kept after) (room_to_keep old.limits) ≡ true
-    → new ≡ put_on old event payload after → packet ≡ packets_for event old.standing payload → StopsAt (going new) side (drop (length packet) packet) → Does (going old) (put side packet event) (going new)
+putting : (old new : World) (side : Side) (packet payload : List ℕ) (event : Event)
+    (after : Standing) → StandFirst (limit_of side old.limits) packet (payload ∷
+    []) (drop (length packet) packet) → side_of event ≡ side → is_due old event ≡ true
+    → step_for event old.standing payload ≡ Ok (event, after) → step old.standing payload ≡
+    Ok (event, after) → leb (length payload) (limit_of (side_of event) old.limits) ≡ true →
+    leb (kept after) (room_to_keep old.limits) ≡ true
+    → new ≡ put_on old event payload after → packet ≡ packets_for event old.standing payload →
+    StopsAt (going new) side (drop (length packet) packet) →
+    Does (going old) (put side packet event) (going new)
 putting old new side packet payload event after stand own due says_so says within keeps goes is stops =
     let written : Written old event payload new [] packet = record {
       after = after;
-      may = record { due = due; says = says_so; within = leb-true (length payload) (limit_of (side_of event) old.limits) within; keeps = leb-true (kept after) (room_to_keep old.limits) keeps };
+      may = record {
+        due = due;
+        says = says_so;
+        within =
+            leb-true (length payload) (limit_of (side_of event) old.limits) within;
+        keeps =
+            leb-true (kept after) (room_to_keep old.limits) keeps;
+      };
       goes = goes;
       appended = is;
     } in record {
@@ -79,7 +111,16 @@ putting old new side packet payload event after stand own due says_so says withi
           record {
             payloads = payload ∷ [];
             stand = stand;
-            puts = (going new, packet, record { going = refl; puts = ((event, record { its_own = own; written = written; says = says }, refl), refl) }, (refl, refl));
+            puts = (
+              going new,
+              packet,
+              record {
+                going = refl;
+                puts =
+                    ((event, record { its_own = own; written = written; says = says }, refl), refl);
+              },
+              (refl, refl),
+            );
           },
           stops,
         ),
@@ -93,30 +134,47 @@ putting old new side packet payload event after stand own due says_so says withi
 abbrev byte_by_byte : Side → List ℕ → List Done
 byte_by_byte side piece = map (λ byte. fed side (byte ∷ [])) piece
 
-came_more : (side : Side) (byte : ℕ) (piece : List ℕ) (w : World) → come side (Piece piece) (come side (Piece (byte ∷ [])) w) ≡ come side (Piece (byte ∷ piece)) w
-came_more side byte piece w = λ i. record { limits = w.limits; standing = w.standing; unread = grow_more side (byte ∷ []) piece w.unread i }
+came_more : (side : Side) (byte : ℕ) (piece : List ℕ) (w : World) →
+    come side (Piece piece) (come side (Piece (byte ∷ [])) w) ≡ come side (Piece (byte ∷ piece)) w
+came_more side byte piece w =
+    λ i. record {
+      limits = w.limits;
+      standing = w.standing;
+      unread =
+          grow_more side (byte ∷ []) piece w.unread i;
+    }
 
 came_none : (side : Side) (w : World) → come side (Piece []) w ≡ w
 came_none side w = λ i. record { limits = w.limits; standing = w.standing; unread = grow_none side w.unread i }
 
-open_still : (side : Side) (byte : ℕ) (w : World) → (stream_of side w.unread).closed ≡ false → (stream_of side (come side (Piece (byte ∷ [])) w).unread).closed ≡ false
+open_still : (side : Side) (byte : ℕ) (w : World) → (stream_of side w.unread).closed ≡ false →
+    (stream_of side (come side (Piece (byte ∷ [])) w).unread).closed ≡ false
 open_still Client byte w h = h
 open_still Server byte w h = h
 
-waits_more : (side : Side) (byte : ℕ) (w : World) → (stream_of side (come side (Piece (byte ∷ [])) w).unread).bytes ≡ (stream_of side w.unread).bytes ++ byte ∷ []
+waits_more : (side : Side) (byte : ℕ) (w : World) →
+    (stream_of side (come side (Piece (byte ∷ [])) w).unread).bytes ≡
+    (stream_of side w.unread).bytes ++ byte ∷ []
 waits_more Client byte w = refl
 waits_more Server byte w = refl
 
 one_longer : (xs ys : List ℕ) (byte : ℕ) → xs ≡ ys ++ byte ∷ [] → length xs ≡ length ys + 1
 one_longer xs ys byte h = ap length h ∙ length-append ys (byte ∷ [])
 
-bytes_fed : (side : Side) (piece : List ℕ) (w : World) → (stream_of side w.unread).closed ≡ false → length_with side piece (going w) ≤ room side w.limits → Calls (going w) (byte_by_byte side piece) (going (come side (Piece piece) w))
+bytes_fed : (side : Side) (piece : List ℕ) (w : World) → (stream_of side w.unread).closed ≡ false →
+    length_with side piece (going w) ≤ room side w.limits →
+    Calls (going w) (byte_by_byte side piece) (going (come side (Piece piece) w))
 bytes_fed side [] w is_open fits = sym (ap going (came_none side w))
 bytes_fed side (byte ∷ piece) w is_open fits =
     let mid = come side (Piece (byte ∷ [])) w in
-    let longer = one_longer (stream_of side mid.unread).bytes (stream_of side w.unread).bytes byte (waits_more side byte w) in
-    let rest = bytes_fed side piece mid (open_still side byte w is_open) (omega (arith, longer, fits)) in
-    (going mid, feeding w side (byte ∷ []) is_open (omega (arith, fits)), subst (λ (v : World). Calls (going mid) (byte_by_byte side piece) (going v)) (came_more side byte piece w) rest)
+    let longer = one_longer (stream_of side mid.unread).bytes (stream_of side w.unread).bytes byte
+    (waits_more side byte w) in
+    let rest = bytes_fed side piece mid (open_still side byte w is_open) (omega (arith, longer, fits)) in (
+      going mid,
+      feeding w side (byte ∷ []) is_open (omega (arith, fits)),
+      subst (λ (v : World). Calls (going mid) (byte_by_byte side piece) (going v))
+          (came_more side byte piece w) rest,
+    )
 
 behind_calls : (xs ys : List Done) (a b c : Machine) → Calls a xs b → Calls b ys c → Calls a (xs ++ ys) c
 behind_calls [] ys a b c did more = subst (λ (m : Machine). Calls m ys c) (sym did) more
@@ -182,11 +240,33 @@ AllFollow w [] last = w ≡ last
 AllFollow w (said ∷ more) last = Follows w said × AllFollow said.behind more last
 
 abbrev by_packet : Side → List ℕ → HeldEvent → World → Said
-by_packet side packet event behind = record { side = side; packet = packet; event = event; puts = put side packet (event_view event); behind = behind }
+by_packet side packet event behind =
+    record {
+      side = side;
+      packet = packet;
+      event = event;
+      puts =
+          put side packet (event_view event);
+      behind = behind;
+    }
 
-follows : (old new : World) (side : Side) (packet payload : List ℕ) (number : ℕ) (event : HeldEvent) (puts : Done) (after : Standing) → Does (going old) puts (going new) → step old.standing payload ≡ Ok (event_view event, after) → (stream_of side old.unread).closed ≡ false
-    → leb (length_with side packet (going old)) (room side old.limits) ≡ true → next (come side (Piece packet) old) ≡ said_by (come side (Piece packet) old) side number [] (step old.standing payload)
-    → leads_on (come side (Piece packet) old) side (event_view event) (moved (come side (Piece packet) old) side number [] after) ≡ Says (event_view event) new → Follows old (record { side = side; packet = packet; event = event; puts = puts; behind = new })
+follows : (old new : World) (side : Side) (packet payload : List ℕ) (number : ℕ) (event : HeldEvent)
+    (puts : Done) (after : Standing) → Does (going old) puts (going new) →
+    step old.standing payload ≡ Ok (event_view event, after) → (stream_of side old.unread).closed ≡
+    false
+    → leb (length_with side packet (going old)) (room side old.limits) ≡ true →
+    next (come side (Piece packet) old) ≡
+    said_by (come side (Piece packet) old) side number [] (step old.standing payload)
+    → leads_on (come side (Piece packet) old) side (event_view event)
+    (moved (come side (Piece packet) old) side number [] after) ≡ Says (event_view event) new →
+    Follows old (record {
+      side = side;
+      packet = packet;
+      event = event;
+      puts = puts;
+      behind =
+          new;
+    })
 follows old new side packet payload number event puts after does says is_open fits found leads = record {
   is_open = is_open;
   fits = fits;
@@ -194,7 +274,8 @@ follows old new side packet payload number event puts after does says is_open fi
   does = does;
 }
 
-fits_in : (w : World) (said : Said) → Follows w said → length_with said.side said.packet (going w) ≤ room said.side w.limits
+fits_in : (w : World) (said : Said) → Follows w said →
+    length_with said.side said.packet (going w) ≤ room said.side w.limits
 fits_in w said h = leb-true (length_with said.side said.packet (going w)) (room said.side w.limits) h.fits
 
 -- it came, and its event was taken
@@ -202,14 +283,24 @@ abbrev reads : Said → List Done
 reads said = fed said.side said.packet ∷ took said.event ∷ []
 
 reading : (w : World) (said : Said) → Follows w said → Calls (going w) (reads said) (going said.behind)
-reading w said h = (going (came said w), feeding w said.side said.packet h.is_open (fits_in w said h), (going said.behind, taking (came said w) said.behind said.event h.told, refl))
+reading w said h = (
+  going (came said w),
+  feeding w said.side said.packet h.is_open (fits_in w said h),
+  (going said.behind, taking (came said w) said.behind said.event h.told, refl),
+)
 
 abbrev reads_bytes : Said → List Done
 reads_bytes said = byte_by_byte said.side said.packet ++ took said.event ∷ []
 
 reading_bytes : (w : World) (said : Said) → Follows w said → Calls (going w) (reads_bytes said) (going said.behind)
 reading_bytes w said h =
-    behind_calls (byte_by_byte said.side said.packet) (took said.event ∷ []) (going w) (going (came said w)) (going said.behind) (bytes_fed said.side said.packet w h.is_open (fits_in w said h)) (going said.behind, taking (came said w) said.behind said.event h.told, refl)
+    behind_calls (byte_by_byte said.side said.packet) (took said.event ∷
+    []) (going w) (going (came said w)) (going said.behind)
+    (bytes_fed said.side said.packet w h.is_open (fits_in w said h)) (
+      going said.behind,
+      taking (came said w) said.behind said.event h.told,
+      refl,
+    )
 
 -- an end puts what it says, and reads what the other says
 abbrev calls_at : (own side : Side) → Said → List Done
@@ -218,15 +309,22 @@ calls_at Client Server said = reads said
 calls_at Server Client said = reads said
 calls_at Server Server said = said.puts ∷ []
 
-calling : (own side : Side) (w : World) (said : Said) → Follows w said → Calls (going w) (calls_at own side said) (going said.behind)
+calling : (own side : Side) (w : World) (said : Said) → Follows w said →
+    Calls (going w) (calls_at own side said) (going said.behind)
 calling Client Client w said h = (going said.behind, h.does, refl)
 calling Client Server w said h = reading w said h
 calling Server Client w said h = reading w said h
 calling Server Server w said h = (going said.behind, h.does, refl)
 
-all_called : (calls : Said → List Done) → ((w : World) (said : Said) → Follows w said → Calls (going w) (calls said) (going said.behind)) → (w : World) (all : List Said) (last : World) → AllFollow w all last → Calls (going w) (flat_map calls all) (going last)
+all_called : (calls : Said → List Done) →
+    ((w : World) (said : Said) → Follows w said →
+    Calls (going w) (calls said) (going said.behind)) →
+    (w : World) (all : List Said) (last : World) → AllFollow w all last →
+    Calls (going w) (flat_map calls all) (going last)
 all_called calls each w [] last h = ap going h
-all_called calls each w (said ∷ more) last h = behind_calls (calls said) (flat_map calls more) (going w) (going said.behind) (going last) (each w said h.0) (all_called calls each said.behind more last h.1)
+all_called calls each w (said ∷ more) last h =
+    behind_calls (calls said) (flat_map calls more) (going w) (going said.behind) (going last)
+    (each w said h.0) (all_called calls each said.behind more last h.1)
 
 -- ---- an execution by its values
 
@@ -253,7 +351,14 @@ put_8 = (
       its_payload,
       record {
         after = executes_again 0 false;
-        may = record { due = refl; says = says_8; within = leb-true (length executing_again) (limit_of Client small) refl; keeps = leb-true (kept (executes_again 0 false)) (room_to_keep small) refl };
+        may = record {
+          due = refl;
+          says = says_8;
+          within =
+              leb-true (length executing_again) (limit_of Client small) refl;
+          keeps =
+              leb-true (kept (executes_again 0 false)) (room_to_keep small) refl;
+        };
         goes = refl;
         appended = refl;
       },
@@ -293,7 +398,14 @@ module _ (heap : Global) where
   held_1 = in_command (commands.Prepare (Owned (vec_of heap text refl)))
 
   abbrev held_2 : HeldEvent
-  held_2 = held.Reply (boxed heap (replies.Prepared (record { statement_id = 1; num_columns = 0; num_params = 1; warning_count = 0 }) false))
+  held_2 = held.Reply (boxed heap
+      (replies.Prepared (record {
+        statement_id = 1;
+        num_columns = 0;
+        num_params = 1;
+        warning_count =
+            0;
+      }) false))
 
   abbrev held_3 : HeldEvent
   held_3 = in_command (commands.LongData 1 0 (Owned (vec_of heap (0x67 ∷ 0x68 ∷ []) refl)))
@@ -328,7 +440,8 @@ module _ (heap : Global) where
     unit_results = false;
     types = Some (vec_of heap (of_text ∷ []) refl);
     rows = vec_of heap (
-        vec_of heap (bulk.Value (Bytes (0x63 ∷ [])) ∷ []) refl ∷ vec_of heap (bulk.Value (Bytes (0x64 ∷ [])) ∷ []) refl ∷ []
+        vec_of heap (bulk.Value (Bytes (0x63 ∷ [])) ∷ []) refl ∷
+        vec_of heap (bulk.Value (Bytes (0x64 ∷ [])) ∷ []) refl ∷ []
         ) refl;
     rest = [];
     unclear = None;
@@ -355,46 +468,100 @@ module _ (heap : Global) where
 
   said_1 : Follows v0 (by_packet Client prepare held_1 v1)
   unfolding framing chunks
-  said_1 = follows v0 v1 Client prepare asking 1 held_1 (put Client prepare asks) (asked 0 false) (putting v0 v1 Client prepare asking asks (asked 0 false) (1, [], refl, refl) refl refl step_1 step_1 refl refl refl refl (inr refl)) step_1 refl refl refl refl
+  said_1 = follows v0 v1 Client prepare asking 1 held_1 (put Client prepare asks) (asked 0 false)
+      (putting v0 v1 Client prepare asking asks (asked 0 false) (1, [], refl, refl) refl refl step_1
+      step_1 refl refl refl refl (inr refl)) step_1 refl refl refl refl
 
   said_2 : Follows v1 (by_packet Server answer held_2 v2)
   unfolding framing chunks
-  said_2 = follows v1 v2 Server answer answering 2 held_2 (put Server answer answers) (has_answer 1 true) (putting v1 v2 Server answer answering answers (has_answer 1 true) (2, [], refl, refl) refl refl step_2 step_2 refl refl refl refl (inr refl)) step_2 refl refl refl refl
+  said_2 = follows v1 v2 Server answer answering 2 held_2 (put Server answer answers)
+      (has_answer 1 true) (putting v1 v2 Server answer answering answers (has_answer 1 true) (
+        2,
+        [],
+        refl,
+        refl,
+      ) refl refl step_2 step_2 refl refl refl refl (inr refl)) step_2 refl refl refl refl
 
   said_3 : Follows v2 (by_packet Client sent_data held_3 v3)
   unfolding framing chunks
-  said_3 = follows v2 v3 Client sent_data sending 1 held_3 (put Client sent_data sends_data) (has_data 0 false) (putting v2 v3 Client sent_data sending sends_data (has_data 0 false) (1, [], refl, refl) refl refl step_3 step_3 refl refl refl refl (inr refl)) step_3 refl refl refl refl
+  said_3 = follows v2 v3 Client sent_data sending 1 held_3 (put Client sent_data sends_data)
+      (has_data 0 false) (putting v2 v3 Client sent_data sending sends_data (has_data 0 false) (
+        1,
+        [],
+        refl,
+        refl,
+      ) refl refl step_3 step_3 refl refl refl refl (inr refl)) step_3 refl refl refl
+      refl
 
   said_4 : Follows v3 (by_packet Client with_data held_4 v4)
   unfolding framing chunks
-  said_4 = follows v3 v4 Client with_data executing 1 held_4 (put Client with_data executes_data) (executes 0 true) (putting v3 v4 Client with_data executing executes_data (executes 0 true) (1, [], refl, refl) refl refl step_4 step_4 refl refl refl refl (inr refl)) step_4 refl refl refl refl
+  said_4 = follows v3 v4 Client with_data executing 1 held_4 (put Client with_data executes_data)
+      (executes 0 true) (putting v3 v4 Client with_data executing executes_data (executes 0 true)
+      (1, [], refl, refl) refl refl step_4 step_4 refl refl refl refl (inr refl)) step_4 refl refl
+      refl refl
 
   said_5 : Follows v4 (by_packet Server ok held_5 v5)
   unfolding framing chunks
-  said_5 = follows v4 v5 Server ok accepting 2 held_5 (put Server ok accepts) (has_executed 1 true) (putting v4 v5 Server ok accepting accepts (has_executed 1 true) (2, [], refl, refl) refl refl step_5 step_5 refl refl refl refl (inr refl)) step_5 refl refl refl refl
+  said_5 = follows v4 v5 Server ok accepting 2 held_5 (put Server ok accepts) (has_executed 1 true)
+      (putting v4 v5 Server ok accepting accepts (has_executed 1 true) (
+        2,
+        [],
+        refl,
+        refl,
+      ) refl refl step_5 step_5 refl refl refl refl (inr refl)) step_5 refl refl refl refl
 
   said_6 : Follows v5 (by_packet Client in_bulk held_6 v6)
   unfolding framing chunks
-  said_6 = follows v5 v6 Client in_bulk executing_all 1 held_6 (put Client in_bulk executes_bulk) (executes_all 0 false) (putting v5 v6 Client in_bulk executing_all executes_bulk (executes_all 0 false) (1, [], refl, refl) refl refl step_6 step_6 refl refl refl refl (inr refl)) step_6 refl refl refl refl
+  said_6 = follows v5 v6 Client in_bulk executing_all 1 held_6 (put Client in_bulk executes_bulk)
+      (executes_all 0 false) (putting v5 v6 Client in_bulk executing_all executes_bulk
+      (executes_all 0 false) (1, [], refl, refl) refl refl step_6 step_6 refl refl refl refl
+      (inr refl)) step_6 refl refl refl refl
 
   said_7 : Follows v6 (by_packet Server ok held_5 v7)
   unfolding framing chunks
-  said_7 = follows v6 v7 Server ok accepting 2 held_5 (put Server ok accepts) (has_executed 1 true) (putting v6 v7 Server ok accepting accepts (has_executed 1 true) (2, [], refl, refl) refl refl step_7 step_7 refl refl refl refl (inr refl)) step_7 refl refl refl refl
+  said_7 = follows v6 v7 Server ok accepting 2 held_5 (put Server ok accepts) (has_executed 1 true)
+      (putting v6 v7 Server ok accepting accepts (has_executed 1 true) (
+        2,
+        [],
+        refl,
+        refl,
+      ) refl refl step_7 step_7 refl refl refl refl (inr refl)) step_7 refl refl refl refl
 
   said_8 : Follows v7 (record { side = Client; packet = by_values; event = held_8; puts = put_values; behind = v8 })
-  said_8 = follows v7 v8 Client by_values executing_again 1 held_8 put_values (executes_again 0 false) putting_values step_8 refl refl refl refl
+  said_8 = follows v7 v8 Client by_values executing_again 1 held_8 put_values
+      (executes_again 0 false) putting_values step_8 refl refl refl refl
 
   said_9 : Follows v8 (by_packet Server ok held_5 v9)
   unfolding framing chunks
-  said_9 = follows v8 v9 Server ok accepting 2 held_5 (put Server ok accepts) (has_executed 1 true) (putting v8 v9 Server ok accepting accepts (has_executed 1 true) (2, [], refl, refl) refl refl step_9 step_9 refl refl refl refl (inr refl)) step_9 refl refl refl refl
+  said_9 = follows v8 v9 Server ok accepting 2 held_5 (put Server ok accepts) (has_executed 1 true)
+      (putting v8 v9 Server ok accepting accepts (has_executed 1 true) (
+        2,
+        [],
+        refl,
+        refl,
+      ) refl refl step_9 step_9 refl refl refl refl (inr refl)) step_9 refl refl refl refl
 
   said_10 : Follows v9 (by_packet Client by_text held_10 v10)
   unfolding framing chunks
-  said_10 = follows v9 v10 Client by_text querying 1 held_10 (put Client by_text queries) (queried 0 false) (putting v9 v10 Client by_text querying queries (queried 0 false) (1, [], refl, refl) refl refl step_10 step_10 refl refl refl refl (inr refl)) step_10 refl refl refl refl
+  said_10 = follows v9 v10 Client by_text querying 1 held_10 (put Client by_text queries)
+      (queried 0 false) (putting v9 v10 Client by_text querying queries (queried 0 false) (
+        1,
+        [],
+        refl,
+        refl,
+      ) refl refl step_10 step_10 refl refl refl refl (inr refl)) step_10 refl refl refl
+      refl
 
   said_11 : Follows v10 (by_packet Server ok held_5 v11)
   unfolding framing chunks
-  said_11 = follows v10 v11 Server ok accepting 2 held_5 (put Server ok accepts) (has_executed 1 true) (putting v10 v11 Server ok accepting accepts (has_executed 1 true) (2, [], refl, refl) refl refl step_11 step_11 refl refl refl refl (inr refl)) step_11 refl refl refl refl
+  said_11 = follows v10 v11 Server ok accepting 2 held_5 (put Server ok accepts)
+      (has_executed 1 true) (putting v10 v11 Server ok accepting accepts (has_executed 1 true) (
+        2,
+        [],
+        refl,
+        refl,
+      ) refl refl step_11 step_11 refl refl refl refl (inr refl)) step_11 refl refl
+      refl refl
 
   abbrev all_said : List Said
   all_said =
@@ -411,11 +578,33 @@ module _ (heap : Global) where
       by_packet Server ok held_5 v11 ∷ []
 
   all_follow : AllFollow v0 all_said v11
-  all_follow = (said_1, (said_2, (said_3, (said_4, (said_5, (said_6, (said_7, (said_8, (said_9, (said_10, (said_11, refl)))))))))))
+  all_follow = (
+    said_1,
+    (
+      said_2,
+      (
+        said_3,
+        (
+          said_4,
+          (
+            said_5,
+            (said_6, (said_7, (said_8, (said_9, (said_10, (said_11, refl)))))),
+          ),
+        ),
+      ),
+    ),
+  )
 
   -- whoever calls so at each of them
-  abbrev made : (calls : Said → List Done) → ((w : World) (said : Said) → Follows w said → Calls (going w) (calls said) (going said.behind)) → Party begun
-  made calls each = record { calls = flat_map calls all_said; machine = going v11; did = all_called calls each v0 all_said v11 all_follow }
+  abbrev made : (calls : Said → List Done) →
+      ((w : World) (said : Said) → Follows w said →
+      Calls (going w) (calls said) (going said.behind)) → Party begun
+  made calls each = record {
+    calls = flat_map calls all_said;
+    machine = going v11;
+    did =
+        all_called calls each v0 all_said v11 all_follow;
+  }
 
 pub example_is_made : ExampleIsMade
 example_is_made heap = (

@@ -15,6 +15,7 @@ machines_hear exists puts hears begun streams events held had stop =
     let same = puts begun streams events [] run.0 held held run.1 had refl stop run.2 in
     let is : events ≡ run.0 = sym (append-nil events) ∙ same.0 in
     let runs : Runs (start begun streams) events held =
-    subst (λ (es : List Event). Runs (start begun streams) es held) (sym is) (subst (Runs (start begun streams) run.0) (sym same.1) run.2.runs) in
+    subst (λ (es : List Event). Runs (start begun streams) es held) (sym is)
+    (subst (Runs (start begun streams) run.0) (sym same.1) run.2.runs) in
     let heard = hears (start begun streams) held events runs in
     record { payloads = heard.0; last = heard.1; heard = heard.2; ends = heard.3 }

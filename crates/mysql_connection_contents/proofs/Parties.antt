@@ -15,7 +15,8 @@ use Rattle.mysql_connection_rules.specs.Machines.{IsOpen}
 use Rattle.mysql_connection_rules.specs.Puts.{is_of, packets_for, same_side}
 use Rattle.mysql_connection_rules.specs.PuttingMachines.{HadAs, HadOrPut, Puts, comes_as, ends_as, puts_as, takes_as}
 use Rattle.mysql_connection_rules.specs.PuttingMachines.HadOrPut.{comes, puts, takes}
-use Rattle.mysql_connection_rules.specs.Streams.{Beginning, Coming, End, Piece, Stream, Streams, World, come, grow, start, stream_of}
+use Rattle.mysql_connection_rules.specs.Streams.{Beginning, Coming, End, Piece, Stream, Streams, World, come, grow}
+use Rattle.mysql_connection_rules.specs.Streams.{start, stream_of}
 use Rattle.mysql_connection_rules.specs.declared.side.Side.{Side}
 use Rattle.mysql_connection_rules.specs.declared.side.Side.TheVariants.{Client, Server}
 
@@ -45,15 +46,20 @@ whose Server Server side a = absurd (cc a)
 
 -- ---- anybody
 
-pub any_keeps : PacketLaws → NumbersAreBytes → PutsAreRead → (begun : Beginning) → begun.first.number < 256 → Keeps (λ call. Unit {0}) (λ event. true) (λ put s ev w. HadOrPut begun s ev w)
+pub any_keeps : PacketLaws → NumbersAreBytes → PutsAreRead → (begun : Beginning) →
+    begun.first.number < 256 →
+    Keeps (λ call. Unit {0}) (λ event. true) (λ put s ev w. HadOrPut begun s ev w)
 any_keeps packets numbers reads begun small = record {
-  closed = λ put s ev w had side. runs-closed packets (start begun s) ev w (had_runs packets begun s ev w (had_too begun s ev w had)) side;
+  closed = λ put s ev w had side. runs-closed packets (start begun s) ev w
+      (had_runs packets begun s ev w (had_too begun s ev w had)) side;
   small = λ put s ev w had. numbers begun s ev w small had;
   comes = λ put s ev old side piece fed had is_open. comes {old = old} side (Piece piece) had is_open refl;
   ends = λ put s ev old side had is_open. comes {old = old} side End had is_open refl;
   takes = λ put s ev old event new had is. takes {old = old} had is;
   puts = λ put s ev old event payload new before behind said had written.
-      puts {old = old} (side_of event) (packets_for event old.standing payload) had (written_puts reads old event payload new before behind (numbers begun s ev old small had) written);
+      puts {old = old} (side_of event) (packets_for event old.standing payload) had
+      (written_puts reads old event payload new before behind (numbers begun s ev old small had)
+      written);
 }
 
 all_true : (events : List Event) → list_all (λ event. true) events ≡ true
@@ -68,10 +74,15 @@ anybody_may (done ∷ calls) = (tt, all_true done.put, anybody_may calls)
 
 -- What one side put and had of the other, and nothing of its own is unread.
 abbrev pub IsOf : (own other : Side) → Beginning → List Event → Streams → List Event → World → Type 0
-IsOf own other begun put s ev w = HadAs own other begun put s ev w × HadOrPut begun s ev w × ((stream_of own w.unread).bytes ≡ [])
+IsOf own other begun put s ev w = HadAs own other begun put s ev w × HadOrPut begun s ev w ×
+    ((stream_of own w.unread).bytes ≡ [])
 
-module _ (packets : PacketLaws) (positions : PositionsStay) (numbers : NumbersAreBytes) (reads : PutsAreRead) (own other : Side) (apart : same_side own other ≡ false) (begun : Beginning) (small : begun.first.number < 256) where
-  come_of : (put : List Event) (s : Streams) (ev : List Event) (old : World) (side : Side) (coming : Coming) → side ≡ other → IsOf own other begun put s ev old → IsOpen old side → IsOf own other begun put (grow side coming s) ev (come side coming old)
+module _ (packets : PacketLaws) (positions : PositionsStay) (numbers : NumbersAreBytes)
+    (reads : PutsAreRead) (own other : Side) (apart : same_side own other ≡
+    false) (begun : Beginning) (small : begun.first.number < 256) where
+  come_of : (put : List Event) (s : Streams) (ev : List Event) (old : World) (side : Side)
+      (coming : Coming) → side ≡ other → IsOf own other begun put s ev old → IsOpen old side →
+      IsOf own other begun put (grow side coming s) ev (come side coming old)
   come_of put s ev old side coming its had is_open =
       subst (λ (x : Side). IsOf own other begun put (grow x coming s) ev (come x coming old)) (sym its) (
         comes_as {old = old} coming had.0 (subst (IsOpen old) its is_open) refl,
@@ -79,41 +90,61 @@ module _ (packets : PacketLaws) (positions : PositionsStay) (numbers : NumbersAr
         ap (λ (x : Stream). x.bytes) (other_kept own other coming old apart) ∙ had.2,
       )
 
-  end_kept : (side : Side) (w : World) → (stream_of side (come side End w).unread).bytes ≡ (stream_of side w.unread).bytes
+  end_kept : (side : Side) (w : World) → (stream_of side (come side End w).unread).bytes ≡
+      (stream_of side w.unread).bytes
   end_kept Client w = refl
   end_kept Server w = refl
 
-  end_of : (put : List Event) (s : Streams) (ev : List Event) (old : World) (side : Side) → side ≡ own → IsOf own other begun put s ev old → IsOpen old side → IsOf own other begun put (grow side End s) ev (come side End old)
+  end_of : (put : List Event) (s : Streams) (ev : List Event) (old : World) (side : Side) → side ≡
+      own → IsOf own other begun put s ev old → IsOpen old side →
+      IsOf own other begun put (grow side End s) ev (come side End old)
   end_of put s ev old side its had is_open =
-      subst (λ (x : Side). IsOf own other begun put (grow x End s) ev (come x End old)) (sym its)
-      (ends_as {old = old} had.0 (subst (IsOpen old) its is_open) refl, comes {old = old} own End had.1 (subst (IsOpen old) its is_open) refl, end_kept own old ∙ had.2)
+      subst (λ (x : Side). IsOf own other begun put (grow x End s) ev (come x End old)) (sym its) (
+        ends_as {old = old} had.0 (subst (IsOpen old) its is_open) refl,
+        comes {old = old} own End had.1 (subst (IsOpen old) its is_open) refl,
+        end_kept own old ∙
+            had.2,
+      )
 
-  ends_of : (put : List Event) (s : Streams) (ev : List Event) (old : World) (side : Side) → IsOf own other begun put s ev old → IsOpen old side → IsOf own other begun put (grow side End s) ev (come side End old)
+  ends_of : (put : List Event) (s : Streams) (ev : List Event) (old : World) (side : Side) →
+      IsOf own other begun put s ev old → IsOpen old side →
+      IsOf own other begun put (grow side End s) ev (come side End old)
   ends_of put s ev old side had is_open = elim (whose own other side apart) [
     | inl its ↦ end_of put s ev old side its had is_open
     | inr its ↦ come_of put s ev old side End its had is_open
   ]
 
-  put_of : (put : List Event) (s : Streams) (ev : List Event) (old : World) (event : Event) (side : Side) (bytes : List ℕ) (new : World) → side ≡ own → IsOf own other begun put s ev old → Puts old event side bytes new
+  put_of : (put : List Event) (s : Streams) (ev : List Event) (old : World) (event : Event)
+      (side : Side) (bytes : List ℕ) (new : World) → side ≡ own →
+      IsOf own other begun put s ev old → Puts old event side bytes new
       → IsOf own other begun (put ++ event ∷ []) (grow side (Piece bytes) s) (ev ++ event ∷ []) new
   put_of put s ev old event side bytes new its had is =
       let mine = subst (λ (x : Side). Puts old event x bytes new) its is in
-      subst (λ (x : Side). IsOf own other begun (put ++ event ∷ []) (grow x (Piece bytes) s) (ev ++ event ∷ []) new) (sym its)
+      subst (λ (x : Side). IsOf own other begun (put ++ event ∷ []) (grow x (Piece bytes) s) (ev ++
+      event ∷ []) new) (sym its)
       (puts_as {old = old} bytes had.0 mine, puts {old = old} own bytes had.1 mine, mine.used)
 
-  pub side_keeps : Keeps (λ call. feeds_other own call ≡ true) (is_of own) (λ put s ev w. IsOf own other begun put s ev w)
+  pub side_keeps : Keeps (λ call. feeds_other own call ≡
+      true) (is_of own) (λ put s ev w. IsOf own other begun put s ev w)
   side_keeps = let any = any_keeps packets numbers reads begun small in record {
     closed = λ put s ev w had side. any.closed put s ev w had.1 side;
     small = λ put s ev w had. any.small put s ev w had.1;
-    comes = λ put s ev old side piece fed had is_open. come_of put s ev old side (Piece piece) (other_of own other side apart fed) had is_open;
+    comes = λ put s ev old side piece fed had is_open. come_of put s ev old side (Piece piece)
+        (other_of own other side apart fed) had is_open;
     ends = ends_of;
-    takes = λ put s ev old event new had is. (takes_as {old = old} had.0 is, takes {old = old} had.1 is, (next_quiet positions old own event new had.2 is).none);
+    takes = λ put s ev old event new had is. (
+      takes_as {old = old} had.0 is,
+      takes {old = old} had.1 is,
+      (next_quiet positions old own event new had.2 is).none,
+    );
     puts = λ put s ev old event payload new before behind said had written.
-        put_of put s ev old event (side_of event) (packets_for event old.standing payload) new (own_of own (side_of event) said) had
+        put_of put s ev old event (side_of event) (packets_for event old.standing payload) new
+        (own_of own (side_of event) said) had
         (written_puts reads old event payload new before behind (any.small put s ev old had.1) written);
   }
 
-pub side_may : (own : Side) (calls : List Done) → list_all (is_by own) calls ≡ true → MayDo (λ call. feeds_other own call ≡ true) (is_of own) calls
+pub side_may : (own : Side) (calls : List Done) → list_all (is_by own) calls ≡ true →
+    MayDo (λ call. feeds_other own call ≡ true) (is_of own) calls
 side_may own [] h = tt
 side_may own (done ∷ calls) h =
     let both = both_true (is_by own done) (list_all (is_by own) calls) h in

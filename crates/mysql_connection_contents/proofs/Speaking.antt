@@ -66,9 +66,11 @@ packets_are_spoken own other begun streams xs old new (payload ∷ payloads) bef
       bytes = packets ++ more.bytes;
       payloads_are = ap (λ (l : List (List ℕ)). payload ∷ l) more.payloads_are;
       its_own = (put.1.its_own, more.its_own);
-      appended = more.appended ∙ ap (λ (l : List ℕ). l ++ more.bytes) written.appended ∙ append_assoc before packets more.bytes;
+      appended = more.appended ∙ ap (λ (l : List ℕ). l ++ more.bytes) written.appended ∙
+          append_assoc before packets more.bytes;
       spoken = subst (λ (s : Streams). HasSpoken own other begun s (xs ++ x ∷ more.said) new.world)
           (grow_more own packets more.bytes streams)
-          (subst (λ (l : List Spoken). HasSpoken own other begun (grow own (Piece more.bytes) (grow own (Piece packets) streams)) l new.world)
+          (subst (λ (l : List Spoken). HasSpoken own other begun
+          (grow own (Piece more.bytes) (grow own (Piece packets) streams)) l new.world)
           (append_assoc xs (x ∷ []) more.said) more.spoken);
     }

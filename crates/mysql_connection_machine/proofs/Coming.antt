@@ -15,11 +15,13 @@ is_whole TooLarge many = absurd many
 is_whole (OutOfSync number) many = absurd many
 is_whole (Whole payload number rest) many = (payload, number, rest, refl)
 
-led : (b : Bool) (event : Event) (new : World) (failure : Failure) → (if b then Says event new else Fails failure) ≢ Waits
+led : (b : Bool) (event : Event) (new : World) (failure : Failure) →
+    (if b then Says event new else Fails failure) ≢ Waits
 led true event new failure = λ e. absurd (cc e)
 led false event new failure = λ e. absurd (cc e)
 
 -- whatever its payload says
-pub comes : (w : World) (side : Side) (number : ℕ) (rest : List ℕ) (said : Step) → said_by w side number rest said ≢ Waits
+pub comes : (w : World) (side : Side) (number : ℕ) (rest : List ℕ) (said : Step) →
+    said_by w side number rest said ≢ Waits
 comes w side number rest (Ok said) = led _ _ _ _
 comes w side number rest (Err fault) = λ e. absurd (cc e)

@@ -1,5 +1,6 @@
 -- Commands that are put by their payloads.
-use Rattle.std.proofs.Common.{◌≡◌, ◌≤◌, ◌+◌, ◌-◌, ℕ, List, ◌++◌, Option, Some, None, Ok, Err, true, length, take, drop, refl, sym, ap, subst, ◌∙◌, arith}
+use Rattle.std.proofs.Common.{◌≡◌, ◌≤◌, ◌+◌, ◌-◌, ℕ, List, ◌++◌, Option, Some, None, Ok, Err, true, length, take, drop}
+use Rattle.std.proofs.Common.{refl, sym, ap, subst, ◌∙◌, arith}
 use Rattle.std.proofs.lemmas.List.{drop-drop, drop_at}
 use Rattle.std.specs.Prelude.{slice_index_or}
 use Rattle.mysql_connection_rules.specs.Puts.{is_free, number_for, packets_for}
@@ -21,12 +22,14 @@ use Rattle.mysql_wire.specs.Framing.{framing, number_after}
 use Rattle.mysql_connection_machine.proofs.InPlace.{front_of, gone}
 use Rattle.mysql_connection_machine.proofs.PutPayloads.{appended}
 use Rattle.mysql_connection_machine.specs.Machines.{LendingWorld, Machine, lending_none}
-use Rattle.mysql_connection_machine.specs.PuttingCommands.{AwaitsCommandOf, PutsCommandBy, PutsFirstCommand, command_event}
+use Rattle.mysql_connection_machine.specs.PuttingCommands.{AwaitsCommandOf, PutsCommandBy, PutsFirstCommand}
+use Rattle.mysql_connection_machine.specs.PuttingCommands.{command_event}
 use Rattle.mysql_connection_machine.specs.PuttingPackets.{PutsCommandOrStays, first_of}
 use Rattle.mysql_connection_machine.specs.PuttingPayloads.{IsDue, PutsWithoutEvent}
 use Rattle.mysql_connection_machine.specs.Writing.{GoesOnBehind, PutsPayload}
 use Rattle.mysql_connection_machine.specs.declared.put_refusal.PutRefusal.{PutRefusal}
-use Rattle.mysql_connection_machine.specs.declared.put_refusal.PutRefusal.TheVariants.{BadEvent, Held, Memory, NotDue, TooLarge}
+use Rattle.mysql_connection_machine.specs.declared.put_refusal.PutRefusal.TheVariants.{BadEvent, Held, Memory, NotDue}
+use Rattle.mysql_connection_machine.specs.declared.put_refusal.PutRefusal.TheVariants.{TooLarge}
 
 -- ---- what a command says, and where it leads
 
@@ -54,7 +57,8 @@ command_is_due w payload phase free within = record {
 pub packet_dropped : (before packet held : List ℕ) (start : ℕ) → held ≡ before ++ packet → start ≡ length before →
     drop (start + 4) held ≡ drop 4 packet
 packet_dropped before packet held start is at =
-    rw (is, at) (sym (drop-drop 4 (length before) (before ++ packet)) ∙ ap (drop 4) (drop_at before packet (length before) refl))
+    rw (is, at) (sym (drop-drop 4 (length before) (before ++ packet)) ∙
+    ap (drop 4) (drop_at before packet (length before) refl))
 
 pub packet_framed : (before packet held framed : List ℕ) (start number : ℕ) → held ≡ before ++ packet →
     start ≡ length before → framed ≡ take start held ++ framing (drop (start + 4) held) number →
@@ -116,16 +120,19 @@ pub first_command : PayloadsAreInTurn → (old new : LendingWorld) (packets befo
     PutsPayload old (command_event old.world.standing (drop 4 (take (4 + length payload) packets)))
     (drop 4 (take (4 + length payload) packets)) before (Ok done) new behind →
     PutsCommandBy old packets before (4 + length payload) new behind
-first_command law old new packets before behind payload limit number done its_limit its_number phase free within one puts = record {
-  payload = payload;
-  number = next_number number;
-  found = ap (λ (l : ℕ). first_of l packets) (sym its_limit) ∙ ap (λ (n : ℕ). first_packet limit n packets) (sym its_number) ∙ one.is;
-  header = omega arith;
-  within = one.within;
-  puts = client_put law old new payload before behind done phase free
-      (subst (λ (l : ℕ). length payload ≤ l) its_limit within)
-      (subst (λ (p : List ℕ). PutsPayload old (command_event old.world.standing p) p before (Ok done) new behind) (sym one.stands) puts);
-}
+first_command law old new packets before behind payload limit number done its_limit its_number phase
+    free within one puts = record {
+      payload = payload;
+      number = next_number number;
+      found = ap (λ (l : ℕ). first_of l packets) (sym its_limit) ∙
+          ap (λ (n : ℕ). first_packet limit n packets) (sym its_number) ∙ one.is;
+      header = omega arith;
+      within = one.within;
+      puts = client_put law old new payload before behind done phase free
+          (subst (λ (l : ℕ). length payload ≤ l) its_limit within)
+          (subst (λ (p : List ℕ). PutsPayload old (command_event old.world.standing p) p before
+          (Ok done) new behind) (sym one.stands) puts);
+    }
 
 -- the same of a machine that has found no fault
 pub machine_put : (old new : Machine) (side : Side) (packets before behind : List ℕ) (result : Option ℕ) →
@@ -146,7 +153,8 @@ machine_put old new side packets before behind None its going stays same = (
   machines_same old new (ap (λ (l : LendingWorld). l.world) same.0) (ap (λ (l : LendingWorld). l.row) same.0) stays,
   same.1,
 ) where
-  machines_same : (old new : Machine) → old.world ≡ new.world → old.row ≡ new.row → new.failure ≡ old.failure → old ≡ new
+  machines_same : (old new : Machine) → old.world ≡ new.world → old.row ≡ new.row → new.failure ≡
+      old.failure → old ≡ new
   machines_same old new w r f =
       ap (λ (x : World). record { world = x; failure = old.failure; row = old.row }) w
       ∙ ap (λ x. record { world = new.world; failure = old.failure; row = x }) r

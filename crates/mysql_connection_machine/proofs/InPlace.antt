@@ -1,5 +1,6 @@
 -- Payloads that are written and framed where they stand in a buffer.
-use Rattle.std.proofs.Common.{◌≡◌, ◌<◌, ◌≤◌, ◌+◌, ◌-◌, ◌/◌, ℕ, true, List, [], ◌∷◌, ◌++◌, length, take, drop, Some, Result, Ok, Err}
+use Rattle.std.proofs.Common.{◌≡◌, ◌<◌, ◌≤◌, ◌+◌, ◌-◌, ◌/◌, ℕ, true, List, [], ◌∷◌, ◌++◌, length, take, drop, Some}
+use Rattle.std.proofs.Common.{Result, Ok, Err}
 use Rattle.std.proofs.Common.{refl, sym, ap, ◌∙◌, subst, arith, length-append, length-take-le}
 use Rattle.std.proofs.lemmas.Grind.{common_steps}
 use Rattle.std.proofs.lemmas.List.{append-nil, drop-drop, drop_at, take_all}
@@ -17,7 +18,8 @@ use Rattle.mysql_connection_machine.specs.Machines.{LendingWorld, lending_none}
 use Rattle.mysql_connection_machine.specs.Writing.{GoesOnBehind, IsNotHeld, PutsBehind, PutsDue, WritesBehindRoom}
 use Rattle.mysql_connection_machine.specs.Writing.{passed_by, refused_as}
 use Rattle.mysql_connection_machine.specs.declared.put_refusal.PutRefusal.{PutRefusal}
-use Rattle.mysql_connection_machine.specs.declared.put_refusal.PutRefusal.TheVariants.{BadEvent, Held, Memory, NotDue, TooLarge}
+use Rattle.mysql_connection_machine.specs.declared.put_refusal.PutRefusal.TheVariants.{BadEvent, Held, Memory, NotDue}
+use Rattle.mysql_connection_machine.specs.declared.put_refusal.PutRefusal.TheVariants.{TooLarge}
 
 -- BEHIND ROOM FOR A HEADER
 
@@ -35,15 +37,18 @@ four_dropped before payload =
     sym (drop-drop 4 (length before) (behind_room before payload))
     ∙ ap (drop 4) (drop_at before (0 ∷ 0 ∷ 0 ∷ 0 ∷ payload) (length before) refl)
 
-pub payload_behind : (before payload held : List ℕ) (start : ℕ) → held ≡ behind_room before payload → start ≡ length before →
+pub payload_behind : (before payload held : List ℕ) (start : ℕ) → held ≡
+    behind_room before payload → start ≡ length before →
     drop (start + 4) held ≡ payload
 payload_behind before payload held start is at = rw (is, at) (four_dropped before payload)
 
-pub room_length : (before payload held : List ℕ) (start : ℕ) → held ≡ behind_room before payload → start ≡ length before →
+pub room_length : (before payload held : List ℕ) (start : ℕ) → held ≡ behind_room before payload →
+    start ≡ length before →
     length held ≡ start + 4 + length payload
 room_length before payload held start is at = rw is (omega (arith, at, length-append before (0 ∷ 0 ∷ 0 ∷ 0 ∷ payload)))
 
-pub room_refused : (w : World) (event : Event) (before room behind : List ℕ) (refusal : EventRefusal) → is_due w event ≡ true →
+pub room_refused : (w : World) (event : Event) (before room behind : List ℕ)
+    (refusal : EventRefusal) → is_due w event ≡ true →
     room ≡ before ++ (0 ∷ 0 ∷ 0 ∷ 0 ∷ []) → WritesEvent w.standing event room behind (Err refusal) →
     WritesBehindRoom w event before (Err (refused_as refusal)) behind
 room_refused w event before room behind (writing.BadEvent cause) due made written = (
@@ -70,17 +75,21 @@ framing_short payload id short =
     let one : length payload / 16777215 + 1 ≡ 1 = omega (arith, short) in
     ap (chunks payload id) one ∙ chunks_one payload id short
 
-pub framed_dropped : (before payload framed : List ℕ) (start id : ℕ) → length payload < max_payload_len → start ≡ length before →
+pub framed_dropped : (before payload framed : List ℕ) (start id : ℕ) →
+    length payload < max_payload_len → start ≡ length before →
     framed ≡ before ++ framing payload id → drop (start + 4) framed ≡ payload
 framed_dropped before payload framed start id short at is =
-    let four : framed ≡ before ++ chunk id payload = is ∙ ap (λ (f : List ℕ). before ++ f) (framing_short payload id short) in
+    let four : framed ≡ before ++ chunk id payload = is ∙
+    ap (λ (f : List ℕ). before ++ f) (framing_short payload id short) in
     rw (four, at) (sym (drop-drop 4 (length before) (before ++ chunk id payload))
     ∙ ap (drop 4) (drop_at before (chunk id payload) (length before) refl))
 
-pub framed_length : (before payload framed : List ℕ) (start id : ℕ) → length payload < max_payload_len → start ≡ length before →
+pub framed_length : (before payload framed : List ℕ) (start id : ℕ) →
+    length payload < max_payload_len → start ≡ length before →
     framed ≡ before ++ framing payload id → length framed ≡ start + 4 + length payload
 framed_length before payload framed start id short at is =
-    let four : framed ≡ before ++ chunk id payload = is ∙ ap (λ (f : List ℕ). before ++ f) (framing_short payload id short) in
+    let four : framed ≡ before ++ chunk id payload = is ∙
+    ap (λ (f : List ℕ). before ++ f) (framing_short payload id short) in
     rw four (omega (arith, at, length-append before (chunk id payload)))
 
 -- THE CONNECTION GOES ON
@@ -104,11 +113,13 @@ pub puts_behind : (old new : LendingWorld) (event : Event) (held framed : List �
     GoesOnBehind old event (drop (start + 4) held) next count result new →
     PutsBehind old event start held result new framed
 puts_behind old new event held framed start next count (Ok done) inside is number size goes =
-    let many : count ≡ length framed - length (take start held) = size ∙ omega (arith, length-take-le start held inside) in (
+    let many : count ≡ length framed - length (take start held) = size ∙
+    omega (arith, length-take-le start held inside) in (
       goes.0,
       goes.1,
       goes.2,
-      goes.3 ∙ ap lending_none (gone old.world event (drop (start + 4) held) (take start held) framed next count goes.0 is number many),
+      goes.3 ∙ ap lending_none (gone old.world event (drop (start + 4) held) (take start held)
+          framed next count goes.0 is number many),
       is,
     )
 puts_behind old new event held framed start next count (Err Held) inside is number size goes =
@@ -122,8 +133,10 @@ puts_behind old new event held framed start next count (Err TooLarge) inside is 
 -- AN EVENT THAT IS DUE
 
 -- what was put of the payload that stands behind room is what was put of the event
-due_by : (old new : LendingWorld) (event : Event) (before payload behind : List ℕ) (result : Result (Unit {0}) PutRefusal) →
-    (start : ℕ) → start ≡ length before → is_due old.world event ≡ true → payload_of old.world.standing event ≡ Some payload →
+due_by : (old new : LendingWorld) (event : Event) (before payload behind : List ℕ)
+    (result : Result (Unit {0}) PutRefusal) →
+    (start : ℕ) → start ≡ length before → is_due old.world event ≡ true →
+    payload_of old.world.standing event ≡ Some payload →
     length payload ≤ limit_of (side_of event) old.world.limits →
     PutsBehind old event start (behind_room before payload) result new behind →
     (take start (behind_room before payload) ≡ before) × (drop (start + 4) (behind_room before payload) ≡ payload) →
@@ -134,7 +147,9 @@ due_by old new event before payload behind (Ok done) start at due there within p
     let goes : new ≡ lending_none (put_on old.world event payload puts.0) =
     subst (λ (p : List ℕ). new ≡ lending_none (put_on old.world event p puts.0)) parts.1 puts.3 in
     let appended : behind ≡ before ++ packets_for event old.world.standing payload =
-    puts.4 ∙ ap (λ (f : List ℕ). f ++ packets_for event old.world.standing (drop (start + 4) (behind_room before payload))) parts.0
+    puts.4 ∙ ap (λ (f : List ℕ). f ++
+    packets_for event old.world.standing (drop (start + 4) (behind_room before payload)))
+    parts.0
     ∙ ap (λ (p : List ℕ). before ++ packets_for event old.world.standing p) parts.1 in (
       (
         payload,
@@ -149,7 +164,8 @@ due_by old new event before payload behind (Ok done) start at due there within p
       ap (λ (l : LendingWorld). l.row) goes,
     )
 due_by old new event before payload behind (Err Held) start at due there within puts parts =
-    let over : IsNotHeld old.world event payload = subst (λ (p : List ℕ). IsNotHeld old.world event p) parts.1 puts.2 in (
+    let over : IsNotHeld old.world event payload =
+    subst (λ (p : List ℕ). IsNotHeld old.world event p) parts.1 puts.2 in (
       puts.0,
       ap (λ (n : ℕ). take n behind) (sym at) ∙ puts.1 ∙ parts.0,
       (payload, over.0, record { due = due; is_written = there; says = over.1 }, within, over.2),

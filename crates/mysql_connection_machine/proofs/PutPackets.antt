@@ -1,5 +1,6 @@
 -- Packets that are put, one behind those before it.
-use Rattle.std.proofs.Common.{◌≡◌, ◌+◌, ◌-◌, ◌≤◌, ◌++◌, ◌∷◌, [], ℕ, true, List, Option, Some, None, Ok, drop, take, length, refl, subst, sym, ap, ◌∙◌, arith, length-drop}
+use Rattle.std.proofs.Common.{◌≡◌, ◌+◌, ◌-◌, ◌≤◌, ◌++◌, ◌∷◌, [], ℕ, true, List, Option, Some, None, Ok, drop, take}
+use Rattle.std.proofs.Common.{length, refl, subst, sym, ap, ◌∙◌, arith, length-drop}
 use Rattle.std.proofs.lemmas.List.{drop-drop, take_rest}
 use Rattle.std.specs.Prelude.{◌&&◌, slice_index_or}
 use Rattle.mysql_connection_rules.specs.Puts.{is_free, is_turn}
@@ -62,7 +63,8 @@ up_to_more old mid new side packets before middle behind rest used put first =
     let limits = all_limits old mid side put.payloads before middle put.puts in
     let found = ap (λ (l : Limits). first_of (limit_of side l) rest) limits ∙ first.found in record {
       payloads = put.payloads ++ first.payload ∷ [];
-      stand = stand_more (limit_of side old.world.limits) packets first.payload put.payloads rest (drop used rest) first.number put.stand found;
+      stand = stand_more (limit_of side old.world.limits) packets first.payload put.payloads rest
+          (drop used rest) first.number put.stand found;
       puts = puts_more old mid new side put.payloads first.payload before middle behind put.puts first.one;
     }
 
@@ -78,7 +80,8 @@ pub goes_on : (old mid new : Machine) (side : Side) (packets before middle behin
     GoesOn old side packets before (used + taken) new behind
 goes_on old mid new side packets before middle behind used taken goes taken_first =
     let rest = drop used packets in
-    let first = subst (λ (l : List ℕ). PutsFirstBy mid side l middle taken new behind) (take_rest packets used) taken_first in
+    let first = subst (λ (l : List ℕ). PutsFirstBy mid side l middle taken new behind)
+    (take_rest packets used) taken_first in
     let long = length-drop used packets in
     let short = first.within in record {
       within = omega (arith, goes.within, long, short);
@@ -112,11 +115,13 @@ pub put_first_by : PacketsTakeBytes → (old new : Machine) (side : Side) (packe
     number ≡ slice_index_or packets 3 0 → first_packet limit number packets ≡ Whole payload next (drop used packets) →
     used ≤ length packets → old.failure ≡ None → PutsWithoutEventOn old side payload before (Ok tt) new behind →
     PutsFirstBy old side packets before used new behind
-put_first_by law old new side packets before behind payload limit number used next its_limit its_number found within going puts = record {
-  payload = payload;
-  number = next;
-  found = ap (λ (l : ℕ). first_of l packets) (sym its_limit) ∙ ap (λ (n : ℕ). first_packet limit n packets) (sym its_number) ∙ found;
-  header = took_four law limit number used next packets payload found;
-  within = within;
-  one = record { going = going; puts = puts };
-}
+put_first_by law old new side packets before behind payload limit number used next its_limit
+    its_number found within going puts = record {
+      payload = payload;
+      number = next;
+      found = ap (λ (l : ℕ). first_of l packets) (sym its_limit) ∙
+          ap (λ (n : ℕ). first_packet limit n packets) (sym its_number) ∙ found;
+      header = took_four law limit number used next packets payload found;
+      within = within;
+      one = record { going = going; puts = puts };
+    }

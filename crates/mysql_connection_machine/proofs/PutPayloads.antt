@@ -1,5 +1,6 @@
 -- What is put by its payload.
-use Rattle.std.proofs.Common.{◌≡◌, ◌<◌, ◌≤◌, ℕ, Bool, true, false, List, Option, None, Ok, Err, length, refl, subst, sym, ap, ◌∙◌}
+use Rattle.std.proofs.Common.{◌≡◌, ◌<◌, ◌≤◌, ℕ, Bool, true, false, List, Option, None, Ok, Err, length, refl, subst}
+use Rattle.std.proofs.Common.{sym, ap, ◌∙◌}
 use Rattle.std.specs.Prelude.{◌&&◌}
 use Rattle.mysql_connection_rules.proofs.Putting.{both}
 use Rattle.mysql_connection_rules.specs.AgreementLaws.{PutsAreRead}
@@ -107,7 +108,8 @@ held_so old side payload event before new behind after due e its puts =
       (due, event, more.0, leads_there old.world payload event after more.0 e its more.1, more.2),
     )
 
-pub appended : PayloadsAreInTurn → (old : LendingWorld) (side : Side) (payload : List ℕ) (event : Event) (before : List ℕ)
+pub appended : PayloadsAreInTurn →
+    (old : LendingWorld) (side : Side) (payload : List ℕ) (event : Event) (before : List ℕ)
     (done : Unit {0}) (new : LendingWorld) (behind : List ℕ) → IsDue old.world side payload →
     said_in (step old.world.standing payload) ≡ Ok event → PutsPayload old event payload before (Ok done) new behind →
     AppendsPayload old.world side payload event new.world before behind × (new.row ≡ None)
@@ -116,7 +118,8 @@ appended law old side payload event before done new behind due e puts =
     appended_so old side payload event before done new behind led_to.0 due led_to.1
     (law old.world payload event led_to.0 led_to.1) puts
 
-pub held_back : PayloadsAreInTurn → (old : LendingWorld) (side : Side) (payload : List ℕ) (event : Event) (before : List ℕ)
+pub held_back : PayloadsAreInTurn →
+    (old : LendingWorld) (side : Side) (payload : List ℕ) (event : Event) (before : List ℕ)
     (new : LendingWorld) (behind : List ℕ) → IsDue old.world side payload →
     said_in (step old.world.standing payload) ≡ Ok event → PutsPayload old event payload before (Err Held) new behind →
     (new ≡ old) × (behind ≡ before) × RefusesPayload old.world side payload refusals.Held

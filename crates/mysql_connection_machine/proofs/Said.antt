@@ -26,7 +26,8 @@ use Rattle.mysql_connection_machine.specs.Takes.{GoesOnBy, SaysBy, has_room}
 
 -- ---- room for what is kept
 
-pub fits : (limits : Limits) (side : Side) (number : ℕ) (s : Standing) → kept s ≤ room_to_keep limits → has_room limits side number s ≡ true
+pub fits : (limits : Limits) (side : Side) (number : ℕ) (s : Standing) →
+    kept s ≤ room_to_keep limits → has_room limits side number s ≡ true
 fits limits side number s h = le (kept s) (room_to_keep limits) h where
   le : (a b : ℕ) → a ≤ b → nat_le a b ≡ true
   le a b h = grind (arith, nat_tests)
@@ -35,9 +36,11 @@ fits limits side number s h = le (kept s) (room_to_keep limits) h where
 
 -- what a step says is put by the payload
 abbrev pub PutsAsRead : Standing → List ℕ → Step → Type 0
-PutsAsRead s payload step = (event : Event) (after : Standing) → step ≡ Ok (event, after) → LeadsTo s event payload after
+PutsAsRead s payload step = (event : Event) (after : Standing) → step ≡ Ok (event, after) →
+    LeadsTo s event payload after
 
-pub said_so : (limits : Limits) (side : Side) (number : ℕ) (old new : ConnectionState) (payload : List ℕ) (event : HeldEvent) (step : Step)
+pub said_so : (limits : Limits) (side : Side) (number : ℕ) (old new : ConnectionState)
+    (payload : List ℕ) (event : HeldEvent) (step : Step)
     (done : Unit {0}) → PutsAsRead old.standing payload step → said_in step ≡ Ok (event_view event) →
     GoesOnBy limits side number old (event_view event) payload (Ok done) new →
     SaysBy limits side number step (Ok event) new.standing
@@ -46,7 +49,8 @@ said_so limits side number old new payload event step done puts peeked goes =
     let stands = goes to.0 (puts (event_view event) to.0 to.1) in
     (to.0, to.1, stands.0, stands.1)
 
-pub not_said : (limits : Limits) (side : Side) (number : ℕ) (old new : ConnectionState) (payload : List ℕ) (event : HeldEvent) (step : Step)
+pub not_said : (limits : Limits) (side : Side) (number : ℕ) (old new : ConnectionState)
+    (payload : List ℕ) (event : HeldEvent) (step : Step)
     (fault : Fault) (left : Standing) → PutsAsRead old.standing payload step → said_in step ≡ Ok (event_view event) →
     GoesOnBy limits side number old (event_view event) payload (Err fault) new →
     SaysBy limits side number step (Err fault) left
@@ -57,7 +61,8 @@ not_said limits side number old new payload event step fault left puts peeked go
 
 -- ---- the payload that is due
 
-pub as_read : PayloadsAreInTurn → (limits : Limits) (s : Standing) (payload : List ℕ) → PutsAsRead s payload (step s payload)
+pub as_read : PayloadsAreInTurn → (limits : Limits) (s : Standing) (payload : List ℕ) →
+    PutsAsRead s payload (step s payload)
 as_read law limits s payload event after e =
     (law (record { limits = limits; standing = s; unread = no_bytes }) payload event after e).put
 

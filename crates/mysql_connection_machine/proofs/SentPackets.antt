@@ -1,5 +1,6 @@
 -- Packets that were sent, and are put.
-use Rattle.std.proofs.Common.{◌≡◌, ◌⊎◌, ℕ, ◌+◌, ◌≤◌, ◌<◌, ◌/◌, ◌%◌, false, List, [], ◌∷◌, ◌++◌, drop, length, refl, sym, ap, ◌∙◌, subst, append-nil, add-one, arith, inl, inr}
+use Rattle.std.proofs.Common.{◌≡◌, ◌⊎◌, ℕ, ◌+◌, ◌≤◌, ◌<◌, ◌/◌, ◌%◌, false, List, [], ◌∷◌, ◌++◌, drop, length, refl, sym}
+use Rattle.std.proofs.Common.{ap, ◌∙◌, subst, append-nil, add-one, arith, inl, inr}
 use Rattle.std.proofs.lemmas.List.{append_cancel_left}
 use Rattle.std.specs.Prelude.{slice_index_or}
 use Rattle.std.specs.List.{AllByRecursion, flat_map, range_with_len}
@@ -19,14 +20,16 @@ use Rattle.mysql_connection_machine.specs.PuttingPayloads.{is_due_of}
 
 -- ---- the framing of a payload is found
 
-number_said : (number : ℕ) (bytes rest behind : List ℕ) → slice_index_or ((chunk number bytes ++ rest) ++ behind) 3 0 ≡ number % 256
+number_said : (number : ℕ) (bytes rest behind : List ℕ) →
+    slice_index_or ((chunk number bytes ++ rest) ++ behind) 3 0 ≡ number % 256
 number_said number bytes rest behind = refl
 
 same_number : (number : ℕ) → (number + 0) % 256 ≡ number % 256
 same_number number = omega arith
 
 -- the number that the first packet says is a byte
-number_framed : (payload rest : List ℕ) (number : ℕ) → slice_index_or (framing payload number ++ rest) 3 0 ≡ number % 256
+number_framed : (payload rest : List ℕ) (number : ℕ) →
+    slice_index_or (framing payload number ++ rest) 3 0 ≡ number % 256
 number_framed payload rest number =
     let f = framed_as payload number in
     ap (λ (l : List ℕ). slice_index_or (l ++ rest) 3 0) f.1
@@ -85,10 +88,12 @@ none_whole limit number payload behind found =
 
 -- the first of packets that were sent isn't a part of one
 sent_whole : FramingsAreFound → (limit : ℕ) (numbering : Numbering) (payloads : List (List ℕ)) →
-    AllByRecursion (λ payload. length payload ≤ limit) payloads → first_of limit (framings payloads numbering) ≡ Short → payloads ≡ []
+    AllByRecursion (λ payload. length payload ≤ limit) payloads →
+    first_of limit (framings payloads numbering) ≡ Short → payloads ≡ []
 sent_whole found limit numbering [] within short = refl
 sent_whole found limit numbering (payload ∷ payloads) within short =
-    let first = found_first found limit (first_number numbering) payload (framings payloads (after payload numbering)) within.0 in
+    let first = found_first found limit (first_number numbering) payload
+    (framings payloads (after payload numbering)) within.0 in
     absurd (cc)
 
 -- where nothing is left, all were taken
@@ -101,7 +106,8 @@ all_taken found limit numbering payloads rest within is short =
 
 -- one more was taken before these
 one_more : (limit : ℕ) (numbering : Numbering) (payload : List ℕ) (payloads taken : List (List ℕ)) (rest : List ℕ) →
-    AreTaken limit (after payload numbering) payloads taken rest → AreTaken limit numbering (payload ∷ payloads) (payload ∷ taken) rest
+    AreTaken limit (after payload numbering) payloads taken rest →
+    AreTaken limit numbering (payload ∷ payloads) (payload ∷ taken) rest
 one_more limit numbering payload payloads taken rest are = record {
   left = are.left;
   parts = ap (λ (l : List (List ℕ)). payload ∷ l) are.parts;
@@ -110,11 +116,13 @@ one_more limit numbering payload payloads taken rest are = record {
 }
 
 -- what was found is the first that was sent
-payload_found : (payload other behind rest : List ℕ) (number next : ℕ) → Whole payload number behind ≡ Whole other next rest →
+payload_found : (payload other behind rest : List ℕ) (number next : ℕ) →
+    Whole payload number behind ≡ Whole other next rest →
     payload ≡ other
 payload_found payload other behind rest number next same = cc
 
-behind_found : (payload other behind rest : List ℕ) (number next : ℕ) → Whole payload number behind ≡ Whole other next rest →
+behind_found : (payload other behind rest : List ℕ) (number next : ℕ) →
+    Whole payload number behind ≡ Whole other next rest →
     behind ≡ rest
 behind_found payload other behind rest number next same = cc
 
@@ -134,7 +142,8 @@ sent_packets_are_taken found limit numbering (payload ∷ payloads) (first ∷ t
     sym stand.2 ∙ found_first found limit number payload later within.0 in
     let is = payload_found first payload stand.1 later stand.0 (number_after payload number) same in
     let follows = behind_found first payload stand.1 later stand.0 (number_after payload number) same in
-    let behind : StandFirst limit later taken rest = subst (λ (l : List ℕ). StandFirst limit l taken rest) follows stand.3 in
+    let behind : StandFirst limit later taken rest =
+    subst (λ (l : List ℕ). StandFirst limit l taken rest) follows stand.3 in
     subst (λ (p : List ℕ). AreTaken limit numbering (payload ∷ payloads) (p ∷ taken) rest) (sym is)
     (one_more limit numbering payload payloads taken rest
     (sent_packets_are_taken found limit (after payload numbering) payloads taken rest within.1 behind))
@@ -158,7 +167,8 @@ pub sent_packets_are_put : FramingsAreFound → SentPacketsArePut
 sent_packets_are_put found old side payloads numbering before used new behind within puts =
     let put = puts.1 in
     let rest = drop used (framings payloads numbering) in
-    let are = sent_packets_are_taken found (limit_of side old.world.limits) numbering payloads put.payloads rest within put.stand in
+    let are = sent_packets_are_taken found (limit_of side old.world.limits) numbering payloads
+    put.payloads rest within put.stand in
     let limits = all_limits old new side put.payloads before behind put.puts in record {
       taken = put.payloads;
       left = are.left;

@@ -5,11 +5,13 @@ use Rattle.std.specs.Option.{ok_or}
 use Rattle.mysql_receive.specs.Fields.{◌>>◌, must}
 use Rattle.mysql_wire.specs.Wire.{◌>>=◌}
 
-pub bind_ok : {A B F : Type 0} (r : Result A F) (f : A → Result B F) (y : B) → (r >>= f) ≡ Ok y → (x : A) × (r ≡ Ok x) × (f x ≡ Ok y)
+pub bind_ok : {A B F : Type 0} (r : Result A F) (f : A → Result B F) (y : B) → (r >>= f) ≡ Ok y →
+    (x : A) × (r ≡ Ok x) × (f x ≡ Ok y)
 bind_ok (Ok x) f y e = (x, refl, e)
 bind_ok (Err d) f y e = absurd cc
 
-pub must_then : {B F : Type 0} (fault : F) (b : Bool) (next : Result B F) (y : B) → (must fault b >> next) ≡ Ok y → (b ≡ true) × (next ≡ Ok y)
+pub must_then : {B F : Type 0} (fault : F) (b : Bool) (next : Result B F) (y : B) →
+    (must fault b >> next) ≡ Ok y → (b ≡ true) × (next ≡ Ok y)
 must_then fault true next y e = (refl, e)
 must_then fault false next y e = absurd cc
 

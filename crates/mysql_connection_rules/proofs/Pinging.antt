@@ -18,7 +18,8 @@ use Rattle.mysql_connection_rules.specs.PuttingMachines.{Puts}
 use Rattle.mysql_connection_rules.specs.Puts.{is_turn, put_on}
 use Rattle.mysql_connection_rules.proofs.Putting.{puts_are_read}
 
-says_ping : (s : Standing) → s.phase ≡ Command → step s (14 ∷ []) ≡ Ok (Asked Ping, reply_due kinds.Plain None Nothing s)
+says_ping : (s : Standing) → s.phase ≡ Command → step s (14 ∷ []) ≡
+    Ok (Asked Ping, reply_due kinds.Plain None Nothing s)
 unfolding step mode_behind
 says_ping s e = ap (λ (p : Phase). with_mode s (in_turn p s (14 ∷ []))) e
 
@@ -32,7 +33,8 @@ keeps_ping s room h = omega arith
 pub ping_is_put : FramingsAreFound → PingIsPut
 ping_is_put found w awaits =
     let after = reply_due kinds.Plain None Nothing w.standing in
-    let bytes : framing (14 ∷ []) w.standing.number ≡ 1 ∷ 0 ∷ 0 ∷ 0 ∷ 14 ∷ [] = ap (framing (14 ∷ [])) awaits.number ∙ framed in
+    let bytes : framing (14 ∷ []) w.standing.number ≡ 1 ∷ 0 ∷ 0 ∷ 0 ∷ 14 ∷ [] =
+    ap (framing (14 ∷ [])) awaits.number ∙ framed in
     subst (λ (l : List ℕ). Puts w (Asked Ping) Client l (put_on w (Asked Ping) (14 ∷ []) after)) bytes
     (puts_are_read found w (Asked Ping) (14 ∷ []) after (let e = awaits.number in omega arith) (record {
       due = λ i. awaits.free i && is_turn Client (turn (awaits.phase i));

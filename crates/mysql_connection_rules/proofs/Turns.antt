@@ -29,22 +29,29 @@ InTurn own Waits = Unit {0}
 InTurn own (Says event mid) = IsNamed own event
 InTurn own (Fails failure) = Unit {0}
 
-room_turn : (fits : Bool) (w : World) (own side : Side) (event : Event) (mid : World) → IsNamed side event → InTurn side (by_room fits w own event mid)
+room_turn : (fits : Bool) (w : World) (own side : Side) (event : Event) (mid : World) →
+    IsNamed side event → InTurn side (by_room fits w own event mid)
 room_turn true w own side event mid h = h
 room_turn false w own side event mid h = tt
 
-said_turn : (w : World) (own : Side) (number : ℕ) (rest : List ℕ) (said : Result (Event × Standing) Fault) → SaidBy own said → InTurn own (said_by w own number rest said)
+said_turn : (w : World) (own : Side) (number : ℕ) (rest : List ℕ)
+    (said : Result (Event × Standing) Fault) → SaidBy own said →
+    InTurn own (said_by w own number rest said)
 said_turn w own number rest (Ok said) h =
-    room_turn (nat_le (kept (numbered own number said.1)) (room_to_keep w.limits)) w own own said.0 (moved w own number rest said.1) (inl h)
+    room_turn (nat_le (kept (numbered own number said.1)) (room_to_keep w.limits)) w own own said.0
+    (moved w own number rest said.1) (inl h)
 said_turn w own number rest (Err fault) h = tt
 
-farewell_turn : (w : World) (side : Side) (number : ℕ) (rest : List ℕ) (error : Reading ServerError) → InTurn side (farewell w number rest error)
+farewell_turn : (w : World) (side : Side) (number : ℕ) (rest : List ℕ)
+    (error : Reading ServerError) → InTurn side (farewell w number rest error)
 farewell_turn w side number rest (Ok error) =
     let s = over reasons.Farewell w.standing in
-    room_turn (nat_le (kept (numbered Server number s)) (room_to_keep w.limits)) w Server side (Farewell error.0) (moved w Server number rest s) (inr (error.0, refl))
+    room_turn (nat_le (kept (numbered Server number s)) (room_to_keep w.limits)) w Server side
+    (Farewell error.0) (moved w Server number rest s) (inr (error.0, refl))
 farewell_turn w side number rest (Err e) = tt
 
-error_turn : (begins : Bool) (w : World) (side : Side) (fault : Fault) (number : ℕ) (rest : List ℕ) (error : Reading ServerError)
+error_turn : (begins : Bool) (w : World) (side : Side) (fault : Fault) (number : ℕ) (rest : List ℕ)
+    (error : Reading ServerError)
     → InTurn side (by_error begins w fault number rest error)
 error_turn true w side fault number rest error = farewell_turn w side number rest error
 error_turn false w side fault number rest error = tt
@@ -53,7 +60,8 @@ words_turn : (w : World) (side : Side) (found : Found) → InTurn side (words_by
 words_turn w side Short = tt
 words_turn w side TooLarge = tt
 words_turn w side (OutOfSync number) = tt
-words_turn w side (Whole payload number rest) = error_turn (begins_error payload) w side faults.Unasked number rest (early_error_at payload)
+words_turn w side (Whole payload number rest) =
+    error_turn (begins_error payload) w side faults.Unasked number rest (early_error_at payload)
 
 number_turn : (w : World) (side : Side) (due : Bool) (found : Found) → InTurn side (by_number due w found)
 number_turn w side true found = words_turn w side found
@@ -70,15 +78,18 @@ client_turn : (w : World) (found : Found) → turn w.standing.phase ≡ Some Cli
 client_turn w Short e = end_turn w w.unread.client.closed
 client_turn w TooLarge e = tt
 client_turn w (OutOfSync number) e = tt
-client_turn w (Whole payload number rest) e = said_turn w Client number rest (step w.standing payload) (step_side w.standing payload Client e)
+client_turn w (Whole payload number rest) e =
+    said_turn w Client number rest (step w.standing payload) (step_side w.standing payload Client e)
 
 server_turn : (w : World) (found : Found) → turn w.standing.phase ≡ Some Server → InTurn Server (server_by w found)
 server_turn w Short e = tt
 server_turn w TooLarge e = tt
 server_turn w (OutOfSync number) e = tt
-server_turn w (Whole payload number rest) e = said_turn w Server number rest (step w.standing payload) (step_side w.standing payload Server e)
+server_turn w (Whole payload number rest) e =
+    said_turn w Server number rest (step w.standing payload) (step_side w.standing payload Server e)
 
-either_turn : (w : World) (early : Bool) (found due : Found) → turn w.standing.phase ≡ Some Server → InTurn Server (by_early early w found due)
+either_turn : (w : World) (early : Bool) (found due : Found) → turn w.standing.phase ≡ Some Server →
+    InTurn Server (by_early early w found due)
 either_turn w true found due e = words_turn w Server found
 either_turn w false found due e = server_turn w due e
 
@@ -95,9 +106,11 @@ turn_said w (Some Server) e =
     let s = w.standing in
     let limit = w.limits.server in
     let bytes = w.unread.server.bytes in
-    either_turn w (is_early s bytes) (first_packet limit (slice_index_or bytes 3 0) bytes) (first_packet limit s.number bytes) e
+    either_turn w (is_early s bytes) (first_packet limit (slice_index_or bytes 3 0) bytes)
+    (first_packet limit s.number bytes) e
 
-by_its : (its : Option Side) (event : Event) (mid : World) → TurnSaid its (Says event mid) → (its ≡ Some (side_of event)) ⊎ ((error : ServerError) × (event ≡ Farewell error))
+by_its : (its : Option Side) (event : Event) (mid : World) → TurnSaid its (Says event mid) →
+    (its ≡ Some (side_of event)) ⊎ ((error : ServerError) × (event ≡ Farewell error))
 by_its None event mid h = absurd h
 by_its (Some own) event mid (inl e) = inl (ap (λ (s : Side). Some s) e)
 by_its (Some own) event mid (inr words) = inr words

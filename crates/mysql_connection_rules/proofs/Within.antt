@@ -4,7 +4,8 @@ use Rattle.std.proofs.lemmas.Grind.{common_steps}
 use Rattle.mysql_connection_rules.specs.declared.side.Side.TheVariants.{Client, Server}
 use Rattle.mysql_connection_rules.specs.Standing.{kept}
 use Rattle.mysql_connection_rules.specs.Streams.{Stream, World, room, room_to_keep, stream_of}
-use Rattle.mysql_connection_rules.specs.Laws.{EventsStayWithinLimits, EventsTakeBytes, FaultsAreOfTheirBytes, FreshIsWithinLimits, HasRead, HeldStays}
+use Rattle.mysql_connection_rules.specs.Laws.{EventsStayWithinLimits, EventsTakeBytes, FaultsAreOfTheirBytes}
+use Rattle.mysql_connection_rules.specs.Laws.{FreshIsWithinLimits, HasRead, HeldStays}
 use Rattle.mysql_connection_rules.specs.Laws.{PiecesStayWithinLimits, PositionsStay, WithinLimits}
 use Rattle.mysql_connection_rules.proofs.Packets.{PacketLaws}
 use Rattle.mysql_connection_rules.proofs.Going.{next_goes, next_goes-fails, same_read, Went}
@@ -21,9 +22,12 @@ then_read a b c one two = record {
 }
 
 pub positions_stay : PacketLaws → PositionsStay
-positions_stay packets old new [] h side = subst (λ (v : World). HasRead (stream_of side old.unread) (stream_of side v.unread)) h (same_read (stream_of side old.unread))
+positions_stay packets old new [] h side =
+    subst (λ (v : World). HasRead (stream_of side old.unread) (stream_of side v.unread)) h
+    (same_read (stream_of side old.unread))
 positions_stay packets old new (event ∷ events) h side =
-    then_read (stream_of side old.unread) (stream_of side h.0.unread) (stream_of side new.unread) ((next_goes packets old event h.0 h.1).streams side)
+    then_read (stream_of side old.unread) (stream_of side h.0.unread) (stream_of side new.unread)
+    ((next_goes packets old event h.0 h.1).streams side)
     (positions_stay packets h.0 new events h.2 side)
 
 pub faults_are_of_their_bytes : PacketLaws → FaultsAreOfTheirBytes
@@ -37,9 +41,19 @@ fits_joined bytes piece room h = grind (arith, common_steps)
 
 pub pieces_stay_within_limits : PiecesStayWithinLimits
 pieces_stay_within_limits w Client piece within fits =
-    record { client = fits_joined w.unread.client.bytes piece (room Client w.limits) fits; server = within.server; kept = within.kept }
+    record {
+      client = fits_joined w.unread.client.bytes piece (room Client w.limits) fits;
+      server =
+          within.server;
+      kept = within.kept;
+    }
 pieces_stay_within_limits w Server piece within fits =
-    record { client = within.client; server = fits_joined w.unread.server.bytes piece (room Server w.limits) fits; kept = within.kept }
+    record {
+      client = within.client;
+      server =
+          fits_joined w.unread.server.bytes piece (room Server w.limits) fits;
+      kept = within.kept;
+    }
 
 fewer : (old new : Stream) (room : ℕ) → HasRead old new → length old.bytes ≤ room → length new.bytes ≤ room
 fewer old new room read h = let e = read.bytes in grind (arith, common_steps)
@@ -54,12 +68,14 @@ went_within old new went within = record {
 }
 
 pub events_stay_within_limits : PacketLaws → EventsStayWithinLimits
-events_stay_within_limits packets old new event e within = went_within old new (next_goes packets old event new e) within
+events_stay_within_limits packets old new event e within =
+    went_within old new (next_goes packets old event new e) within
 
 sum_within : (a b k x y held : ℕ) → x + y ≤ held → a ≤ x → b ≤ y → k ≤ held - (x + y) → a + (b + k) ≤ held
 sum_within a b k x y held h p q r = omega arith
 
 pub held_stays : HeldStays
 held_stays w h within =
-    sum_within (length w.unread.client.bytes) (length w.unread.server.bytes) (kept w.standing) (room Client w.limits) (room Server w.limits) w.limits.held
+    sum_within (length w.unread.client.bytes) (length w.unread.server.bytes) (kept w.standing)
+    (room Client w.limits) (room Server w.limits) w.limits.held
     h within.client within.server within.kept

@@ -3,7 +3,8 @@ use Rattle.std.proofs.Common.{◌≡◌, ℕ, ◌+◌, List, Option, Some, None,
 use Rattle.std.specs.Option.{option_and_then}
 use Rattle.mysql_connection_rules.specs.Standing.{Standing, about_size, kept}
 use Rattle.mysql_connection_rules.specs.Steps.{about_execution, after_executing}
-use Rattle.mysql_connection_statements.specs.Statements.{Statement, Statements, change_at, changed, executed, pending_of, statement_at, waiting_size, with_statement}
+use Rattle.mysql_connection_statements.specs.Statements.{Statement, Statements, change_at, changed, executed}
+use Rattle.mysql_connection_statements.specs.Statements.{pending_of, statement_at, waiting_size, with_statement}
 use Rattle.mysql_connection_statements.specs.declared.pending.Pending.{Pending}
 use Rattle.mysql_executions.specs.declared.refused.Refused.{Refused}
 use Rattle.mysql_executions.specs.declared.types.BoundType.{BoundType}

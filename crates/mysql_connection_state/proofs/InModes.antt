@@ -1,5 +1,6 @@
 -- With the mode that an event tells, a state reads and goes on as it does by its phase.
-use Rattle.std.proofs.Common.{◌≡◌, ◌<◌, ◌≤◌, ℕ, Bool, true, false, List, [], ◌∷◌, Option, Some, None, Ok, Err, refl, sym, ap, subst, ◌∙◌}
+use Rattle.std.proofs.Common.{◌≡◌, ◌<◌, ◌≤◌, ℕ, Bool, true, false, List, [], ◌∷◌, Option, Some, None, Ok, Err, refl}
+use Rattle.std.proofs.Common.{sym, ap, subst, ◌∙◌}
 use Rattle.std.specs.Prelude.{if◌then◌else◌}
 use Rattle.mysql_authentication.specs.Readings.{early_error_at}
 use Rattle.std.specs.Option.{option_map}
@@ -25,7 +26,8 @@ use Rattle.mysql_connection_rules.specs.SessionModes.{mode_asked, mode_behind, m
 use Rattle.mysql_connection_rules.specs.Standing.{Standing, kept}
 use Rattle.mysql_connection_rules.specs.StepLaws.{SaidIn, step_said, step_says}
 use Rattle.mysql_connection_rules.specs.Standing.About.{Nothing}
-use Rattle.mysql_connection_rules.specs.Steps.{execution_of, id_in_question, in_mode, in_turn, over, parameters_in_question, reply_due}
+use Rattle.mysql_connection_rules.specs.Steps.{execution_of, id_in_question, in_mode, in_turn, over}
+use Rattle.mysql_connection_rules.specs.Steps.{parameters_in_question, reply_due}
 use Rattle.mysql_connection_rules.specs.Steps.{statement_in_question, step}
 use Rattle.mysql_reply_events.specs.declared.context.ReplyKind.TheVariants as kinds
 use Rattle.mysql_connection_rules.specs.Streams.{begins_error}
@@ -128,7 +130,8 @@ pub goes_in_mode : (mode : SessionMode) (old mid new : ConnectionState) (after :
     Goes old (in_mode mode after) room (Ok tt) new
 goes_in_mode mode old mid new after room goes is = (is ∙ ap (in_mode mode) goes.0, goes.1)
 
-pub refused_in_mode : (mode : SessionMode) (old new : ConnectionState) (after : Standing) (room : ℕ) (refusal : FollowRefusal) →
+pub refused_in_mode : (mode : SessionMode) (old new : ConnectionState) (after : Standing) (room : ℕ)
+    (refusal : FollowRefusal) →
     Goes old after room (Err refusal) new → Goes old (in_mode mode after) room (Err refusal) new
 refused_in_mode mode old new after room Held goes = goes
 refused_in_mode mode old new after room Memory goes = goes

@@ -6,10 +6,13 @@ use Rattle.mysql_reply_events.specs.Table.{event_at, file_data_at}
 use Rattle.mysql_reply_events.specs.declared.fault.ReplyFault.{ReplyFault}
 use Rattle.mysql_reply_events.specs.declared.fault.ReplyFault.TheVariants.{Memory}
 use Rattle.mysql_connection_rules.specs.Events.{Event}
-use Rattle.mysql_connection_rules.specs.Events.Event.{Answer, Asked, Authentication, Farewell, FileData, Greeting, Replied, Response}
+use Rattle.mysql_connection_rules.specs.Events.Event.{Answer, Asked, Authentication, Farewell, FileData, Greeting}
+use Rattle.mysql_connection_rules.specs.Events.Event.{Replied, Response}
 use Rattle.mysql_connection_rules.specs.Standing.{InReply, Phase, Standing}
 use Rattle.mysql_connection_rules.specs.Standing as phases
-use Rattle.mysql_connection_rules.specs.Steps.{after_authentication, after_command, after_event, after_greeting, after_response, by_turn, context_of, greets_anew, in_phase, in_turn, of_login, of_reply, says, turn_in_reply}
+use Rattle.mysql_connection_rules.specs.Steps.{after_authentication, after_command, after_event, after_greeting}
+use Rattle.mysql_connection_rules.specs.Steps.{after_response, by_turn, context_of, greets_anew, in_phase, in_turn}
+use Rattle.mysql_connection_rules.specs.Steps.{of_login, of_reply, says, turn_in_reply}
 use Rattle.mysql_connection_rules.specs.declared.exchange.Exchange.{Exchange}
 use Rattle.mysql_connection_rules.specs.declared.fault.Fault.{Fault}
 use Rattle.mysql_connection_rules.specs.declared.fault.Fault.TheVariants as faults
@@ -18,13 +21,15 @@ use Rattle.mysql_connection_rules.specs.declared.side.Side.TheVariants.{Client, 
 use Rattle.mysql_connection_statements.specs.Statements.{counted}
 
 -- an authentication that is due, and what stands behind what the server says
-pub record OfAuthentication (s : Standing) (behind : Exchange → Standing) (phase : Exchange → Phase) (after : Standing) : Type 0 where
+pub record OfAuthentication (s : Standing) (behind : Exchange → Standing) (phase : Exchange →
+    Phase) (after : Standing) : Type 0 where
   pub exchange : Exchange
   pub due : s.phase ≡ phase exchange
   pub same : behind exchange ≡ after
 
 -- a reply that is due, what its payload leads to, and what stands then
-pub record OfReply (s : Standing) (Reads : InReply → ReplySoFar → Type 0) (behind : InReply → ReplySoFar → Standing) (after : Standing) : Type 0 where
+pub record OfReply (s : Standing) (Reads : InReply → ReplySoFar → Type 0) (behind : InReply →
+    ReplySoFar → Standing) (after : Standing) : Type 0 where
   pub reply : InReply
   pub next : ReplySoFar
   pub due : s.phase ≡ phases.Reply reply

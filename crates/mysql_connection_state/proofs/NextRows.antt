@@ -1,9 +1,11 @@
 -- A row that is read where it lies is the one of the table of steps.
-use Rattle.std.proofs.Common.{◌≡◌, ◌≤◌, ℕ, List, Bool, true, false, ◌&&◌, Some, Ok, Err, arith, inl, inr, refl, ap, subst, sym, ◌∙◌}
+use Rattle.std.proofs.Common.{◌≡◌, ◌≤◌, ℕ, List, Bool, true, false, ◌&&◌, Some, Ok, Err, arith, inl, inr, refl, ap}
+use Rattle.std.proofs.Common.{subst, sym, ◌∙◌}
 use Rattle.mysql_const.specs.declared.capabilities.Capabilities.{Capabilities}
 use Rattle.mysql_connection_statements.specs.Statements.{Statements, counted}
 use Rattle.mysql_reply_events.specs.Events.{Awaited, ReplySoFar}
-use Rattle.mysql_reply_events.specs.Events.Awaited.{Columns, ColumnsEnd, Fields, FileData, First, Nothing as NothingDue, Rows}
+use Rattle.mysql_reply_events.specs.Events.Awaited.{Columns, ColumnsEnd, Fields, FileData, First, Nothing as NothingDue}
+use Rattle.mysql_reply_events.specs.Events.Awaited.{Rows}
 use Rattle.mysql_reply_events.specs.Events.Event.{RowEvent}
 use Rattle.mysql_reply_events.specs.NextRows.{TakesNoRow}
 use Rattle.mysql_reply_events.specs.Reader.{awaits_rows, is_row_due}
@@ -25,7 +27,8 @@ use Rattle.mysql_connection_rules.specs.Steps.{reply_step, turn, turn_in_reply}
 use Rattle.mysql_connection_rules.specs.declared.fault.Fault.TheVariants.{BadReply}
 use Rattle.mysql_connection_rules.specs.declared.side.Side.{Side}
 use Rattle.mysql_connection_rules.specs.declared.side.Side.TheVariants.{Server}
-use Rattle.mysql_connection_state.specs.NextRows.{LendsRow, LendsRowOfReply, ReadsNextRow, ReadsNoNextRow, TakesRow, TakesRowOfReply, awaits_next_row}
+use Rattle.mysql_connection_state.specs.NextRows.{LendsRow, LendsRowOfReply, ReadsNextRow, ReadsNoNextRow, TakesRow}
+use Rattle.mysql_connection_state.specs.NextRows.{TakesRowOfReply, awaits_next_row}
 use Rattle.mysql_connection_state.specs.Reads.{SaysRow}
 use Rattle.mysql_connection_state.specs.Views.{ConnectionState, ReadsBy, in_reply_view}
 use Rattle.mysql_connection_state.specs.declared.due.InReply.{InReply as HeldReply}
@@ -59,7 +62,8 @@ rows_server : (awaited : Awaited) → awaited ≡ Rows true → turn_in_reply aw
 rows_server awaited is = ap turn_in_reply is
 
 -- and where a row is due that may be lent
-due_server_by : (c : Context) (s : ReplySoFar) (awaited : Awaited) (a b : Bool) → (awaits_rows c s awaited && a && b) ≡ true →
+due_server_by : (c : Context) (s : ReplySoFar) (awaited : Awaited) (a b : Bool) →
+    (awaits_rows c s awaited && a && b) ≡ true →
     turn_in_reply awaited ≡ Server
 due_server_by c s First a b h = refl
 due_server_by c s (Columns group n columns) a b h = refl
@@ -84,7 +88,9 @@ no_row old reply payload phase same rows (inr (inr (awaited, bad))) =
     let r = in_reply_view reply in
     let event : event_at (context_of old.standing r) reply.reader.so_far payload ≡ Err BadRow = rw (← same) bad in
     let stepped : reply_step r old.standing payload ≡ Err (BadReply BadRow) = rw event refl in
-    inr (inr (step_fails old.standing payload (BadReply BadRow) (server_turn old.standing r payload phase (rows_server reply.reader.so_far.awaited awaited) ∙ stepped)))
+    inr (inr (step_fails old.standing payload (BadReply BadRow)
+    (server_turn old.standing r payload phase
+    (rows_server reply.reader.so_far.awaited awaited) ∙ stepped)))
 
 -- a row that was read of the reply
 row_taken : (old new : ConnectionState) (reply after : HeldReply) (payload : List ℕ) →
@@ -124,7 +130,8 @@ pub taken : (old new : ConnectionState) (reply after : HeldReply) (payload : Lis
     new.standing ≡ in_phase (Reply (in_reply_view after)) old.standing → new.rows ≡ after.reader.rows →
     TakesRowOfReply reply payload took after → TakesRow old payload took new
 taken old new reply after payload true phase same rows stands lends took =
-    row_taken old new reply after payload phase same stands lends (rows_server reply.reader.so_far.awaited took.0) took.1
+    row_taken old new reply after payload phase same stands lends
+    (rows_server reply.reader.so_far.awaited took.0) took.1
 taken old new reply after payload false phase same rows stands lends took =
     (untaken old new reply after phase stands took.0, no_row old reply payload phase same rows took.1)
 
@@ -154,13 +161,15 @@ same_fits reply after capabilities same fits =
     subst (λ (r : HeldReply). ReadsBy capabilities r) (sym same)
     (record { fault = fits.fault; context = fits.context })
 
-pub still_fits : (reply after : HeldReply) (payload : List ℕ) (took : Bool) (s : Statements) (capabilities : Capabilities) →
+pub still_fits : (reply after : HeldReply) (payload : List ℕ) (took : Bool) (s : Statements)
+    (capabilities : Capabilities) →
     TakesRowOfReply reply payload took after → ReadsBy capabilities reply → ReadsBy capabilities after
 still_fits reply after payload true s capabilities took fits =
     row_fits reply after payload s capabilities (took.1 s) fits
 still_fits reply after payload false s capabilities took fits = same_fits reply after capabilities took.0 fits
 
-pub lent_fits : (reply after : HeldReply) (payload : List ℕ) (took : Bool) (s : Statements) (capabilities : Capabilities) →
+pub lent_fits : (reply after : HeldReply) (payload : List ℕ) (took : Bool) (s : Statements)
+    (capabilities : Capabilities) →
     LendsRowOfReply reply payload took after → ReadsBy capabilities reply → ReadsBy capabilities after
 lent_fits reply after payload true s capabilities took fits =
     row_fits reply after payload s capabilities (took.1 s) fits

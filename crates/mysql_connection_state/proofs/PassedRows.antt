@@ -14,7 +14,8 @@ use Rattle.mysql_connection_state.specs.declared.due.InReply.{InReply as HeldRep
 
 -- what is kept behind it, whatever its payload counts
 row_kept : (old : HeldReply) (size : ℕ) (row : Row) (s : Statements) →
-    going_size (about_view old.about) 0 (RowEvent row) s + (old.earlier + old.coming) ≡ kept_behind old size (RowEvent row) s
+    going_size (about_view old.about) 0 (RowEvent row) s + (old.earlier + old.coming) ≡
+    kept_behind old size (RowEvent row) s
 row_kept old size row s =
     let about = about_view old.about in
     let kept_for : Statements → ℕ = λ these. these.stored + about_size these (about_after about (RowEvent row)) in
@@ -26,8 +27,10 @@ row_kept old size row s =
 abbrev passed : HeldReply → Row → ReaderState
 passed old row = record old.reader { so_far = next_of old (RowEvent row) }
 
-row_passed : (old new : HeldReply) (size : ℕ) (row : Row) (s : Statements) → old.reader.fault ≡ None → new.reader ≡ passed old row →
-    in_reply_view new ≡ reply_after (in_reply_view (record old { reader = passed old row })) size (RowEvent row) (next_of old (RowEvent row)) →
+row_passed : (old new : HeldReply) (size : ℕ) (row : Row) (s : Statements) → old.reader.fault ≡
+    None → new.reader ≡ passed old row →
+    in_reply_view new ≡ reply_after (in_reply_view (record old { reader = passed old row })) size
+    (RowEvent row) (next_of old (RowEvent row)) →
     IsPassed old s size (RowEvent row) new s
 row_passed old new size row s going reader came = record {
   reply = came;
@@ -38,14 +41,19 @@ row_passed old new size row s going reader came = record {
   statements = sym (no_change (about_view old.about) size row s);
 }
 
-pub passes_row : (old new : HeldReply) (size room total : ℕ) (event : ReplySaid) (row : Row) (s : Statements) → event ≡ RowEvent row →
+pub passes_row : (old new : HeldReply) (size room total : ℕ) (event : ReplySaid) (row : Row)
+    (s : Statements) → event ≡ RowEvent row →
     old.reader.fault ≡ None → new.reader ≡ record old.reader { so_far = next_of old event } →
-    in_reply_view new ≡ reply_after (in_reply_view (record old { reader = record old.reader { so_far = next_of old event } })) size (RowEvent row) (next_of old event) →
+    in_reply_view new ≡ reply_after
+    (in_reply_view (record old { reader = record old.reader { so_far = next_of old event } }))
+    size (RowEvent row) (next_of old event) →
     total ≡ going_size (about_view old.about) 0 event s + (old.earlier + old.coming) → total ≤ room →
     Passes old s size event room (Ok tt) new s
 passes_row old new size room total event row s is going reader came sum within =
     subst (λ (e : ReplySaid). new.reader ≡ record old.reader { so_far = next_of old e } →
-    in_reply_view new ≡ reply_after (in_reply_view (record old { reader = record old.reader { so_far = next_of old e } })) size (RowEvent row) (next_of old e) →
+    in_reply_view new ≡ reply_after
+    (in_reply_view (record old { reader = record old.reader { so_far = next_of old e } })) size
+    (RowEvent row) (next_of old e) →
     total ≡ going_size (about_view old.about) 0 e s + (old.earlier + old.coming) →
     Passes old s size e room (Ok tt) new s) (sym is)
     (λ reader came sum. (

@@ -30,29 +30,38 @@ IsOfTurn its (Ok said) = (its ≡ Some (side_of said.0)) × IsOrdinary said.0
 IsOfTurn its (Err fault) = Unit {0}
 
 says_of : {X : Type 0} (event : X → Event) (after : X → Standing) (its : Option Side)
-    → ((x : X) → (its ≡ Some (side_of (event x))) × IsOrdinary (event x)) → (read : Result X Fault) → IsOfTurn its (says event after read)
+    → ((x : X) → (its ≡ Some (side_of (event x))) × IsOrdinary (event x)) →
+    (read : Result X Fault) → IsOfTurn its (says event after read)
 says_of event after its h (Ok x) = h x
 says_of event after its h (Err fault) = tt
 
-anew_of : (anew : Bool) (its : Option Side) (step : Step) → IsOfTurn its step → IsOfTurn its (if anew then Err faults.BadGreeting else step)
+anew_of : (anew : Bool) (its : Option Side) (step : Step) → IsOfTurn its step →
+    IsOfTurn its (if anew then Err faults.BadGreeting else step)
 anew_of true its step h = tt
 anew_of false its step h = h
 
-reply_of : (side : Side) (r : InReply) (s : Standing) (payload : List ℕ) → IsOfTurn (Some side) (by_turn side r s payload)
+reply_of : (side : Side) (r : InReply) (s : Standing) (payload : List ℕ) →
+    IsOfTurn (Some side) (by_turn side r s payload)
 reply_of Client r s payload =
-    says_of (λ so_far. events.FileData payload) (λ so_far. in_phase (phases.Reply (record r { so_far = so_far })) s) (Some Client) (λ x. (refl, tt))
+    says_of (λ so_far. events.FileData payload)
+    (λ so_far. in_phase (phases.Reply (record r { so_far = so_far })) s) (Some Client)
+    (λ x. (refl, tt))
     (of_reply (file_data_at r.so_far r.so_far.awaited payload))
 reply_of Server r s payload =
     says_of (λ x. events.Replied x.0) (λ x. after_event r (counted payload) x.0 x.1 s) (Some Server) (λ x. (refl, tt))
     (of_reply (event_at (context_of s r) r.so_far payload))
 
 by_phase : (phase : Phase) (s : Standing) (payload : List ℕ) → IsOfTurn (turn phase) (in_turn phase s payload)
-by_phase phases.Greeting s payload = says_of events.Greeting (after_greeting s) (Some Server) (λ x. (refl, tt)) (of_login (greeting_at payload))
+by_phase phases.Greeting s payload =
+    says_of events.Greeting (after_greeting s) (Some Server) (λ x. (refl, tt))
+    (of_login (greeting_at payload))
 by_phase phases.Response s payload =
-    says_of events.Response (after_response s) (Some Client) (λ x. (refl, tt)) (of_login (response_at s.offered.protocol.0 payload))
+    says_of events.Response (after_response s) (Some Client) (λ x. (refl, tt))
+    (of_login (response_at s.offered.protocol.0 payload))
 by_phase (phases.Authentication exchange) s payload =
     anew_of (greets_anew exchange payload) (Some Server)
-    (says events.Authentication (after_authentication exchange s) (of_login (authentication_at s.capabilities.protocol.0 payload)))
+    (says events.Authentication (after_authentication exchange s)
+    (of_login (authentication_at s.capabilities.protocol.0 payload)))
     (says_of events.Authentication (after_authentication exchange s) (Some Server) (λ x. (refl, tt))
     (of_login (authentication_at s.capabilities.protocol.0 payload)))
 by_phase (phases.Answer exchange) s payload = (refl, tt)
@@ -61,7 +70,8 @@ by_phase (phases.Reply r) s payload = reply_of (turn_in_reply r.so_far.awaited) 
 by_phase (phases.Over reason) s payload = tt
 
 -- whatever is no last words is put as it is read
-as_read : (event : Event) (s : Standing) (payload : List ℕ) → IsOrdinary event → step_for event s payload ≡ step s payload
+as_read : (event : Event) (s : Standing) (payload : List ℕ) → IsOrdinary event →
+    step_for event s payload ≡ step s payload
 as_read (events.Greeting said) s payload h = refl
 as_read (events.Response said) s payload h = refl
 as_read (events.Authentication said) s payload h = refl
@@ -72,7 +82,8 @@ as_read (events.FileData bytes) s payload h = refl
 as_read (events.Farewell error) s payload h = absurd h
 
 -- and has its place in its side's turn
-in_its_turn : (event : Event) (w : World) → IsOrdinary event → has_place w event ≡ is_turn (side_of event) (turn w.standing.phase)
+in_its_turn : (event : Event) (w : World) → IsOrdinary event → has_place w event ≡
+    is_turn (side_of event) (turn w.standing.phase)
 in_its_turn (events.Greeting said) w h = refl
 in_its_turn (events.Response said) w h = refl
 in_its_turn (events.Authentication said) w h = refl
@@ -91,7 +102,8 @@ mode_of_turn : (s : Standing) (its : Option Side) (step : Step) → IsOfTurn its
 mode_of_turn s its (Ok said) h = h
 mode_of_turn s its (Err fault) h = h
 
-of_turn : (w : World) (payload : List ℕ) (event : Event) (after : Standing) → step w.standing payload ≡ Ok (event, after)
+of_turn : (w : World) (payload : List ℕ) (event : Event) (after : Standing) →
+    step w.standing payload ≡ Ok (event, after)
     → (turn w.standing.phase ≡ Some (side_of event)) × IsOrdinary event
 unfolding step
 of_turn w payload event after e =

@@ -24,7 +24,8 @@ abbrev pub SaysNone : Result Event Fault → Type 0
 SaysNone (Ok event) = asked event ≡ None
 SaysNone (Err fault) = Unit {0}
 
-none_of : (s : Standing) (payload : List ℕ) (event : HeldEvent) → asked (event_view event) ≡ None → EventHasUnclear s payload event
+none_of : (s : Standing) (payload : List ℕ) (event : HeldEvent) → asked (event_view event) ≡ None →
+    EventHasUnclear s payload event
 none_of s payload (held.Command command) none = absurd (cc none)
 none_of s payload event none = tt
 
@@ -33,17 +34,22 @@ pub gives_none : (s : Standing) (payload : List ℕ) (result : Result HeldEvent 
 gives_none s payload (Ok event) said none gives = none_of s payload event (subst SaysNone gives none)
 gives_none s payload (Err fault) said none gives = tt
 
-pub saying_none : {X : Type 0} (event : X → Event) (read : Result X Fault) → ((x : X) → asked (event x) ≡ None) → SaysNone (saying event read)
+pub saying_none : {X : Type 0} (event : X → Event) (read : Result X Fault) →
+    ((x : X) → asked (event x) ≡ None) → SaysNone (saying event read)
 saying_none event (Ok x) none = none x
 saying_none event (Err fault) none = tt
 
-anew_none : (anew : Bool) (said : Result Event Fault) → SaysNone said → SaysNone (if anew then Err faults.BadGreeting else said)
+anew_none : (anew : Bool) (said : Result Event Fault) → SaysNone said →
+    SaysNone (if anew then Err faults.BadGreeting else said)
 anew_none true said none = tt
 anew_none false said none = none
 
-pub exchange_none : (exchange : Exchange) (capabilities : ℕ) (payload : List ℕ) → SaysNone (said_in_exchange exchange capabilities payload)
+pub exchange_none : (exchange : Exchange) (capabilities : ℕ) (payload : List ℕ) →
+    SaysNone (said_in_exchange exchange capabilities payload)
 exchange_none exchange capabilities payload =
-    anew_none (greets_anew exchange payload) _ (saying_none events.Authentication (of_login (authentication_at capabilities payload)) (λ x. refl))
+    anew_none (greets_anew exchange payload) _
+    (saying_none events.Authentication (of_login (authentication_at capabilities payload))
+    (λ x. refl))
 
 pub reply_none : (turn : Turn) (reader : ReaderState) (payload : List ℕ) → SaysNone (said_in_reply turn reader payload)
 reply_none turns.Client reader payload = refl

@@ -1,5 +1,6 @@
 -- What is kept of statements is counted for them.
-use Rattle.std.proofs.Common.{◌≡◌, ◌≤◌, ℕ, suc, ◌+◌, ◌*◌, ◌==◌, Bool, true, false, if◌then◌else◌, List, [], ◌∷◌, ◌++◌, length, Option, Some, None, IfSome, refl, sym, ap, subst, ◌∙◌, arith, length-append}
+use Rattle.std.proofs.Common.{◌≡◌, ◌≤◌, ℕ, suc, ◌+◌, ◌*◌, ◌==◌, Bool, true, false, if◌then◌else◌, List, [], ◌∷◌, ◌++◌}
+use Rattle.std.proofs.Common.{length, Option, Some, None, IfSome, refl, sym, ap, subst, ◌∙◌, arith, length-append}
 use Rattle.std.specs.Prelude.{◌||◌, nat_lt, not, unwrap_or}
 use Rattle.std.specs.BTreeMap.{is_at}
 use Rattle.std.proofs.lemmas.List.{length-map}
@@ -22,8 +23,14 @@ use Rattle.mysql_executions.specs.declared.refused.Refused.{Refused}
 use Rattle.mysql_executions.specs.declared.refused.Refused.TheVariants.{Bulk, Execution}
 use Rattle.mysql_executions.specs.declared.types.BoundType.{BoundType}
 use Rattle.mysql_connection_statements.proofs.Entries.{ascend_put, none_ascend}
-use Rattle.mysql_connection_statements.specs.Laws.{Counted, DataIsCounted, AllIsCounted, AreCounted, BeginsCounted, StaysCountedAtAChange, StaysCountedAtAClose, StaysCountedAtAPrepare, ColumnsAreCounted, ExecutedAreCounted, ListsAreCounted, LongDataIsCounted, PendingAreCounted, PreparedAreCounted, ResetsAreCounted, TakenBackAreCounted, column_size, columns_size, data_size, kept_size}
-use Rattle.mysql_connection_statements.specs.Statements.{Statement, changed, executed, has_nothing, sent_again, statement_at, statement_size}
+use Rattle.mysql_connection_statements.specs.Laws.{Counted, DataIsCounted, AllIsCounted, AreCounted, BeginsCounted}
+use Rattle.mysql_connection_statements.specs.Laws.{StaysCountedAtAChange, StaysCountedAtAClose, StaysCountedAtAPrepare}
+use Rattle.mysql_connection_statements.specs.Laws.{ColumnsAreCounted, ExecutedAreCounted, ListsAreCounted}
+use Rattle.mysql_connection_statements.specs.Laws.{LongDataIsCounted, PendingAreCounted, PreparedAreCounted}
+use Rattle.mysql_connection_statements.specs.Laws.{ResetsAreCounted, TakenBackAreCounted, column_size, columns_size}
+use Rattle.mysql_connection_statements.specs.Laws.{data_size, kept_size}
+use Rattle.mysql_connection_statements.specs.Statements.{Statement, changed, executed, has_nothing, sent_again}
+use Rattle.mysql_connection_statements.specs.Statements.{statement_at, statement_size}
 use Rattle.mysql_connection_statements.specs.declared.pending.Pending.{Pending}
 
 -- ---- long data by the order of places
@@ -33,7 +40,8 @@ Waiting = List (ℕ × List ℕ)
 
 -- more data counts at most its own payload
 module _ (place : ℕ) (bytes : List ℕ) (es : Waiting) (sorted : IsStrictlySortedBy nat_cmp (keys_of es)) where
-  more_by : (found : Option (List ℕ)) → lookup (is_at (nat_cmp place)) es ≡ found → data_size (more_data es place bytes) ≤ data_size es + (11 + length bytes)
+  more_by : (found : Option (List ℕ)) → lookup (is_at (nat_cmp place)) es ≡ found →
+      data_size (more_data es place bytes) ≤ data_size es + (11 + length bytes)
   more_by None is =
       let v = unwrap_or (data_for es place) [] ++ bytes in
       let sum = sum_by-insert_entry (λ (b : List ℕ). 11 + length b) nat_cmp_total es place v sorted in
@@ -55,7 +63,8 @@ none_counted sent = record { in_order = none_ascend; size = omega arith }
 
 -- ---- changes of a statement
 
-data_by : (within : Bool) (place size : ℕ) (bytes : List ℕ) (waiting : Waiting) (sent : ℕ) → 11 + length bytes ≤ size → DataIsCounted waiting sent
+data_by : (within : Bool) (place size : ℕ) (bytes : List ℕ) (waiting : Waiting) (sent : ℕ) →
+    11 + length bytes ≤ size → DataIsCounted waiting sent
     → DataIsCounted (if within then more_data waiting place bytes else waiting) (if within then sent + size else sent)
 data_by true place size bytes waiting sent enough is = record {
   in_order = ascend_put waiting place (unwrap_or (data_for waiting place) [] ++ bytes) is.in_order;
@@ -63,7 +72,8 @@ data_by true place size bytes waiting sent enough is = record {
 }
 data_by false place size bytes waiting sent enough is = is
 
-executed_by : (broken : Bool) (waiting : Waiting) (sent : ℕ) → DataIsCounted waiting sent → DataIsCounted (if broken then waiting else []) (if broken then sent else 0)
+executed_by : (broken : Bool) (waiting : Waiting) (sent : ℕ) → DataIsCounted waiting sent →
+    DataIsCounted (if broken then waiting else []) (if broken then sent else 0)
 executed_by true waiting sent is = is
 executed_by false waiting sent is = none_counted 0
 
@@ -81,7 +91,8 @@ pub long_data_counted : LongDataIsCounted
 long_data_counted place bytes size s enough is = record {
   text = is.text;
   columns = is.columns;
-  long_data = data_by (nat_lt place s.parameters.count) place size bytes s.parameters.long_data s.sent enough is.long_data;
+  long_data = data_by (nat_lt place s.parameters.count) place size bytes s.parameters.long_data
+      s.sent enough is.long_data;
 }
 
 pub reset_counted : ResetsAreCounted
@@ -99,12 +110,17 @@ not_either false b e = refl
 abbrev TakesBack : List BoundType → Statement → Pending → Type 0
 TakesBack types s p = DataIsCounted p.before.long_data p.sent × ((executed types s).parameters.long_data ≡ [])
 
-pending_by : (types : List BoundType) (s : Statement) (made p : Pending) (nothing : Bool) → has_nothing types s ≡ nothing → DataIsCounted made.before.long_data made.sent → (if nothing then None else Some made) ≡ Some p → TakesBack types s p
+pending_by : (types : List BoundType) (s : Statement) (made p : Pending) (nothing : Bool) →
+    has_nothing types s ≡ nothing → DataIsCounted made.before.long_data made.sent →
+    (if nothing then None else Some made) ≡ Some p → TakesBack types s p
 unfolding has_nothing
 pending_by types s made p true none is e = absurd cc
 pending_by types s made p false none is e =
-    let same : made ≡ p = cc in
-    (subst (λ (q : Pending). DataIsCounted q.before.long_data q.sent) same is, ap (λ (b : Bool). if b then s.parameters.long_data else []) (not_either s.parameters.broken _ none))
+    let same : made ≡ p = cc in (
+      subst (λ (q : Pending). DataIsCounted q.before.long_data q.sent) same is,
+      ap (λ (b : Bool). if b then s.parameters.long_data else [])
+          (not_either s.parameters.broken _ none),
+    )
 
 pub pending_counted : PendingAreCounted
 pending_counted id refused types s p is e = pending_by types s _ p (has_nothing types s) refl is.long_data e
@@ -112,11 +128,14 @@ pending_counted id refused types s p is e = pending_by types s _ p (has_nothing 
 not_zero : (n : ℕ) → (suc n == 0) ≡ false
 not_zero n = grind (arith, nat_tests)
 
-again : (waiting : Waiting) (sent : ℕ) → DataIsCounted waiting sent → DataIsCounted waiting (if not (length waiting == 0) then sent else 0)
+again : (waiting : Waiting) (sent : ℕ) → DataIsCounted waiting sent →
+    DataIsCounted waiting (if not (length waiting == 0) then sent else 0)
 again [] sent is = none_counted 0
-again (e ∷ es) sent is = subst (λ (b : Bool). DataIsCounted (e ∷ es) (if not b then sent else 0)) (sym (not_zero (length es))) is
+again (e ∷ es) sent is = subst (λ (b : Bool). DataIsCounted (e ∷ es) (if not b then sent else 0))
+    (sym (not_zero (length es))) is
 
-module _ (carried sent : ℕ) (before s : InForce) (is : DataIsCounted before.long_data sent) (none : s.long_data ≡ []) where
+module _ (carried sent : ℕ) (before s : InForce) (is : DataIsCounted before.long_data sent)
+    (none : s.long_data ≡ []) where
   abbrev Behind : InForce → Type 0
   Behind now = DataIsCounted now.long_data (sent_again sent now)
 
@@ -130,7 +149,9 @@ module _ (carried sent : ℕ) (before s : InForce) (is : DataIsCounted before.lo
   dropped true = none_counted 0
   dropped false = again before.long_data sent is
 
-  refused_by : (code : ℕ) (refused : Refused) (malformed unsupported : Bool) → (code == malformed_packet) ≡ malformed → (code == unsupported_command) ≡ unsupported → Behind (after_refusal code refused carried before s)
+  refused_by : (code : ℕ) (refused : Refused) (malformed unsupported : Bool) →
+      (code == malformed_packet) ≡ malformed → (code == unsupported_command) ≡ unsupported →
+      Behind (after_refusal code refused carried before s)
   refused_by code Execution true unsupported one two = rw one (again before.long_data sent is)
   refused_by code Execution false unsupported one two = rw one read
   refused_by code (Bulk flags) true unsupported one two = rw one (again before.long_data sent is)
@@ -141,7 +162,8 @@ pub taken_back_counted : TakenBackAreCounted
 taken_back_counted code p s before none is = record {
   text = is.text;
   columns = is.columns;
-  long_data = refused_by p.carried p.sent p.before s.parameters before none code p.refused (code == malformed_packet) (code == unsupported_command) refl refl;
+  long_data = refused_by p.carried p.sent p.before s.parameters before none code p.refused
+      (code == malformed_packet) (code == unsupported_command) refl refl;
 }
 
 -- ---- the lists
@@ -152,7 +174,8 @@ each_counts (e ∷ es) = omega (arith, each_counts es, sum_by-cons (λ (b : List
 
 each_column_counts : (columns : List ColumnDefinition) → 26 * length columns ≤ sum_by column_size columns
 each_column_counts [] = omega arith
-each_column_counts (column ∷ columns) = omega (arith, each_column_counts columns, sum_by-cons column_size column columns)
+each_column_counts (column ∷ columns) =
+    omega (arith, each_column_counts columns, sum_by-cons column_size column columns)
 
 columns_count : (columns : Option (List ColumnDefinition)) → 26 * length (unwrap_or columns []) ≤ columns_size columns
 columns_count None = omega arith
@@ -162,11 +185,15 @@ kept_counted : (s : Statement) → Counted s → kept_size s ≤ statement_size 
 kept_counted s is = omega (arith, is.text, is.columns, is.long_data.size)
 
 pub lists_counted : ListsAreCounted
-lists_counted s is =
-    (omega (arith, each_counts s.parameters.long_data, is.long_data.size), omega (arith, columns_count s.columns, is.columns), kept_counted s is)
+lists_counted s is = (
+  omega (arith, each_counts s.parameters.long_data, is.long_data.size),
+  omega (arith, columns_count s.columns, is.columns),
+  kept_counted s is,
+)
 
 each_counted : (statements : List Statement) → AllByRecursion Counted statements
-    → (21 * length statements ≤ sum_by statement_size statements) × (sum_by kept_size statements ≤ sum_by statement_size statements)
+    → (21 * length statements ≤ sum_by statement_size statements) ×
+    (sum_by kept_size statements ≤ sum_by statement_size statements)
 each_counted [] all = (omega arith, omega arith)
 each_counted (s ∷ statements) all =
     let more = each_counted statements all.1 in
@@ -193,7 +220,8 @@ stays_counted_at_a_change id change s stays all = by (statement_at s id) refl
     by : (found : Option Statement) → statement_at s id ≡ found → AreCounted (changed change id found s)
     by None known = all
     by (Some statement) known =
-        let was = subst (λ (found : Option Statement). IfSome found Counted) known (IfSome-lookup_from_All Counted (is_at (nat_cmp id)) s.by_id all) in
+        let was = subst (λ (found : Option Statement). IfSome found Counted) known
+        (IfSome-lookup_from_All Counted (is_at (nat_cmp id)) s.by_id all) in
         All-values-insert_entry nat_cmp id (change statement) Counted s.by_id all (stays statement known was)
 
 pub stays_counted_at_a_close : StaysCountedAtAClose

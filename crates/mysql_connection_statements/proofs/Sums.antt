@@ -10,7 +10,8 @@ use Rattle.std.proofs.lemmas.Cmp.{nat_cmp_total}
 use Rattle.std.proofs.lemmas.Map.Entries.{sum_by-insert_entry, sum_by-remove_entry}
 use Rattle.mysql_connection_statements.proofs.Entries.{ascend_left, ascend_put, none_ascend}
 use Rattle.mysql_connection_statements.specs.Laws.{BeginsSummed, IsSummed}
-use Rattle.mysql_connection_statements.specs.Statements.{Statement, Statements, after_close, change_at, changed, statement_at, statement_size, stored_size, with_statement}
+use Rattle.mysql_connection_statements.specs.Statements.{Statement, Statements, after_close, change_at, changed}
+use Rattle.mysql_connection_statements.specs.Statements.{statement_at, statement_size, stored_size, with_statement}
 
 abbrev total : List (ℕ × Statement) → ℕ
 total es = sum_by statement_size (values_of es)
@@ -21,13 +22,24 @@ counts (Some statement) = refl
 
 -- a statement takes the place of the one that stood under its id
 pub inserted : (es : List (ℕ × Statement)) (id : ℕ) (statement : Statement) → IsStrictlySortedBy nat_cmp (keys_of es)
-    → total (insert_entry nat_cmp es id statement) + stored_size (lookup (is_at (nat_cmp id)) es) ≡ total es + statement_size statement
+    → total (insert_entry nat_cmp es id statement) + stored_size (lookup (is_at (nat_cmp id)) es) ≡
+    total es + statement_size statement
 inserted es id statement ascend =
-    omega (arith, counts (lookup (is_at (nat_cmp id)) es), sum_by-insert_entry statement_size nat_cmp_total es id statement ascend)
+    omega (
+      arith,
+      counts (lookup (is_at (nat_cmp id)) es),
+      sum_by-insert_entry statement_size nat_cmp_total es id statement ascend,
+    )
 
 -- one that is closed counts no more
-pub closed : (es : List (ℕ × Statement)) (id : ℕ) → total (remove_entry (is_at (nat_cmp id)) es) + stored_size (lookup (is_at (nat_cmp id)) es) ≡ total es
-closed es id = omega (arith, counts (lookup (is_at (nat_cmp id)) es), sum_by-remove_entry statement_size (is_at (nat_cmp id)) es)
+pub closed : (es : List (ℕ × Statement)) (id : ℕ) →
+    total (remove_entry (is_at (nat_cmp id)) es) + stored_size (lookup (is_at (nat_cmp id)) es) ≡
+    total es
+closed es id = omega (
+  arith,
+  counts (lookup (is_at (nat_cmp id)) es),
+  sum_by-remove_entry statement_size (is_at (nat_cmp id)) es,
+)
 
 pub begins_summed : BeginsSummed
 begins_summed = (none_ascend, refl)
@@ -37,8 +49,10 @@ module _ (s : Statements) (summed : IsSummed s) (id : ℕ) where
   closed_summed = (ascend_left s.by_id (is_at (nat_cmp id)) summed.0, omega (arith, summed.1, closed s.by_id id))
 
   pub put_summed : (statement : Statement) → IsSummed (with_statement id statement s)
-  put_summed statement =
-      (ascend_put s.by_id id statement summed.0, omega (arith, summed.1, closed s.by_id id, inserted s.by_id id statement summed.0))
+  put_summed statement = (
+    ascend_put s.by_id id statement summed.0,
+    omega (arith, summed.1, closed s.by_id id, inserted s.by_id id statement summed.0),
+  )
 
   pub changed_summed : (change : Statement → Statement) → IsSummed (change_at id change s)
   changed_summed change = by (statement_at s id)

@@ -1,5 +1,6 @@
 -- Commands that are read as they are.
-use Rattle.std.proofs.Common.{◌≡◌, ◌==◌, ℕ, Bool, true, false, List, [], ◌∷◌, length, Option, Some, None, Result, Ok, Err, refl, sym, ap, ◌∙◌, subst, arith}
+use Rattle.std.proofs.Common.{◌≡◌, ◌==◌, ℕ, Bool, true, false, List, [], ◌∷◌, length, Option, Some, None, Result, Ok}
+use Rattle.std.proofs.Common.{Err, refl, sym, ap, ◌∙◌, subst, arith}
 use Rattle.std.proofs.lemmas.Bool.{eqb-true, false≢true}
 use Rattle.mysql_buf.specs.Bytes.{AreBytes}
 use Rattle.mysql_const.specs.declared.capabilities.Capabilities.{Capabilities}
@@ -148,7 +149,8 @@ own_written law capabilities parameters c old new fits are puts own =
 
 -- THE CAUSE AGAINST A COMMAND WHOSE VALUES ARE READ OTHERWISE
 
-no_attributes : (xs : List Attribute) → (length (attributes_as_read xs) == 0) ≡ true → is_own_command (Query xs []) ≡ true
+no_attributes : (xs : List Attribute) → (length (attributes_as_read xs) == 0) ≡ true →
+    is_own_command (Query xs []) ≡ true
 no_attributes [] h = refl
 no_attributes (x ∷ xs) h = absurd (omega (arith, eqb-true (length (attributes_as_read (x ∷ xs))) 0 h))
 
@@ -184,7 +186,8 @@ not_own law capabilities parameters c old new fits are puts own =
       refl,
       λ p is r.
           let read : command_at capabilities parameters (command_bytes capabilities parameters c) ≡ c =
-          subst (λ (q : List ℕ). command_at capabilities parameters q ≡ c) (is_bytes capabilities parameters c p is) r in
+          subst (λ (q : List ℕ). command_at capabilities parameters q ≡
+          c) (is_bytes capabilities parameters c p is) r in
           false≢true (sym own ∙ own_command c (sym back ∙ read)),
       ap (λ (x : CommandRefusal). bad.Command x) (sym (otherwise capabilities parameters c can own)),
     )

@@ -9,7 +9,8 @@ use Rattle.mysql_connection_rules.specs.Events.{Event}
 use Rattle.mysql_connection_rules.specs.Events as events
 use Rattle.mysql_connection_rules.specs.Standing.{Phase, Standing}
 use Rattle.mysql_connection_rules.specs.Standing as phases
-use Rattle.mysql_connection_rules.specs.Steps.{after_authentication, after_greeting, after_response, authentication_step}
+use Rattle.mysql_connection_rules.specs.Steps.{after_authentication, after_greeting, after_response}
+use Rattle.mysql_connection_rules.specs.Steps.{authentication_step}
 use Rattle.mysql_connection_rules.specs.SessionModes.{mode_behind}
 use Rattle.mysql_connection_rules.specs.StepLaws.{step_said, step_says}
 use Rattle.mysql_connection_rules.specs.Steps.{greets_anew, in_mode, in_turn, of_login, says, step}
@@ -222,7 +223,8 @@ no_authentication_in : (phase : Phase) (s : Standing) (said : Authentication) (o
     exchange_due phase ≡ None →
     WritesIn phase s (events.Authentication said) old old (Err (refusals.BadEvent ReadsOtherwise))
 no_authentication_in (phases.Authentication its) s said old h = absurd cc
-no_authentication_in phase s said old h = unwritten (SaysIn phase s (events.Authentication said)) None ReadsOtherwise old refl refl
+no_authentication_in phase s said old h =
+    unwritten (SaysIn phase s (events.Authentication said)) None ReadsOtherwise old refl refl
 
 pub no_authentication : (s : Standing) (said : Authentication) (old : List ℕ) → exchange_due s.phase ≡ None →
     WritesEvent s (events.Authentication said) old old (Err (refusals.BadEvent ReadsOtherwise))

@@ -1,5 +1,6 @@
 -- A command's payload is about the statement that it names itself.
-use Rattle.std.proofs.Common.{◌≡◌, ◌<◌, ◌^◌, ℕ, Bool, true, false, List, [], ◌++◌, Option, Some, None, refl, sym, ap, ◌∙◌, subst, append-nil}
+use Rattle.std.proofs.Common.{◌≡◌, ◌<◌, ◌^◌, ℕ, Bool, true, false, List, [], ◌++◌, Option, Some, None, refl, sym, ap}
+use Rattle.std.proofs.Common.{◌∙◌, subst, append-nil}
 use Rattle.byteorder.specs.Endian.{little_bytes}
 use Rattle.mysql_buf.specs.NumberLaws.{little-reads_back}
 use Rattle.mysql_const.specs.declared.capabilities.Capabilities.{Capabilities}
@@ -62,11 +63,13 @@ of_bytes capabilities parameters command fits there = refl
 pub is_bytes : (capabilities : Capabilities) (parameters : Option InForce) (c : Command) (p : List ℕ) →
     command_payload capabilities parameters c ≡ Some p → p ≡ command_bytes capabilities parameters c
 is_bytes capabilities parameters (Query attributes sql) p e =
-    sym (if_can (can_have_attributes capabilities attributes) (command_bytes capabilities parameters (Query attributes sql)) p e).1
+    sym (if_can (can_have_attributes capabilities attributes)
+    (command_bytes capabilities parameters (Query attributes sql)) p e).1
 is_bytes capabilities parameters (Execute x) p e =
     sym (if_can (can_execute capabilities parameters x) (command_bytes capabilities parameters (Execute x)) p e).1
 is_bytes capabilities parameters (BulkExecute x) p e =
-    sym (if_can (can_execute_bulk capabilities parameters x) (command_bytes capabilities parameters (BulkExecute x)) p e).1
+    sym (if_can (can_execute_bulk capabilities parameters x)
+    (command_bytes capabilities parameters (BulkExecute x)) p e).1
 is_bytes capabilities parameters c p e = sym (some_same (command_bytes capabilities parameters c) p e)
 
 pub named : (capabilities : Capabilities) (parameters : Option InForce) (c : Command) (p : List ℕ) → IdFits c →

@@ -1,5 +1,6 @@
 -- Rows behind others: what they say, and what stands behind them.
-use Rattle.std.proofs.Common.{◌≡◌, ◌==◌, ◌++◌, ◌∙◌, if◌then◌else◌, ℕ, List, length, Bool, true, false, Option, Some, Result, Ok, Err}
+use Rattle.std.proofs.Common.{◌≡◌, ◌==◌, ◌++◌, ◌∙◌, if◌then◌else◌, ℕ, List, length, Bool, true, false, Option, Some}
+use Rattle.std.proofs.Common.{Result, Ok, Err}
 use Rattle.std.proofs.Common.{refl, sym, ap, subst}
 use Rattle.std.proofs.lemmas.Bool.{eq-eqb}
 use Rattle.std.specs.declared.alloc.AllocError.{AllocError}
@@ -10,11 +11,13 @@ use Rattle.mysql_connection_rules.specs.Puts.{step_for}
 use Rattle.mysql_connection_rules.specs.declared.fault.Fault.TheVariants as faults
 use Rattle.mysql_connection_rules.specs.Events.{Event}
 use Rattle.mysql_connection_rules.specs.Events as events
-use Rattle.mysql_connection_rules.specs.Standing.{About, Executing, InReply, OfStatement, Phase, Preparing, Resetting, Standing, Streaming}
+use Rattle.mysql_connection_rules.specs.Standing.{About, Executing, InReply, OfStatement, Phase, Preparing, Resetting}
+use Rattle.mysql_connection_rules.specs.Standing.{Standing, Streaming}
 use Rattle.mysql_connection_rules.specs.Standing as phases
 use Rattle.mysql_connection_rules.specs.SessionModes.{mode_behind}
 use Rattle.mysql_connection_rules.specs.StepLaws.{step_said, step_says}
-use Rattle.mysql_connection_rules.specs.Steps.{about_after, after_authentication, after_command, after_event, after_greeting, after_part}
+use Rattle.mysql_connection_rules.specs.Steps.{about_after, after_authentication, after_command, after_event}
+use Rattle.mysql_connection_rules.specs.Steps.{after_greeting, after_part}
 use Rattle.mysql_connection_rules.specs.Steps.{after_response, changed_by, context_of, greets_anew, in_phase, in_turn}
 use Rattle.mysql_connection_rules.specs.Steps.{of_login, parameters_in_question, reply_after, reply_step, says, step}
 use Rattle.mysql_connection_rules.specs.Steps.{with_statements}
@@ -34,7 +37,8 @@ use Rattle.mysql_rows.specs.Rows.{Row}
 use Rattle.mysql_connection_writer.proofs.Lifting.{ok_same, said_of}
 use Rattle.mysql_connection_writer.proofs.PlainBytes.{by_server}
 use Rattle.mysql_connection_writer.proofs.Replies.{said_after}
-use Rattle.mysql_connection_writer.specs.NextRows.{IsAmongRows, IsAnswered, RowsLeadToRows, WritesNextRow, columns_due, row_due, under_as_many}
+use Rattle.mysql_connection_writer.specs.NextRows.{IsAmongRows, IsAnswered, RowsLeadToRows, WritesNextRow, columns_due}
+use Rattle.mysql_connection_writer.specs.NextRows.{row_due, under_as_many}
 use Rattle.mysql_connection_writer.specs.Payloads.{Payload, payload_in, payload_of}
 use Rattle.mysql_connection_writer.specs.Phases.{is_file}
 
@@ -68,10 +72,12 @@ same_reply : (r : InReply) (size : ℕ) (row : Row) → IsAnswered r.about → r
 same_reply r size row about = ap (λ (a : About). record r { about = a }) (about row)
 
 -- a row among others changes nothing of what stands
-nothing_after : (s : Standing) (r : InReply) (size : ℕ) (row : Row) → s.phase ≡ phases.Reply r → r.so_far.awaited ≡ Rows true →
+nothing_after : (s : Standing) (r : InReply) (size : ℕ) (row : Row) → s.phase ≡ phases.Reply r →
+    r.so_far.awaited ≡ Rows true →
     IsAnswered r.about → after_event r size (RowEvent row) r.so_far s ≡ s
 nothing_after s r size row phase awaited about =
-    ap (λ (st : Statements). after_part (reply_after r size (RowEvent row) r.so_far) (RowEvent row) (with_statements st s))
+    ap (λ (st : Statements). after_part (reply_after r size (RowEvent row) r.so_far) (RowEvent row)
+    (with_statements st s))
     (nothing_changed r.about size row s.statements)
     ∙ ap (λ (x : InReply). after_part x (RowEvent row) s) (same_reply r size row about)
     ∙ stays_whole r r.so_far row s awaited
@@ -81,16 +87,21 @@ rows_no_file : (awaited : Awaited) → awaited ≡ Rows true → is_file awaited
 rows_no_file awaited h = rw h refl
 
 -- what is read as a row among others says it, and leaves what stands
-row_step : (s : Standing) (r : InReply) (row : Row) (p : Payload) → s.phase ≡ phases.Reply r → r.so_far.awaited ≡ Rows true →
+row_step : (s : Standing) (r : InReply) (row : Row) (p : Payload) → s.phase ≡ phases.Reply r →
+    r.so_far.awaited ≡ Rows true →
     IsAnswered r.about → event_at (context_of s r) r.so_far p ≡ Ok (RowEvent row, r.so_far) →
     step s p ≡ Ok (events.Replied (RowEvent row), s)
 unfolding mode_behind
 row_step s r row p phase awaited about reads =
-    let in_reply : reply_step r s p ≡ Ok (events.Replied (RowEvent row), after_event r (counted p) (RowEvent row) r.so_far s) = rw reads refl in
-    let told : in_turn (phases.Reply r) s p ≡ Ok (events.Replied (RowEvent row), after_event r (counted p) (RowEvent row) r.so_far s) =
+    let in_reply : reply_step r s p ≡
+    Ok (events.Replied (RowEvent row), after_event r (counted p) (RowEvent row) r.so_far s) =
+    rw reads refl in
+    let told : in_turn (phases.Reply r) s p ≡
+    Ok (events.Replied (RowEvent row), after_event r (counted p) (RowEvent row) r.so_far s) =
     by_server r s p (rows_no_file r.so_far.awaited awaited) ∙ in_reply in
     step_says s p (events.Replied (RowEvent row)) s (ap (λ (x : Phase). in_turn x s p) phase ∙ told
-    ∙ ap (λ (x : Standing). Ok (events.Replied (RowEvent row), x)) (nothing_after s r (counted p) row phase awaited about))
+    ∙ ap (λ (x : Standing). Ok (events.Replied (RowEvent row), x))
+    (nothing_after s r (counted p) row phase awaited about))
 
 -- WHAT A WRITER OF ROWS APPENDS
 
@@ -110,7 +121,8 @@ payload_there : (s : Standing) (r : InReply) (row : Row) (p : Payload) → s.pha
     event_payload (context_of s r) (RowEvent row) ≡ Some p → payload_of s (events.Replied (RowEvent row)) ≡ Some p
 payload_there s r row p phase is = ap (λ (x : Phase). payload_in (events.Replied (RowEvent row)) s x) phase ∙ is
 
-row_appended : (s : Standing) (r : InReply) (reader : ReaderState) (row : Row) (columns : List ColumnDefinition) (old new : List ℕ) →
+row_appended : (s : Standing) (r : InReply) (reader : ReaderState) (row : Row)
+    (columns : List ColumnDefinition) (old new : List ℕ) →
     r.so_far.awaited ≡ Rows true → IsAnswered r.about → ReadsReply s r reader → reader.so_far.columns ≡ Some columns →
     written.WritesNextRow reader.context (under columns row) (Ok true) old new → WritesNextRow s row old new (Ok true)
 row_appended s r reader row columns old new awaited about its known w =
@@ -121,11 +133,17 @@ row_appended s r reader row columns old new awaited about its known w =
     let reads : event_at (context_of s r) r.so_far w.0 ≡ Ok (RowEvent (under columns row), r.so_far) =
     ap (λ (c : Context). event_at c r.so_far w.0) (sym its.context) ∙ w.3 r.so_far awaited there in
     subst (λ (x : Row). (p : Payload) × (payload_of s (events.Replied (RowEvent x)) ≡ Some p) × (new ≡ old ++ p) ×
-    (step_for (events.Replied (RowEvent x)) s p ≡ Ok (events.Replied (RowEvent x), s))) (sym due)
-    (w.0, payload_there s r (under columns row) w.0 its.phase payload, w.2, row_step s r (under columns row) w.0 its.phase awaited about reads)
+    (step_for (events.Replied (RowEvent x)) s p ≡ Ok (events.Replied (RowEvent x), s))) (sym due) (
+      w.0,
+      payload_there s r (under columns row) w.0 its.phase payload,
+      w.2,
+      row_step s r (under columns row) w.0 its.phase awaited about reads,
+    )
 
-pub next_row_written : (s : Standing) (reader : ReaderState) (row : Row) (columns : List ColumnDefinition) (old new : List ℕ)
-    (result : Result Bool AllocError) → IsAmongRows s → IsReplyReader s (Some reader) → reader.so_far.columns ≡ Some columns →
+pub next_row_written : (s : Standing) (reader : ReaderState) (row : Row)
+    (columns : List ColumnDefinition) (old new : List ℕ)
+    (result : Result Bool AllocError) → IsAmongRows s → IsReplyReader s (Some reader) →
+    reader.so_far.columns ≡ Some columns →
     written.WritesNextRow reader.context (under columns row) result old new → WritesNextRow s row old new result
 next_row_written s reader row columns old new (Ok true) among its known w =
     let same : among.0 ≡ its.0 = same_in_reply among.0 its.0 (sym among.1 ∙ its.1.phase) in
@@ -140,7 +158,8 @@ reply_leads : EventsLeadOn → (r : InReply) (s after : Standing) (row : Row) (p
     (after_is : (next : ReplySoFar) × (event_at (context_of s r) r.so_far p ≡ Ok (RowEvent row, next)) ×
     (after ≡ after_event r (counted p) (RowEvent row) next s)) → IsAmongRows after
 reply_leads law r s after row p phase is =
-    let next : is.0 ≡ record r.so_far { awaited = Rows true } = law (context_of s r) r.so_far p (RowEvent row) is.0 is.1 in
+    let next : is.0 ≡ record r.so_far { awaited = Rows true } =
+    law (context_of s r) r.so_far p (RowEvent row) is.0 is.1 in
     let r' : InReply = reply_after r (counted p) (RowEvent row) (record r.so_far { awaited = Rows true }) in
     let left : after ≡ after_event r (counted p) (RowEvent row) (record r.so_far { awaited = Rows true }) s =
     is.2 ∙ ap (λ (n : ReplySoFar). after_event r (counted p) (RowEvent row) n s) next in
@@ -149,27 +168,34 @@ reply_leads law r s after row p phase is =
 replied_in : EventsLeadOn → (phase : Phase) (s after : Standing) (row : Row) (p : Payload) → s.phase ≡ phase →
     in_turn phase s p ≡ Ok (events.Replied (RowEvent row), after) → IsAmongRows after
 replied_in law phases.Greeting s after row p is h =
-    let x = said_of events.Greeting (after_greeting s) (of_login (greeting_at p)) (events.Replied (RowEvent row)) after h in
+    let x = said_of events.Greeting (after_greeting s) (of_login (greeting_at p))
+    (events.Replied (RowEvent row)) after h in
     let differs : events.Greeting x.0 ≡ events.Replied (RowEvent row) = x.2 in absurd cc
 replied_in law phases.Response s after row p is h =
-    let x = said_of events.Response (after_response s) (of_login (response_at s.offered.protocol.0 p)) (events.Replied (RowEvent row)) after h in
+    let x = said_of events.Response (after_response s)
+    (of_login (response_at s.offered.protocol.0 p)) (events.Replied (RowEvent row)) after h in
     let differs : events.Response x.0 ≡ events.Replied (RowEvent row) = x.2 in absurd cc
 replied_in law (phases.Authentication exchange) s after row p is h = go (greets_anew exchange p) h where
-  go : (anew : Bool) → (if anew then Err faults.BadGreeting else says events.Authentication (after_authentication exchange s)
-      (of_login (authentication_at s.capabilities.protocol.0 p))) ≡ Ok (events.Replied (RowEvent row), after) → IsAmongRows after
+  go : (anew : Bool) → (if anew then Err faults.BadGreeting else says events.Authentication
+      (after_authentication exchange s)
+      (of_login (authentication_at s.capabilities.protocol.0 p))) ≡
+      Ok (events.Replied (RowEvent row), after) → IsAmongRows after
   go true e = absurd cc
   go false e =
-      let x = said_of events.Authentication (after_authentication exchange s) (of_login (authentication_at s.capabilities.protocol.0 p))
+      let x = said_of events.Authentication (after_authentication exchange s)
+      (of_login (authentication_at s.capabilities.protocol.0 p))
       (events.Replied (RowEvent row)) after e in
       let differs : events.Authentication x.0 ≡ events.Replied (RowEvent row) = x.2 in absurd cc
 replied_in law (phases.Answer exchange) s after row p is h =
     let differs : events.Answer p ≡ events.Replied (RowEvent row) = ap (λ (q : Event × Standing). q.0)
-    (ok_same (events.Answer p, in_phase (phases.Authentication exchange) s) (events.Replied (RowEvent row), after) h) in absurd cc
+    (ok_same (events.Answer p, in_phase (phases.Authentication exchange) s)
+    (events.Replied (RowEvent row), after) h) in absurd cc
 replied_in law phases.Command s after row p is h =
     let command : Command = command_at s.capabilities (parameters_in_question s.statements p) p in
     let differs : events.Asked command ≡ events.Replied (RowEvent row) = ap (λ (q : Event × Standing). q.0)
     (ok_same (events.Asked command, after_command s p command) (events.Replied (RowEvent row), after) h) in absurd cc
-replied_in law (phases.Reply r) s after row p is h = reply_leads law r s after row p is (said_after s r (RowEvent row) after p h)
+replied_in law (phases.Reply r) s after row p is h =
+    reply_leads law r s after row p is (said_after s r (RowEvent row) after p h)
 replied_in law (phases.Over reason) s after row p is h = absurd cc
 
 pub rows_lead : EventsLeadOn → RowsLeadToRows

@@ -1,5 +1,6 @@
 -- Values that are read as themselves, and what their types hold.
-use Rattle.std.proofs.Common.{◌≡◌, ◌<◌, ◌^◌, ℕ, Bool, true, false, ◌&&◌, nat_le, nat_lt, List, [], ◌∷◌, map, length, ◌+◌, ◌++◌, length-append, suc, refl, ap, subst, arith}
+use Rattle.std.proofs.Common.{◌≡◌, ◌<◌, ◌^◌, ℕ, Bool, true, false, ◌&&◌, nat_le, nat_lt, List, [], ◌∷◌, map, length}
+use Rattle.std.proofs.Common.{◌+◌, ◌++◌, length-append, suc, refl, ap, subst, arith}
 use Rattle.std.proofs.lemmas.Bool.{and_from, and_parts, le-ltb, leb-true}
 use Rattle.std.proofs.lemmas.Bool.Decides.{nat_tests}
 use Rattle.std.proofs.lemmas.List.Folds.{list_all-map}
@@ -97,7 +98,8 @@ own_row row e = own_all bulk_value_as_read is_own_in_bulk own_in_bulk row e
 
 -- rows as they are held
 pub all_rows : (rows : List (Vec BulkValue Global)) →
-    list_all (λ row. list_all is_own_in_bulk row) (rows_of rows) ≡ list_all (λ row. list_all is_own_in_bulk row.items) rows
+    list_all (λ row. list_all is_own_in_bulk row) (rows_of rows) ≡
+    list_all (λ row. list_all is_own_in_bulk row.items) rows
 all_rows rows = list_all-map (λ (row : List BulkValue). list_all is_own_in_bulk row) (λ row. row.items) rows
 
 -- COMMANDS

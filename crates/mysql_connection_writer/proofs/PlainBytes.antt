@@ -1,5 +1,6 @@
 -- Bytes as they stand: answers, and the client's file.
-use Rattle.std.proofs.Common.{◌≡◌, ◌==◌, ℕ, Bool, true, false, List, length, Some, None, Result, Ok, Err, refl, sym, ap, ◌∙◌, subst}
+use Rattle.std.proofs.Common.{◌≡◌, ◌==◌, ℕ, Bool, true, false, List, length, Some, None, Result, Ok, Err, refl, sym, ap}
+use Rattle.std.proofs.Common.{◌∙◌, subst}
 use Rattle.mysql_reply_events.specs.Events.{Awaited, ReplySoFar}
 use Rattle.mysql_reply_events.specs.Events.Awaited.{FileData, First}
 use Rattle.mysql_reply_events.specs.Table.{event_at, file_data_at}
@@ -8,7 +9,8 @@ use Rattle.mysql_connection_rules.specs.declared.side.Side.TheVariants.{Client, 
 use Rattle.mysql_connection_rules.specs.Events as events
 use Rattle.mysql_connection_rules.specs.Standing.{InReply, Phase, Standing}
 use Rattle.mysql_connection_rules.specs.Standing as phases
-use Rattle.mysql_connection_rules.specs.Steps.{after_event, by_turn, context_of, file_step, in_phase, of_reply, reply_step}
+use Rattle.mysql_connection_rules.specs.Steps.{after_event, by_turn, context_of, file_step, in_phase, of_reply}
+use Rattle.mysql_connection_rules.specs.Steps.{reply_step}
 use Rattle.mysql_connection_rules.specs.Steps.{turn_in_reply}
 use Rattle.mysql_connection_statements.specs.Statements.{counted}
 use Rattle.mysql_connection_writer.proofs.Lifting.{lifted, said_of, some_same, unwritten}

@@ -1,5 +1,6 @@
 -- Payloads of a reply.
-use Rattle.std.proofs.Common.{◌≡◌, ℕ, Bool, true, false, if◌then◌else◌, List, Some, None, ◌&&◌, Result, Ok, Err, refl, sym, ap, ◌∙◌, subst}
+use Rattle.std.proofs.Common.{◌≡◌, ℕ, Bool, true, false, if◌then◌else◌, List, Some, None, ◌&&◌, Result, Ok, Err, refl}
+use Rattle.std.proofs.Common.{sym, ap, ◌∙◌, subst}
 use Rattle.mysql_reply_events.specs.Events.{Awaited, Event as ReplySaid, ReplySoFar}
 use Rattle.mysql_reply_events.specs.Events.Awaited.{FileData, Nothing}
 use Rattle.mysql_reply_events.specs.Reader.{ReaderState}
@@ -168,7 +169,8 @@ none_due reader event going rests can =
 no_reply_in : (phase : Phase) (s : Standing) (event : ReplySaid) (old : List ℕ) → (IsInReply phase → ⊥) →
     WritesIn phase s (events.Replied event) old old (Err (refusals.BadEvent bad.ReadsOtherwise))
 no_reply_in (phases.Reply r) s event old h = absurd (h tt)
-no_reply_in phase s event old h = unwritten (SaysIn phase s (events.Replied event)) None bad.ReadsOtherwise old refl refl
+no_reply_in phase s event old h =
+    unwritten (SaysIn phase s (events.Replied event)) None bad.ReadsOtherwise old refl refl
 
 pub no_reply_due : (s : Standing) (event : ReplySaid) (old : List ℕ) → (IsInReply s.phase → ⊥) →
     WritesEvent s (events.Replied event) old old (Err (refusals.BadEvent bad.ReadsOtherwise))

@@ -1,5 +1,6 @@
 -- Executions of values that are written by the types in force: what they say, and where they lead.
-use Rattle.std.proofs.Common.{◌≡◌, ◌<◌, ◌^◌, ◌++◌, ℕ, Bool, true, false, List, [], ◌∷◌, length, map, Option, Some, Result, Ok, Err, refl, sym, ap, ◌∙◌, subst, append-nil, lit<}
+use Rattle.std.proofs.Common.{◌≡◌, ◌<◌, ◌^◌, ◌++◌, ℕ, Bool, true, false, List, [], ◌∷◌, length, map, Option, Some}
+use Rattle.std.proofs.Common.{Result, Ok, Err, refl, sym, ap, ◌∙◌, subst, append-nil, lit<}
 use Rattle.std.specs.List.{AllByRecursion}
 use Rattle.std.specs.Option.{option_and_then, option_map}
 use Rattle.std.specs.declared.alloc.AllocError.{AllocError}
@@ -25,10 +26,13 @@ use Rattle.mysql_connection_rules.specs.Standing.About.{OfStatement}
 use Rattle.mysql_connection_rules.specs.Standing as phases
 use Rattle.mysql_connection_rules.specs.SessionModes.{mode_behind}
 use Rattle.mysql_connection_rules.specs.StepLaws.{step_says}
-use Rattle.mysql_connection_rules.specs.Steps.{about_execution, after_command, after_executing, execution_of, id_in_question, in_turn, parameters_in_question, reply_due, statement_in_question, step, with_statements}
+use Rattle.mysql_connection_rules.specs.Steps.{about_execution, after_command, after_executing, execution_of}
+use Rattle.mysql_connection_rules.specs.Steps.{id_in_question, in_turn, parameters_in_question, reply_due}
+use Rattle.mysql_connection_rules.specs.Steps.{statement_in_question, step, with_statements}
 use Rattle.mysql_reply_events.specs.declared.context.ReplyKind.TheVariants as kinds
 use Rattle.mysql_connection_statements.specs.Settled.{IsSettledAt}
-use Rattle.mysql_connection_statements.specs.Statements.{Statement, Statements, executed, resolved, statement_at, with_statement}
+use Rattle.mysql_connection_statements.specs.Statements.{Statement, Statements, executed, resolved, statement_at}
+use Rattle.mysql_connection_statements.specs.Statements.{with_statement}
 use Rattle.mysql_connection_statements.specs.declared.pending.Pending.{Pending}
 use Rattle.mysql_connection_state.specs.Follows.{after_settled}
 use Rattle.mysql_connection_writer.proofs.Named.{named}
@@ -60,7 +64,8 @@ module _ (s : Standing) (id : ℕ) (statement : Statement) (values : List Value)
 
   -- its parameters are in force
   known : parameters_of s.statements (Some id) ≡ Some statement.parameters
-  known = ap (λ (found : Option ℕ). option_map (λ (x : Statement). x.parameters) (option_and_then (statement_at s.statements) found)) settled.0
+  known = ap (λ (found : Option ℕ). option_map (λ (x : Statement). x.parameters)
+      (option_and_then (statement_at s.statements) found)) settled.0
       ∙ ap (λ (found : Option Statement). option_map (λ (x : Statement). x.parameters) found) settled.1
 
   module _ (can : can_be_put s.capabilities statement.parameters e ≡ true) (own : execution_as_read e ≡ e) where
@@ -83,7 +88,8 @@ module _ (s : Standing) (id : ℕ) (statement : Statement) (values : List Value)
       module _ (carried : ReadTypesAreCarried) where
         found_id : id_in_question s.statements (0x17 ∷ body) ≡ Some id
         found_id = ap (λ (x : Option ℕ). option_and_then (resolved s.statements) x)
-            (named s.capabilities (Some statement.parameters) (Execute e) (0x17 ∷ body) fits.statement has_payload) ∙ settled.0
+            (named s.capabilities (Some statement.parameters) (Execute e) (0x17 ∷
+            body) fits.statement has_payload) ∙ settled.0
 
         found : statement_in_question s.statements (0x17 ∷ body) ≡ Some statement
         found = ap (λ (x : Option ℕ). option_and_then (statement_at s.statements) x) found_id ∙ settled.1
@@ -96,41 +102,49 @@ module _ (s : Standing) (id : ℕ) (statement : Statement) (values : List Value)
 
         leads : after_command s (0x17 ∷ body) (Execute e) ≡ reply_due kinds.Binary statement.columns (OfStatement id) s
         leads =
-            ap (λ (x : Option ℕ). execution_of 0x17 body x (statement_in_question s.statements (0x17 ∷ body)) s) found_id
+            ap (λ (x : Option ℕ). execution_of 0x17 body x
+            (statement_in_question s.statements (0x17 ∷ body)) s) found_id
             ∙ ap (λ (x : Option Statement). execution_of 0x17 body (Some id) x s) found
             ∙ ap (λ (types : List BoundType). after_executing id statement refused.Execution types s) no_types
             ∙ ap (λ (x : Option Pending). reply_due kinds.Binary statement.columns (about_execution id x)
-            (with_statements (with_statement id (executed [] statement) s.statements) s)) (settled.2.1 id refused.Execution)
+            (with_statements (with_statement id (executed [] statement) s.statements) s))
+            (settled.2.1 id refused.Execution)
             ∙ ap (λ (x : Statement). reply_due kinds.Binary statement.columns (OfStatement id)
             (with_statements (with_statement id x s.statements) s)) settled.2.0
-            ∙ ap (λ (x : Statements). reply_due kinds.Binary statement.columns (OfStatement id) (with_statements x s)) settled.3
+            ∙ ap (λ (x : Statements). reply_due kinds.Binary statement.columns (OfStatement id)
+            (with_statements x s)) settled.3
 
         steps : step s (0x17 ∷ body) ≡ Ok (Asked (Execute e), after_settled id statement.columns s)
         unfolding mode_behind
         steps =
             step_says s (0x17 ∷ body) (Asked (Execute e)) (reply_due kinds.Binary statement.columns (OfStatement id) s)
             (ap (λ (x : Phase). in_turn x s (0x17 ∷ body)) phase
-            ∙ ap (λ (x : Option InForce). let c = command_at s.capabilities x (0x17 ∷ body) in Ok (Asked c, after_command s (0x17 ∷ body) c)) in_force
+            ∙ ap (λ (x : Option InForce). let c = command_at s.capabilities x (0x17 ∷ body) in
+            Ok (Asked c, after_command s (0x17 ∷ body) c)) in_force
             ∙ ap (λ (x : Command). Ok (Asked x, after_command s (0x17 ∷ body) x)) reads
             ∙ ap (λ (x : Standing). Ok (Asked (Execute e), x)) leads)
 
         -- it says so, and leads there
         says : (old : List ℕ) → WritesExecution s statement id values old (old ++ 0x17 ∷ body) (Ok true)
         says old =
-            let is : execution_said s id values ≡ Asked (Execute e) = ap (λ (x : Execution). Asked (Execute x)) its_own in
+            let is : execution_said s id values ≡ Asked (Execute e) =
+            ap (λ (x : Execution). Asked (Execute x)) its_own in
             let there : payload_of s (Asked (Execute e)) ≡ Some (0x17 ∷ body) =
             ap (λ (x : Phase). payload_in (Asked (Execute e)) s x) phase
             ∙ ap (λ (x : Option InForce). command_payload s.capabilities x (Execute e)) known ∙ has_payload in (
               0x17 ∷ body,
               ap (λ (x : Event). payload_of s x) is ∙ there,
               refl,
-              subst (λ (x : Event). step_for x s (0x17 ∷ body) ≡ Ok (x, after_settled id statement.columns s)) (sym is) steps,
+              subst (λ (x : Event). step_for x s (0x17 ∷ body) ≡
+                  Ok (x, after_settled id statement.columns s)) (sym is) steps,
             )
 
   pub written : ExecutionsReadBack → ReadTypesAreCarried → id < 2 ^ 32 → length values < 2 ^ 64 →
       AllByRecursion (λ value. FitsFields value) values →
-      (capabilities : Capabilities) (parameters : InForce) → capabilities ≡ s.capabilities → parameters ≡ statement.parameters →
-      (old new : List ℕ) (result : Result Bool AllocError) → PutsInForce capabilities parameters id values old new result →
+      (capabilities : Capabilities) (parameters : InForce) → capabilities ≡ s.capabilities →
+      parameters ≡ statement.parameters →
+      (old new : List ℕ) (result : Result Bool AllocError) →
+      PutsInForce capabilities parameters id values old new result →
       WritesExecution s statement id values old new result
   written law carried small few each capabilities parameters these its old new (Ok true) puts =
       let told = subst (λ (x : InForce). PutsInForce s.capabilities x id values old new (Ok true)) its

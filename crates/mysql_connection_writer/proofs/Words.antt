@@ -42,7 +42,8 @@ told_refusal s after error (Ok x) h =
     (same_words x.0 error (ap (λ (q : Event × Standing). q.0) pairs))
 told_refusal s after error (Err e) h = absurd cc
 
-no_greeted : (read : Reading HandshakeFields) (error : ServerError) → or_fault BadGreeting Greeted read ≡ Ok (Rejected error) → ⊥
+no_greeted : (read : Reading HandshakeFields) (error : ServerError) →
+    or_fault BadGreeting Greeted read ≡ Ok (Rejected error) → ⊥
 no_greeted (Ok x) error h = cc
 no_greeted (Err e) error h = cc
 

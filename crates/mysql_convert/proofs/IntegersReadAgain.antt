@@ -18,6 +18,9 @@ not_null (Double bits) z h = refl
 not_null (Date year month day hour minute second micros) z h = refl
 not_null (Time negative days hours minutes seconds micros) z h = refl
 
-pub same_number : {N : Type 0} (narrowed : ℤ → Option N) (value : Value) (other : Option Value) (z : ℤ) → number_of value ≡ Some z → IsSomeAnd other (HoldsNumber z) → ReadsAgain (integer_of narrowed) value other
+pub same_number : {N : Type 0} (narrowed : ℤ → Option N) (value : Value) (other : Option Value)
+    (z : ℤ) → number_of value ≡ Some z → IsSomeAnd other (HoldsNumber z) →
+    ReadsAgain (integer_of narrowed) value other
 same_number narrowed value None z h c = absurd c
-same_number narrowed value (Some other) z h c = (ap (option_and_then narrowed) (c.0 ∙ sym h), c.1 ∙ sym (not_null value z h))
+same_number narrowed value (Some other) z h c =
+    (ap (option_and_then narrowed) (c.0 ∙ sym h), c.1 ∙ sym (not_null value z h))

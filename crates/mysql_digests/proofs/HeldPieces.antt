@@ -1,6 +1,7 @@
 -- Pieces as the code holds them.
 use Rattle.std.proofs.Common.{◌≡◌, Bool, true, false, List, [], ◌∷◌, refl, ap, Some, None}
-use Rattle.mysql_digests.specs.Digest.{Piece, Text, Comma, Open, Close, Values, Row, Rows, text_of, with_value, with_row, with_close}
+use Rattle.mysql_digests.specs.Digest.{Piece, Text, Comma, Open, Close, Values, Row, Rows, text_of, with_value}
+use Rattle.mysql_digests.specs.Digest.{with_row, with_close}
 use Rattle.mysql_digests.specs.Held.{mark_of, piece_kind, values_before, rows_before, values_opened}
 
 -- a value where no values stand before a comma
@@ -21,7 +22,8 @@ value_plain (Comma ∷ Row b ∷ pieces) h = refl
 value_plain (Comma ∷ Rows b ∷ pieces) h = refl
 value_plain (Comma ∷ Values many ∷ pieces) h = cc
 
-pub row_plain : (of_many : Bool) (pieces : List Piece) → rows_before pieces ≡ None → with_row of_many pieces ≡ Row of_many ∷ pieces
+pub row_plain : (of_many : Bool) (pieces : List Piece) → rows_before pieces ≡ None →
+    with_row of_many pieces ≡ Row of_many ∷ pieces
 row_plain o [] h = refl
 row_plain o (Text b ∷ pieces) h = refl
 row_plain o (Open ∷ pieces) h = refl
@@ -77,7 +79,8 @@ pub rows_text : (many : Bool) → text_of (Rows many) ≡ mark_of (piece_kind (R
 rows_text true = refl
 rows_text false = refl
 
-pub value_folds : (pieces : List Piece) (many : Bool) → values_before pieces ≡ Some many → Folds pieces (with_value pieces) (Values true)
+pub value_folds : (pieces : List Piece) (many : Bool) → values_before pieces ≡ Some many →
+    Folds pieces (with_value pieces) (Values true)
 value_folds [] many h = cc
 value_folds (Text b ∷ pieces) many h = cc
 value_folds (Open ∷ pieces) many h = cc
@@ -92,9 +95,20 @@ value_folds (Comma ∷ Open ∷ pieces) many h = cc
 value_folds (Comma ∷ Close ∷ pieces) many h = cc
 value_folds (Comma ∷ Row b ∷ pieces) many h = cc
 value_folds (Comma ∷ Rows b ∷ pieces) many h = cc
-value_folds (Comma ∷ Values b ∷ pieces) many h = record { rest = pieces; first = Comma; second = Values b; stands = refl; folds = refl; first_text = refl; second_text = values_text b }
+value_folds (Comma ∷ Values b ∷ pieces) many h =
+    record {
+      rest = pieces;
+      first = Comma;
+      second = Values b;
+      stands = refl;
+      folds =
+          refl;
+      first_text = refl;
+      second_text = values_text b;
+    }
 
-pub row_folds : (of_many others : Bool) (pieces : List Piece) → rows_before pieces ≡ Some others → Folds pieces (with_row of_many pieces) (Rows others)
+pub row_folds : (of_many others : Bool) (pieces : List Piece) → rows_before pieces ≡ Some others →
+    Folds pieces (with_row of_many pieces) (Rows others)
 row_folds o others [] h = cc
 row_folds o others (Text b ∷ pieces) h = cc
 row_folds o others (Open ∷ pieces) h = cc
@@ -108,8 +122,28 @@ row_folds o others (Comma ∷ Comma ∷ pieces) h = cc
 row_folds o others (Comma ∷ Open ∷ pieces) h = cc
 row_folds o others (Comma ∷ Close ∷ pieces) h = cc
 row_folds o others (Comma ∷ Values b ∷ pieces) h = cc
-row_folds o others (Comma ∷ Row b ∷ pieces) h = let e : b ≡ others = cc in record { rest = pieces; first = Comma; second = Row b; stands = refl; folds = ap (λ y. Rows y ∷ pieces) e; first_text = refl; second_text = row_text b }
-row_folds o others (Comma ∷ Rows b ∷ pieces) h = let e : b ≡ others = cc in record { rest = pieces; first = Comma; second = Rows b; stands = refl; folds = ap (λ y. Rows y ∷ pieces) e; first_text = refl; second_text = rows_text b }
+row_folds o others (Comma ∷ Row b ∷ pieces) h = let e : b ≡ others = cc in
+    record {
+      rest = pieces;
+      first = Comma;
+      second = Row b;
+      stands = refl;
+      folds =
+          ap (λ y. Rows y ∷ pieces) e;
+      first_text = refl;
+      second_text = row_text b;
+    }
+row_folds o others (Comma ∷ Rows b ∷ pieces) h = let e : b ≡ others = cc in
+    record {
+      rest = pieces;
+      first = Comma;
+      second = Rows b;
+      stands = refl;
+      folds =
+          ap (λ y. Rows y ∷ pieces) e;
+      first_text = refl;
+      second_text = rows_text b;
+    }
 
 -- values behind what opens, and the row that they are
 pub record Opened (pieces : List Piece) (many : Bool) : Type 0 where

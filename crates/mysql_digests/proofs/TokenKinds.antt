@@ -1,7 +1,9 @@
 -- The kind of a token by itself is its kind where it stands; bytes that are tokens by themselves.
-use Rattle.std.proofs.Common.{◌≡◌, ◌≢◌, ℕ, Bool, true, false, ◌||◌, ◌==◌, ◌⊎◌, List, ◌∷◌, ◌++◌, refl, sym, ap, ◌∙◌, inl, inr, subst}
+use Rattle.std.proofs.Common.{◌≡◌, ◌≢◌, ℕ, Bool, true, false, ◌||◌, ◌==◌, ◌⊎◌, List, ◌∷◌, ◌++◌, refl, sym, ap, ◌∙◌, inl}
+use Rattle.std.proofs.Common.{inr, subst}
 use Rattle.std.proofs.lemmas.Bool.Decides.{eqb_tells}
-use Rattle.mysql_queries.specs.Tokens.{kind_of, IsToken, hash, dash, slash, star, colon, question, single_quote, double_quote, backtick}
+use Rattle.mysql_queries.specs.Tokens.{kind_of, IsToken, hash, dash, slash, star, colon, question, single_quote}
+use Rattle.mysql_queries.specs.Tokens.{double_quote, backtick}
 use Rattle.mysql_queries.specs.Literals.{is_digit}
 use Rattle.mysql_queries.specs.Queries.{is_joining}
 use Rattle.mysql_queries.specs.Scanning.{is_plain}
@@ -26,7 +28,9 @@ pub kind_stays : (m : Mode) (t r : List ℕ) → IsToken m t r → kind_of t ≡
 kind_stays = kind_alone
 
 -- what holds of a byte, and of none that begins a token of several, makes it plain
-pub plain_by : (p : ℕ → Bool) (b : ℕ) → p b ≡ true → p single_quote ≡ false → p double_quote ≡ false → p backtick ≡ false → p hash ≡ false → p dash ≡ false → p slash ≡ false → p star ≡ false → p colon ≡ false → p question ≡ false → is_plain b ≡ true
+pub plain_by : (p : ℕ → Bool) (b : ℕ) → p b ≡ true → p single_quote ≡ false → p double_quote ≡
+    false → p backtick ≡ false → p hash ≡ false → p dash ≡ false → p slash ≡ false → p star ≡
+    false → p colon ≡ false → p question ≡ false → is_plain b ≡ true
 plain_by p b h k1 k2 k3 k4 k5 k6 k9 k7 k8 =
     let e1 = not_equal b single_quote (apart_bytes p b single_quote h k1) in
     let e2 = not_equal b double_quote (apart_bytes p b double_quote h k2) in
@@ -55,7 +59,8 @@ pub digit_word : (b : ℕ) → is_digit b ≡ true → is_word_byte b ≡ true
 digit_word b h = rw (h, digit_plain b h) refl
 
 -- each byte of an operator is none of a word
-pub operator_cases : (P : ℕ → Type 0) → P 0x3c → P 0x3d → P 0x3e → P 0x21 → P 0x7c → P 0x26 → (b : ℕ) → is_operator_byte b ≡ true → P b
+pub operator_cases : (P : ℕ → Type 0) → P 0x3c → P 0x3d → P 0x3e → P 0x21 → P 0x7c → P 0x26 →
+    (b : ℕ) → is_operator_byte b ≡ true → P b
 operator_cases P p1 p2 p3 p4 p5 p6 b h =
     let there : (c : ℕ) → P c → (b == c) ≡ true → P b = λ c p e. subst P (sym (same_number b c e)) p in
     let a1 : Bool = b == 0x3c in

@@ -1,5 +1,6 @@
 -- Values and types that were written are read again.
-use Rattle.std.proofs.Common.{◌≡◌, ℕ, ◌==◌, Bool, true, false, List, [], ◌∷◌, ◌++◌, Option, Some, None, Ok, refl, sym, ◌∙◌, ap, lit<}
+use Rattle.std.proofs.Common.{◌≡◌, ℕ, ◌==◌, Bool, true, false, List, [], ◌∷◌, ◌++◌, Option, Some, None, Ok, refl, sym}
+use Rattle.std.proofs.Common.{◌∙◌, ap, lit<}
 use Rattle.std.specs.Prelude.{◌&&◌, ◌||◌, if◌then◌else◌, is_none, is_some, not, unwrap_or}
 use Rattle.std.specs.Option.{option_map}
 use Rattle.std.specs.Result.{result_ok}
@@ -30,12 +31,17 @@ zero_held = 1 ∷ 0 ∷ 0 ∷ 0 ∷ 0 ∷ 0 ∷ 0 ∷ 0 ∷ []
 
 zero_str : (rest : List ℕ) → u8_str_at (negative_zero_cell ++ rest) ≡ Some (zero_held, rest)
 unfolding zero_held
-zero_str rest = ap (λ (count : Option (ℕ × List ℕ)). then_at count bytes_at) (little-reads_back 1 8 (zero_held ++ rest) (lit< tt)) ∙ bytes_at-append zero_held rest
+zero_str rest = ap (λ (count : Option (ℕ × List ℕ)). then_at count bytes_at)
+    (little-reads_back 1 8 (zero_held ++ rest) (lit< tt)) ∙ bytes_at-append zero_held rest
 
-zero_read : (shape : CellForm) (unsigned negative : Bool) (days hours minutes seconds micros : ℕ) (rest : List ℕ) → is_some (some_cell shape unsigned (Time negative days hours minutes seconds micros)) ≡ true
+zero_read : (shape : CellForm) (unsigned negative : Bool) (days hours minutes seconds micros : ℕ)
+    (rest : List ℕ) → is_some
+    (some_cell shape unsigned (Time negative days hours minutes seconds micros)) ≡ true
     → value_at shape unsigned (negative_zero_cell ++ rest) ≡ Ok (Time true 0 0 0 0 0, rest)
 unfolding zero_held
-zero_read Duration unsigned negative days hours minutes seconds micros rest some = ap (λ (held : Option (List ℕ × List ℕ)). or_end held >>= λ h. Ok (time_of h.0, h.1)) (zero_str rest)
+zero_read Duration unsigned negative days hours minutes seconds micros rest some =
+    ap (λ (held : Option (List ℕ × List ℕ)). or_end held >>= λ h. Ok (time_of h.0, h.1))
+    (zero_str rest)
 zero_read shape unsigned negative days hours minutes seconds micros rest some = absurd (cc)
 
 -- ---- a value by its type
@@ -48,7 +54,8 @@ mapped_some : (f : List ℕ → List ℕ) (o : Option (List ℕ)) → is_some (o
 mapped_some f (Some x) e = refl
 mapped_some f None e = absurd cc
 
-mapped_to : (cell : List ℕ) (o : Option (List ℕ)) → is_some (option_map (λ (_ : List ℕ). cell) o) ≡ true → unwrap_or (option_map (λ (_ : List ℕ). cell) o) [] ≡ cell
+mapped_to : (cell : List ℕ) (o : Option (List ℕ)) → is_some (option_map (λ (_ : List ℕ). cell) o) ≡
+    true → unwrap_or (option_map (λ (_ : List ℕ). cell) o) [] ≡ cell
 mapped_to cell (Some x) e = refl
 mapped_to cell None e = absurd cc
 
@@ -60,20 +67,32 @@ pub form_back : (t : ColumnType) → form_of (column_type_number t) ≡ form t
 form_back t = ap (λ (found : Option ColumnType). unwrap_or (option_map form found) Without) (column_type-names_back t)
 
 module _ (back : TypedCellsReadBack) (t : ParameterType) (rest : List ℕ) where
-  plain : (value : Value) → FitsFields value → is_null value ≡ false → is_some (option_map (λ (cell : List ℕ). cell) (some_cell (form t.column_type) t.unsigned value)) ≡ true
-      → typed_value_at t (unwrap_or (option_map (λ (cell : List ℕ). cell) (some_cell (form t.column_type) t.unsigned value)) [] ++ rest) ≡ Some (read_back value, rest)
+  plain : (value : Value) → FitsFields value → is_null value ≡ false →
+      is_some (option_map (λ (cell : List ℕ). cell)
+      (some_cell (form t.column_type) t.unsigned value)) ≡ true
+      → typed_value_at t (unwrap_or
+      (option_map (λ (cell : List ℕ). cell) (some_cell (form t.column_type) t.unsigned value))
+      [] ++ rest) ≡ Some (read_back value, rest)
   plain value fits none some =
       let o = some_cell (form t.column_type) t.unsigned value in
       ap (λ (cell : List ℕ). typed_value_at t (cell ++ rest)) (mapped o)
-      ∙ ap result_ok (back t.column_type t.unsigned value rest fits none (not_none o (mapped_some (λ cell. cell) o some)))
+      ∙ ap result_ok (back t.column_type t.unsigned value rest fits none
+      (not_none o (mapped_some (λ cell. cell) o some)))
 
   both : (x y : Bool) → (x && y) ≡ true → (x ≡ true) × (y ≡ true)
   both true y e = (refl, e)
   both false y e = absurd cc
 
-  negative : (z : Bool) (days hours minutes seconds micros : ℕ) → FitsFields (Time true days hours minutes seconds micros) → z ≡ is_zero_time days hours minutes seconds micros
-      → is_some (option_map (λ (cell : List ℕ). if z then negative_zero_cell else cell) (some_cell (form t.column_type) t.unsigned (Time true days hours minutes seconds micros))) ≡ true
-      → typed_value_at t (unwrap_or (option_map (λ (cell : List ℕ). if z then negative_zero_cell else cell) (some_cell (form t.column_type) t.unsigned (Time true days hours minutes seconds micros))) [] ++ rest)
+  negative : (z : Bool) (days hours minutes seconds micros : ℕ) →
+      FitsFields (Time true days hours minutes seconds micros) → z ≡
+      is_zero_time days hours minutes seconds micros
+      → is_some (option_map (λ (cell : List ℕ). if z then negative_zero_cell else cell)
+      (some_cell (form t.column_type) t.unsigned (Time true days hours minutes seconds micros)))
+      ≡ true
+      → typed_value_at t (unwrap_or
+      (option_map (λ (cell : List ℕ). if z then negative_zero_cell else cell)
+      (some_cell (form t.column_type) t.unsigned (Time true days hours minutes seconds micros)))
+      [] ++ rest)
       ≡ Some (Time true days hours minutes seconds micros, rest)
   unfolding cell_at
   negative false days hours minutes seconds micros fits is some =
@@ -91,8 +110,10 @@ module _ (back : TypedCellsReadBack) (t : ParameterType) (rest : List ℕ) where
       let seconds_is : 0 ≡ seconds = sym (eqb-true seconds 0 b.1) in
       let micros_is : 0 ≡ micros = sym (eqb-true micros 0 a.1) in
       ap (λ (cell : List ℕ). typed_value_at t (cell ++ rest)) (mapped_to negative_zero_cell o some)
-      ∙ ap (λ (shape : CellForm). result_ok (value_at shape t.unsigned (negative_zero_cell ++ rest))) (form_back t.column_type)
-      ∙ ap result_ok (zero_read (form t.column_type) t.unsigned true days hours minutes seconds micros rest (mapped_some (λ _. negative_zero_cell) o some))
+      ∙ ap (λ (shape : CellForm). result_ok
+      (value_at shape t.unsigned (negative_zero_cell ++ rest))) (form_back t.column_type)
+      ∙ ap result_ok (zero_read (form t.column_type) t.unsigned true days hours minutes seconds
+      micros rest (mapped_some (λ _. negative_zero_cell) o some))
       ∙ (λ i. Some (Time true (days_is i) (hours_is i) (minutes_is i) (seconds_is i) (micros_is i), rest))
 
   pub value_back : (value : Value) → FitsFields value → is_null value ≡ false → is_some (parameter_cell t value) ≡ true
@@ -103,6 +124,10 @@ module _ (back : TypedCellsReadBack) (t : ParameterType) (rest : List ℕ) where
   value_back (UInt n) fits none some = plain (UInt n) fits none some
   value_back (Float bits) fits none some = plain (Float bits) fits none some
   value_back (Double bits) fits none some = plain (Double bits) fits none some
-  value_back (Date year month day hour minute second micros) fits none some = plain (Date year month day hour minute second micros) fits none some
-  value_back (Time false days hours minutes seconds micros) fits none some = plain (Time false days hours minutes seconds micros) fits none some
-  value_back (Time true days hours minutes seconds micros) fits none some = negative (is_zero_time days hours minutes seconds micros) days hours minutes seconds micros fits refl some
+  value_back (Date year month day hour minute second micros) fits none some =
+      plain (Date year month day hour minute second micros) fits none some
+  value_back (Time false days hours minutes seconds micros) fits none some =
+      plain (Time false days hours minutes seconds micros) fits none some
+  value_back (Time true days hours minutes seconds micros) fits none some =
+      negative (is_zero_time days hours minutes seconds micros) days hours minutes seconds micros
+      fits refl some

@@ -1,5 +1,6 @@
 -- Executions that carry no types, as they are written.
-use Rattle.std.proofs.Common.{◌≡◌, ℕ, true, false, List, [], ◌∷◌, ◌++◌, length, map, refl, sym, ap, ◌∙◌, append_assoc, append-nil, arith}
+use Rattle.std.proofs.Common.{◌≡◌, ℕ, true, false, List, [], ◌∷◌, ◌++◌, length, map, refl, sym, ap, ◌∙◌, append_assoc}
+use Rattle.std.proofs.Common.{append-nil, arith}
 use Rattle.std.specs.Prelude.{◌==◌, not}
 use Rattle.byteorder.specs.Endian.{little_bytes}
 use Rattle.mysql_cells.specs.declared.value.Value.{Value}
@@ -18,7 +19,8 @@ own_goes_on P value later all is own so_far rest = so_far (rw is (λ i. own i �
 same : (n m : ℕ) → n ≡ m → (n == m) ≡ true
 same n m e = search arith
 
-module _ (c : Capabilities) (s : InForce) (id : ℕ) (values : List Value) (none : has_query_attributes c ≡ false) (fits : FitsTypes s values) where
+module _ (c : Capabilities) (s : InForce) (id : ℕ) (values : List Value)
+    (none : has_query_attributes c ≡ false) (fits : FitsTypes s values) where
   -- it can be written, where each value has a cell
   pub can : are_parameters [] 0 s.types values ≡ true → can_be_put c s (without_types id values) ≡ true
   unfolding can_be_put
@@ -26,7 +28,8 @@ module _ (c : Capabilities) (s : InForce) (id : ℕ) (values : List Value) (none
       let whole : not s.broken ≡ true = ap not fits.0 in
       let values_same : (length values == s.count) ≡ true = same (length values) s.count fits.3 in
       let types_same : (length s.types == s.count) ≡ true = same (length s.types) s.count fits.2 in
-      let all : are_parameters s.long_data 0 s.types values ≡ true = ap (λ waiting. are_parameters waiting 0 s.types values) fits.1 ∙ cells in
+      let all : are_parameters s.long_data 0 s.types values ≡ true =
+      ap (λ waiting. are_parameters waiting 0 s.types values) fits.1 ∙ cells in
       rw (whole, none, values_same, types_same, all) refl
 
   pub bytes : 0x17 ∷ execution_bytes c s (without_types id values)
@@ -39,8 +42,10 @@ module _ (c : Capabilities) (s : InForce) (id : ℕ) (values : List Value) (none
       let rest = binding_bytes values false ++ parameters_bytes [] 0 s.types values in
       let joined : a ++ (b ++ (d ++ rest)) ≡ (a ++ (b ++ d)) ++ rest =
       ap (λ l. a ++ l) (sym (append_assoc b d rest)) ∙ sym (append_assoc a (b ++ d) rest) in
-      rw (none, fits.1, append-nil values, append-nil (parameters_bytes [] 0 s.types values)) (ap (λ l. 0x17 ∷ l) joined)
+      rw (none, fits.1, append-nil values, append-nil (parameters_bytes [] 0 s.types values))
+      (ap (λ l. 0x17 ∷ l) joined)
 
 -- and it is read as itself
-pub own : (id : ℕ) (values : List Value) → map as_read values ≡ values → execution_as_read (without_types id values) ≡ without_types id values
+pub own : (id : ℕ) (values : List Value) → map as_read values ≡ values →
+    execution_as_read (without_types id values) ≡ without_types id values
 own id values each = λ i. record (without_types id values) { parameters = each i }

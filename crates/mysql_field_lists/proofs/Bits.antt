@@ -1,15 +1,18 @@
 -- The bits of a bitmap, one at a time.
-use Rattle.std.proofs.Common.{◌≡◌, ◌<◌, ◌+◌, ◌-◌, ◌*◌, ◌/◌, ◌%◌, ◌^◌, ◌==◌, ◌⊎◌, inl, inr, ℕ, zero, suc, Bool, not, cond, List, ◌∷◌, map, refl, ap, ◌∙◌, sym, arith, slice_index}
+use Rattle.std.proofs.Common.{◌≡◌, ◌<◌, ◌+◌, ◌-◌, ◌*◌, ◌/◌, ◌%◌, ◌^◌, ◌==◌, ◌⊎◌, inl, inr, ℕ, zero, suc, Bool, not}
+use Rattle.std.proofs.Common.{cond, List, ◌∷◌, map, refl, ap, ◌∙◌, sym, arith, slice_index}
 use Rattle.std.specs.Int.{bit_at, bit_not, w8}
 use Rattle.std.specs.Int.Bits.{bit_and, bit_or}
 use Rattle.std.specs.List.{range_with_len}
 use Rattle.std.proofs.lemmas.Bool.{cases_eq, eq-eqb, ne_eqb}
 use Rattle.std.proofs.lemmas.Nat.{pow_pos}
-use Rattle.std.proofs.lemmas.Nat.Bits.{and_pow, bit_at_set_same, bit_at_set_other, bit_at_clear_same, bit_at_clear_other}
+use Rattle.std.proofs.lemmas.Nat.Bits.{and_pow, bit_at_set_same, bit_at_set_other, bit_at_clear_same}
+use Rattle.std.proofs.lemmas.Nat.Bits.{bit_at_clear_other}
 use Rattle.mysql_field_lists.specs.NullBitmap.{has_bit, is_null_at, bits_from, nulls_of}
 
 -- where there is a bit, it stands before the others
-step : (bytes : List ℕ) (first count : ℕ) → bits_from bytes first (suc count) ≡ has_bit bytes first ∷ bits_from bytes (first + 1) count
+step : (bytes : List ℕ) (first count : ℕ) → bits_from bytes first (suc count) ≡
+    has_bit bytes first ∷ bits_from bytes (first + 1) count
 step bytes first count = refl
 
 pub first_bit : (bytes : List ℕ) (first last : ℕ) → first < last
@@ -41,25 +44,31 @@ masked byte k = rw (and_pow byte k) (found (bit_at byte k) (omega arith))
     found (suc (suc bit)) few = absurd (omega (arith, few))
 
 -- the next bit is that under the mask, and the others follow
-pub next_bit : (bytes : List ℕ) (first last byte mask : ℕ) → first < last → byte ≡ slice_index bytes (first / 8) → mask ≡ 2 ^ (first % 8)
-    → bits_from bytes first (last - first) ≡ not (bit_and byte mask == 0) ∷ bits_from bytes (first + 1) (last - (first + 1))
+pub next_bit : (bytes : List ℕ) (first last byte mask : ℕ) → first < last → byte ≡
+    slice_index bytes (first / 8) → mask ≡ 2 ^ (first % 8)
+    → bits_from bytes first (last - first) ≡ not (bit_and byte mask == 0) ∷
+    bits_from bytes (first + 1) (last - (first + 1))
 next_bit bytes first last byte mask some held is =
     first_bit bytes first last some
     ∙ ap (λ (b : Bool). b ∷ bits_from bytes (first + 1) (last - (first + 1)))
-    (ap (λ (n : ℕ). bit_at n (first % 8) == 1) (sym held) ∙ sym (masked byte (first % 8)) ∙ ap (λ (n : ℕ). not (bit_and byte n == 0)) (sym is))
+    (ap (λ (n : ℕ). bit_at n (first % 8) == 1) (sym held) ∙ sym (masked byte (first % 8)) ∙
+    ap (λ (n : ℕ). not (bit_and byte n == 0)) (sym is))
 
 -- one bit of a byte is set, or cleared
 pub set_bit : (n k other : ℕ) → k < 8 → bit_at (bit_or n (1 * 2 ^ k % 256)) other ≡ cond (other == k) 1 (bit_at n other)
 set_bit n k other few = at (cases_eq other k)
   where
-    at : ((other ≡ k) ⊎ (other ≡ k → ⊥)) → bit_at (bit_or n (1 * 2 ^ k % 256)) other ≡ cond (other == k) 1 (bit_at n other)
+    at : ((other ≡ k) ⊎ (other ≡ k → ⊥)) → bit_at (bit_or n (1 * 2 ^ k % 256)) other ≡
+        cond (other == k) 1 (bit_at n other)
     at (inl same) = rw (eq-eqb other k same) (rw same (bit_at_set_same w8 n k few))
     at (inr apart) = rw (ne_eqb other k apart) (bit_at_set_other w8 n k few other apart)
 
-pub clear_bit : (n k other : ℕ) → k < 8 → other < 8 → bit_at (bit_and n (bit_not w8 (1 * 2 ^ k % 256))) other ≡ cond (other == k) 0 (bit_at n other)
+pub clear_bit : (n k other : ℕ) → k < 8 → other < 8 →
+    bit_at (bit_and n (bit_not w8 (1 * 2 ^ k % 256))) other ≡ cond (other == k) 0 (bit_at n other)
 clear_bit n k other few small = at (cases_eq other k)
   where
-    at : ((other ≡ k) ⊎ (other ≡ k → ⊥)) → bit_at (bit_and n (bit_not w8 (1 * 2 ^ k % 256))) other ≡ cond (other == k) 0 (bit_at n other)
+    at : ((other ≡ k) ⊎ (other ≡ k → ⊥)) → bit_at (bit_and n (bit_not w8 (1 * 2 ^ k % 256))) other ≡
+        cond (other == k) 0 (bit_at n other)
     at (inl same) = rw (eq-eqb other k same) (rw same (bit_at_clear_same w8 n k few))
     at (inr apart) = rw (ne_eqb other k apart) (bit_at_clear_other w8 n k few other small apart)
 

@@ -18,8 +18,11 @@ pub a_text : (bytes : List ℕ) → IsUtf8 bytes → text_of (Bytes bytes) ≡ S
 a_text bytes h = rw (is_utf8-from_IsUtf8 bytes h) refl
 
 -- the same of the bytes that a value holds
-pub a_text_held : (value : Value) (bytes text : List ℕ) → Some bytes ≡ bytes_of value → IsUtf8 bytes → text ≡ bytes → Some text ≡ text_of value
-a_text_held value bytes text e u s = ap (λ x. Some x) s ∙ sym (a_text bytes u) ∙ ap (option_and_then (if_passes is_utf8)) e
+pub a_text_held : (value : Value) (bytes text : List ℕ) → Some bytes ≡ bytes_of value →
+    IsUtf8 bytes → text ≡ bytes → Some text ≡ text_of value
+a_text_held value bytes text e u s = ap (λ x. Some x) s ∙ sym (a_text bytes u) ∙
+    ap (option_and_then (if_passes is_utf8)) e
 
-pub no_text_held : (value : Value) (bytes : List ℕ) → Some bytes ≡ bytes_of value → (IsUtf8 bytes → ⊥) → None ≡ text_of value
+pub no_text_held : (value : Value) (bytes : List ℕ) → Some bytes ≡ bytes_of value →
+    (IsUtf8 bytes → ⊥) → None ≡ text_of value
 no_text_held value bytes e h = sym (no_text bytes h) ∙ ap (option_and_then (if_passes is_utf8)) e

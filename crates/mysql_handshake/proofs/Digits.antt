@@ -21,7 +21,8 @@ digit_is c is = let value = digit_value_digit c (digit_range c is) in omega arit
 -- one more digit
 pub value_more : (digits : List ℕ) (i : ℕ) → i < length digits → is_digit (get_or digits i 0) ≡ true
     → digits_value 10 (take (i + 1) digits) ≡ digits_value 10 (take i digits) * 10 + (get_or digits i 0 - 48)
-value_more digits i lt is = digits_value_more 10 digits i lt ∙ ap (λ (d : ℕ). digits_value 10 (take i digits) * 10 + d) (digit_is (get_or digits i 0) is)
+value_more digits i lt is = digits_value_more 10 digits i lt ∙
+    ap (λ (d : ℕ). digits_value 10 (take i digits) * 10 + d) (digit_is (get_or digits i 0) is)
 
 -- the digits that a text begins with are in it
 pub digits_within : (most : ℕ) (text : List ℕ) → digits_len most text ≤ length text
@@ -38,5 +39,8 @@ unfolding digits_len
 in_prefix most text k lt = omega arith
 
 -- and they are digits
-pub digits_are : (most : ℕ) (text : List ℕ) (k : ℕ) → k < digits_len most text → is_digit (get_or (take (digits_len most text) text) k 0) ≡ true
-digits_are most text k lt = rw (get_or-take (digits_len most text) text k 0 lt) (prefix_len_passes is_digit text k 0 (in_prefix most text k lt))
+pub digits_are : (most : ℕ) (text : List ℕ) (k : ℕ) → k < digits_len most text →
+    is_digit (get_or (take (digits_len most text) text) k 0) ≡ true
+digits_are most text k lt =
+    rw (get_or-take (digits_len most text) text k 0 lt)
+    (prefix_len_passes is_digit text k 0 (in_prefix most text k lt))

@@ -1,5 +1,7 @@
 -- A version that is read is one that the text begins with, and the only one.
-use Rattle.std.proofs.Common.{◌≡◌, ℕ, zero, suc, ◌+◌, ◌<◌, ◌≤◌, ◌==◌, Bool, true, false, if◌then◌else◌, cond, ◌⊎◌, inl, inr, List, [], ◌∷◌, ◌++◌, take, drop, length, get_or, nat_eq, None, Some, append_assoc, refl, sym, ap, ◌∙◌, subst, arith}
+use Rattle.std.proofs.Common.{◌≡◌, ℕ, zero, suc, ◌+◌, ◌<◌, ◌≤◌, ◌==◌, Bool, true, false, if◌then◌else◌, cond, ◌⊎◌, inl}
+use Rattle.std.proofs.Common.{inr, List, [], ◌∷◌, ◌++◌, take, drop, length, get_or, nat_eq, None, Some, append_assoc}
+use Rattle.std.proofs.Common.{refl, sym, ap, ◌∙◌, subst, arith}
 use Rattle.std.specs.Prelude.{codes, Option}
 use Rattle.std.proofs.lemmas.Bool.{cases_lt, eqb-true, ne_eqb}
 use Rattle.std.proofs.lemmas.Bool.Decides.{Decides-eqb}
@@ -8,15 +10,19 @@ use Rattle.std.proofs.lemmas.Slice.Eq.{starts_is}
 use Rattle.std.specs.List.{AllByRecursion, prefix_len, starts_with}
 use Rattle.std.specs.Option.{option_map}
 use Rattle.std.specs.Str.Parse.{digits_value}
-use Rattle.mysql_handshake.specs.Versions.{BeginsWith, IsGroup, IsMariadbVersion, IsMarked, IsTheOne, IsVersion, NoDigitFirst, is_digit}
-use Rattle.mysql_handshake.specs.VersionReading.{Found, FoundVersion, ◌>>=◌, after_dot, digits_len, first_of, if_marked, mariadb_version, marked_version, number_after_dot, number_at, version_at, version_of, with_major, with_minor, with_patch}
+use Rattle.mysql_handshake.specs.Versions.{BeginsWith, IsGroup, IsMariadbVersion, IsMarked, IsTheOne, IsVersion}
+use Rattle.mysql_handshake.specs.Versions.{NoDigitFirst, is_digit}
+use Rattle.mysql_handshake.specs.VersionReading.{Found, FoundVersion, ◌>>=◌, after_dot, digits_len, first_of, if_marked}
+use Rattle.mysql_handshake.specs.VersionReading.{mariadb_version, marked_version, number_after_dot, number_at}
+use Rattle.mysql_handshake.specs.VersionReading.{version_at, version_of, with_major, with_minor, with_patch}
 use Rattle.mysql_handshake.proofs.Digits.{digits_are, digits_few, digits_within}
 
 abbrev IsDigit : ℕ → Type 0
 IsDigit c = is_digit c ≡ true
 
 -- digits before others are counted with them
-front_digits : (digits rest : List ℕ) → AllByRecursion IsDigit digits → prefix_len is_digit (digits ++ rest) ≡ length digits + prefix_len is_digit rest
+front_digits : (digits rest : List ℕ) → AllByRecursion IsDigit digits →
+    prefix_len is_digit (digits ++ rest) ≡ length digits + prefix_len is_digit rest
 front_digits [] rest h = omega arith
 front_digits (d ∷ digits) rest h = let more = front_digits digits rest h.1 in rw h.0 (omega (arith, more))
 
@@ -28,7 +34,8 @@ no_digits (c ∷ rest) h = rw h refl
 abbrev IsWhole : ℕ → List ℕ → List ℕ → Type 0
 IsWhole most digits rest = (length digits ≡ most) ⊎ NoDigitFirst rest
 
-group_len : (most : ℕ) (digits rest : List ℕ) → IsGroup most digits → IsWhole most digits rest → digits_len most (digits ++ rest) ≡ length digits
+group_len : (most : ℕ) (digits rest : List ℕ) → IsGroup most digits → IsWhole most digits rest →
+    digits_len most (digits ++ rest) ≡ length digits
 unfolding digits_len
 group_len most digits rest g whole =
     let front = front_digits digits rest g.each in
@@ -58,18 +65,23 @@ group_read most digits rest g whole =
 
 -- the parts of a version, from the left or from the right
 nested : (a b c d : List ℕ) → a ++ codes "." ++ b ++ codes "." ++ c ++ d ≡ a ++ 46 ∷ (b ++ 46 ∷ (c ++ d))
-nested a b c d = append_assoc (a ++ codes "." ++ b ++ codes ".") c d ∙ append_assoc (a ++ codes "." ++ b) (codes ".") (c ++ d)
+nested a b c d = append_assoc (a ++ codes "." ++ b ++ codes ".") c d ∙
+    append_assoc (a ++ codes "." ++ b) (codes ".") (c ++ d)
     ∙ append_assoc (a ++ codes ".") b (46 ∷ (c ++ d)) ∙ append_assoc a (codes ".") (b ++ 46 ∷ (c ++ d))
 
 -- a text with a version in front is read so
-pub version_read : (text : List ℕ) (version : ℕ × ℕ × ℕ) (rest : List ℕ) → BeginsWith text version rest → version_at text ≡ Some (version, rest)
+pub version_read : (text : List ℕ) (version : ℕ × ℕ × ℕ) (rest : List ℕ) →
+    BeginsWith text version rest → version_at text ≡ Some (version, rest)
 unfolding version_at
 version_read text version rest h =
     let last : List ℕ = 46 ∷ (h.patch ++ rest) in
     let tail : List ℕ = 46 ∷ (h.minor ++ last) in
-    let major : number_at 2 (h.major ++ tail) ≡ Some (digits_value 10 h.major, tail) = group_read 2 h.major tail h.is_major (inr refl) in
-    let minor : number_at 2 (h.minor ++ last) ≡ Some (digits_value 10 h.minor, last) = group_read 2 h.minor last h.is_minor (inr refl) in
-    let patch : number_at 3 (h.patch ++ rest) ≡ Some (digits_value 10 h.patch, rest) = group_read 3 h.patch rest h.is_patch h.whole in
+    let major : number_at 2 (h.major ++ tail) ≡ Some (digits_value 10 h.major, tail) =
+    group_read 2 h.major tail h.is_major (inr refl) in
+    let minor : number_at 2 (h.minor ++ last) ≡ Some (digits_value 10 h.minor, last) =
+    group_read 2 h.minor last h.is_minor (inr refl) in
+    let patch : number_at 3 (h.patch ++ rest) ≡ Some (digits_value 10 h.patch, rest) =
+    group_read 3 h.patch rest h.is_patch h.whole in
     ap (λ t. number_at 2 t >>= with_major) (h.spelled ∙ nested h.major h.minor h.patch rest)
     ∙ ap (λ o. o >>= with_major) major
     ∙ ap (λ o. o >>= with_minor (digits_value 10 h.major, tail)) minor
@@ -77,7 +89,8 @@ version_read text version rest h =
     ∙ ap (λ v. Some (v, rest)) (sym h.numbers)
 
 -- what was read first, and what then
-bind_some : {A B : Type 0} → (o : Option A) (f : A → Option B) (y : B) → (o >>= f) ≡ Some y → (x : A) × (o ≡ Some x) × (f x ≡ Some y)
+bind_some : {A B : Type 0} → (o : Option A) (f : A → Option B) (y : B) → (o >>= f) ≡ Some y →
+    (x : A) × (o ≡ Some x) × (f x ≡ Some y)
 bind_some None f y h = cc
 bind_some (Some x) f y h = (x, refl, h)
 
@@ -90,9 +103,11 @@ then_some true x y h = (refl, cc)
 then_some false x y h = cc
 
 -- behind the digits that a text begins with stands no digit
-stops_at : (c : ℕ) (text : List ℕ) (test : Bool) → is_digit c ≡ test → NoDigitFirst (drop (prefix_len is_digit text) text)
+stops_at : (c : ℕ) (text : List ℕ) (test : Bool) → is_digit c ≡ test →
+    NoDigitFirst (drop (prefix_len is_digit text) text)
     → NoDigitFirst (drop (cond test (1 + prefix_len is_digit text) 0) (c ∷ text))
-stops_at c text true e behind = let one : 1 + prefix_len is_digit text ≡ suc (prefix_len is_digit text) = omega arith in rw one behind
+stops_at c text true e behind = let one : 1 + prefix_len is_digit text ≡
+    suc (prefix_len is_digit text) = omega arith in rw one behind
 stops_at c text false e behind = e
 
 stops : (text : List ℕ) → NoDigitFirst (drop (prefix_len is_digit text) text)
@@ -111,10 +126,12 @@ record GroupAt (most : ℕ) (text : List ℕ) (found : Found) : Type 0 where
   whole : IsWhole most digits found.1
   value : found.0 ≡ digits_value 10 digits
 
-cut_whole : (most : ℕ) (text : List ℕ) → IsWhole most (take (digits_len most text) text) (drop (digits_len most text) text)
+cut_whole : (most : ℕ) (text : List ℕ) →
+    IsWhole most (take (digits_len most text) text) (drop (digits_len most text) text)
 unfolding digits_len
 cut_whole most text =
-    let taken : length (take (digits_len most text) text) ≡ digits_len most text = length-take-le (digits_len most text) text (digits_within most text) in
+    let taken : length (take (digits_len most text) text) ≡ digits_len most text =
+    length-take-le (digits_len most text) text (digits_within most text) in
     elim (cases_lt (prefix_len is_digit text) most) [
       | inl less ↦ (
           let all : digits_len most text ≡ prefix_len is_digit text = omega (arith, less) in
@@ -179,14 +196,16 @@ numbers_found text version rest a b c at_a at_b at_c h =
     let patch : DotAt 3 b.1 c = dotted 3 b.1 c at_c in
     let same : (a.0, b.0, c.0) ≡ version = only_first h in
     let behind : c.1 ≡ rest = only_second h in
-    let last : b.1 ≡ 46 ∷ (patch.number.digits ++ rest) = patch.dot ∙ ap (λ y. 46 ∷ y) (patch.number.spelled ∙ ap (λ y. patch.number.digits ++ y) behind) in
+    let last : b.1 ≡ 46 ∷ (patch.number.digits ++ rest) = patch.dot ∙
+    ap (λ y. 46 ∷ y) (patch.number.spelled ∙ ap (λ y. patch.number.digits ++ y) behind) in
     let tail : a.1 ≡ 46 ∷ (minor.number.digits ++ 46 ∷ (patch.number.digits ++ rest)) =
     minor.dot ∙ ap (λ y. 46 ∷ y) (minor.number.spelled ∙ ap (λ y. minor.number.digits ++ y) last) in
     record {
       major = major.digits;
       minor = minor.number.digits;
       patch = patch.number.digits;
-      spelled = major.spelled ∙ ap (λ y. major.digits ++ y) tail ∙ sym (nested major.digits minor.number.digits patch.number.digits rest);
+      spelled = major.spelled ∙ ap (λ y. major.digits ++ y) tail ∙
+          sym (nested major.digits minor.number.digits patch.number.digits rest);
       is_major = major.group;
       is_minor = minor.number.group;
       is_patch = patch.number.group;
@@ -194,7 +213,8 @@ numbers_found text version rest a b c at_a at_b at_c h =
       numbers = sym same ∙ three major.value minor.number.value patch.number.value;
     }
 
-pub version_found : (text : List ℕ) (version : ℕ × ℕ × ℕ) (rest : List ℕ) → version_at text ≡ Some (version, rest) → BeginsWith text version rest
+pub version_found : (text : List ℕ) (version : ℕ × ℕ × ℕ) (rest : List ℕ) → version_at text ≡
+    Some (version, rest) → BeginsWith text version rest
 unfolding version_at
 version_found text version rest h =
     let a = bind_some (number_at 2 text) with_major (version, rest) h in
@@ -202,9 +222,14 @@ version_found text version rest h =
     let c = bind_some (number_after_dot 3 b.0.1) (with_patch a.0 b.0) (version, rest) b.2 in
     numbers_found text version rest a.0 b.0 c.0 a.1 b.1 c.1 c.2
 
-version_or_none : (text : List ℕ) (o : Option FoundVersion) → version_at text ≡ o → IsTheOne (IsVersion text) (option_map (λ p. p.0) o)
+version_or_none : (text : List ℕ) (o : Option FoundVersion) → version_at text ≡ o →
+    IsTheOne (IsVersion text) (option_map (λ p. p.0) o)
 version_or_none text None e = λ version h. let read = version_read text version h.0 h.1 in cc
-version_or_none text (Some p) e = ((p.1, version_found text p.0 p.1 e), λ version h. let read = version_read text version h.0 h.1 in cc)
+version_or_none text (Some p) e = (
+  (p.1, version_found text p.0 p.1 e),
+  λ version h. let read =
+      version_read text version h.0 h.1 in cc,
+)
 
 pub is_version : (text : List ℕ) → IsTheOne (IsVersion text) (version_of text)
 is_version text = version_or_none text (version_at text) refl
@@ -226,7 +251,8 @@ marked_found text version h =
     let p = then_some (starts_with nat_eq a.0.1 (codes "-MariaDB")) a.0.0 version a.2 in
     let behind : a.0.1 ≡ codes "-MariaDB" ++ drop 8 a.0.1 = (begins a.0.1 (codes "-MariaDB")).0 p.0 in (
       drop 8 a.0.1,
-      subst (λ v. BeginsWith text v (codes "-MariaDB" ++ drop 8 a.0.1)) p.1 (subst (BeginsWith text a.0.0) behind (version_found text a.0.0 a.0.1 a.1)),
+      subst (λ v. BeginsWith text v (codes "-MariaDB" ++ drop 8 a.0.1)) p.1
+          (subst (BeginsWith text a.0.0) behind (version_found text a.0.0 a.0.1 a.1)),
     )
 
 five : (most : ℕ) → 1 ≤ most → IsGroup most (53 ∷ [])
@@ -251,23 +277,28 @@ unfolding version_at number_at digits_len
 name_read tail = refl
 
 -- behind `5.5.5-` a version and MariaDB's name can't both stand
-not_both : (text tail : List ℕ) (version other : ℕ × ℕ × ℕ) → text ≡ codes "5.5.5-" ++ tail → IsMarked tail version → ¬ (IsMarked text other)
+not_both : (text tail : List ℕ) (version other : ℕ × ℕ × ℕ) → text ≡ codes "5.5.5-" ++ tail →
+    IsMarked tail version → ¬ (IsMarked text other)
 not_both text tail version other split prefixed plain =
     let front : version_at text ≡ Some ((5, 5, 5), 45 ∷ tail) = ap version_at split ∙ prefix_read tail in
-    let behind : version_at text ≡ Some (other, codes "-MariaDB" ++ plain.0) = version_read text other (codes "-MariaDB" ++ plain.0) plain.1 in
+    let behind : version_at text ≡ Some (other, codes "-MariaDB" ++ plain.0) =
+    version_read text other (codes "-MariaDB" ++ plain.0) plain.1 in
     let name : tail ≡ codes "MariaDB" ++ plain.0 = ap (λ t. drop 1 t) (only_second (sym front ∙ behind)) in
     let none : version_at tail ≡ None = ap version_at name ∙ name_read plain.0 in
     let read = version_read tail version (codes "-MariaDB" ++ prefixed.0) prefixed.1 in
     cc
 
 -- two versions that are read are one
-same_marked : (text : List ℕ) (version other : ℕ × ℕ × ℕ) → IsMarked text version → IsMarked text other → other ≡ version
-same_marked text version other h k = let first = marked_read text version h in let second = marked_read text other k in cc
+same_marked : (text : List ℕ) (version other : ℕ × ℕ × ℕ) → IsMarked text version →
+    IsMarked text other → other ≡ version
+same_marked text version other h k = let first = marked_read text version h in let second =
+    marked_read text other k in cc
 
 same_tail : (text a b : List ℕ) → text ≡ codes "5.5.5-" ++ a → text ≡ codes "5.5.5-" ++ b → b ≡ a
 same_tail text a b h k = sym (ap (λ t. drop 6 t) k) ∙ ap (λ t. drop 6 t) h
 
-same_mariadb : (text : List ℕ) (version other : ℕ × ℕ × ℕ) → IsMariadbVersion text version → IsMariadbVersion text other → other ≡ version
+same_mariadb : (text : List ℕ) (version other : ℕ × ℕ × ℕ) → IsMariadbVersion text version →
+    IsMariadbVersion text other → other ≡ version
 same_mariadb text version other h k = elim h [
   | inl p ↦ elim k [
     | inl q ↦ same_marked p.0 version other p.2 (subst (λ t. IsMarked t other) (same_tail text p.0 q.0 p.1 q.1) q.2)
@@ -279,19 +310,24 @@ same_mariadb text version other h k = elim h [
   ]
 ]
 
-the_mariadb : (text : List ℕ) (version : ℕ × ℕ × ℕ) → IsMariadbVersion text version → IsTheOne (IsMariadbVersion text) (Some version)
+the_mariadb : (text : List ℕ) (version : ℕ × ℕ × ℕ) → IsMariadbVersion text version →
+    IsTheOne (IsMariadbVersion text) (Some version)
 the_mariadb text version h = (h, λ other k. same_mariadb text version other h k)
 
-behind_prefix : (text : List ℕ) (a b : Option (ℕ × ℕ × ℕ)) → text ≡ codes "5.5.5-" ++ drop 6 text → marked_version (drop 6 text) ≡ a → marked_version text ≡ b
+behind_prefix : (text : List ℕ) (a b : Option (ℕ × ℕ × ℕ)) → text ≡ codes "5.5.5-" ++ drop 6 text →
+    marked_version (drop 6 text) ≡ a → marked_version text ≡ b
     → IsTheOne (IsMariadbVersion text) (first_of a b)
-behind_prefix text (Some version) b split a_is b_is = the_mariadb text version (inl (drop 6 text, split, marked_found (drop 6 text) version a_is))
+behind_prefix text (Some version) b split a_is b_is =
+    the_mariadb text version (inl (drop 6 text, split, marked_found (drop 6 text) version a_is))
 behind_prefix text None (Some version) split a_is b_is = the_mariadb text version (inr (marked_found text version b_is))
 behind_prefix text None None split a_is b_is = λ version is. elim is [
-  | inl p ↦ (let read : marked_version (drop 6 text) ≡ Some version = ap (λ t. marked_version (drop 6 t)) p.1 ∙ marked_read p.0 version p.2 in cc)
+  | inl p ↦ (let read : marked_version (drop 6 text) ≡ Some version =
+      ap (λ t. marked_version (drop 6 t)) p.1 ∙ marked_read p.0 version p.2 in cc)
   | inr m ↦ (let read = marked_read text version m in cc)
 ]
 
-without_prefix : (text : List ℕ) (b : Option (ℕ × ℕ × ℕ)) → starts_with nat_eq text (codes "5.5.5-") ≡ false → marked_version text ≡ b
+without_prefix : (text : List ℕ) (b : Option (ℕ × ℕ × ℕ)) →
+    starts_with nat_eq text (codes "5.5.5-") ≡ false → marked_version text ≡ b
     → IsTheOne (IsMariadbVersion text) b
 without_prefix text (Some version) other b_is = the_mariadb text version (inr (marked_found text version b_is))
 without_prefix text None other b_is = λ version is. elim is [
@@ -300,8 +336,11 @@ without_prefix text None other b_is = λ version is. elim is [
 ]
 
 by_prefix : (text : List ℕ) (test : Bool) → starts_with nat_eq text (codes "5.5.5-") ≡ test
-    → IsTheOne (IsMariadbVersion text) (if test then first_of (marked_version (drop 6 text)) (marked_version text) else marked_version text)
-by_prefix text true e = behind_prefix text (marked_version (drop 6 text)) (marked_version text) ((begins text (codes "5.5.5-")).0 e) refl refl
+    → IsTheOne (IsMariadbVersion text)
+    (if test then first_of (marked_version (drop 6 text)) (marked_version text) else
+    marked_version text)
+by_prefix text true e = behind_prefix text (marked_version (drop 6 text)) (marked_version text)
+    ((begins text (codes "5.5.5-")).0 e) refl refl
 by_prefix text false e = without_prefix text (marked_version text) e refl
 
 pub is_mariadb_version : (text : List ℕ) → IsTheOne (IsMariadbVersion text) (mariadb_version text)

@@ -1,5 +1,6 @@
 -- Attributes that were read take no more bytes than they were read of.
-use Rattle.std.proofs.Common.{◌≡◌, ◌<◌, ◌≤◌, ◌+◌, ◌^◌, ◌==◌, if◌then◌else◌, nat_lt, ℕ, zero, suc, Bool, true, false, List, [], ◌∷◌, ◌++◌, length, take, drop, Option, None, Some, Ok}
+use Rattle.std.proofs.Common.{◌≡◌, ◌<◌, ◌≤◌, ◌+◌, ◌^◌, ◌==◌, if◌then◌else◌, nat_lt, ℕ, zero, suc, Bool, true, false}
+use Rattle.std.proofs.Common.{List, [], ◌∷◌, ◌++◌, length, take, drop, Option, None, Some, Ok}
 use Rattle.std.proofs.Common.{refl, sym, ap, subst, length-append, length-drop, arith, inl, inr, lit<}
 use Rattle.std.proofs.lemmas.Bool.{cases_lt}
 use Rattle.std.proofs.lemmas.List.{get_or-drop, get_or-take, get_or_past, length-take}
@@ -9,7 +10,8 @@ use Rattle.mysql_buf.specs.FirstBytes.{first-some}
 use Rattle.mysql_buf.specs.Reading.{bytes_at as buffer_bytes_at, lenenc_int_at, little_at, then_at}
 use Rattle.mysql_buf.specs.TextLaws.{left-of, lenenc_int-shortest}
 use Rattle.mysql_buf.specs.Writing.{lenenc_int, lenenc_str}
-use Rattle.mysql_handshake_response.specs.Attributes.{Attribute, all_attributes_at, at_most_at, attribute, attribute_at, attributes_at}
+use Rattle.mysql_handshake_response.specs.Attributes.{Attribute, all_attributes_at, at_most_at, attribute, attribute_at}
+use Rattle.mysql_handshake_response.specs.Attributes.{attributes_at}
 use Rattle.mysql_fields.specs.Forms.{bytes_at, lenenc_number_at}
 use Rattle.mysql_fields.specs.Laws.{bind_ok, ok_same}
 use Rattle.mysql_fields.specs.Texts.{lenenc_text_at}
@@ -47,7 +49,8 @@ number_left (b ∷ bs) x all h = go (nat_lt b 251) (b == 252) (b == 253) (b == 2
   rest : AreBytes bs
   rest i = all (suc i)
 
-  go : (one two three eight : Bool) → (if one then Some (b, bs) else if two then little_at 2 bs else if three then little_at 3 bs
+  go : (one two three eight : Bool) →
+      (if one then Some (b, bs) else if two then little_at 2 bs else if three then little_at 3 bs
       else if eight then little_at 8 bs else Some (0, bs)) ≡ Some x → NumberHeld x
   go true two three eight e =
       let low : b < 256 = all 0 in
@@ -61,9 +64,11 @@ number_left (b ∷ bs) x all h = go (nat_lt b 251) (b == 252) (b == 253) (b == 2
 abbrev pub TakesAtMost : List ℕ → ℕ → List ℕ → Type 0
 TakesAtMost bytes len left = (len + length left ≤ length bytes) × AreBytes left
 
-pub text_takes : (bytes : List ℕ) (x : List ℕ × List ℕ) → AreBytes bytes → lenenc_text_at bytes ≡ Ok x → TakesAtMost bytes (length (lenenc_str x.0)) x.1
+pub text_takes : (bytes : List ℕ) (x : List ℕ × List ℕ) → AreBytes bytes → lenenc_text_at bytes ≡
+    Ok x → TakesAtMost bytes (length (lenenc_str x.0)) x.1
 text_takes bytes x all h = go (lenenc_int_at bytes) refl h where
-  go : (o : Option (ℕ × List ℕ)) → lenenc_int_at bytes ≡ o → or_end (then_at o buffer_bytes_at) ≡ Ok x → TakesAtMost bytes (length (lenenc_str x.0)) x.1
+  go : (o : Option (ℕ × List ℕ)) → lenenc_int_at bytes ≡ o → or_end (then_at o buffer_bytes_at) ≡
+      Ok x → TakesAtMost bytes (length (lenenc_str x.0)) x.1
   go None is e = absurd cc
   go (Some n) is e =
       let short = lenenc_int-shortest n.0 bytes n.1 all is in
@@ -74,9 +79,11 @@ text_takes bytes x all h = go (lenenc_int_at bytes) refl h where
       let len : length (take n.0 n.1) ≡ n.0 = omega (arith, part.0) in
       let bound : length (lenenc_int (length (take n.0 n.1)) ++ take n.0 n.1) + length (drop n.0 n.1) ≤ length bytes =
       rw (len) (omega (arith, length-append (lenenc_int n.0) (take n.0 n.1), part.0)) in
-      subst (λ (q : List ℕ × List ℕ). TakesAtMost bytes (length (lenenc_str q.0)) q.1) (sym part.1) (bound, bytes_behind n.0 n.1 left)
+      subst (λ (q : List ℕ × List ℕ). TakesAtMost bytes (length (lenenc_str q.0)) q.1) (sym part.1)
+      (bound, bytes_behind n.0 n.1 left)
 
-attribute_takes : (bytes : List ℕ) (x : Attribute × List ℕ) → AreBytes bytes → attribute_at bytes ≡ Ok x → TakesAtMost bytes (length (attribute x.0)) x.1
+attribute_takes : (bytes : List ℕ) (x : Attribute × List ℕ) → AreBytes bytes → attribute_at bytes ≡
+    Ok x → TakesAtMost bytes (length (attribute x.0)) x.1
 unfolding attribute_at
 attribute_takes bytes x all h =
     let key = bind_ok (lenenc_text_at bytes) _ x h in
@@ -87,7 +94,8 @@ attribute_takes bytes x all h =
     subst (λ (q : Attribute × List ℕ). TakesAtMost bytes (length (attribute q.0)) q.1) (ok_same made x value.2)
     (omega (arith, one.0, two.0, length-append (lenenc_str key.0.0) (lenenc_str value.0.0)), two.1)
 
-many_take : (most : ℕ) (bytes : List ℕ) (x : List Attribute × List ℕ) → AreBytes bytes → at_most_at most bytes ≡ Ok x → total x.0 ≤ length bytes
+many_take : (most : ℕ) (bytes : List ℕ) (x : List Attribute × List ℕ) → AreBytes bytes →
+    at_most_at most bytes ≡ Ok x → total x.0 ≤ length bytes
 unfolding at_most_at
 many_take zero [] x all h =
     let same : ([], []) ≡ x = cc in subst (λ (q : List Attribute × List ℕ). total q.0 ≤ 0) same (omega arith)
@@ -118,13 +126,16 @@ pub attributes_held : (bytes : List ℕ) (x : List Attribute × List ℕ) → Ar
 unfolding attributes_at
 attributes_held bytes x all h =
     let number = bind_ok (lenenc_number_at bytes) _ x h in
-    let short = lenenc_int-shortest number.0.0 bytes number.0.1 all (some_same (lenenc_int_at bytes) number.0 number.1) in
+    let short = lenenc_int-shortest number.0.0 bytes number.0.1 all
+    (some_same (lenenc_int_at bytes) number.0 number.1) in
     let left = number_left bytes number.0 all (some_same (lenenc_int_at bytes) number.0 number.1) in
     let pairs = bind_ok (bytes_at number.0.0 number.0.1) _ x number.2 in
-    let part = first-some number.0.0 (take number.0.0) number.0.1 pairs.0 (some_same (buffer_bytes_at number.0.0 number.0.1) pairs.0 pairs.1) in
+    let part = first-some number.0.0 (take number.0.0) number.0.1 pairs.0
+    (some_same (buffer_bytes_at number.0.0 number.0.1) pairs.0 pairs.1) in
     let taken : pairs.0.0 ≡ take number.0.0 number.0.1 = ap (λ (q : List ℕ × List ℕ). q.0) part.1 in
     let read = bind_ok (all_attributes_at pairs.0.0) _ x pairs.2 in
-    let bound = many_take (length pairs.0.0) pairs.0.0 read.0 (subst AreBytes (sym taken) (taken_bytes number.0.0 number.0.1 left.1)) read.1 in
+    let bound = many_take (length pairs.0.0) pairs.0.0 read.0
+    (subst AreBytes (sym taken) (taken_bytes number.0.0 number.0.1 left.1)) read.1 in
     let made : List Attribute × List ℕ = (read.0.0, pairs.0.1) in
     let cut = length-take number.0.0 number.0.1 in
     let held : AreHeld bytes read.0.0 = (

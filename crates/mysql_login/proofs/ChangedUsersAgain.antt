@@ -1,5 +1,6 @@
 -- The command that logs another user in, read by the capabilities in force, is read again of what is put of it.
-use Rattle.std.proofs.Common.{◌≡◌, ◌==◌, ◌&&◌, ◌≤◌, not, if◌then◌else◌, ℕ, Bool, true, false, List, [], ◌∷◌, ◌++◌, length, Option, None, Some, Ok}
+use Rattle.std.proofs.Common.{◌≡◌, ◌==◌, ◌&&◌, ◌≤◌, not, if◌then◌else◌, ℕ, Bool, true, false, List, [], ◌∷◌, ◌++◌}
+use Rattle.std.proofs.Common.{length, Option, None, Some, Ok}
 use Rattle.std.proofs.Common.{refl, sym, ap, ◌∙◌, subst, arith, append-nil, length-append, lit<}
 use Rattle.std.proofs.lemmas.Bool.Decides.{nat_tests}
 use Rattle.std.proofs.lemmas.List.{take_all}
@@ -55,7 +56,8 @@ there_read {X} read_at bytes x h =
     let part = bind_ok (read_at bytes) _ x h in
     (part.0, part.1, ok_same (held part.0) x part.2)
 
--- a part that stands where the capabilities name it and a byte is left; where it isn't held nothing behind it is read as it
+-- a part that stands where the capabilities name it and a byte is left; where it isn't held nothing
+-- behind it is read as it
 module _ {X : Type 0} (read_at : List ℕ → Reading X) (written : X → List ℕ) where
   nothing : (named : Bool) (bytes : List ℕ) (x : Option X × List ℕ) (behind : List ℕ) → gave None bytes ≡ Ok x →
       (x.0 ≡ None → named && not (length behind == 0) ≡ false) →
@@ -75,7 +77,8 @@ module _ {X : Type 0} (read_at : List ℕ → Reading X) (written : X → List �
   part_again true true bytes x behind h again none =
       let part = there_read read_at bytes x h in
       let back = again part.0 part.1 in
-      let whole : if_there (true && not (length (written part.0.0 ++ behind) == 0)) read_at (written part.0.0 ++ behind) ≡
+      let whole : if_there (true && not (length (written part.0.0 ++ behind) == 0)) read_at
+      (written part.0.0 ++ behind) ≡
       gave (Some part.0.0) behind = rw (some_left (written part.0.0 ++ behind) back.0, back.1) refl in
       subst (λ (y : Option X × List ℕ). if_there (true && not (length (if_held written y.0 ++ behind) == 0)) read_at
       (if_held written y.0 ++ behind) ≡ gave y.0 behind) part.2 whole
@@ -125,7 +128,8 @@ AllBehind named plugin all = if_there (named && not (length plugin.1 == 0)) attr
 is_held : (plugin : Option Plugin) (p : Plugin) → Some p ≡ plugin → plugin ≡ None → ⊥
 is_held plugin p some none = let no : Some p ≡ None = some ∙ none in absurd cc
 
-none_behind : (named other : Bool) (bytes : List ℕ) (plugin : Option Plugin × List ℕ) (all : Option (List Attribute) × List ℕ) →
+none_behind : (named other : Bool) (bytes : List ℕ) (plugin : Option Plugin ×
+    List ℕ) (all : Option (List Attribute) × List ℕ) →
     if_there (named && not (length bytes == 0)) plugin_to_zero_at bytes ≡ Ok plugin → AllBehind other plugin all →
     plugin.0 ≡ None → named && not (length (if_held attributes all.0 ++ []) == 0) ≡ false
 none_behind false other bytes plugin all h g none = refl
@@ -146,18 +150,26 @@ unfolding last_fields_at last_fields
 last_back capabilities bytes x small h =
     let set = bind_ok (fixed_number_at 2 bytes) _ x h in
     let number = number_read 2 bytes set.0 small set.1 in
-    let plugin = bind_ok (if_there (named_and_left capabilities plugin_auth set.0.1) plugin_to_zero_at set.0.1) _ x set.2 in
+    let plugin = bind_ok (if_there (named_and_left capabilities plugin_auth set.0.1)
+    plugin_to_zero_at set.0.1) _ x set.2 in
     let left = left_behind (named_and_left capabilities plugin_auth set.0.1) set.0.1 plugin.0 number.1 plugin.1 in
-    let all = bind_ok (if_there (named_and_left capabilities connect_attrs plugin.0.1) attributes_at plugin.0.1) _ x plugin.2 in
+    let all = bind_ok (if_there (named_and_left capabilities connect_attrs plugin.0.1) attributes_at
+    plugin.0.1) _ x plugin.2 in
     let named = contains capabilities plugin_auth in
     let third = part_again attributes_at attributes (contains capabilities connect_attrs) (not (length plugin.0.1 == 0))
-    plugin.0.1 all.0 [] all.1 (attributes_again plugin.0.1 left) (λ _. none_left (contains capabilities connect_attrs)) in
+    plugin.0.1 all.0 [] all.1 (attributes_again plugin.0.1 left)
+    (λ _. none_left (contains capabilities connect_attrs)) in
     let behind : List ℕ = if_held attributes all.0.0 ++ [] in
-    let second = part_again plugin_to_zero_at plugin_text (contains capabilities plugin_auth) (not (length set.0.1 == 0))
-    set.0.1 plugin.0 (if_held attributes all.0.0 ++ []) plugin.1 (plugin_again set.0.1 (if_held attributes all.0.0 ++ []))
-    (none_behind (contains capabilities plugin_auth) (contains capabilities connect_attrs) set.0.1 plugin.0 all.0 plugin.1 all.1) in
-    let made : MoreFields × List ℕ = (record { character_set = set.0.0; plugin = plugin.0.0; attributes = all.0.0 }, all.0.1) in
-    subst (λ (y : MoreFields × List ℕ). last_fields_at capabilities (last_fields y.0) ≡ gave y.0 []) (ok_same made x all.2) (rw (
+    let second = part_again plugin_to_zero_at plugin_text (contains capabilities plugin_auth)
+    (not (length set.0.1 == 0))
+    set.0.1 plugin.0 (if_held attributes all.0.0 ++
+    []) plugin.1 (plugin_again set.0.1 (if_held attributes all.0.0 ++ []))
+    (none_behind (contains capabilities plugin_auth) (contains capabilities connect_attrs) set.0.1
+    plugin.0 all.0 plugin.1 all.1) in
+    let made : MoreFields × List ℕ =
+    (record { character_set = set.0.0; plugin = plugin.0.0; attributes = all.0.0 }, all.0.1) in
+    subst (λ (y : MoreFields × List ℕ). last_fields_at capabilities (last_fields y.0) ≡
+    gave y.0 []) (ok_same made x all.2) (rw (
       fixed_number_at-back 2 set.0.0 (if_held plugin_text plugin.0.0 ++ (if_held attributes all.0.0 ++ [])) number.0,
       second,
       third,
@@ -169,8 +181,11 @@ some_fields p = omega arith
 
 last_again : (capabilities : ℕ) (bytes : List ℕ) → AreBytes bytes → (x : MoreFields × List ℕ) →
     last_fields_at capabilities bytes ≡ Ok x → IsReadAgain (last_fields_at capabilities) last_fields x.0 []
-last_again capabilities bytes small x h =
-    (some_fields x.0, ap (last_fields_at capabilities) (append-nil (last_fields x.0)) ∙ last_back capabilities bytes x small h)
+last_again capabilities bytes small x h = (
+  some_fields x.0,
+  ap (last_fields_at capabilities) (append-nil (last_fields x.0)) ∙
+      last_back capabilities bytes x small h,
+)
 
 -- ALL FIELDS
 
@@ -179,7 +194,8 @@ abbrev pub AnswerRead : ℕ → List ℕ × List ℕ → Type 0
 AnswerRead capabilities x =
     ((rest : List ℕ) → answer_at capabilities (answer capabilities x.0 ++ rest) ≡ Ok (x.0, rest)) × AreBytes x.1
 
-answer_again : (capabilities : ℕ) (bytes : List ℕ) (x : List ℕ × List ℕ) → AreBytes bytes → answer_at capabilities bytes ≡ Ok x →
+answer_again : (capabilities : ℕ) (bytes : List ℕ) (x : List ℕ × List ℕ) → AreBytes bytes →
+    answer_at capabilities bytes ≡ Ok x →
     AnswerRead capabilities x
 unfolding front
 answer_again capabilities bytes x small h = go (contains capabilities secure_connection) h where
@@ -205,7 +221,8 @@ database_again capabilities bytes x small h =
     more.1 (last_again capabilities name.0.1 (read.1 small)) (λ _. refl) in
     let made : (List ℕ × Option MoreFields) × List ℕ = ((name.0.0, more.0.0), more.0.1) in
     subst (λ (y : (List ℕ × Option MoreFields) × List ℕ).
-    database_and_last_at capabilities (null_text y.0.0 ++ (if_held last_fields y.0.1 ++ [])) ≡ gave y.0 []) (ok_same made x more.2)
+    database_and_last_at capabilities (null_text y.0.0 ++ (if_held last_fields y.0.1 ++ [])) ≡
+    gave y.0 []) (ok_same made x more.2)
     (rw (null_text_at-back name.0.0 (if_held last_fields more.0.0 ++ []), read.0, back) refl)
 
 pub changed_users_read_again : ChangedUsersReadAgain
@@ -229,10 +246,14 @@ changed_users_read_again capabilities payload rest login small h =
       last.0.1,
     ) in
     let two : List ℕ = null_text last.0.0.0 ++ (if_held last_fields last.0.0.1 ++ []) in
-    subst (λ (y : ChangeUserFields × List ℕ). change_in_force_at capabilities (change_in_force capabilities y.0) ≡ gave y.0 [])
+    subst (λ (y : ChangeUserFields × List ℕ). change_in_force_at capabilities
+    (change_in_force capabilities y.0) ≡ gave y.0 [])
     (ok_same made (login, rest) last.2) (rw (
-      constant_at-back 1 17 (null_text user.0.0 ++ (answer capabilities scramble.0.0 ++ (null_text last.0.0.0 ++ (if_held last_fields last.0.0.1 ++ [])))) (lit< tt),
-      null_text_at-back user.0.0 (answer capabilities scramble.0.0 ++ (null_text last.0.0.0 ++ (if_held last_fields last.0.0.1 ++ []))),
+      constant_at-back 1 17 (null_text user.0.0 ++
+          (answer capabilities scramble.0.0 ++
+          (null_text last.0.0.0 ++ (if_held last_fields last.0.0.1 ++ [])))) (lit< tt),
+      null_text_at-back user.0.0 (answer capabilities scramble.0.0 ++
+          (null_text last.0.0.0 ++ (if_held last_fields last.0.0.1 ++ []))),
       name.0,
       back.0 (null_text last.0.0.0 ++ (if_held last_fields last.0.0.1 ++ [])),
       both,

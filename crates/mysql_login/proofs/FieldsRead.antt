@@ -1,5 +1,6 @@
 -- Fields that were read: what their forms hold, and that bytes are left behind them.
-use Rattle.std.proofs.Common.{◌≡◌, ◌<◌, ◌≤◌, ◌+◌, ◌^◌, ◌==◌, if◌then◌else◌, nat_lt, ℕ, Bool, true, false, List, length, take, drop, Option, None, Some, Ok, Err}
+use Rattle.std.proofs.Common.{◌≡◌, ◌<◌, ◌≤◌, ◌+◌, ◌^◌, ◌==◌, if◌then◌else◌, nat_lt, ℕ, Bool, true, false, List, length}
+use Rattle.std.proofs.Common.{take, drop, Option, None, Some, Ok, Err}
 use Rattle.std.proofs.Common.{refl, sym, ap, ◌∙◌, subst, arith}
 use Rattle.std.proofs.lemmas.List.{get_or-drop, get_or-take, length-take}
 use Rattle.std.proofs.lemmas.List.Sums.{fails_before_first, position_or_len_is}
@@ -86,7 +87,8 @@ NameRead bytes x = (before_first is_zero x.0 ≡ x.0) × (AreBytes bytes → Are
 
 pub name_read : (bytes : List ℕ) (x : List ℕ × List ℕ) → null_text_at bytes ≡ Ok x → NameRead bytes x
 name_read bytes x h = go (nat_lt (position_or_len is_zero bytes) (length bytes)) h where
-  go : (b : Bool) → (if b then done (before_first is_zero bytes, after_first is_zero bytes) else Err UnexpectedEof) ≡ done x
+  go : (b : Bool) → (if b then done (before_first is_zero bytes, after_first is_zero bytes) else Err
+      UnexpectedEof) ≡ done x
       → NameRead bytes x
   go true e =
       subst (NameRead bytes) (ok_same (before_first is_zero bytes, after_first is_zero bytes) x e)

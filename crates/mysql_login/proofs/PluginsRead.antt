@@ -1,5 +1,6 @@
 -- A plugin that was read by its name is read again of its own name.
-use Rattle.std.proofs.Common.{◌≡◌, ◌==◌, ◌&&◌, ◌≤◌, ◌-◌, ◌+◌, if◌then◌else◌, nat_lt, ℕ, Bool, true, false, true≢false, List, [], ◌∷◌, ◌++◌, length, Ok, Err}
+use Rattle.std.proofs.Common.{◌≡◌, ◌==◌, ◌&&◌, ◌≤◌, ◌-◌, ◌+◌, if◌then◌else◌, nat_lt, ℕ, Bool, true, false, true≢false}
+use Rattle.std.proofs.Common.{List, [], ◌∷◌, ◌++◌, length, Ok, Err}
 use Rattle.std.proofs.Common.{refl, sym, ap, ◌∙◌, subst, arith}
 use Rattle.std.proofs.lemmas.Bool.{eqb-true}
 use Rattle.std.proofs.lemmas.List.{length-take}
@@ -61,7 +62,8 @@ parts_are bytes x h = go (nat_lt (position_or_len is_zero bytes) (length bytes))
   go true e = ok_same (parts_of bytes) x e
   go false e = absurd cc
 
-name_parts : (name rest : List ℕ) → before_first is_zero name ≡ name → parts_of ((name ++ 0 ∷ []) ++ rest) ≡ (name, rest)
+name_parts : (name rest : List ℕ) → before_first is_zero name ≡ name →
+    parts_of ((name ++ 0 ∷ []) ++ rest) ≡ (name, rest)
 name_parts name rest whole =
     parts_are ((name ++ 0 ∷ []) ++ rest) (name, rest)
     (ap (λ (n : List ℕ). null_text_at ((n ++ 0 ∷ []) ++ rest)) (sym whole) ∙ null_text_at-back name rest
@@ -80,7 +82,8 @@ named_back name rest whole =
 
 -- whatever follows, and bytes were left
 abbrev pub PluginRead : List ℕ → Plugin × List ℕ → Type 0
-PluginRead bytes x = ((rest : List ℕ) → plugin_to_zero_at (plugin_text x.0 ++ rest) ≡ Ok (x.0, rest)) × (AreBytes bytes → AreBytes x.1)
+PluginRead bytes x = ((rest : List ℕ) → plugin_to_zero_at (plugin_text x.0 ++ rest) ≡
+    Ok (x.0, rest)) × (AreBytes bytes → AreBytes x.1)
 
 pub plugin_read : (bytes : List ℕ) (x : Plugin × List ℕ) → plugin_to_zero_at bytes ≡ Ok x → PluginRead bytes x
 plugin_read bytes x h =
@@ -89,6 +92,9 @@ plugin_read bytes x h =
     let made : Plugin × List ℕ = (plugin_named (before_first is_zero bytes), after_first is_zero bytes) in
     let read : plugin_of (parts_of bytes) ≡ x = ok_same (plugin_of (parts_of bytes)) x h in
     let same : (plugin_named (before_first is_zero bytes), after_first is_zero bytes) ≡ plugin_of (parts_of bytes) =
-    ap (λ (n : List ℕ). (plugin_named n, after_first is_zero bytes)) (sym (no_last_zero (before_first is_zero bytes) whole)) in
-    subst (PluginRead bytes) (same ∙ read)
-    (λ rest. named_back (before_first is_zero bytes) rest whole, λ small. left_bytes (position_or_len is_zero bytes + 1) bytes small)
+    ap (λ (n : List ℕ). (plugin_named n, after_first is_zero bytes))
+    (sym (no_last_zero (before_first is_zero bytes) whole)) in
+    subst (PluginRead bytes) (same ∙ read) (
+      λ rest. named_back (before_first is_zero bytes) rest whole,
+      λ small. left_bytes (position_or_len is_zero bytes + 1) bytes small,
+    )

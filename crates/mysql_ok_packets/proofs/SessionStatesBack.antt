@@ -3,8 +3,10 @@ use Rattle.std.proofs.Common.{refl}
 use Rattle.mysql_fields.specs.TextLaws.{lenenc_text_at-back}
 use Rattle.mysql_ok_packets.specs.Reading.{EatsBytes}
 use Rattle.mysql_ok_packets.specs.SessionStates.{state_at, variable_at}
-use Rattle.mysql_ok_packets.specs.StateLaws.{change_at-back, state_at-back, state_at-eats, states_at-back, variable_at-back, variable_at-eats}
-use Rattle.mysql_ok_packets.specs.SessionStateStatements.{ChangesReadBack, GtidsReadBack, ListsOfStatesReadBack, StatesReadBack, TextsReadBack, VariablesReadBack}
+use Rattle.mysql_ok_packets.specs.StateLaws.{change_at-back, state_at-back, state_at-eats, states_at-back}
+use Rattle.mysql_ok_packets.specs.StateLaws.{variable_at-back, variable_at-eats}
+use Rattle.mysql_ok_packets.specs.SessionStateStatements.{ChangesReadBack, GtidsReadBack, ListsOfStatesReadBack}
+use Rattle.mysql_ok_packets.specs.SessionStateStatements.{StatesReadBack, TextsReadBack, VariablesReadBack}
 
 pub texts_read_back : TextsReadBack
 texts_read_back = lenenc_text_at-back

@@ -10,7 +10,9 @@ marked : (t : Bool) → (cond t 0x31 0x30 == 0x31) ≡ t
 marked true = refl
 marked false = refl
 
-pub read : (passes : ℕ → Bool) (table : List ℕ) (b : ℕ) → table ≡ map (mark passes) (range_with_len 0 256) → b < 256 → (get_or table b 0 == 0x31) ≡ passes b
+pub read : (passes : ℕ → Bool) (table : List ℕ) (b : ℕ) → table ≡
+    map (mark passes) (range_with_len 0 256) → b < 256 → (get_or table b 0 == 0x31) ≡ passes b
 read passes table b e h =
-    ap (λ (n : ℕ). n == 0x31) (ap (λ t. get_or t b 0) e ∙ get_or-map-range_with_len (mark passes) 0 256 b b 0 h (omega arith))
+    ap (λ (n : ℕ). n == 0x31) (ap (λ t. get_or t b 0) e ∙
+    get_or-map-range_with_len (mark passes) 0 256 b b 0 h (omega arith))
     ∙ marked (passes b)

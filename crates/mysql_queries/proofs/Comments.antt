@@ -11,7 +11,8 @@ has_end : (i r : List ℕ) → HasNoEnd (i ++ star ∷ slash ∷ r) → ⊥
 has_end [] r h = h.0 refl refl
 has_end (b ∷ i) r h = has_end i r (no_end_tail b _ h)
 
-both_closed : (i j r s : List ℕ) → HasNoEnd (i ++ star ∷ []) → HasNoEnd (j ++ star ∷ []) → i ++ star ∷ slash ∷ r ≡ j ++ star ∷ slash ∷ s → (i ≡ j) × (r ≡ s)
+both_closed : (i j r s : List ℕ) → HasNoEnd (i ++ star ∷ []) → HasNoEnd (j ++ star ∷ []) → i ++
+    star ∷ slash ∷ r ≡ j ++ star ∷ slash ∷ s → (i ≡ j) × (r ≡ s)
 both_closed [] [] r s k l h = (refl, cc)
 both_closed [] (b ∷ []) r s k l h = let e : slash ≡ star = cc in absurd (omega arith)
 both_closed [] (b ∷ c ∷ j) r s k l h = absurd (l.0 (cc) (cc))
@@ -22,7 +23,8 @@ both_closed (b ∷ i) (c ∷ j) r s k l h =
     let o : (i ≡ j) × (r ≡ s) = both_closed i j r s (no_end_tail b _ k) (no_end_tail c _ l) e in (cc, o.1)
 
 -- what stands inside, what closes it and what follows are determined by the text
-pub one_comment : (i c r j d s : List ℕ) → EndsBlock i c r → EndsBlock j d s → i ++ (c ++ r) ≡ j ++ (d ++ s) → (i ≡ j) × (c ≡ d) × (r ≡ s)
+pub one_comment : (i c r j d s : List ℕ) → EndsBlock i c r → EndsBlock j d s → i ++ (c ++ r) ≡ j ++
+    (d ++ s) → (i ≡ j) × (c ≡ d) × (r ≡ s)
 one_comment i c r j d s (inl k) (inl l) h =
     let h' : i ++ ((star ∷ slash ∷ []) ++ r) ≡ j ++ ((star ∷ slash ∷ []) ++ s) = rw (k.0, l.0) at h in
     let o : (i ≡ j) × (r ≡ s) = both_closed i j r s k.1 l.1 h' in (o.0, k.0 ∙ sym l.0, o.1)

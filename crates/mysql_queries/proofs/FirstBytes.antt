@@ -1,7 +1,11 @@
 -- What the kind of a token says of its first bytes.
-use Rattle.std.proofs.Common.{◌≡◌, ◌≢◌, ℕ, Bool, true, false, cond, ◌&&◌, ◌==◌, ◌⊎◌, inl, inr, List, [], ◌∷◌, refl, arith, ◌||◌}
+use Rattle.std.proofs.Common.{◌≡◌, ◌≢◌, ℕ, Bool, true, false, cond, ◌&&◌, ◌==◌, ◌⊎◌, inl, inr, List, [], ◌∷◌, refl}
+use Rattle.std.proofs.Common.{arith, ◌||◌}
 use Rattle.std.proofs.lemmas.Bool.Decides.{nat_tests}
-use Rattle.mysql_queries.specs.Tokens.{Kind, Quoted, LineComment, BlockComment, Opening, Closing, Name, Mark, Plain, kind_of, is_quote, backslash, hash, dash, slash, star, colon, question, exclamation, goes_on_as_dashes, goes_on_as_block, goes_on_as_opening, goes_on_as_closing, goes_on_as_name, is_name_start}
+use Rattle.mysql_queries.specs.Tokens.{Kind, Quoted, LineComment, BlockComment, Opening, Closing, Name, Mark, Plain}
+use Rattle.mysql_queries.specs.Tokens.{kind_of, is_quote, backslash, hash, dash, slash, star, colon, question}
+use Rattle.mysql_queries.specs.Tokens.{exclamation, goes_on_as_dashes, goes_on_as_block, goes_on_as_opening}
+use Rattle.mysql_queries.specs.Tokens.{goes_on_as_closing, goes_on_as_name, is_name_start}
 
 pub bool_tells : (b : Bool) → (b ≡ true) ⊎ (b ≡ false)
 bool_tells true = inl refl
@@ -19,8 +23,11 @@ pub same_number : (a b : ℕ) → (a == b) ≡ true → a ≡ b
 same_number a b h = grind (arith, nat_tests)
 
 -- a fact of each kind that can be chosen is a fact of the one that is
-pub chosen : (T : Kind → Type 0) (b : ℕ) (q l k o c n m : Bool) → (q ≡ true → T (Quoted b)) → (l ≡ true → T LineComment) → (k ≡ true → T BlockComment) → (o ≡ true → T Opening) → (c ≡ true → T Closing) → (n ≡ true → T Name) → (m ≡ true → T Mark) → T Plain
-    → T (cond q (Quoted b) (cond l LineComment (cond k BlockComment (cond o Opening (cond c Closing (cond n Name (cond m Mark Plain)))))))
+pub chosen : (T : Kind → Type 0) (b : ℕ) (q l k o c n m : Bool) → (q ≡ true → T (Quoted b)) →
+    (l ≡ true → T LineComment) → (k ≡ true → T BlockComment) → (o ≡ true → T Opening) →
+    (c ≡ true → T Closing) → (n ≡ true → T Name) → (m ≡ true → T Mark) → T Plain
+    → T (cond q (Quoted b) (cond l LineComment
+    (cond k BlockComment (cond o Opening (cond c Closing (cond n Name (cond m Mark Plain)))))))
 chosen T b true l k o c n m f1 f2 f3 f4 f5 f6 f7 f8 = f1 refl
 chosen T b false true k o c n m f1 f2 f3 f4 f5 f6 f7 f8 = f2 refl
 chosen T b false false true o c n m f1 f2 f3 f4 f5 f6 f7 f8 = f3 refl
@@ -44,15 +51,20 @@ Tells b x Plain = Unit {0}
 line_tells : (b : ℕ) (x : List ℕ) → ((b == hash) || ((b == dash) && goes_on_as_dashes x)) ≡ true → Tells b x LineComment
 line_tells b x h = elim (or_cases (b == hash) _ h) [
   | inl k ↦ inl (same_number b hash k)
-  | inr k ↦ (let e : ((b == dash) ≡ true) × (goes_on_as_dashes x ≡ true) = and_true (b == dash) (goes_on_as_dashes x) k in inr (same_number b dash e.0, e.1))
+  | inr k ↦ (let e : ((b == dash) ≡ true) × (goes_on_as_dashes x ≡ true) =
+      and_true (b == dash) (goes_on_as_dashes x) k in inr (same_number b dash e.0, e.1))
 ]
 
 pub kind_tells : (b : ℕ) (x : List ℕ) → Tells b x (kind_of (b ∷ x))
 kind_tells b x = chosen (Tells b x) b _ _ _ _ _ _ _ (λ h. (refl, h)) (line_tells b x)
-    (λ h. let e : ((b == slash) ≡ true) × (goes_on_as_block x ≡ true) = and_true (b == slash) (goes_on_as_block x) h in (same_number b slash e.0, e.1))
-    (λ h. let e : ((b == slash) ≡ true) × (goes_on_as_opening x ≡ true) = and_true (b == slash) (goes_on_as_opening x) h in (same_number b slash e.0, e.1))
-    (λ h. let e : ((b == star) ≡ true) × (goes_on_as_closing x ≡ true) = and_true (b == star) (goes_on_as_closing x) h in (same_number b star e.0, e.1))
-    (λ h. let e : ((b == colon) ≡ true) × (goes_on_as_name x ≡ true) = and_true (b == colon) (goes_on_as_name x) h in (same_number b colon e.0, e.1))
+    (λ h. let e : ((b == slash) ≡ true) × (goes_on_as_block x ≡ true) =
+    and_true (b == slash) (goes_on_as_block x) h in (same_number b slash e.0, e.1))
+    (λ h. let e : ((b == slash) ≡ true) × (goes_on_as_opening x ≡ true) =
+    and_true (b == slash) (goes_on_as_opening x) h in (same_number b slash e.0, e.1))
+    (λ h. let e : ((b == star) ≡ true) × (goes_on_as_closing x ≡ true) =
+    and_true (b == star) (goes_on_as_closing x) h in (same_number b star e.0, e.1))
+    (λ h. let e : ((b == colon) ≡ true) × (goes_on_as_name x ≡ true) =
+    and_true (b == colon) (goes_on_as_name x) h in (same_number b colon e.0, e.1))
     (λ h. same_number b question h) tt
 
 -- a quoted token begins with one of the quotes
@@ -68,7 +80,9 @@ HasQuote Plain = Unit {0}
 
 pub kind_has_quote : (text : List ℕ) → HasQuote (kind_of text)
 kind_has_quote [] = tt
-kind_has_quote (b ∷ after) = chosen HasQuote b _ _ _ _ _ _ _ (λ h. h) (λ h. tt) (λ h. tt) (λ h. tt) (λ h. tt) (λ h. tt) (λ h. tt) tt
+kind_has_quote (b ∷ after) =
+    chosen HasQuote b _ _ _ _ _ _ _ (λ h. h) (λ h. tt) (λ h. tt) (λ h. tt) (λ h. tt) (λ h. tt)
+    (λ h. tt) tt
 
 pub quote_no_backslash : (q : ℕ) → is_quote q ≡ true → q ≢ backslash
 quote_no_backslash q h e = let h' : is_quote backslash ≡ true = rw e at h in cc
@@ -91,6 +105,7 @@ closing_second [] h = cc
 closing_second (b ∷ []) h = let e : b ≡ slash = same_number b slash h in ([], cc)
 closing_second (b ∷ c ∷ y) h = let e : b ≡ slash = same_number b slash (and_true (b == slash) _ h).0 in (c ∷ y, cc)
 
-pub name_second : (x : List ℕ) → goes_on_as_name x ≡ true → (b : ℕ) × (y : List ℕ) × (x ≡ b ∷ y) × (is_name_start b ≡ true)
+pub name_second : (x : List ℕ) → goes_on_as_name x ≡ true → (b : ℕ) × (y : List ℕ) × (x ≡ b ∷ y) ×
+    (is_name_start b ≡ true)
 name_second [] h = cc
 name_second (b ∷ y) h = (b, y, refl, h)

@@ -1,7 +1,13 @@
 -- A token stays a token when a placeholder behind it is replaced by a literal.
-use Rattle.std.proofs.Common.{◌≡◌, ◌≢◌, ℕ, Bool, true, false, not, ◌&&◌, ◌||◌, ◌==◌, ◌⊎◌, List, [], ◌∷◌, ◌++◌, refl, sym, ap, ◌∙◌, inl, inr, arith, subst, flat_map}
+use Rattle.std.proofs.Common.{◌≡◌, ◌≢◌, ℕ, Bool, true, false, not, ◌&&◌, ◌||◌, ◌==◌, ◌⊎◌, List, [], ◌∷◌, ◌++◌, refl}
+use Rattle.std.proofs.Common.{sym, ap, ◌∙◌, inl, inr, arith, subst, flat_map}
 use Rattle.std.proofs.lemmas.Bool.Decides.{nat_tests, eqb_tells}
-use Rattle.mysql_queries.specs.Tokens.{Kind, Quoted, LineComment, BlockComment, Opening, Closing, Name, Mark, Plain, kind_of, is_quote, is_digit, is_simple, is_simple_byte, begins_end, exclamation, comment_start, has_escapes, HasShape, IsToken, AtLineEnd, BeginsOtherwise, Closes, star, slash, colon, question, dash, inside_bytes, goes_on_as_dashes, goes_on_as_block, goes_on_as_opening, goes_on_as_closing, goes_on_as_name, is_name_start}
+use Rattle.mysql_queries.specs.Tokens.{Kind, Quoted, LineComment, BlockComment, Opening, Closing, Name, Mark, Plain}
+use Rattle.mysql_queries.specs.Tokens.{kind_of, is_quote, is_digit, is_simple, is_simple_byte, begins_end, exclamation}
+use Rattle.mysql_queries.specs.Tokens.{comment_start, has_escapes, HasShape, IsToken, AtLineEnd, BeginsOtherwise}
+use Rattle.mysql_queries.specs.Tokens.{Closes, star, slash, colon, question, dash, inside_bytes, goes_on_as_dashes}
+use Rattle.mysql_queries.specs.Tokens.{goes_on_as_block, goes_on_as_opening, goes_on_as_closing, goes_on_as_name}
+use Rattle.mysql_queries.specs.Tokens.{is_name_start}
 use Rattle.std.specs.List.{prefix_len}
 use Rattle.std.proofs.Common.{drop}
 use Rattle.mysql_queries.specs.Alone.{last_of}
@@ -93,7 +99,8 @@ begins_end_star b [] h = cc
 begins_end_star b (c ∷ x) h = same_number b star (and_true (b == star) _ h).0
 
 -- where an end follows simple bytes, it follows them in what goes on alike
-end_same : (last : ℕ) (x y : List ℕ) → Agrees last x y → begins_end (behind_simple x) ≡ true → begins_end (behind_simple y) ≡ true
+end_same : (last : ℕ) (x y : List ℕ) → Agrees last x y → begins_end (behind_simple x) ≡ true →
+    begins_end (behind_simple y) ≡ true
 end_same last [] y h e = cc
 end_same last (b ∷ x) [] h e = elim h [ ]
 end_same last (b ∷ x) (c ∷ y) (inr a) e =
@@ -135,13 +142,15 @@ digit_no_place b (inr e) = rw e refl
 is_simple_still : (last : ℕ) (x y : List ℕ) → Agrees last x y → is_simple x ≡ true → is_simple y ≡ true
 is_simple_still last [] y h e = cc
 is_simple_still last (b ∷ x) [] h e = elim h [ ]
-is_simple_still last (b ∷ x) (c ∷ y) (inr a) e = let f : true ≡ false = sym (and_true (is_digit b) _ e).0 ∙ digit_no_place b a.place in cc
+is_simple_still last (b ∷ x) (c ∷ y) (inr a) e = let f : true ≡ false =
+    sym (and_true (is_digit b) _ e).0 ∙ digit_no_place b a.place in cc
 is_simple_still last (b ∷ x) (c ∷ y) (inl h) e =
     let k : (is_digit b ≡ true) × (begins_end (behind_simple x) ≡ true) = and_true (is_digit b) _ e in
     rw (sym (ap is_digit h.0) ∙ k.0) (end_same b x y h.1 k.1)
 
 -- a comment is simple or not, whatever is in the place of a placeholder further on
-simple_same : (last : ℕ) (x y : List ℕ) → Agrees last x y → (is_simple x ≡ false → BeginsFixed x) → is_simple x ≡ is_simple y
+simple_same : (last : ℕ) (x y : List ℕ) → Agrees last x y → (is_simple x ≡ false → BeginsFixed x) →
+    is_simple x ≡ is_simple y
 simple_same last x y h f = elim (bool_tells (is_simple x)) [
   | inl e ↦ (e ∙ sym (is_simple_still last x y h e))
   | inr e ↦ (e ∙ sym (no_simple y (fixed_same last x y h (f e))))
@@ -178,7 +187,9 @@ block_same (b ∷ d ∷ x) (c ∷ e ∷ y) s (inl (h, inl k)) = elim (bool_tells
   ]
 ]
 block_same (b ∷ d ∷ x) (c ∷ e ∷ y) s (inl (h, inr a)) =
-    ap (λ p. (b == star) && p) (no_mark d (place_no_mark d a.place) (is_simple x) ∙ sym (no_mark e a.no_mark (is_simple y))) ∙ ap (λ i. (i == star) && (not (e == exclamation) || is_simple y)) h
+    ap (λ p. (b == star) && p) (no_mark d (place_no_mark d a.place) (is_simple x) ∙
+    sym (no_mark e a.no_mark (is_simple y))) ∙
+    ap (λ i. (i == star) && (not (e == exclamation) || is_simple y)) h
 
 opening_no_star : (b : ℕ) (x : List ℕ) → b ≢ star → goes_on_as_opening (b ∷ x) ≡ false
 opening_no_star b [] n = refl
@@ -188,13 +199,15 @@ opening_same : (x y : List ℕ) → Agrees slash x y → goes_on_as_opening x �
 opening_same [] [] h = refl
 opening_same [] (c ∷ y) h = elim h [ ]
 opening_same (b ∷ x) [] h = elim h [ ]
-opening_same (b ∷ x) (c ∷ y) (inr a) = opening_no_star b x (place_no_star b a.place) ∙ sym (opening_no_star c y a.no_star)
+opening_same (b ∷ x) (c ∷ y) (inr a) = opening_no_star b x (place_no_star b a.place) ∙
+    sym (opening_no_star c y a.no_star)
 opening_same (b ∷ []) (c ∷ []) (inl h) = refl
 opening_same (b ∷ []) (c ∷ e ∷ y) (inl h) = absurd h.1
 opening_same (b ∷ d ∷ x) (c ∷ []) (inl h) = absurd h.1
 opening_same (b ∷ d ∷ x) (c ∷ e ∷ y) (inl (h, inl k)) = let i : d ≡ e = k.0 in rw (h, i) refl
 opening_same (b ∷ d ∷ x) (c ∷ e ∷ y) (inl (h, inr a)) =
-    ap (λ p. (b == star) && p) (not_equal d exclamation (place_no_mark d a.place) ∙ sym (not_equal e exclamation a.no_mark)) ∙ ap (λ i. (i == star) && (e == exclamation)) h
+    ap (λ p. (b == star) && p) (not_equal d exclamation (place_no_mark d a.place) ∙
+    sym (not_equal e exclamation a.no_mark)) ∙ ap (λ i. (i == star) && (e == exclamation)) h
 
 closing_no_slash : (b : ℕ) (x : List ℕ) → b ≢ slash → goes_on_as_closing (b ∷ x) ≡ false
 closing_no_slash b [] n = not_equal b slash n
@@ -208,13 +221,15 @@ closing_same : (x y : List ℕ) → Agrees star x y → goes_on_as_closing x ≡
 closing_same [] [] h = refl
 closing_same [] (c ∷ y) h = elim h [ ]
 closing_same (b ∷ x) [] h = elim h [ ]
-closing_same (b ∷ x) (c ∷ y) (inr a) = closing_no_slash b x (place_no_slash b a.place) ∙ sym (closing_no_slash c y a.no_slash)
+closing_same (b ∷ x) (c ∷ y) (inr a) = closing_no_slash b x (place_no_slash b a.place) ∙
+    sym (closing_no_slash c y a.no_slash)
 closing_same (b ∷ []) (c ∷ []) (inl h) = ap (λ d. d == slash) h.0
 closing_same (b ∷ []) (c ∷ e ∷ y) (inl h) = absurd h.1
 closing_same (b ∷ d ∷ x) (c ∷ []) (inl h) = absurd h.1
 closing_same (b ∷ d ∷ x) (c ∷ e ∷ y) (inl (h, inl k)) = let i : d ≡ e = k.0 in rw (h, i) refl
 closing_same (b ∷ d ∷ x) (c ∷ e ∷ y) (inl (h, inr a)) =
-    ap (λ p. (b == slash) && not p) (not_equal d star (place_no_star d a.place) ∙ sym (not_equal e star a.no_star)) ∙ ap (λ i. (i == slash) && not (e == star)) h
+    ap (λ p. (b == slash) && not p) (not_equal d star (place_no_star d a.place) ∙
+    sym (not_equal e star a.no_star)) ∙ ap (λ i. (i == slash) && not (e == star)) h
 
 name_same : (x y : List ℕ) → Agrees colon x y → goes_on_as_name x ≡ goes_on_as_name y
 name_same [] [] h = refl
@@ -226,11 +241,21 @@ name_same (b ∷ x) (c ∷ y) (inr a) = let e : true ≡ false = a.apart.0 in cc
 -- the same kind of token begins
 kind_same : (b : ℕ) (x y : List ℕ) → (b ≡ slash → IsSettled x) → Agrees b x y → kind_of (b ∷ x) ≡ kind_of (b ∷ y)
 kind_same b x y s h =
-    let e1 : ((b == dash) && goes_on_as_dashes x) ≡ ((b == dash) && goes_on_as_dashes y) = and_same (b == dash) _ _ (λ t. let e : b ≡ dash = same_number b dash t in dashes_same x y (subst (λ d. Agrees d x y) e h)) in
-    let e2 : ((b == slash) && goes_on_as_block x) ≡ ((b == slash) && goes_on_as_block y) = and_same (b == slash) _ _ (λ t. let e : b ≡ slash = same_number b slash t in block_same x y (s e) (subst (λ d. Agrees d x y) e h)) in
-    let e3 : ((b == slash) && goes_on_as_opening x) ≡ ((b == slash) && goes_on_as_opening y) = and_same (b == slash) _ _ (λ t. let e : b ≡ slash = same_number b slash t in opening_same x y (subst (λ d. Agrees d x y) e h)) in
-    let e4 : ((b == star) && goes_on_as_closing x) ≡ ((b == star) && goes_on_as_closing y) = and_same (b == star) _ _ (λ t. let e : b ≡ star = same_number b star t in closing_same x y (subst (λ d. Agrees d x y) e h)) in
-    let e5 : ((b == colon) && goes_on_as_name x) ≡ ((b == colon) && goes_on_as_name y) = and_same (b == colon) _ _ (λ t. let e : b ≡ colon = same_number b colon t in name_same x y (subst (λ d. Agrees d x y) e h)) in
+    let e1 : ((b == dash) && goes_on_as_dashes x) ≡ ((b == dash) && goes_on_as_dashes y) =
+    and_same (b == dash) _ _ (λ t. let e : b ≡ dash = same_number b dash t in
+    dashes_same x y (subst (λ d. Agrees d x y) e h)) in
+    let e2 : ((b == slash) && goes_on_as_block x) ≡ ((b == slash) && goes_on_as_block y) =
+    and_same (b == slash) _ _ (λ t. let e : b ≡ slash = same_number b slash t in
+    block_same x y (s e) (subst (λ d. Agrees d x y) e h)) in
+    let e3 : ((b == slash) && goes_on_as_opening x) ≡ ((b == slash) && goes_on_as_opening y) =
+    and_same (b == slash) _ _ (λ t. let e : b ≡ slash = same_number b slash t in
+    opening_same x y (subst (λ d. Agrees d x y) e h)) in
+    let e4 : ((b == star) && goes_on_as_closing x) ≡ ((b == star) && goes_on_as_closing y) =
+    and_same (b == star) _ _ (λ t. let e : b ≡ star = same_number b star t in
+    closing_same x y (subst (λ d. Agrees d x y) e h)) in
+    let e5 : ((b == colon) && goes_on_as_name x) ≡ ((b == colon) && goes_on_as_name y) =
+    and_same (b == colon) _ _ (λ t. let e : b ≡ colon = same_number b colon t in
+    name_same x y (subst (λ d. Agrees d x y) e h)) in
     rw (e1, e2, e3, e4, e5) refl
 
 pub nil_same : (last : ℕ) (x y : List ℕ) → Agrees last x y → x ≡ [] → y ≡ []
@@ -244,7 +269,8 @@ line_same last [] [] h e = tt
 line_same last [] (c ∷ y) h e = elim h [ ]
 line_same last (b ∷ x) [] h e = elim h [ ]
 line_same last (b ∷ x) (c ∷ y) (inl h) e = sym h.0 ∙ e
-line_same last (b ∷ x) (c ∷ y) (inr a) e = elim a.place [ inl k ↦ absurd (omega (arith, k, e)) | inr k ↦ absurd (omega (arith, k, e)) ]
+line_same last (b ∷ x) (c ∷ y) (inr a) e =
+    elim a.place [ inl k ↦ absurd (omega (arith, k, e)) | inr k ↦ absurd (omega (arith, k, e)) ]
 
 pub or_true : (p q : Bool) → q ≡ true → (p || q) ≡ true
 or_true true q h = refl
@@ -268,7 +294,8 @@ last_append : (last q : ℕ) (x : List ℕ) → last_of last (x ++ q ∷ []) ≡
 last_append last q [] = refl
 last_append last q (b ∷ x) = last_append b q x
 
-closes_same : (escapes : Bool) (q last : ℕ) (t u c x y : List ℕ) → is_quote q ≡ true → t ≡ q ∷ (u ++ c) → Agrees (last_of last t) x y → Closes escapes q c x → Closes escapes q c y
+closes_same : (escapes : Bool) (q last : ℕ) (t u c x y : List ℕ) → is_quote q ≡ true → t ≡ q ∷
+    (u ++ c) → Agrees (last_of last t) x y → Closes escapes q c x → Closes escapes q c y
 closes_same escapes q last t u c x y i s h (inl k) =
     let e : last_of last t ≡ q = rw (s, k.0) (last_append q q u) in
     inl (k.0, otherwise_same q x y i (subst (λ d. Agrees d x y) e h) k.1)
@@ -285,10 +312,27 @@ IsNoName Name = ⊥
 IsNoName Mark = Unit {0}
 IsNoName Plain = Unit {0}
 
-shape_same : (m : Mode) (k : Kind) → HasQuote k → IsNoName k → (last : ℕ) (t x y : List ℕ) → Agrees (last_of last t) x y → HasShape m k t x → HasShape m k t y
-shape_same m (Quoted q) hq n last t x y h i = record { parts = i.parts; closing = i.closing; inside = i.inside; spelled = i.spelled; closes = closes_same (has_escapes m q) q last t (flat_map (inside_bytes q) i.parts) i.closing x y hq i.spelled h i.closes }
+shape_same : (m : Mode) (k : Kind) → HasQuote k → IsNoName k → (last : ℕ) (t x y : List ℕ) →
+    Agrees (last_of last t) x y → HasShape m k t x → HasShape m k t y
+shape_same m (Quoted q) hq n last t x y h i =
+    record {
+      parts = i.parts;
+      closing = i.closing;
+      inside = i.inside;
+      spelled = i.spelled;
+      closes =
+          closes_same (has_escapes m q) q last t (flat_map (inside_bytes q) i.parts) i.closing x y hq
+          i.spelled h i.closes;
+    }
 shape_same m LineComment hq n last t x y h i = (i.0, line_same (last_of last t) x y h i.1)
-shape_same m BlockComment hq n last t x y h i = record { inside = i.inside; closing = i.closing; spelled = i.spelled; ends = elim i.ends [ inl k ↦ inl k | inr k ↦ inr (k.0, k.1, nil_same (last_of last t) x y h k.2) ] }
+shape_same m BlockComment hq n last t x y h i =
+    record {
+      inside = i.inside;
+      closing = i.closing;
+      spelled = i.spelled;
+      ends =
+          elim i.ends [ inl k ↦ inl k | inr k ↦ inr (k.0, k.1, nil_same (last_of last t) x y h k.2) ];
+    }
 shape_same m Opening hq n last t x y h i = i
 shape_same m Closing hq n last t x y h i = i
 shape_same m Name hq n last t x y h i = absurd n
@@ -296,16 +340,22 @@ shape_same m Mark hq n last t x y h i = i
 shape_same m Plain hq n last t x y h i = i
 
 -- a slash before these bytes begins `/*!`
-pub opening_kind : (x : List ℕ) → goes_on_as_block x ≡ false → goes_on_as_opening x ≡ true → kind_of (slash ∷ x) ≡ Opening
+pub opening_kind : (x : List ℕ) → goes_on_as_block x ≡ false → goes_on_as_opening x ≡ true →
+    kind_of (slash ∷ x) ≡ Opening
 opening_kind x h k = rw (h, k) refl
 
 -- A token that is no name stays a token before a text that agrees with what follows it. What follows
 -- `/*!` begins with no digit and no placeholder.
-pub token_same : (m : Mode) (last : ℕ) (t x y : List ℕ) → IsNoName (kind_of (t ++ x)) → (kind_of (t ++ x) ≡ Opening → BeginsFixed x) → Agrees (last_of last t) x y → IsToken m t x → IsToken m t y
+pub token_same : (m : Mode) (last : ℕ) (t x y : List ℕ) → IsNoName (kind_of (t ++ x)) →
+    (kind_of (t ++ x) ≡ Opening → BeginsFixed x) → Agrees (last_of last t) x y → IsToken m t x →
+    IsToken m t y
 token_same m last [] x y n f h i = absurd (not_empty m x i)
 token_same m last (b ∷ t) x y n f h i =
-    let e : kind_of (b ∷ (t ++ x)) ≡ kind_of (b ∷ (t ++ y)) = kind_same b (t ++ x) (t ++ y) (λ s. settled s) (agree_front b t x y h) in
-    subst (λ k. HasShape m k (b ∷ t) y) e (shape_same m (kind_of (b ∷ (t ++ x))) (kind_has_quote (b ∷ (t ++ x))) n last (b ∷ t) x y h i)
+    let e : kind_of (b ∷ (t ++ x)) ≡ kind_of (b ∷ (t ++ y)) =
+    kind_same b (t ++ x) (t ++ y) (λ s. settled s) (agree_front b t x y h) in
+    subst (λ k. HasShape m k (b ∷ t) y) e
+    (shape_same m (kind_of (b ∷ (t ++ x))) (kind_has_quote (b ∷ (t ++ x))) n last (b ∷
+    t) x y h i)
   where
     settled : b ≡ slash → IsSettled (t ++ x)
     settled s p q =

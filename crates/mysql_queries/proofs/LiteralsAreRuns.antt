@@ -1,5 +1,6 @@
 -- A literal before what begins apart is the run that is read there.
-use Rattle.std.proofs.Common.{◌≡◌, ◌≢◌, ℕ, Bool, true, false, ◌&&◌, ◌==◌, List, [], ◌∷◌, ◌++◌, refl, sym, ap, ◌∙◌, inl, inr, ℤ}
+use Rattle.std.proofs.Common.{◌≡◌, ◌≢◌, ℕ, Bool, true, false, ◌&&◌, ◌==◌, List, [], ◌∷◌, ◌++◌, refl, sym, ap, ◌∙◌, inl}
+use Rattle.std.proofs.Common.{inr, ℤ}
 use Rattle.std.specs.List.{AllByRecursion}
 use Rattle.mysql_queries.specs.Tokens.{single_quote, dash}
 use Rattle.mysql_queries.specs.Literals.{is_digit, is_hex, AreDigits, IsNumber, SpellsInHex, IsHexLiteral, IsLiteral}
@@ -58,11 +59,36 @@ all_hex (a ∷ c ∷ digits) [] h = elim h [ ]
 all_hex (a ∷ c ∷ digits) (b ∷ bytes) h = (h.0, (h.1, all_hex digits bytes h.3))
 
 hex_run : (s bytes r : List ℕ) → IsHexLiteral s bytes → BeginsApart r → IsHexRun s r
-hex_run s bytes r h a = record { digits = h.digits; each = all_hex h.digits bytes h.spells; spelled = h.spelled; ends = ends_before is_hex hex_word r a }
+hex_run s bytes r h a = record {
+  digits = h.digits;
+  each =
+      all_hex h.digits bytes h.spells;
+  spelled = h.spelled;
+  ends = ends_before is_hex hex_word r a;
+}
 
-pub literal_is_run : (mode : Mode) (sp : Spelling) (s : List ℕ) (c : Content) (r : List ℕ) → IsLiteral mode sp s c → BeginsApart r → IsLiteralRun mode sp s r
+pub literal_is_run : (mode : Mode) (sp : Spelling) (s : List ℕ) (c : Content) (r : List ℕ) →
+    IsLiteral mode sp s c → BeginsApart r → IsLiteralRun mode sp s r
 literal_is_run mode sp s Null r h a = inl h
 literal_is_run mode sp s (Number z) r h a = inr (inr (inr (inl (number_run s z r h a))))
-literal_is_run mode sp s (Bytes bytes) r (inl h) a = inr (inl (record { parts = h.parts; closing = single_quote ∷ []; inside = h.inside; spelled = h.spelled; closes = inl (refl, apart_otherwise r a) }))
+literal_is_run mode sp s (Bytes bytes) r (inl h) a =
+    inr (inl (record {
+      parts = h.parts;
+      closing = single_quote ∷ [];
+      inside = h.inside;
+      spelled =
+          h.spelled;
+      closes = inl (refl, apart_otherwise r a);
+    }))
 literal_is_run mode sp s (Bytes bytes) r (inr (inl h)) a = inr (inr (inl (hex_run s bytes r h a)))
-literal_is_run mode sp s (Bytes bytes) r (inr (inr h)) a = inr (inr (inr (inr (record { allowed = h.allowed; introducer = h.introducer; literal = h.literal; is = h.is; spelled = h.spelled; hexadecimal = hex_run h.literal bytes r h.hexadecimal a }))))
+literal_is_run mode sp s (Bytes bytes) r (inr (inr h)) a =
+    inr (inr (inr (inr (record {
+      allowed = h.allowed;
+      introducer = h.introducer;
+      literal =
+          h.literal;
+      is = h.is;
+      spelled = h.spelled;
+      hexadecimal =
+          hex_run h.literal bytes r h.hexadecimal a;
+    }))))

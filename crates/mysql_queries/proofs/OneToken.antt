@@ -1,7 +1,11 @@
 -- A text has at most one list of tokens.
-use Rattle.std.proofs.Common.{◌≡◌, ◌≢◌, ℕ, true, false, List, [], ◌∷◌, ◌++◌, refl, sym, ap, ◌∙◌, append_assoc, subst, flat_map}
+use Rattle.std.proofs.Common.{◌≡◌, ◌≢◌, ℕ, true, false, List, [], ◌∷◌, ◌++◌, refl, sym, ap, ◌∙◌, append_assoc, subst}
+use Rattle.std.proofs.Common.{flat_map}
 use Rattle.std.specs.List.{concat}
-use Rattle.mysql_queries.specs.Tokens.{Kind, Quoted, LineComment, BlockComment, Opening, Closing, Name, Mark, Plain, kind_of, comment_start, comment_end, HasShape, IsToken, AreTokens, has_escapes, AtLineEnd, AtNameEnd, is_name_byte, line_feed, star, slash, colon, question, inside_bytes}
+use Rattle.mysql_queries.specs.Tokens.{Kind, Quoted, LineComment, BlockComment, Opening, Closing, Name, Mark, Plain}
+use Rattle.mysql_queries.specs.Tokens.{kind_of, comment_start, comment_end, HasShape, IsToken, AreTokens, has_escapes}
+use Rattle.mysql_queries.specs.Tokens.{AtLineEnd, AtNameEnd, is_name_byte, line_feed, star, slash, colon, question}
+use Rattle.mysql_queries.specs.Tokens.{inside_bytes}
 use Rattle.mysql_bytes.specs.declared.mode.Mode.{Mode}
 use Rattle.mysql_queries.proofs.Quotes.{one_inside}
 use Rattle.mysql_queries.proofs.Comments.{one_comment}
@@ -16,18 +20,28 @@ name_end : (r : List ℕ) → AtNameEnd r → EndsRun (λ b. is_name_byte b ≡ 
 name_end [] h = tt
 name_end (b ∷ r) h = λ e. let f : true ≡ false = sym e ∙ h in cc
 
-pub one_shape : (m : Mode) (k : Kind) → HasQuote k → (t r u s : List ℕ) → HasShape m k t r → HasShape m k u s → t ++ r ≡ u ++ s → (t ≡ u) × (r ≡ s)
+pub one_shape : (m : Mode) (k : Kind) → HasQuote k → (t r u s : List ℕ) → HasShape m k t r →
+    HasShape m k u s → t ++ r ≡ u ++ s → (t ≡ u) × (r ≡ s)
 one_shape m (Quoted q) hq t r u s i j h =
-    let h' : q ∷ ((flat_map (inside_bytes q) i.parts ++ i.closing) ++ r) ≡ q ∷ ((flat_map (inside_bytes q) j.parts ++ j.closing) ++ s) = rw (i.spelled, j.spelled) at h in
-    let h2 : (flat_map (inside_bytes q) i.parts ++ i.closing) ++ r ≡ (flat_map (inside_bytes q) j.parts ++ j.closing) ++ s = cc in
-    let o : (i.parts ≡ j.parts) × (i.closing ≡ j.closing) × (r ≡ s) = one_inside (has_escapes m q) q (quote_no_backslash q hq) i.parts j.parts i.inside j.inside i.closing r j.closing s i.closes j.closes (sym (append_assoc _ i.closing r) ∙ h2 ∙ append_assoc _ j.closing s) in
-    let e : flat_map (inside_bytes q) i.parts ++ i.closing ≡ flat_map (inside_bytes q) j.parts ++ j.closing = rw (o.0, o.1) refl in
+    let h' : q ∷ ((flat_map (inside_bytes q) i.parts ++ i.closing) ++ r) ≡ q ∷
+    ((flat_map (inside_bytes q) j.parts ++ j.closing) ++ s) = rw (i.spelled, j.spelled) at h in
+    let h2 : (flat_map (inside_bytes q) i.parts ++ i.closing) ++ r ≡
+    (flat_map (inside_bytes q) j.parts ++ j.closing) ++ s = cc in
+    let o : (i.parts ≡ j.parts) × (i.closing ≡ j.closing) × (r ≡ s) =
+    one_inside (has_escapes m q) q (quote_no_backslash q hq) i.parts j.parts i.inside j.inside
+    i.closing r j.closing s i.closes j.closes (sym (append_assoc _ i.closing r) ∙ h2 ∙
+    append_assoc _ j.closing s) in
+    let e : flat_map (inside_bytes q) i.parts ++ i.closing ≡ flat_map (inside_bytes q) j.parts ++
+    j.closing = rw (o.0, o.1) refl in
     (i.spelled ∙ ap (λ x. q ∷ x) e ∙ sym j.spelled, o.2)
 one_shape m LineComment hq t r u s i j h = one_run _ t u r s i.0 j.0 (line_end r i.1) (line_end s j.1) h
 one_shape m BlockComment hq t r u s i j h =
-    let h' : slash ∷ star ∷ ((i.inside ++ i.closing) ++ r) ≡ slash ∷ star ∷ ((j.inside ++ j.closing) ++ s) = rw (i.spelled, j.spelled) at h in
+    let h' : slash ∷ star ∷ ((i.inside ++ i.closing) ++ r) ≡ slash ∷ star ∷
+    ((j.inside ++ j.closing) ++ s) = rw (i.spelled, j.spelled) at h in
     let h2 : (i.inside ++ i.closing) ++ r ≡ (j.inside ++ j.closing) ++ s = cc in
-    let o : (i.inside ≡ j.inside) × (i.closing ≡ j.closing) × (r ≡ s) = one_comment i.inside i.closing r j.inside j.closing s i.ends j.ends (sym (append_assoc i.inside i.closing r) ∙ h2 ∙ append_assoc j.inside j.closing s) in
+    let o : (i.inside ≡ j.inside) × (i.closing ≡ j.closing) × (r ≡ s) =
+    one_comment i.inside i.closing r j.inside j.closing s i.ends j.ends
+    (sym (append_assoc i.inside i.closing r) ∙ h2 ∙ append_assoc j.inside j.closing s) in
     let e : i.inside ++ i.closing ≡ j.inside ++ j.closing = rw (o.0, o.1) refl in
     (i.spelled ∙ ap (λ x. slash ∷ star ∷ x) e ∙ sym j.spelled, o.2)
 one_shape m Opening hq t r u s i j h =
@@ -37,7 +51,9 @@ one_shape m Closing hq t r u s i j h =
 one_shape m Name hq t r u s i j h =
     let h' : colon ∷ (i.name ++ r) ≡ colon ∷ (j.name ++ s) = rw (i.spelled, j.spelled) at h in
     let h2 : i.name ++ r ≡ j.name ++ s = cc in
-    let o : (i.name ≡ j.name) × (r ≡ s) = one_run (λ b. is_name_byte b ≡ true) i.name j.name r s i.bytes j.bytes (name_end r i.ends) (name_end s j.ends) h2 in
+    let o : (i.name ≡ j.name) × (r ≡ s) =
+    one_run (λ b. is_name_byte b ≡ true) i.name j.name r s i.bytes j.bytes (name_end r i.ends)
+    (name_end s j.ends) h2 in
     (i.spelled ∙ ap (λ x. colon ∷ x) o.0 ∙ sym j.spelled, o.1)
 one_shape m Mark hq t r u s i j h =
     let h' : question ∷ r ≡ question ∷ s = rw (i, j) at h in (i ∙ sym j, cc)
@@ -48,7 +64,9 @@ one_shape m Plain hq t r u s (b, i) (c, j) h =
 
 -- two first tokens of one text are one
 pub one_token : (m : Mode) (t r u s : List ℕ) → IsToken m t r → IsToken m u s → t ++ r ≡ u ++ s → (t ≡ u) × (r ≡ s)
-one_token m t r u s i j h = one_shape m (kind_of (t ++ r)) (kind_has_quote (t ++ r)) t r u s i (subst (λ (x : List ℕ). HasShape m (kind_of x) u s) (sym h) j) h
+one_token m t r u s i j h =
+    one_shape m (kind_of (t ++ r)) (kind_has_quote (t ++ r)) t r u s i
+    (subst (λ (x : List ℕ). HasShape m (kind_of x) u s) (sym h) j) h
 
 -- a token has bytes
 pub not_empty : (m : Mode) (r : List ℕ) → IsToken m [] r → ⊥

@@ -3,11 +3,13 @@ use Rattle.std.proofs.Common.{◌≡◌, ℕ, Bool, true, false, Result, Ok, Err
 use Rattle.mysql_receive.specs.Fields.{must}
 use Rattle.mysql_wire.specs.Wire.{◌>>=◌}
 
-pub bind_ok : {A B F : Type 0} (r : Result A F) (f : A → Result B F) (y : B) → (r >>= f) ≡ Ok y → (x : A) × (r ≡ Ok x) × (f x ≡ Ok y)
+pub bind_ok : {A B F : Type 0} (r : Result A F) (f : A → Result B F) (y : B) → (r >>= f) ≡ Ok y →
+    (x : A) × (r ≡ Ok x) × (f x ≡ Ok y)
 bind_ok (Ok x) f y e = (x, refl, e)
 bind_ok (Err d) f y e = absurd cc
 
-pub bind_from : {A B F : Type 0} (r : Result A F) (f : A → Result B F) (x : A) (y : B) → r ≡ Ok x → f x ≡ Ok y → (r >>= f) ≡ Ok y
+pub bind_from : {A B F : Type 0} (r : Result A F) (f : A → Result B F) (x : A) (y : B) → r ≡ Ok x →
+    f x ≡ Ok y → (r >>= f) ≡ Ok y
 bind_from r f x y e h = ap (λ q. q >>= f) e ∙ h
 
 pub must_ok : {F : Type 0} (f : F) (b : Bool) (n : ℕ) → must f b ≡ Ok n → b ≡ true

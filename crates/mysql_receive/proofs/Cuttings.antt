@@ -14,7 +14,12 @@ pub agree : ReaderLaws → TextIsDecided → OneReading → SlicedIsLexed → On
 agree wire decided once lexed one_tokens one_places query id limit pieces others a b are same p q =
     let statement : Statement = statement_of query q.0 id in
     let tokens : p.0 ≡ q.0 = one_tokens query.mode query.text p.0 q.0 p.1 q.1 in
-    let one = one_of_stream wire statement limit (readable decided once lexed one_places statement.query (query_is query q.0 id q.1)) (concat pieces) are in
-    let first : Audited statement limit (concat pieces) a = subst (λ (t : List (List ℕ)). Audited (statement_of query t id) limit (concat pieces) a) tokens p.2 in
-    let second : Audited statement limit (concat pieces) b = subst (λ (l : List ℕ). Audited statement limit l b) (sym same) q.2 in
+    let one = one_of_stream wire statement limit
+    (readable decided once lexed one_places statement.query (query_is query q.0 id q.1))
+    (concat pieces) are in
+    let first : Audited statement limit (concat pieces) a =
+    subst (λ (t : List (List ℕ)). Audited (statement_of query t id) limit (concat pieces) a)
+    tokens p.2 in
+    let second : Audited statement limit (concat pieces) b =
+    subst (λ (l : List ℕ). Audited statement limit l b) (sym same) q.2 in
     one.2 a first ∙ sym (one.2 b second)

@@ -1,15 +1,20 @@
 -- A payload reads as one list of sets or has one fault, and never both.
-use Rattle.std.proofs.Common.{◌≡◌, ◌≢◌, ℕ, ◌-◌, ◌^◌, ◌<◌, ◌≤◌, ◌⊎◌, Bool, true, false, List, [], ◌∷◌, Result, Ok, Err, refl, sym, subst, ◌∙◌, arith, inl, inr}
+use Rattle.std.proofs.Common.{◌≡◌, ◌≢◌, ℕ, ◌-◌, ◌^◌, ◌<◌, ◌≤◌, ◌⊎◌, Bool, true, false, List, [], ◌∷◌, Result, Ok, Err}
+use Rattle.std.proofs.Common.{refl, sym, subst, ◌∙◌, arith, inl, inr}
 use Rattle.std.proofs.lemmas.Bool.{cases_lt, cases_eq, cases_Bool}
 use Rattle.mysql_receive.specs.declared.fault.StreamFault.{StreamFault}
-use Rattle.mysql_receive.specs.declared.fault.StreamFault.TheVariants.{EmptyCommand, OtherCommand, TextMismatch, NotAlone, PrepareMismatch, TooManyPlaces, TooLarge}
+use Rattle.mysql_receive.specs.declared.fault.StreamFault.TheVariants.{EmptyCommand, OtherCommand, TextMismatch}
+use Rattle.mysql_receive.specs.declared.fault.StreamFault.TheVariants.{NotAlone, PrepareMismatch, TooManyPlaces}
+use Rattle.mysql_receive.specs.declared.fault.StreamFault.TheVariants.{TooLarge}
 use Rattle.mysql_receive.specs.Query.{Statement, all_alone as is_all_alone, place_count}
 use Rattle.mysql_values.specs.Queries.{Slices}
 use Rattle.mysql_receive.proofs.Readable.{IsReadable}
 use Rattle.mysql_receive.specs.Layout.{Command, command_of, Types}
 use Rattle.mysql_receive.specs.Layout as layout
 use Rattle.mysql_receive.specs.InForce.{StatementState}
-use Rattle.mysql_receive.specs.Reading.{TextReadsAs, Set, execute_at, bulk_rows, BulkReadsAs, BulkFaulty, RowsAt, FaultyRow, long_data_at, statement_alone_at, CommandReadsAs, CommandFaulty, PayloadReadsAs, PayloadFaulty, ReadsAs, Faulty}
+use Rattle.mysql_receive.specs.Reading.{TextReadsAs, Set, execute_at, bulk_rows, BulkReadsAs, BulkFaulty, RowsAt}
+use Rattle.mysql_receive.specs.Reading.{FaultyRow, long_data_at, statement_alone_at, CommandReadsAs, CommandFaulty}
+use Rattle.mysql_receive.specs.Reading.{PayloadReadsAs, PayloadFaulty, ReadsAs, Faulty}
 use Rattle.mysql_receive.specs.Laws.{IsJudged}
 use Rattle.mysql_receive.proofs.Rows.{fault_one as row_fault_one, one_or, rows_not_both, rows_one, rows_or}
 
@@ -40,20 +45,30 @@ module _ (c : Statement) (s : StatementState) (readable : IsReadable c.query) wh
   abbrev all_alone : Bool
   all_alone = is_all_alone c.query
 
-  text_or : (body : List ℕ) → ((all_alone ≡ true) ⊎ (all_alone ≡ false)) → ((sets : List Set) × CommandReadsAs c s layout.Text body sets) ⊎ ((f : StreamFault) × CommandFaulty c s layout.Text body f)
+  text_or : (body : List ℕ) → ((all_alone ≡ true) ⊎ (all_alone ≡ false)) →
+      ((sets : List Set) × CommandReadsAs c s layout.Text body sets) ⊎
+      ((f : StreamFault) × CommandFaulty c s layout.Text body f)
   text_or body (inr fails) = inr (NotAlone, inl (fails, refl))
   text_or body (inl holds) = decided (readable.decided holds body)
     where
-      decided : (((contents : Set) × TextReadsAs c.query.sql body contents) ⊎ ((contents : Set) → Slices c.query.sql body contents → ⊥)) → ((sets : List Set) × CommandReadsAs c s layout.Text body sets) ⊎ ((f : StreamFault) × CommandFaulty c s layout.Text body f)
+      decided : (((contents : Set) × TextReadsAs c.query.sql body contents) ⊎
+          ((contents : Set) → Slices c.query.sql body contents → ⊥)) →
+          ((sets : List Set) × CommandReadsAs c s layout.Text body sets) ⊎
+          ((f : StreamFault) × CommandFaulty c s layout.Text body f)
       decided (inl h) = inl (h.0 ∷ [], (holds, (h.0, h.1, refl)))
       decided (inr fails) = inr (TextMismatch, inr (holds, (λ contents h. fails contents h.0), refl))
 
-  prepare_or : (body : List ℕ) → ((body ≡ c.query.parsed) ⊎ (body ≢ c.query.parsed)) → ((65535 < place_count c.query) ⊎ (place_count c.query ≤ 65535)) → ((sets : List Set) × CommandReadsAs c s layout.Prepare body sets) ⊎ ((f : StreamFault) × CommandFaulty c s layout.Prepare body f)
+  prepare_or : (body : List ℕ) → ((body ≡ c.query.parsed) ⊎ (body ≢ c.query.parsed)) →
+      ((65535 < place_count c.query) ⊎ (place_count c.query ≤ 65535)) →
+      ((sets : List Set) × CommandReadsAs c s layout.Prepare body sets) ⊎
+      ((f : StreamFault) × CommandFaulty c s layout.Prepare body f)
   prepare_or body (inr fails) few = inr (PrepareMismatch, inl (fails, refl))
   prepare_or body (inl same) (inl many) = inr (TooManyPlaces, inr (same, many, refl))
   prepare_or body (inl same) (inr few) = inl ([], (same, few, refl))
 
-  bulk_or : (body : List ℕ) (x : Types × List ℕ) → bulk_rows c s body ≡ Ok x → ((sets : List Set) × CommandReadsAs c s layout.Bulk body sets) ⊎ ((f : StreamFault) × CommandFaulty c s layout.Bulk body f)
+  bulk_or : (body : List ℕ) (x : Types × List ℕ) → bulk_rows c s body ≡ Ok x →
+      ((sets : List Set) × CommandReadsAs c s layout.Bulk body sets) ⊎
+      ((f : StreamFault) × CommandFaulty c s layout.Bulk body f)
   bulk_or body x e = elim (rows_or x.0 x.1) [
     | inl h ↦ inl (h.0, record { types = x.0; bytes = x.1; found = e; rows = h.1 })
     | inr h ↦ inr (h.0, inr (x.0, x.1, e, h.1))
@@ -62,12 +77,14 @@ module _ (c : Statement) (s : StatementState) (readable : IsReadable c.query) wh
   same_rows : (body : List ℕ) (x y : Types × List ℕ) → bulk_rows c s body ≡ Ok x → bulk_rows c s body ≡ Ok y → x ≡ y
   same_rows body x y e h = ok_one (bulk_rows c s body) x y e h
 
-  bulk_not_both : (body : List ℕ) (sets : List Set) (f : StreamFault) → BulkReadsAs c s body sets → BulkFaulty c s body f → ⊥
+  bulk_not_both : (body : List ℕ) (sets : List Set) (f : StreamFault) → BulkReadsAs c s body sets →
+      BulkFaulty c s body f → ⊥
   bulk_not_both body sets f h (inl fails) = no_answer_twice (bulk_rows c s body) (h.types, h.bytes) f h.found fails
   bulk_not_both body sets f h (inr fails) =
       let same = same_rows body (h.types, h.bytes) (fails.0, fails.1) h.found fails.2 in
       let row = fails.3 in
-      rows_not_both fails.0 sets row.before fails.1 row.rest row.first f (subst (λ (x : Types × List ℕ). RowsAt x.0 x.1 sets []) same h.rows) row.rows row.fault
+      rows_not_both fails.0 sets row.before fails.1 row.rest row.first f
+      (subst (λ (x : Types × List ℕ). RowsAt x.0 x.1 sets []) same h.rows) row.rows row.fault
 
   bulk_sets_one : (body : List ℕ) (xs ys : List Set) → BulkReadsAs c s body xs → BulkReadsAs c s body ys → xs ≡ ys
   bulk_sets_one body xs ys p q =
@@ -82,18 +99,27 @@ module _ (c : Statement) (s : StatementState) (readable : IsReadable c.query) wh
       let same = same_rows body (p.0, p.1) (q.0, q.1) p.2 q.2 in
       row_fault_one q.0 q.1 f g (subst (λ (x : Types × List ℕ). FaultyRow x.0 x.1 f) same p.3) q.3
 
-  command_or : (command : Command) (body : List ℕ) → ((sets : List Set) × CommandReadsAs c s command body sets) ⊎ ((f : StreamFault) × CommandFaulty c s command body f)
+  command_or : (command : Command) (body : List ℕ) →
+      ((sets : List Set) × CommandReadsAs c s command body sets) ⊎
+      ((f : StreamFault) × CommandFaulty c s command body f)
   command_or layout.Text body = text_or body (cases_Bool (is_all_alone c.query))
-  command_or layout.Prepare body = prepare_or body (same_or_not body (c.query.parsed)) (cases_lt 65535 (place_count c.query))
+  command_or layout.Prepare body =
+      prepare_or body (same_or_not body (c.query.parsed)) (cases_lt 65535 (place_count c.query))
   command_or layout.LongData body = one_or (long_data_at c s body)
-  command_or layout.Execute body = elim (one_or (execute_at c s body)) [ inl h ↦ inl (h.0 ∷ [], (h.0, h.1, refl)) | inr h ↦ inr h ]
-  command_or layout.Bulk body = elim (one_or (bulk_rows c s body)) [ inl h ↦ bulk_or body h.0 h.1 | inr h ↦ inr (h.0, inl h.1) ]
+  command_or layout.Execute body =
+      elim (one_or (execute_at c s body))
+      [ inl h ↦ inl (h.0 ∷ [], (h.0, h.1, refl)) | inr h ↦ inr h ]
+  command_or layout.Bulk body =
+      elim (one_or (bulk_rows c s body))
+      [ inl h ↦ bulk_or body h.0 h.1 | inr h ↦ inr (h.0, inl h.1) ]
   command_or layout.Reset body = one_or (statement_alone_at c s body)
   command_or layout.Close body = one_or (statement_alone_at c s body)
   command_or layout.Other body = inr (OtherCommand, refl)
 
-  not_both : (command : Command) (body : List ℕ) (sets : List Set) (f : StreamFault) → CommandReadsAs c s command body sets → CommandFaulty c s command body f → ⊥
-  not_both layout.Text body sets f h (inl fails) = let a : all_alone ≡ true = h.0 in let b : all_alone ≡ false = fails.0 in cc
+  not_both : (command : Command) (body : List ℕ) (sets : List Set) (f : StreamFault) →
+      CommandReadsAs c s command body sets → CommandFaulty c s command body f → ⊥
+  not_both layout.Text body sets f h (inl fails) = let a : all_alone ≡ true = h.0 in
+      let b : all_alone ≡ false = fails.0 in cc
   not_both layout.Text body sets f h (inr fails) = fails.1 h.1.0 h.1.1
   not_both layout.Prepare body sets f h (inl fails) = fails.0 h.0
   not_both layout.Prepare body sets f h (inr fails) = omega (arith, h.1, fails.1)
@@ -104,8 +130,10 @@ module _ (c : Statement) (s : StatementState) (readable : IsReadable c.query) wh
   not_both layout.Close body sets f h fails = no_answer_twice (statement_alone_at c s body) sets f h fails
   not_both layout.Other body sets f h fails = h
 
-  sets_one : (command : Command) (body : List ℕ) (xs ys : List Set) → CommandReadsAs c s command body xs → CommandReadsAs c s command body ys → xs ≡ ys
-  sets_one layout.Text body xs ys p q = one_set p.1.0 q.1.0 xs ys p.1.2 q.1.2 (readable.one p.0 body p.1.0 q.1.0 p.1.1.0 q.1.1.0)
+  sets_one : (command : Command) (body : List ℕ) (xs ys : List Set) →
+      CommandReadsAs c s command body xs → CommandReadsAs c s command body ys → xs ≡ ys
+  sets_one layout.Text body xs ys p q =
+      one_set p.1.0 q.1.0 xs ys p.1.2 q.1.2 (readable.one p.0 body p.1.0 q.1.0 p.1.1.0 q.1.1.0)
   sets_one layout.Prepare body xs ys p q = p.2 ∙ sym q.2
   sets_one layout.LongData body xs ys p q = ok_one (long_data_at c s body) xs ys p q
   sets_one layout.Execute body xs ys p q = one_set p.0 q.0 xs ys p.2 q.2 (ok_one (execute_at c s body) p.0 q.0 p.1 q.1)
@@ -114,10 +142,13 @@ module _ (c : Statement) (s : StatementState) (readable : IsReadable c.query) wh
   sets_one layout.Close body xs ys p q = ok_one (statement_alone_at c s body) xs ys p q
   sets_one layout.Other body xs ys p q = absurd p
 
-  fault_one : (command : Command) (body : List ℕ) (f g : StreamFault) → CommandFaulty c s command body f → CommandFaulty c s command body g → f ≡ g
+  fault_one : (command : Command) (body : List ℕ) (f g : StreamFault) →
+      CommandFaulty c s command body f → CommandFaulty c s command body g → f ≡ g
   fault_one layout.Text body f g (inl p) (inl q) = p.1 ∙ sym q.1
-  fault_one layout.Text body f g (inl p) (inr q) = let a : all_alone ≡ false = p.0 in let b : all_alone ≡ true = q.0 in cc
-  fault_one layout.Text body f g (inr p) (inl q) = let a : all_alone ≡ true = p.0 in let b : all_alone ≡ false = q.0 in cc
+  fault_one layout.Text body f g (inl p) (inr q) = let a : all_alone ≡ false = p.0 in
+      let b : all_alone ≡ true = q.0 in cc
+  fault_one layout.Text body f g (inr p) (inl q) = let a : all_alone ≡ true = p.0 in
+      let b : all_alone ≡ false = q.0 in cc
   fault_one layout.Text body f g (inr p) (inr q) = p.2 ∙ sym q.2
   fault_one layout.Prepare body f g (inl p) (inl q) = p.1 ∙ sym q.1
   fault_one layout.Prepare body f g (inl p) (inr q) = absurd (p.0 q.0)
@@ -130,24 +161,30 @@ module _ (c : Statement) (s : StatementState) (readable : IsReadable c.query) wh
   fault_one layout.Close body f g p q = err_one (statement_alone_at c s body) f g p q
   fault_one layout.Other body f g p q = p ∙ sym q
 
-  payload_or : (payload : List ℕ) → ((sets : List Set) × PayloadReadsAs c s payload sets) ⊎ ((f : StreamFault) × PayloadFaulty c s payload f)
+  payload_or : (payload : List ℕ) → ((sets : List Set) × PayloadReadsAs c s payload sets) ⊎
+      ((f : StreamFault) × PayloadFaulty c s payload f)
   payload_or [] = inr (EmptyCommand, refl)
   payload_or (b ∷ body) = command_or (command_of b) body
 
-  payload_not_both : (payload : List ℕ) (sets : List Set) (f : StreamFault) → PayloadReadsAs c s payload sets → PayloadFaulty c s payload f → ⊥
+  payload_not_both : (payload : List ℕ) (sets : List Set) (f : StreamFault) →
+      PayloadReadsAs c s payload sets → PayloadFaulty c s payload f → ⊥
   payload_not_both [] sets f h fails = h
   payload_not_both (b ∷ body) sets f h fails = not_both (command_of b) body sets f h fails
 
-  payload_sets_one : (payload : List ℕ) (xs ys : List Set) → PayloadReadsAs c s payload xs → PayloadReadsAs c s payload ys → xs ≡ ys
+  payload_sets_one : (payload : List ℕ) (xs ys : List Set) → PayloadReadsAs c s payload xs →
+      PayloadReadsAs c s payload ys → xs ≡ ys
   payload_sets_one [] xs ys p q = absurd p
   payload_sets_one (b ∷ body) xs ys p q = sets_one (command_of b) body xs ys p q
 
-  payload_fault_one : (payload : List ℕ) (f g : StreamFault) → PayloadFaulty c s payload f → PayloadFaulty c s payload g → f ≡ g
+  payload_fault_one : (payload : List ℕ) (f g : StreamFault) → PayloadFaulty c s payload f →
+      PayloadFaulty c s payload g → f ≡ g
   payload_fault_one [] f g p q = p ∙ sym q
   payload_fault_one (b ∷ body) f g p q = fault_one (command_of b) body f g p q
 
 module _ (c : Statement) (s : StatementState) (number : ℕ) (payload : List ℕ) (readable : IsReadable c.query) where
-  either : ((number < 2 ^ 64 - 1) ⊎ (2 ^ 64 - 1 ≤ number)) → (((sets : List Set) × PayloadReadsAs c s payload sets) ⊎ ((f : StreamFault) × PayloadFaulty c s payload f))
+  either : ((number < 2 ^ 64 - 1) ⊎ (2 ^ 64 - 1 ≤ number)) →
+      (((sets : List Set) × PayloadReadsAs c s payload sets) ⊎
+      ((f : StreamFault) × PayloadFaulty c s payload f))
       → ((sets : List Set) × ReadsAs c s number payload sets) ⊎ ((f : StreamFault) × Faulty c s number payload f)
   either (inr last) h = inr (TooLarge, inl (last, refl))
   either (inl small) (inl h) = inl (h.0, (small, h.1))

@@ -21,11 +21,14 @@ is_exact (Double bits) held e = absurd cc
 is_exact (Date year month day hour minute second micros) held e = refl
 is_exact (Time negative days hours minutes seconds micros) held e = refl
 
-holds : (short : StreamFault) (number : ℕ) (unsigned : Bool) (bytes rest : List ℕ) (value : Value) (held : Content) → not (is_float number) ≡ true →
-    cell_at number unsigned bytes ≡ Ok (value, rest) → content_of value ≡ Some held → content_at short (record { number = number; unsigned = unsigned }) bytes ≡ Ok (held, rest)
+holds : (short : StreamFault) (number : ℕ) (unsigned : Bool) (bytes rest : List ℕ) (value : Value)
+    (held : Content) → not (is_float number) ≡ true →
+    cell_at number unsigned bytes ≡ Ok (value, rest) → content_of value ≡ Some held →
+    content_at short (record { number = number; unsigned = unsigned }) bytes ≡ Ok (held, rest)
 unfolding content_at
 holds short number unsigned bytes rest value held exact read means = rw (exact, read, means) refl
 
 pub written_cells_are_held : CellsReadBack → ReadBackMeansTheSame → WrittenCellsAreHeld
 written_cells_are_held back same short value held rest fit means =
-    holds short (type_number value) (is_unsigned value) (cell value ++ rest) rest (read_back value) held (is_exact value held means) (back value rest fit) (same value ∙ means)
+    holds short (type_number value) (is_unsigned value) (cell value ++ rest) rest (read_back value)
+    held (is_exact value held means) (back value rest fit) (same value ∙ means)

@@ -1,5 +1,6 @@
 -- Lists of bytes: their parts, and what is put together from them.
-use Rattle.std.proofs.Common.{ℕ, zero, suc, ◌+◌, ◌<◌, Bool, true, false, List, [], ◌∷◌, ◌++◌, take, drop, replicate, if◌then◌else◌, arith}
+use Rattle.std.proofs.Common.{ℕ, zero, suc, ◌+◌, ◌<◌, Bool, true, false, List, [], ◌∷◌, ◌++◌, take, drop, replicate}
+use Rattle.std.proofs.Common.{if◌then◌else◌, arith}
 use Rattle.std.specs.List.{AllByRecursion, flat_map}
 use Rattle.std.specs.Str.{IsAscii}
 use Rattle.std.proofs.lemmas.List.{get_or-drop}
@@ -44,9 +45,13 @@ bytes_replicate zero b h = no_bytes
 bytes_replicate (suc n) b h = bytes_cons b (replicate n b) h (bytes_replicate n b h)
 
 -- the parts of bytes are bytes
-pub parts_are_bytes : {X : Type 0} (f : X → List ℕ) (xs : List X) → AreBytes (flat_map f xs) → AllByRecursion (λ x. AreBytes (f x)) xs
+pub parts_are_bytes : {X : Type 0} (f : X → List ℕ) (xs : List X) → AreBytes (flat_map f xs) →
+    AllByRecursion (λ x. AreBytes (f x)) xs
 parts_are_bytes f [] h = tt
-parts_are_bytes f (x ∷ xs) h = (bytes_front (f x) (flat_map f xs) h, parts_are_bytes f xs (bytes_behind (f x) (flat_map f xs) h))
+parts_are_bytes f (x ∷ xs) h = (
+  bytes_front (f x) (flat_map f xs) h,
+  parts_are_bytes f xs (bytes_behind (f x) (flat_map f xs) h),
+)
 
 -- a choice of bytes
 pub bytes_if : (t : Bool) (xs ys : List ℕ) → AreBytes xs → AreBytes ys → AreBytes (if t then xs else ys)

@@ -19,7 +19,8 @@ use Rattle.mysql_recoding.proofs.StatesInForce.{IsInForce, nothing_in_force, sta
 
 -- ---- lists
 
-all_append : {X : Type 0} (P : X → Type 0) (xs ys : List X) → AllByRecursion P xs → AllByRecursion P ys → AllByRecursion P (xs ++ ys)
+all_append : {X : Type 0} (P : X → Type 0) (xs ys : List X) → AllByRecursion P xs →
+    AllByRecursion P ys → AllByRecursion P (xs ++ ys)
 all_append P [] ys h k = k
 all_append P (x ∷ xs) ys h k = (h.0, all_append P xs ys h.1 k)
 
@@ -27,24 +28,29 @@ all_front : {X : Type 0} (P : X → Type 0) (xs ys : List X) → AllByRecursion 
 all_front P [] ys h = tt
 all_front P (x ∷ xs) ys h = (h.0, all_front P xs ys h.1)
 
-all_mapped : {X : Type 0} (P Q : X → Type 0) (xs : List X) → ((x : X) → P x → Q x) → AllByRecursion P xs → AllByRecursion Q xs
+all_mapped : {X : Type 0} (P Q : X → Type 0) (xs : List X) → ((x : X) → P x → Q x) →
+    AllByRecursion P xs → AllByRecursion Q xs
 all_mapped P Q [] f h = tt
 all_mapped P Q (x ∷ xs) f h = (f x h.0, all_mapped P Q xs f h.1)
 
 -- ---- payloads
 
-reads_carried : (c : Statement) (s : StatementState) (n : ℕ) (payloads : List (List ℕ)) (reads : List (List Set)) → CountsPlaces c → IsInForce c s → AllByRecursion AreBytes payloads
+reads_carried : (c : Statement) (s : StatementState) (n : ℕ) (payloads : List (List ℕ))
+    (reads : List (List Set)) → CountsPlaces c → IsInForce c s → AllByRecursion AreBytes payloads
     → Reads c s n payloads reads → AllByRecursion (Fills (place_count c.query)) (flat_map (λ sets. sets) reads)
 reads_carried c s n payloads reads counts is h nothing = tt
-reads_carried c s n payloads reads counts is h (next {payload = p} {payloads = ps} {sets = sets} {reads = rs} here others) =
+reads_carried c s n payloads reads counts is h
+    (next {payload = p} {payloads = ps} {sets = sets} {reads = rs} here others) =
     all_append (Fills (place_count c.query)) sets (flat_map (λ sets. sets) rs)
     (payload_carried c s p sets counts is h.0 here.1)
     (reads_carried c (after c s p) (n + 1) ps rs counts (stays_in_force c s p h.0 is) h.1 others)
 
 -- ---- streams
 
-counts_places : OneTokens → (query : Sql) (tokens : List (List ℕ)) (id : ℕ) → HasTokens query.mode query.text tokens → CountsPlaces (statement_of query tokens id)
-counts_places one query tokens id has others also = ap (λ ts. length (places_of query ts)) (one query.mode query.text others tokens also has)
+counts_places : OneTokens → (query : Sql) (tokens : List (List ℕ)) (id : ℕ) →
+    HasTokens query.mode query.text tokens → CountsPlaces (statement_of query tokens id)
+counts_places one query tokens id has others also =
+    ap (λ ts. length (places_of query ts)) (one query.mode query.text others tokens also has)
 
 pub carried_sets_fill : OneTokens → CarriedSetsFillPlaces
 carried_sets_fill one query tokens id limit stream audit has bytes says =
@@ -58,6 +64,8 @@ carried_sets_fill one query tokens id limit stream audit has bytes says =
     all_mapped (Fills (place_count c.query)) (FillsPlaces (places_of query tokens)) audit.sets (λ set fills. record {
       count = fills.0 ∙ places;
       each = fills.1;
-      right = λ number. values_are_right (refusals.WrongCount number) (λ place. refusals.Float number place) (length (places_of query tokens)) set (fills.0 ∙ places);
+      right = λ number. values_are_right (refusals.WrongCount number)
+          (λ place. refusals.Float number place) (length (places_of query tokens)) set (fills.0 ∙
+          places);
     })
     (subst (AllByRecursion (Fills (place_count c.query))) (sym says.2.2.sets) reads)

@@ -1,5 +1,6 @@
 -- The contents of a text: as many as the query's placeholders, and each one that a command can carry.
-use Rattle.std.proofs.Common.{◌≡◌, ℕ, ℤ, zero, suc, pos, ◌+◌, ◌^◌, ◌<◌, ◌≤◌, Bool, true, false, cond, List, [], ◌∷◌, ◌++◌, length, flat_map, refl, sym, subst, inl, inr, arith}
+use Rattle.std.proofs.Common.{◌≡◌, ℕ, ℤ, zero, suc, pos, ◌+◌, ◌^◌, ◌<◌, ◌≤◌, Bool, true, false, cond, List, [], ◌∷◌}
+use Rattle.std.proofs.Common.{◌++◌, length, flat_map, refl, sym, subst, inl, inr, arith}
 use Rattle.std.specs.Prelude.{◌==◌, ◌||◌, FitsSigned, neg_ℤ}
 use Rattle.std.specs.Int.{w64}
 use Rattle.std.specs.List.{AllByRecursion}
@@ -10,11 +11,14 @@ use Rattle.mysql_values.specs.Spelling.{Spelling}
 use Rattle.mysql_values.specs.Sql.{Sql}
 use Rattle.mysql_values.specs.Content.{Content}
 use Rattle.mysql_values.specs.Content.TheVariants as content
-use Rattle.mysql_values.specs.Queries.{Alternates, before_first, is_place, pieces_of, places_behind, places_of, servers_agree}
-use Rattle.mysql_values.specs.Literals.{IsLiteral, IsNumber, IsString, SpellsInHex, digits_value, escaped, hex_value, inside_content, is_hex}
+use Rattle.mysql_values.specs.Queries.{Alternates, before_first, is_place, pieces_of, places_behind, places_of}
+use Rattle.mysql_values.specs.Queries.{servers_agree}
+use Rattle.mysql_values.specs.Literals.{IsLiteral, IsNumber, IsString, SpellsInHex, digits_value, escaped, hex_value}
+use Rattle.mysql_values.specs.Literals.{inside_content, is_hex}
 use Rattle.mysql_values.specs.Tokens.{Byte, Doubled, Escape, Inside, backslash, has_escapes, inside_bytes, single_quote}
 use Rattle.mysql_recoding.specs.Laws.{IsCarried}
-use Rattle.mysql_recoding.proofs.ByteLists.{bytes_append, bytes_behind, bytes_cons, bytes_front, bytes_tail, no_bytes, one_byte}
+use Rattle.mysql_recoding.proofs.ByteLists.{bytes_append, bytes_behind, bytes_cons, bytes_front, bytes_tail, no_bytes}
+use Rattle.mysql_recoding.proofs.ByteLists.{one_byte}
 
 -- ---- numbers
 
@@ -31,9 +35,14 @@ number_carried spelling z is = elim is.value [
 -- ---- strings
 
 escaped_bytes : (b : ℕ) → b < 256 → AreBytes (escaped b)
-escaped_bytes b h = by (b == 0x30) (b == 0x62) (b == 0x6e) (b == 0x72) (b == 0x74) (b == 0x5a) ((b == 0x25) || (b == 0x5f))
+escaped_bytes b h = by (b == 0x30) (b == 0x62) (b == 0x6e) (b == 0x72) (b == 0x74) (b == 0x5a)
+    ((b == 0x25) || (b == 0x5f))
   where
-    by : (p q r s t u v : Bool) → AreBytes (cond p (0x00 ∷ []) (cond q (0x08 ∷ []) (cond r (0x0a ∷ []) (cond s (0x0d ∷ []) (cond t (0x09 ∷ []) (cond u (0x1a ∷ []) (cond v (backslash ∷ b ∷ []) (b ∷ []))))))))
+    by : (p q r s t u v : Bool) →
+        AreBytes (cond p (0x00 ∷ [])
+        (cond q (0x08 ∷ []) (cond r (0x0a ∷
+        []) (cond s (0x0d ∷ []) (cond t (0x09 ∷
+        []) (cond u (0x1a ∷ []) (cond v (backslash ∷ b ∷ []) (b ∷ []))))))))
     by true q r s t u v = one_byte 0x00 (omega arith)
     by false true r s t u v = one_byte 0x08 (omega arith)
     by false false true s t u v = one_byte 0x0a (omega arith)
@@ -48,18 +57,22 @@ part_bytes (Byte b) h = h
 part_bytes (Escape b) h = escaped_bytes b (h 1)
 part_bytes Doubled h = one_byte single_quote (omega arith)
 
-parts_bytes : (parts : List Inside) → AreBytes (flat_map (inside_bytes single_quote) parts) → AreBytes (flat_map inside_content parts)
+parts_bytes : (parts : List Inside) → AreBytes (flat_map (inside_bytes single_quote) parts) →
+    AreBytes (flat_map inside_content parts)
 parts_bytes [] h = no_bytes
 parts_bytes (part ∷ parts) h =
     let front = bytes_front (inside_bytes single_quote part) (flat_map (inside_bytes single_quote) parts) h in
     let behind = bytes_behind (inside_bytes single_quote part) (flat_map (inside_bytes single_quote) parts) h in
-    bytes_append (inside_content part) (flat_map inside_content parts) (part_bytes part front) (parts_bytes parts behind)
+    bytes_append (inside_content part) (flat_map inside_content parts) (part_bytes part front)
+    (parts_bytes parts behind)
 
 string_carried : (e : Bool) (spelling bytes : List ℕ) → AreBytes spelling → IsString e spelling bytes → AreBytes bytes
 string_carried e spelling bytes h is =
     let inside : List ℕ = flat_map (inside_bytes single_quote) is.parts in
     let quoted : AreBytes (single_quote ∷ (inside ++ single_quote ∷ [])) = subst AreBytes is.spelled h in
-    subst AreBytes (sym is.read) (parts_bytes is.parts (bytes_front inside (single_quote ∷ []) (bytes_tail single_quote (inside ++ single_quote ∷ []) quoted)))
+    subst AreBytes (sym is.read)
+    (parts_bytes is.parts (bytes_front inside (single_quote ∷
+    []) (bytes_tail single_quote (inside ++ single_quote ∷ []) quoted)))
 
 -- ---- hexadecimal
 
@@ -76,7 +89,8 @@ hex_bytes (x ∷ y ∷ digits) (b ∷ bytes) h =
 
 -- ---- literals
 
-pub literal_carried : (m : Mode) (sp : Spelling) (spelling : List ℕ) (held : Content) → AreBytes spelling → IsLiteral m sp spelling held → IsCarried held
+pub literal_carried : (m : Mode) (sp : Spelling) (spelling : List ℕ) (held : Content) →
+    AreBytes spelling → IsLiteral m sp spelling held → IsCarried held
 literal_carried m sp spelling content.Null h is = tt
 literal_carried m sp spelling (content.Number z) h is = number_carried spelling z is
 literal_carried m sp spelling (content.Bytes bytes) h is = elim is [
@@ -90,7 +104,9 @@ literal_carried m sp spelling (content.Bytes bytes) h is = elim is [
 -- ---- texts
 
 -- one content fewer than pieces, each of a literal in the text
-pub text_carried : (m : Mode) (sp : Spelling) (pieces : List (List ℕ)) (contents : List Content) (text : List ℕ) → AreBytes text → Alternates m sp pieces contents text → (length pieces ≡ length contents + 1) × AllByRecursion IsCarried contents
+pub text_carried : (m : Mode) (sp : Spelling) (pieces : List (List ℕ)) (contents : List Content)
+    (text : List ℕ) → AreBytes text → Alternates m sp pieces contents text →
+    (length pieces ≡ length contents + 1) × AllByRecursion IsCarried contents
 text_carried m sp [] contents text h is = elim is [ ]
 text_carried m sp (piece ∷ []) [] text h is = (omega arith, tt)
 text_carried m sp (piece ∷ []) (held ∷ contents) text h is = elim is [ ]
@@ -105,19 +121,28 @@ text_carried m sp (piece ∷ next ∷ pieces) (held ∷ contents) text h is =
 
 -- ---- placeholders
 
-before_first_length : (token : List ℕ) (pieces : List (List ℕ)) (n : ℕ) → length pieces ≡ n + 1 → length (before_first token pieces) ≡ n + 1
+before_first_length : (token : List ℕ) (pieces : List (List ℕ)) (n : ℕ) → length pieces ≡ n + 1 →
+    length (before_first token pieces) ≡ n + 1
 before_first_length token [] n e = absurd (omega arith)
 before_first_length token (piece ∷ pieces) n e = e
 
 -- one piece more than placeholders
-pieces_behind_length : (query : Sql) (agree : Bool) (before : List (List ℕ)) (start : ℕ) (tokens : List (List ℕ)) → length (pieces_of tokens) ≡ length (places_behind query agree before start tokens) + 1
+pieces_behind_length : (query : Sql) (agree : Bool) (before : List (List ℕ)) (start : ℕ)
+    (tokens : List (List ℕ)) → length (pieces_of tokens) ≡
+    length (places_behind query agree before start tokens) + 1
 pieces_behind_length query agree before start [] = refl
-pieces_behind_length query agree before start (token ∷ tokens) = by (is_place token) (pieces_behind_length query agree (token ∷ before) (start + length token) tokens) refl
+pieces_behind_length query agree before start (token ∷ tokens) =
+    by (is_place token) (pieces_behind_length query agree (token ∷ before) (start + length token)
+    tokens) refl
   where
-    by : (place : Bool) → length (pieces_of tokens) ≡ length (places_behind query agree (token ∷ before) (start + length token) tokens) + 1 → is_place token ≡ place
+    by : (place : Bool) → length (pieces_of tokens) ≡
+        length (places_behind query agree (token ∷ before) (start + length token) tokens) + 1 →
+        is_place token ≡ place
         → length (pieces_of (token ∷ tokens)) ≡ length (places_behind query agree before start (token ∷ tokens)) + 1
     by true later e = rw e (omega (arith, later))
-    by false later e = rw e (before_first_length token (pieces_of tokens) (length (places_behind query agree (token ∷ before) (start + length token) tokens)) later)
+    by false later e = rw e (before_first_length token (pieces_of tokens)
+        (length (places_behind query agree (token ∷ before) (start + length token) tokens)) later)
 
-pub pieces_length : (query : Sql) (tokens : List (List ℕ)) → length (pieces_of tokens) ≡ length (places_of query tokens) + 1
+pub pieces_length : (query : Sql) (tokens : List (List ℕ)) → length (pieces_of tokens) ≡
+    length (places_of query tokens) + 1
 pieces_length query tokens = pieces_behind_length query (servers_agree 0 tokens) [] 0 tokens

@@ -1,5 +1,6 @@
 -- What it says of a query that it can be prepared.
-use Rattle.std.proofs.Common.{◌≡◌, ◌-◌, ◌++◌, ℕ, Bool, true, false, List, [], ◌∷◌, length, Option, None, refl, ◌∙◌, ap, inl, inr}
+use Rattle.std.proofs.Common.{◌≡◌, ◌-◌, ◌++◌, ℕ, Bool, true, false, List, [], ◌∷◌, length, Option, None, refl, ◌∙◌, ap}
+use Rattle.std.proofs.Common.{inl, inr}
 use Rattle.std.specs.Option.{option_map, option_or}
 use Rattle.std.proofs.lemmas.List.{append-nil}
 use Rattle.mysql_values.specs.Sql.{Sql}
@@ -18,25 +19,32 @@ use Rattle.mysql_recoding.specs.AsItComes.{RefusesQuery}
 use Rattle.mysql_recoding.specs.Causes.{error_for}
 use Rattle.mysql_recoding.specs.Steps.{CanBePrepared}
 
-one_kind_of : (mixed : Bool) (rest : Option Refusal) → option_or (cause_if mixed refusals.Mixed) rest ≡ None → mixed ≡ false
+one_kind_of : (mixed : Bool) (rest : Option Refusal) →
+    option_or (cause_if mixed refusals.Mixed) rest ≡ None → mixed ≡ false
 one_kind_of false rest none = refl
 one_kind_of true rest none = absurd (cc)
 
 -- a query that can be prepared has one kind of placeholder
-pub not_mixed : (statement : Statement) (room : ℕ) → query_cause Execute statement room ≡ None → is_mixed statement.query.places ≡ false
+pub not_mixed : (statement : Statement) (room : ℕ) → query_cause Execute statement room ≡ None →
+    is_mixed statement.query.places ≡ false
 not_mixed statement room none = one_kind_of (is_mixed statement.query.places) _ none
 
 -- the query of a statement is one
-pub query_is : (query : Sql) (tokens : List (List ℕ)) (id : ℕ) → HasTokens query.mode query.text tokens → IsQuery (statement_of query tokens id).query
+pub query_is : (query : Sql) (tokens : List (List ℕ)) (id : ℕ) →
+    HasTokens query.mode query.text tokens → IsQuery (statement_of query tokens id).query
 query_is query tokens id has = record { parsed = (tokens, has, refl); places = (tokens, has, refl) }
 
 -- why it can't be prepared is why no recoder is made
-pub not_prepared : (query : Sql) (id limit : ℕ) (refusal : Refusal) → RefusesPrepare query id (limit - 4) refusal → RefusesQuery query id limit (error_for refusal)
+pub not_prepared : (query : Sql) (id limit : ℕ) (refusal : Refusal) →
+    RefusesPrepare query id (limit - 4) refusal → RefusesQuery query id limit (error_for refusal)
 not_prepared query id limit refusal (inl memory) = inl (ap error_for memory)
-not_prepared query id limit refusal (inr why) = inr (record { tokens = why.0; has = why.1; first = ap (λ o. option_map error_for o) why.2 })
+not_prepared query id limit refusal (inr why) =
+    inr (record { tokens = why.0; has = why.1; first = ap (λ o. option_map error_for o) why.2 })
 
 -- its prepare in a list that was empty
-pub can_be_prepared : OneTokens → (query : Sql) (parsed : Parsed) (places : ℕ) → IsStatement query parsed places → (id limit : ℕ) (old new : List ℕ) → old ≡ [] → AppendsPrepare query id (limit - 4) old new → CanBePrepared query id limit places new
+pub can_be_prepared : OneTokens → (query : Sql) (parsed : Parsed) (places : ℕ) →
+    IsStatement query parsed places → (id limit : ℕ) (old new : List ℕ) → old ≡ [] →
+    AppendsPrepare query id (limit - 4) old new → CanBePrepared query id limit places new
 can_be_prepared once query parsed places s id limit old new empty p = record {
   tokens = p.0;
   has = p.1;

@@ -1,5 +1,6 @@
 -- The values that contents are sent as hold these contents, and their numbers fit their fields.
-use Rattle.std.proofs.Common.{◌≡◌, ℕ, ℤ, suc, pos, negsuc, ◌<◌, ◌≤◌, ◌^◌, Bool, true, false, List, [], ◌∷◌, ◌++◌, length, map, Some, refl, ◌∙◌, ap, arith, inl, inr, nat_lt, length-append}
+use Rattle.std.proofs.Common.{◌≡◌, ℕ, ℤ, suc, pos, negsuc, ◌<◌, ◌≤◌, ◌^◌, Bool, true, false, List, [], ◌∷◌, ◌++◌}
+use Rattle.std.proofs.Common.{length, map, Some, refl, ◌∙◌, ap, arith, inl, inr, nat_lt, length-append}
 use Rattle.std.specs.Prelude.{if◌then◌else◌}
 use Rattle.std.specs.Fmt.{decimal}
 use Rattle.std.specs.List.{AllByRecursion, sum_by}
@@ -31,13 +32,16 @@ record Holds (number : ℤ) (value : Value) : Type 0 where
   pub fits : FitsFields value
 
 -- a number from 0 is sent as Int or as UInt
-from_zero : (n : ℕ) (small all : Bool) → (small ≡ true → n < 2 ^ 63) → n < 2 ^ 64 → all ≡ true → Holds (pos n) (if small then values.Int (pos n) else (if all then values.UInt n else values.Bytes (decimal n)))
+from_zero : (n : ℕ) (small all : Bool) → (small ≡ true → n < 2 ^ 63) → n < 2 ^ 64 → all ≡ true →
+    Holds (pos n) (if small then values.Int (pos n) else
+    (if all then values.UInt n else values.Bytes (decimal n)))
 from_zero n true all less most is = record { is_held = refl; fits = record { sfits = less refl } }
 from_zero n false true less most is = record { is_held = refl; fits = most }
 from_zero n false false less most is = cc
 
 -- a number below 0 is sent as Int
-below_zero : (n : ℕ) (small : Bool) (digits : List ℕ) → n < 2 ^ 63 → small ≡ true → Holds (negsuc n) (if small then values.Int (negsuc n) else values.Bytes digits)
+below_zero : (n : ℕ) (small : Bool) (digits : List ℕ) → n < 2 ^ 63 → small ≡ true →
+    Holds (negsuc n) (if small then values.Int (negsuc n) else values.Bytes digits)
 below_zero n true digits less is = record { is_held = refl; fits = record { sfits = less } }
 below_zero n false digits less is = cc
 
@@ -84,9 +88,13 @@ content_fits (content.Bytes bytes) carried short = (carried, bytes_few (lenenc_i
 -- so with each content of a set
 set_held : (set : Set) → AllByRecursion IsCarried set → map content_of (map content_value set) ≡ map Some set
 set_held [] each = refl
-set_held (c ∷ set) each = ap (λ o. o ∷ map content_of (map content_value set)) (content_held c each.0) ∙ ap (λ l. Some c ∷ l) (set_held set each.1)
+set_held (c ∷ set) each =
+    ap (λ o. o ∷ map content_of (map content_value set)) (content_held c each.0) ∙
+    ap (λ l. Some c ∷ l) (set_held set each.1)
 
-pub set_fits : (set : Set) → AllByRecursion IsCarried set → sum_by bin_len (map content_value set) < 2 ^ 64 → AllByRecursion (λ value. FitsFields value) (map content_value set)
+pub set_fits : (set : Set) → AllByRecursion IsCarried set →
+    sum_by bin_len (map content_value set) < 2 ^ 64 →
+    AllByRecursion (λ value. FitsFields value) (map content_value set)
 set_fits [] each short = tt
 set_fits (c ∷ set) each short =
     let all = sum_by-cons bin_len (content_value c) (map content_value set) in
@@ -95,22 +103,30 @@ set_fits (c ∷ set) each short =
     (content_fits c each.0 here, set_fits set each.1 later)
 
 -- and with each of several sets
-pub sets_held : (places : List Place) (sets : List Set) → AllByRecursion (FillsPlaces places) sets → HaveContents (values_of_sets sets) sets
+pub sets_held : (places : List Place) (sets : List Set) → AllByRecursion (FillsPlaces places) sets →
+    HaveContents (values_of_sets sets) sets
 sets_held places [] each = refl
-sets_held places (set ∷ sets) each = ap (λ l. l ∷ map (map content_of) (values_of_sets sets)) (set_held set each.0.each) ∙ ap (λ l. map Some set ∷ l) (sets_held places sets each.1)
+sets_held places (set ∷ sets) each =
+    ap (λ l. l ∷ map (map content_of) (values_of_sets sets)) (set_held set each.0.each) ∙
+    ap (λ l. map Some set ∷ l) (sets_held places sets each.1)
 
 -- the cells of an execution are no longer than it
-cells_short : ExecutionsHaveSizes → (id : ℕ) (values : List Value) → sum_by bin_len values ≤ length (execute_command id values false)
+cells_short : ExecutionsHaveSizes → (id : ℕ) (values : List Value) →
+    sum_by bin_len values ≤ length (execute_command id values false)
 cells_short sizes id [] = omega arith
 cells_short sizes id (value ∷ values) = omega (arith, sizes.1 id value values)
 
 -- so the numbers of sets that can be sent fit their fields
-pub sets_fit : ExecutionsHaveSizes → (id room : ℕ) (places : List Place) (sets : List Set) → room < 2 ^ 64 → AllByRecursion (FillsPlaces places) sets
-    → AllByRecursion (IsFree id (length places) room) (values_of_sets sets) → AllByRecursion (λ values. AllByRecursion (λ value. FitsFields value) values) (values_of_sets sets)
+pub sets_fit : ExecutionsHaveSizes → (id room : ℕ) (places : List Place) (sets : List Set) →
+    room < 2 ^ 64 → AllByRecursion (FillsPlaces places) sets
+    → AllByRecursion (IsFree id (length places) room) (values_of_sets sets) →
+    AllByRecursion (λ values. AllByRecursion (λ value. FitsFields value) values)
+    (values_of_sets sets)
 sets_fit sizes id room places [] few each free = tt
 sets_fit sizes id room places (set ∷ sets) few each free =
     let values : List Value = map content_value set in
-    let within : length (execute_command id values false) ≤ room = ltb-false room (length (execute_command id values false)) free.0.small in
+    let within : length (execute_command id values false) ≤ room =
+    ltb-false room (length (execute_command id values false)) free.0.small in
     let short : sum_by bin_len values < 2 ^ 64 = omega (arith, cells_short sizes id values) in
     (set_fits set each.0.each short, sets_fit sizes id room places sets few each.1 free.1)
 

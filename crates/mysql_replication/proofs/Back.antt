@@ -1,7 +1,9 @@
 -- Packets that were written are read again.
 use Rattle.std.proofs.Common.{[], append-nil, refl}
-use Rattle.mysql_replication.specs.PacketLaws.{binlog_dump_at-back, binlog_dump_gtid_at-back, register_slave_at-back, semi_sync_ack_at-back, table_dump_at-back}
-use Rattle.mysql_replication.specs.Statements.{AcknowledgementsReadBack, BinlogDumpsReadBack, GtidDumpsReadBack, RegistrationsReadBack, TableDumpsReadBack}
+use Rattle.mysql_replication.specs.PacketLaws.{binlog_dump_at-back, binlog_dump_gtid_at-back, register_slave_at-back}
+use Rattle.mysql_replication.specs.PacketLaws.{semi_sync_ack_at-back, table_dump_at-back}
+use Rattle.mysql_replication.specs.Statements.{AcknowledgementsReadBack, BinlogDumpsReadBack, GtidDumpsReadBack}
+use Rattle.mysql_replication.specs.Statements.{RegistrationsReadBack, TableDumpsReadBack}
 
 pub table_dumps_read_back : TableDumpsReadBack
 table_dumps_read_back = table_dump_at-back

@@ -1,5 +1,6 @@
 -- When sets are equal.
-use Rattle.std.proofs.Common.{◌≡◌, ℕ, ◌&&◌, ◌↔◌, Bool, true, false, true≢false, nat_eq, List, [], ◌∷◌, Option, Some, None, IsTrue, refl, sym, ap, ◌∙◌, eq-eqb}
+use Rattle.std.proofs.Common.{◌≡◌, ℕ, ◌&&◌, ◌↔◌, Bool, true, false, true≢false, nat_eq, List, [], ◌∷◌, Option, Some}
+use Rattle.std.proofs.Common.{None, IsTrue, refl, sym, ap, ◌∙◌, eq-eqb}
 use Rattle.std.proofs.lemmas.Bool.{eqb-true}
 use Rattle.std.specs.Cmp.Lexicographic.{pointwise}
 use Rattle.std.specs.Option.{option_eq}
@@ -69,16 +70,21 @@ intervals = record { equal = equal_intervals; itself = interval_itself }
 
 -- The test of sets, by their parts.
 abbrev pub sid_eq : SidParts → SidParts → Bool
-sid_eq a b = pointwise nat_eq a.uuid b.uuid && (option_eq (pointwise nat_eq) a.tag b.tag && pointwise interval_eq a.intervals b.intervals)
+sid_eq a b = pointwise nat_eq a.uuid b.uuid &&
+    (option_eq (pointwise nat_eq) a.tag b.tag && pointwise interval_eq a.intervals b.intervals)
 
 equal_sids : (a b : SidParts) → sid_eq a b ≡ true → a ≡ b
 equal_sids a b h =
-    let parts = two (pointwise nat_eq a.uuid b.uuid) (option_eq (pointwise nat_eq) a.tag b.tag && pointwise interval_eq a.intervals b.intervals) h in
-    let others = two (option_eq (pointwise nat_eq) a.tag b.tag) (pointwise interval_eq a.intervals b.intervals) parts.1 in
+    let parts = two (pointwise nat_eq a.uuid b.uuid) (option_eq (pointwise nat_eq) a.tag b.tag &&
+    pointwise interval_eq a.intervals b.intervals) h in
+    let others = two (option_eq (pointwise nat_eq) a.tag b.tag)
+    (pointwise interval_eq a.intervals b.intervals) parts.1 in
     let uuid = (lists nat_eq numbers).equal a.uuid b.uuid parts.0 in
     let tag = (options (pointwise nat_eq) (lists nat_eq numbers)).equal a.tag b.tag others.0 in
     let all = (lists interval_eq intervals).equal a.intervals b.intervals others.1 in
-    ap (λ (x : List ℕ). sid x a.tag a.intervals) uuid ∙ ap (λ (x : Option (List ℕ)). sid b.uuid x a.intervals) tag ∙ ap (λ (x : List GnoInterval). sid b.uuid b.tag x) all where
+    ap (λ (x : List ℕ). sid x a.tag a.intervals) uuid ∙
+    ap (λ (x : Option (List ℕ)). sid b.uuid x a.intervals) tag ∙
+    ap (λ (x : List GnoInterval). sid b.uuid b.tag x) all where
       sid : List ℕ → Option (List ℕ) → List GnoInterval → SidParts
       sid uuid tag intervals = record { uuid = uuid; tag = tag; intervals = intervals }
 
@@ -94,5 +100,7 @@ pub sids : Tells sid_eq
 sids = record { equal = equal_sids; itself = sid_itself }
 
 -- What such a test answers says whether two values are equal.
-pub answers : {X : Type 0} (test : X → X → Bool) → Tells test → (x y : X) (answer : Bool) → answer ≡ test x y → IsTrue answer ↔ (x ≡ y)
-answers test t x y answer h = (λ yes. t.equal x y (sym h ∙ yes), λ same. h ∙ (ap (λ z. test x z) (sym same) ∙ t.itself x))
+pub answers : {X : Type 0} (test : X → X → Bool) → Tells test → (x y : X) (answer : Bool) → answer ≡
+    test x y → IsTrue answer ↔ (x ≡ y)
+answers test t x y answer h =
+    (λ yes. t.equal x y (sym h ∙ yes), λ same. h ∙ (ap (λ z. test x z) (sym same) ∙ t.itself x))

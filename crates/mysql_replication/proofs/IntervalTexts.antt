@@ -1,5 +1,6 @@
 -- Texts of intervals are read back.
-use Rattle.std.proofs.Common.{◌≡◌, ℕ, ◌+◌, ◌-◌, ◌<◌, ◌^◌, Bool, true, false, List, [], ◌∷◌, ◌++◌, Ok, refl, ◌∙◌, ap, arith, ◌==◌, nat_lt, nat_le}
+use Rattle.std.proofs.Common.{◌≡◌, ℕ, ◌+◌, ◌-◌, ◌<◌, ◌^◌, Bool, true, false, List, [], ◌∷◌, ◌++◌, Ok, refl, ◌∙◌, ap}
+use Rattle.std.proofs.Common.{arith, ◌==◌, nat_lt, nat_le}
 use Rattle.std.specs.Fmt.{decimal}
 use Rattle.std.specs.List.{list_all}
 use Rattle.std.specs.Str.Parse.{digits_value, without_leading_plus}
@@ -40,14 +41,25 @@ number_of_decimal n small =
 
 one_end : (n : ℕ) → n < 2 ^ 64 → ends_of (decimal n) (around_hyphen (decimal n)) ≡ Ok (n, n)
 unfolding ends_of
-one_end n small = rw (around_no_hyphen (decimal n) (lacks_from is_digit 45 digit_is_no_hyphen (decimal n) (decimal_digits n small)), number_of_decimal n small) refl
+one_end n small = rw (
+  around_no_hyphen (decimal n)
+      (lacks_from is_digit 45 digit_is_no_hyphen (decimal n) (decimal_digits n small)),
+  number_of_decimal n small,
+) refl
 
-two_ends : (n m : ℕ) → n < 2 ^ 64 → m < 2 ^ 64 → ends_of (decimal n ++ 45 ∷ decimal m) (around_hyphen (decimal n ++ 45 ∷ decimal m)) ≡ Ok (n, m)
+two_ends : (n m : ℕ) → n < 2 ^ 64 → m < 2 ^ 64 →
+    ends_of (decimal n ++ 45 ∷ decimal m) (around_hyphen (decimal n ++ 45 ∷ decimal m)) ≡ Ok (n, m)
 unfolding ends_of
 two_ends n m small fits =
-    rw (around_one_hyphen (decimal n) (decimal m) (lacks_from is_digit 45 digit_is_no_hyphen (decimal n) (decimal_digits n small)), number_of_decimal n small, number_of_decimal m fits) refl
+    rw (
+      around_one_hyphen (decimal n) (decimal m)
+          (lacks_from is_digit 45 digit_is_no_hyphen (decimal n) (decimal_digits n small)),
+      number_of_decimal n small,
+      number_of_decimal m fits,
+    ) refl
 
-ended : (n m : ℕ) (field : List ℕ) (interval : GnoInterval) → IsGood interval → interval.start ≡ n → interval.end ≡ m + 1 → ends_of field (around_hyphen field) ≡ Ok (n, m)
+ended : (n m : ℕ) (field : List ℕ) (interval : GnoInterval) → IsGood interval → interval.start ≡ n →
+    interval.end ≡ m + 1 → ends_of field (around_hyphen field) ≡ Ok (n, m)
     → interval_of field ≡ Ok interval
 unfolding interval_of
 ended n m field interval good first last ends =
@@ -56,18 +68,23 @@ ended n m field interval good first last ends =
     let some : (n == 0) ≡ false = let s = good.some in grind (arith, nat_tests) in
     rw (ends, fits, up, some, ← first, ← last) refl
 
-text_by : (b : Bool) (interval : GnoInterval) → (interval.end == interval.start + 1) ≡ b → IsGood interval → interval_of (interval_text interval) ≡ Ok interval
+text_by : (b : Bool) (interval : GnoInterval) → (interval.end == interval.start + 1) ≡ b →
+    IsGood interval → interval_of (interval_text interval) ≡ Ok interval
 text_by true interval e good =
     let last : interval.end ≡ interval.start + 1 = grind (arith, nat_tests) in
     let small : interval.start < 2 ^ 64 = let f = good.fits in omega arith in
-    rw e (ended interval.start interval.start (decimal interval.start) interval good refl last (one_end interval.start small))
+    rw e (ended interval.start interval.start (decimal interval.start) interval good refl last
+    (one_end interval.start small))
 text_by false interval e good =
     let f = good.fits in
     let u = good.up in
     let last : interval.end ≡ interval.end - 1 + 1 = omega arith in
     let small : interval.start < 2 ^ 64 = omega arith in
     let fits : interval.end - 1 < 2 ^ 64 = omega arith in
-    rw e (ended interval.start (interval.end - 1) (decimal interval.start ++ 45 ∷ decimal (interval.end - 1)) interval good refl last (two_ends interval.start (interval.end - 1) small fits))
+    rw e (ended interval.start (interval.end - 1) (decimal interval.start ++ 45 ∷
+    decimal (interval.end - 1)) interval good refl last
+    (two_ends interval.start (interval.end - 1) small fits))
 
-pub interval_reads_back : (interval : GnoInterval) → IsGood interval → interval_of (interval_text interval) ≡ Ok interval
+pub interval_reads_back : (interval : GnoInterval) → IsGood interval →
+    interval_of (interval_text interval) ≡ Ok interval
 interval_reads_back interval good = text_by (interval.end == interval.start + 1) interval refl good

@@ -1,5 +1,6 @@
 -- Characters that a list lacks, and where it is cut then.
-use Rattle.std.proofs.Common.{◌≡◌, ℕ, ◌+◌, Bool, true, false, List, [], ◌∷◌, ◌++◌, length, length-append, drop, get_or, Some, None, refl, arith, All, ◌==◌, nat_lt, append_assoc}
+use Rattle.std.proofs.Common.{◌≡◌, ℕ, ◌+◌, Bool, true, false, List, [], ◌∷◌, ◌++◌, length, length-append, drop, get_or}
+use Rattle.std.proofs.Common.{Some, None, refl, arith, All, ◌==◌, nat_lt, append_assoc}
 use Rattle.std.specs.List.{list_all, position_or_len}
 use Rattle.std.proofs.Math.Seq.{get_or-append_seam}
 use Rattle.std.proofs.lemmas.Bool.Decides.{nat_tests}
@@ -11,11 +12,14 @@ use Rattle.mysql_replication.specs.Intervals.{around_hyphen, is_hyphen}
 abbrev pub Lacks : ℕ → List ℕ → Type 0
 Lacks c xs = All (λ x. (x == c) ≡ false) xs
 
-pub lacks_from : (q : ℕ → Bool) (c : ℕ) → ((x : ℕ) → q x ≡ true → (x == c) ≡ false) → (xs : List ℕ) → list_all q xs ≡ true → Lacks c xs
+pub lacks_from : (q : ℕ → Bool) (c : ℕ) → ((x : ℕ) → q x ≡ true → (x == c) ≡ false) →
+    (xs : List ℕ) → list_all q xs ≡ true → Lacks c xs
 lacks_from q c h xs all k d within = h (get_or xs k d) (AllPass-from_list_all q xs all k d within)
 
 hyphen_missing : (xs : List ℕ) → Lacks 45 xs → position_or_len is_hyphen xs ≡ length xs
-hyphen_missing xs lacks = position_or_len_is is_hyphen xs (length xs) 0 (omega arith) (λ k h. lacks k 0 h) (λ h. absurd (omega arith))
+hyphen_missing xs lacks =
+    position_or_len_is is_hyphen xs (length xs) 0 (omega arith) (λ k h. lacks k 0 h)
+    (λ h. absurd (omega arith))
 
 pub around_no_hyphen : (xs : List ℕ) → Lacks 45 xs → around_hyphen xs ≡ None
 unfolding around_hyphen

@@ -1,5 +1,6 @@
 -- Whole numbers as `parse` reads them.
-use Rattle.std.proofs.Common.{◌≡◌, ℕ, ◌<◌, ◌^◌, Bool, true, false, true≢false, List, [], ◌∷◌, length, Ok, Err, refl, sym, arith, nat_lt, ◌&&◌, cond}
+use Rattle.std.proofs.Common.{◌≡◌, ℕ, ◌<◌, ◌^◌, Bool, true, false, true≢false, List, [], ◌∷◌, length, Ok, Err, refl}
+use Rattle.std.proofs.Common.{sym, arith, nat_lt, ◌&&◌, cond}
 use Rattle.std.specs.Char.{digit_value}
 use Rattle.std.specs.List.{list_all}
 use Rattle.std.specs.Str.Parse.{AllDigits, IsNumeral, digits_value}
@@ -31,7 +32,8 @@ pass_digits [] h = tt
 pass_digits (c ∷ cs) h = (passes_digit c (and_left _ _ h), pass_digits cs (and_right _ _ h))
 
 -- A numeral below 2^64 is a number.
-pub digits_number : (ds : List ℕ) → IsNumeral 10 ds → digits_value 10 ds < 2 ^ 64 → number_of_digits ds ≡ Ok (digits_value 10 ds)
+pub digits_number : (ds : List ℕ) → IsNumeral 10 ds → digits_value 10 ds < 2 ^ 64 →
+    number_of_digits ds ≡ Ok (digits_value 10 ds)
 digits_number ds numeral small =
     let some : nat_lt 0 (length ds) ≡ true = grind (arith, nat_tests, numeral.0) in
     let fits : nat_lt (digits_value 10 ds) (2 ^ 64) ≡ true = grind (arith, nat_tests) in
@@ -44,7 +46,8 @@ decided x y true false d never = refl
 decided x y false b d never = refl
 
 -- What is none is refused.
-pub digits_no_number : (ds : List ℕ) → ¬ (IsNumeral 10 ds × (digits_value 10 ds < 2 ^ 64)) → number_of_digits ds ≡ Err BadInterval
+pub digits_no_number : (ds : List ℕ) → ¬ (IsNumeral 10 ds × (digits_value 10 ds < 2 ^ 64)) →
+    number_of_digits ds ≡ Err BadInterval
 digits_no_number ds never =
     decided _ _ (nat_lt 0 (length ds)) (list_all is_digit ds) (nat_lt (digits_value 10 ds) (2 ^ 64))
     (λ a b d. never ((grind (arith, nat_tests), pass_digits ds b), grind (arith, nat_tests)))

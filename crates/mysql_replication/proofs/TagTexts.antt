@@ -1,5 +1,6 @@
 -- What a tag's text holds.
-use Rattle.std.proofs.Common.{◌≡◌, ℕ, ◌<◌, Bool, true, false, true≢false, is_some, List, [], ◌∷◌, length, get_or, inl, inr, Option, Some, None, refl, sym, ◌∙◌, ap, arith, not, ◌==◌, cond, nat_lt}
+use Rattle.std.proofs.Common.{◌≡◌, ℕ, ◌<◌, Bool, true, false, true≢false, is_some, List, [], ◌∷◌, length, get_or, inl}
+use Rattle.std.proofs.Common.{inr, Option, Some, None, refl, sym, ◌∙◌, ap, arith, not, ◌==◌, cond, nat_lt}
 use Rattle.std.specs.List.{find, list_all}
 use Rattle.std.specs.Str.{chars, IsAscii, IsUtf8}
 use Rattle.std.proofs.lemmas.Bool.Decides.{nat_tests}
@@ -16,12 +17,14 @@ use Rattle.mysql_replication.proofs.Lacking.{Lacks, lacks_from}
 some_is_not_none : {A : Type 0} (x : A) → Some x ≡ None → ⊥
 some_is_not_none x h = absurd (true≢false (ap (λ o. is_some o) h))
 
-going_on : (b : Bool) (c : ℕ) (xs : List ℕ) → goes_on_tag c ≡ b → fault_of_others (cond (not b) (Some c) (find (λ other. not (goes_on_tag other)) xs)) ≡ None
+going_on : (b : Bool) (c : ℕ) (xs : List ℕ) → goes_on_tag c ≡ b →
+    fault_of_others (cond (not b) (Some c) (find (λ other. not (goes_on_tag other)) xs)) ≡ None
     → (fault_of_others (find (λ other. not (goes_on_tag other)) xs) ≡ None) × (goes_on_tag c ≡ true)
 going_on true c xs e h = (h, e)
 going_on false c xs e h = absurd (some_is_not_none (InvalidChar c) h)
 
-none_found : (xs : List ℕ) → fault_of_others (find (λ other. not (goes_on_tag other)) xs) ≡ None → list_all goes_on_tag xs ≡ true
+none_found : (xs : List ℕ) → fault_of_others (find (λ other. not (goes_on_tag other)) xs) ≡ None →
+    list_all goes_on_tag xs ≡ true
 none_found [] h = refl
 none_found (c ∷ xs) h =
     let p = going_on (goes_on_tag c) c xs refl h in
@@ -53,7 +56,9 @@ ascii cs h i =
       | inr over ↦ rw (get_or_past cs i 0 over) (omega arith)
     ]
 
-short : (a b : Bool) (text : List ℕ) (r : Option InvalidTag) → cond a (Some Empty) (cond b (Some (TooLong (length text))) r) ≡ None → (a ≡ false) × (b ≡ false) × (r ≡ None)
+short : (a b : Bool) (text : List ℕ) (r : Option InvalidTag) →
+    cond a (Some Empty) (cond b (Some (TooLong (length text))) r) ≡ None → (a ≡ false) ×
+    (b ≡ false) × (r ≡ None)
 short true b text r h = absurd (some_is_not_none Empty h)
 short false true text r h = absurd (some_is_not_none (TooLong (length text)) h)
 short false false text r h = (refl, refl, h)

@@ -1,10 +1,14 @@
 -- A UUID's text holds no colon, and is read back.
-use Rattle.std.proofs.Common.{◌≡◌, ℕ, ◌+◌, ◌*◌, ◌<◌, Bool, true, false, List, [], length, get_or, slice_index, take, drop, All, Option, Some, None, Result, Ok, Err, refl, sym, ◌∙◌, ap, arith, inl, is_some, is_ok, true≢false, unwrap_or, ◌==◌, ◌&&◌, cond}
+use Rattle.std.proofs.Common.{◌≡◌, ℕ, ◌+◌, ◌*◌, ◌<◌, Bool, true, false, List, [], length, get_or, slice_index, take}
+use Rattle.std.proofs.Common.{drop, All, Option, Some, None, Result, Ok, Err, refl, sym, ◌∙◌, ap, arith, inl, is_some}
+use Rattle.std.proofs.Common.{is_ok, true≢false, unwrap_or, ◌==◌, ◌&&◌, cond}
 use Rattle.std.specs.List.{list_all}
 use Rattle.std.specs.Option.{ok_or}
 use Rattle.std.proofs.lemmas.Bool.Decides.{nat_tests}
 use Rattle.std.proofs.lemmas.List.Sums.{AllPass-from_list_all}
-use Rattle.uuid.specs.Text.{by_index, byte_of_digits, digit_place, has_hyphens, has_urn_prefix, hex_digit, hyphenated_text, is_hex_digit, is_hyphen_place, lower, nibble, parsed, parsed_braced, parsed_hyphenated, parsed_simple, parsed_urn, digits_of, value_of}
+use Rattle.uuid.specs.Text.{by_index, byte_of_digits, digit_place, has_hyphens, has_urn_prefix, hex_digit}
+use Rattle.uuid.specs.Text.{hyphenated_text, is_hex_digit, is_hyphen_place, lower, nibble, parsed, parsed_braced}
+use Rattle.uuid.specs.Text.{parsed_hyphenated, parsed_simple, parsed_urn, digits_of, value_of}
 use Rattle.uuid.proofs.RoundTrips.{parses_hyphenated}
 use Rattle.uuid.proofs.TextLemmas.{by_index_at, by_index_length, nibble_small}
 use Rattle.mysql_replication.specs.Sids.{uuid_of}
@@ -43,7 +47,9 @@ uuid_lacks_colon bytes k d within =
 
 pub uuid_reads_back : (bytes : List ℕ) → IsUuid bytes → uuid_of (hyphenated_text lower bytes) ≡ Ok bytes
 unfolding uuid_of
-uuid_reads_back bytes is = ap (λ (o : Option (List ℕ)). ok_or o BadUuid) (sym (parses_hyphenated lower bytes (inl refl) is.long is.small))
+uuid_reads_back bytes is =
+    ap (λ (o : Option (List ℕ)). ok_or o BadUuid)
+    (sym (parses_hyphenated lower bytes (inl refl) is.long is.small))
 
 hex_value_small : (c : ℕ) → is_hex_digit c ≡ true → value_of c < 16
 hex_value_small c h = grind (arith, nat_tests)
@@ -63,8 +69,10 @@ simple_is_uuid true true hex u len all h =
     record {
       long = ap length (sym same) ∙ by_index_length 16 _;
       small = λ k d within.
-          let under : k < 16 = let e = ap length same in let f = by_index_length 16 (byte_of_digits hex) in omega (arith, e, f, within) in
-          rw (← same, by_index_at 16 (byte_of_digits hex) k d under) (byte_small _ _ (digits (2 * k) (omega arith)) (digits (2 * k + 1) (omega arith)));
+          let under : k < 16 = let e = ap length same in let f =
+          by_index_length 16 (byte_of_digits hex) in omega (arith, e, f, within) in
+          rw (← same, by_index_at 16 (byte_of_digits hex) k d under)
+          (byte_small _ _ (digits (2 * k) (omega arith)) (digits (2 * k + 1) (omega arith)));
     }
 
 where_some : (b : Bool) (o : Option (List ℕ)) (u : List ℕ) → cond b o None ≡ Some u → o ≡ Some u
@@ -75,9 +83,12 @@ parsed_simple_is : (hex u : List ℕ) → parsed_simple hex ≡ Some u → IsUui
 parsed_simple_is hex u h = simple_is_uuid (length hex == 32) (list_all is_hex_digit hex) hex u refl refl h
 
 parsed_hyphenated_is : (s u : List ℕ) → parsed_hyphenated s ≡ Some u → IsUuid u
-parsed_hyphenated_is s u h = parsed_simple_is (digits_of s) u (where_some ((length s == 36) && has_hyphens s) (parsed_simple (digits_of s)) u h)
+parsed_hyphenated_is s u h =
+    parsed_simple_is (digits_of s) u
+    (where_some ((length s == 36) && has_hyphens s) (parsed_simple (digits_of s)) u h)
 
-by_length : {P : Type 0} (a b d e : Bool) (w x y z : Option (List ℕ)) (u : List ℕ) → cond a w (cond b x (cond d y (cond e z None))) ≡ Some u
+by_length : {P : Type 0} (a b d e : Bool) (w x y z : Option (List ℕ)) (u : List ℕ) →
+    cond a w (cond b x (cond d y (cond e z None))) ≡ Some u
     → (w ≡ Some u → P) → (x ≡ Some u → P) → (y ≡ Some u → P) → (z ≡ Some u → P) → P
 by_length true b d e w x y z u h p q r s = p h
 by_length false true d e w x y z u h p q r s = q h
@@ -87,10 +98,14 @@ by_length false false false e w x y z u h p q r s = s (where_some e z u h)
 -- What a text of a UUID is read as has sixteen bytes.
 parsed_is : (s u : List ℕ) → parsed s ≡ Some u → IsUuid u
 parsed_is s u h =
-    by_length (length s == 32) (length s == 36) (length s == 38) (length s == 45) (parsed_simple s) (parsed_hyphenated s) (parsed_braced s) (parsed_urn s) u h
+    by_length (length s == 32) (length s == 36) (length s == 38) (length s == 45) (parsed_simple s)
+    (parsed_hyphenated s) (parsed_braced s) (parsed_urn s) u h
     (λ k. parsed_simple_is s u k) (λ k. parsed_hyphenated_is s u k)
-    (λ k. parsed_hyphenated_is (take 36 (drop 1 s)) u (where_some ((length s == 38) && (slice_index s 0 == 123) && (slice_index s 37 == 125)) (parsed_hyphenated (take 36 (drop 1 s))) u k))
-    (λ k. parsed_hyphenated_is (drop 9 s) u (where_some ((length s == 45) && has_urn_prefix s) (parsed_hyphenated (drop 9 s)) u k))
+    (λ k. parsed_hyphenated_is (take 36 (drop 1 s)) u
+    (where_some ((length s == 38) && (slice_index s 0 == 123) && (slice_index s 37 == 125))
+    (parsed_hyphenated (take 36 (drop 1 s))) u k))
+    (λ k. parsed_hyphenated_is (drop 9 s) u
+    (where_some ((length s == 45) && has_urn_prefix s) (parsed_hyphenated (drop 9 s)) u k))
 
 given_uuid : (o : Option (List ℕ)) (u : List ℕ) → ok_or o BadUuid ≡ Ok u → o ≡ Some u
 given_uuid None u h = absurd (err_is_not_ok u h)

@@ -12,13 +12,19 @@ use Rattle.mysql_replies.specs.Views.{outcome_views, part_view}
 use Rattle.mysql_replies.specs.States.{IsAwaiting, open_reply}
 
 -- What no more payloads decide.
-pub stops : (s : ReplyState) (rest : Rest) (answer : Answer) → answer.results ≡ outcome_views s.results.items ++ listed (part_view s.part) → answer.progress ≡ map progress_report_view s.progress.items → answer.end ≡ end_behind (is_over s.events.so_far.awaited) s.count rest → PayloadsDecide (GoingOn (open_reply s)) [] rest answer
+pub stops : (s : ReplyState) (rest : Rest) (answer : Answer) → answer.results ≡
+    outcome_views s.results.items ++ listed (part_view s.part) → answer.progress ≡
+    map progress_report_view s.progress.items → answer.end ≡
+    end_behind (is_over s.events.so_far.awaited) s.count rest →
+    PayloadsDecide (GoingOn (open_reply s)) [] rest answer
 stops s rest answer results progress end = λ i. record { results = results i; progress = progress i; end = end i }
 
-pub end_large : (s : ReplyState) → IsAwaiting s → FaultAt s.count faults.TooLarge ≡ end_behind (is_over s.events.so_far.awaited) s.count TooLarge
+pub end_large : (s : ReplyState) → IsAwaiting s → FaultAt s.count faults.TooLarge ≡
+    end_behind (is_over s.events.so_far.awaited) s.count TooLarge
 end_large s some = sym (ap (λ b. end_behind b s.count TooLarge) some)
 
-pub end_wrong_number : (s : ReplyState) → IsAwaiting s → FaultAt s.count faults.OutOfSync ≡ end_behind (is_over s.events.so_far.awaited) s.count OutOfSync
+pub end_wrong_number : (s : ReplyState) → IsAwaiting s → FaultAt s.count faults.OutOfSync ≡
+    end_behind (is_over s.events.so_far.awaited) s.count OutOfSync
 end_wrong_number s some = sym (ap (λ b. end_behind b s.count OutOfSync) some)
 
 -- Nothing is awaited, or something is.

@@ -1,5 +1,6 @@
 -- What the state is behind a payload: its event is put, a row is taken in place, or a fault was met.
-use Rattle.std.proofs.Common.{◌≡◌, ◌+◌, ◌<◌, List, [], ◌∷◌, ◌++◌, Some, None, Result, Ok, Err, refl, ap, sym, subst, arith, ◌∙◌}
+use Rattle.std.proofs.Common.{◌≡◌, ◌+◌, ◌<◌, List, [], ◌∷◌, ◌++◌, Some, None, Result, Ok, Err, refl, ap, sym, subst}
+use Rattle.std.proofs.Common.{arith, ◌∙◌}
 use Rattle.std.specs.Prelude.{OnOk, IfErr, Vec, map, vec_len, vec_capacity}
 use Rattle.std.specs.declared.alloc.Global.{Global}
 use Rattle.std.proofs.lemmas.List.{append-nil}
@@ -26,7 +27,8 @@ use Rattle.mysql_replies.specs.Together as together
 use Rattle.mysql_replies.specs.Together.{Outcome, RowsPart, reported}
 use Rattle.mysql_replies.specs.Reply.{Answered, OpenReply, Payload, behind, faulted_at}
 use Rattle.mysql_replies.specs.Putting.{HasNoPlace, HasPut, HasRead, HasStopped, HasTakenRow, PutsEvent, listed_views}
-use Rattle.mysql_replies.specs.States.{Fits, HasRoom, IsReading, IsShortOf, OnMemory, StateGoesOn, UnlessMemory, open_reply}
+use Rattle.mysql_replies.specs.States.{Fits, HasRoom, IsReading, IsShortOf, OnMemory, StateGoesOn, UnlessMemory}
+use Rattle.mysql_replies.specs.States.{open_reply}
 use Rattle.mysql_replies.specs.Views.{outcome_views, part_view}
 use Rattle.mysql_replies.proofs.Fitting.{fits_behind}
 use Rattle.mysql_replies.proofs.Stepping.{falls_short, read_goes, refused_goes, reply_behind, row_goes}
@@ -34,22 +36,29 @@ use Rattle.mysql_replies.proofs.Stepping.{falls_short, read_goes, refused_goes, 
 -- WHAT A PAYLOAD LEADS TO
 
 -- What a state is behind a payload, by what was answered.
-pub record IsBehind (old : ReplyState) (payload : Payload) (r : Result (Unit {0}) ReplyFault) (new : ReplyState) : Type 0 where
+pub record IsBehind (old : ReplyState) (payload : Payload) (r : Result (Unit {0}) ReplyFault)
+    (new : ReplyState) : Type 0 where
   pub reading : IsReading new
   pub ok : OnOk r ((new.fault ≡ None) × (new.count ≡ old.count + 1))
   pub fault : IfErr r (λ fault. new.fault ≡ Some fault)
   pub goes_on : UnlessMemory r (StateGoesOn old payload new)
   pub short : OnMemory r (IsShortOf old new)
 
-fault_goes : (old new : ReplyState) (payload : Payload) (fault : ReplyFault) → old.fault ≡ None → HasStopped old fault new → HasNoPlace old payload fault → UnlessMemory {X = Unit {0}} (Err fault) (StateGoesOn old payload new)
+fault_goes : (old new : ReplyState) (payload : Payload) (fault : ReplyFault) → old.fault ≡ None →
+    HasStopped old fault new → HasNoPlace old payload fault →
+    UnlessMemory {X = Unit {0}} (Err fault) (StateGoesOn old payload new)
 fault_goes old new payload faults.Memory going stopped none = tt
-fault_goes old new payload fault going stopped none = refused_goes old new payload fault none.0 going stopped none.1 none.2
+fault_goes old new payload fault going stopped none =
+    refused_goes old new payload fault none.0 going stopped none.1 none.2
 
-fault_short : (old new : ReplyState) (fault : ReplyFault) → HasStopped old fault new → OnMemory {X = Unit {0}} (Err fault) (IsShortOf old new)
+fault_short : (old new : ReplyState) (fault : ReplyFault) → HasStopped old fault new →
+    OnMemory {X = Unit {0}} (Err fault) (IsShortOf old new)
 fault_short old new faults.Memory stopped = falls_short old new stopped
 fault_short old new fault stopped = tt
 
-pub behind_fault : (old new : ReplyState) (payload : Payload) (fault : ReplyFault) → old.fault ≡ None → HasStopped old fault new × HasNoPlace old payload fault → IsBehind old payload (Err fault) new
+pub behind_fault : (old new : ReplyState) (payload : Payload) (fault : ReplyFault) → old.fault ≡
+    None → HasStopped old fault new × HasNoPlace old payload fault →
+    IsBehind old payload (Err fault) new
 behind_fault old new payload fault going (stopped, none) = record {
   reading = stopped.reading;
   ok = tt;
@@ -59,7 +68,8 @@ behind_fault old new payload fault going (stopped, none) = record {
 }
 
 -- A row was taken in place.
-pub behind_row : (old new : ReplyState) (payload : Payload) → old.fault ≡ None → HasTakenRow old payload new → IsBehind old payload (Ok tt) new
+pub behind_row : (old new : ReplyState) (payload : Payload) → old.fault ≡ None →
+    HasTakenRow old payload new → IsBehind old payload (Ok tt) new
 behind_row old new payload going taken = record {
   reading = taken.reading;
   ok = (taken.fault, ap (λ (s : OpenReply). s.count) taken.reply);
@@ -69,32 +79,44 @@ behind_row old new payload going taken = record {
 }
 
 -- What there is of a result fits what is awaited behind an event that was put.
-fits_next : (old between next : ReplyState) (payload : Payload) (event : Event) → IsReading old → old.fault ≡ None → HasRead old payload event between → HasPut between event next → Fits (open_reply next)
+fits_next : (old between next : ReplyState) (payload : Payload) (event : Event) → IsReading old →
+    old.fault ≡ None → HasRead old payload event between → HasPut between event next →
+    Fits (open_reply next)
 fits_next old between next payload event reading going read put =
     subst Fits (sym (reply_behind old between next payload event read put))
-    (fits_behind old.events.context old.events.so_far (part_view old.part) payload event between.events.so_far (reading.fits going) read.event)
+    (fits_behind old.events.context old.events.so_far (part_view old.part) payload event
+    between.events.so_far (reading.fits going) read.event)
 
-reading_next : (old between next : ReplyState) (payload : Payload) (event : Event) → IsReading old → old.fault ≡ None → HasRead old payload event between → HasPut between event next → IsReading next
+reading_next : (old between next : ReplyState) (payload : Payload) (event : Event) → IsReading old →
+    old.fault ≡ None → HasRead old payload event between → HasPut between event next →
+    IsReading next
 reading_next old between next payload event reading going read put = record {
   no_fault = λ none. ap (λ (events : EventsState). events.fault) put.events ∙ read.going.fault;
   fits = λ none. fits_next old between next payload event reading going read put;
   room = λ some. put.results;
-  spared = λ some any. subst (λ (spare : Vec ReplyResult Global). vec_len spare < vec_capacity spare) (sym put.spare) read.room.spare;
+  spared = λ some any. subst
+      (λ (spare : Vec ReplyResult Global). vec_len spare < vec_capacity spare) (sym put.spare)
+      read.room.spare;
   empty = ap (λ (spare : Vec ReplyResult Global). spare.items) put.spare ∙ read.room.empty;
 }
 
 -- The same is listed behind an event that isn't put yet.
-pub same_between : (old between : ReplyState) (payload : Payload) (event : Event) (fault : ReplyFault) → HasRead old payload event between → faulted_at (open_reply between) fault ≡ faulted_at (open_reply old) fault
+pub same_between : (old between : ReplyState) (payload : Payload) (event : Event)
+    (fault : ReplyFault) → HasRead old payload event between →
+    faulted_at (open_reply between) fault ≡ faulted_at (open_reply old) fault
 same_between old between payload event fault read =
     ap (λ (s : ReplyState). faulted_at (open_reply s) fault) read.rest
     ∙ (λ i. faulted_at (record (open_reply old) { results = outcome_views (read.results i) }) fault)
 
-pub short_between : (old between next : ReplyState) (payload : Payload) (event : Event) → HasRead old payload event between → HasStopped between faults.Memory next → IsShortOf old next
+pub short_between : (old between next : ReplyState) (payload : Payload) (event : Event) →
+    HasRead old payload event between → HasStopped between faults.Memory next → IsShortOf old next
 short_between old between next payload event read stopped =
     falls_short between next stopped ∙ ap Answered (same_between old between payload event faults.Memory read)
 
 -- An event was read, and then put.
-pub behind_event : (old between next : ReplyState) (payload : Payload) (event : Event) (r : Result (Unit {0}) ReplyFault) → IsReading old → old.fault ≡ None → HasRead old payload event between → PutsEvent between event r next → IsBehind old payload r next
+pub behind_event : (old between next : ReplyState) (payload : Payload) (event : Event)
+    (r : Result (Unit {0}) ReplyFault) → IsReading old → old.fault ≡ None →
+    HasRead old payload event between → PutsEvent between event r next → IsBehind old payload r next
 behind_event old between next payload event (Ok x) reading going read put = record {
   reading = reading_next old between next payload event reading going read put;
   ok = (
@@ -110,11 +132,14 @@ behind_event old between next payload event (Err fault) reading going read (is, 
   ok = tt;
   fault = stopped.fault ∙ ap Some (sym is);
   goes_on = subst (λ (f : ReplyFault). UnlessMemory {X = Unit {0}} (Err f) (StateGoesOn old payload next)) (sym is) tt;
-  short = subst (λ (f : ReplyFault). OnMemory {X = Unit {0}} (Err f) (IsShortOf old next)) (sym is) (short_between old between next payload event read stopped);
+  short = subst (λ (f : ReplyFault). OnMemory {X = Unit {0}} (Err f) (IsShortOf old next)) (sym is)
+      (short_between old between next payload event read stopped);
 }
 
 -- Nothing but the spare list has changed before.
-pub behind_same : (old mid next : ReplyState) (payload : Payload) (r : Result (Unit {0}) ReplyFault) → mid ≡ record old { spare = mid.spare } → IsBehind mid payload r next → IsBehind old payload r next
+pub behind_same : (old mid next : ReplyState) (payload : Payload)
+    (r : Result (Unit {0}) ReplyFault) → mid ≡ record old { spare = mid.spare } →
+    IsBehind mid payload r next → IsBehind old payload r next
 behind_same old mid next payload r same h =
     let k = subst (λ (s : ReplyState). IsBehind s payload r next) same h in
     record { reading = k.reading; ok = k.ok; fault = k.fault; goes_on = k.goes_on; short = k.short }
@@ -122,8 +147,18 @@ behind_same old mid next payload r same h =
 -- A ROW IN PLACE
 
 -- A row that was read is behind those so far.
-pub row_taken : (old new : ReplyState) (payload : Payload) (open_rows : RowsSoFar) (row : RowOf) → IsReading old → old.fault ≡ None → old.part ≡ parts.Rows open_rows → KeepsRow old.events payload (Ok (Some row)) new.events →
-    new ≡ record old { events = new.events; spare = new.spare; part = parts.Rows (record open_rows { rows = open_rows.rows ++ row_view row ∷ [] }); count = old.count + 1 } → vec_len new.spare < vec_capacity new.spare → new.spare.items ≡ [] → HasTakenRow old payload new
+pub row_taken : (old new : ReplyState) (payload : Payload) (open_rows : RowsSoFar) (row : RowOf) →
+    IsReading old → old.fault ≡ None → old.part ≡ parts.Rows open_rows →
+    KeepsRow old.events payload (Ok (Some row)) new.events →
+    new ≡ record old {
+      events = new.events;
+      spare = new.spare;
+      part =
+          parts.Rows (record open_rows { rows = open_rows.rows ++ row_view row ∷ [] });
+      count =
+          old.count + 1;
+    } → vec_len new.spare < vec_capacity new.spare → new.spare.items ≡ [] →
+    HasTakenRow old payload new
 row_taken old new payload open_rows row reading going is kept same spare empty =
     let results = outcome_views old.results.items in
     let progress = map progress_report_view old.progress.items in
@@ -143,10 +178,13 @@ row_taken old new payload open_rows row reading going is kept same spare empty =
       fault = ap (λ (s : ReplyState). s.fault) same ∙ going;
       reading = record {
         no_fault = λ none. kept.1.fault;
-        fits = λ none. subst Fits (sym reply) (fits_behind old.events.context old.events.so_far (part_view old.part) payload (RowEvent (row_view row)) new.events.so_far (reading.fits going) kept.0);
+        fits = λ none. subst Fits (sym reply)
+            (fits_behind old.events.context old.events.so_far (part_view old.part) payload
+            (RowEvent (row_view row)) new.events.so_far (reading.fits going) kept.0);
         room = λ some.
             let one : 0 < 1 = omega arith in
-            let room : HasRoom (RowsPart open_rows.columns open_rows.rows) old.results = subst (λ (p : PartOf). HasRoom (part_view p) old.results) is reading.room in
+            let room : HasRoom (RowsPart open_rows.columns open_rows.rows) old.results =
+            subst (λ (p : PartOf). HasRoom (part_view p) old.results) is reading.room in
             subst (λ (s : ReplyState). vec_len s.results < vec_capacity s.results) (sym same) (room one);
         spared = λ some any. spare;
         empty = empty;
@@ -156,7 +194,9 @@ row_taken old new payload open_rows row reading going is kept same spare empty =
 -- EVENTS
 
 -- An event that is no progress report.
-pub no_report : (event : ReplyEvent) → ((report : ProgressReport) → event ≡ events.Progress report → ⊥) → reported (event_view event) ≡ []
+pub no_report : (event : ReplyEvent) →
+    ((report : ProgressReport) → event ≡ events.Progress report → ⊥) → reported (event_view event) ≡
+    []
 no_report (events.Ok ok) none = refl
 no_report (events.Error error) none = refl
 no_report (events.Progress report) none = absurd (none report refl)
@@ -173,13 +213,18 @@ no_report (events.Line bytes) none = refl
 
 -- What an event makes whole is listed, and what is left open is there.
 pub put_moved : (old new : ReplyState) (event : Event) (found : Listed) (next : PartOf) → reported event ≡ [] →
-    (listed_views found ≡ (together.put (part_view old.part) event old.events.so_far).results) × (part_view next ≡ (together.put (part_view old.part) event old.events.so_far).part) →
-    outcome_views new.results.items ≡ outcome_views old.results.items ++ listed_views found → new ≡ record old { part = next; results = new.results; count = old.count + 1 } → vec_len new.results < vec_capacity new.results → HasPut old event new
+    (listed_views found ≡ (together.put (part_view old.part) event old.events.so_far).results) ×
+    (part_view next ≡ (together.put (part_view old.part) event old.events.so_far).part) →
+    outcome_views new.results.items ≡ outcome_views old.results.items ++ listed_views found → new ≡
+    record old { part = next; results = new.results; count = old.count + 1 } →
+    vec_len new.results < vec_capacity new.results → HasPut old event new
 put_moved old new event found next none put listing same room =
     let progress = map progress_report_view old.progress.items in
-    let results : outcome_views new.results.items ≡ outcome_views old.results.items ++ (together.put (part_view old.part) event old.events.so_far).results =
+    let results : outcome_views new.results.items ≡ outcome_views old.results.items ++
+    (together.put (part_view old.part) event old.events.so_far).results =
     listing ∙ ap (λ (l : List Outcome). outcome_views old.results.items ++ l) put.0 in
-    let reports : progress ≡ progress ++ reported event = subst (λ (l : List _). progress ≡ progress ++ l) (sym none) (sym (append-nil progress)) in
+    let reports : progress ≡ progress ++ reported event =
+    subst (λ (l : List _). progress ≡ progress ++ l) (sym none) (sym (append-nil progress)) in
     record {
       reply = ap open_reply same ∙ (λ i. record {
         context = old.events.context;

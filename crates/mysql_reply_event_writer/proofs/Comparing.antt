@@ -23,7 +23,9 @@ use Rattle.mysql_columns.specs.declared.column.Column.{Column}
 use Rattle.mysql_columns.specs.contracts.column.ColumnPartialEq as columns
 
 -- Lists are compared element by element.
-pub pointwise_by : {A X : Type 0} (E : A → A → Bool) (f : A → X) → ((a b : A) → Decides (E a b) (f a ≡ f b)) → (xs ys : List A) → Decides (pointwise E xs ys) (map f xs ≡ map f ys)
+pub pointwise_by : {A X : Type 0} (E : A → A → Bool) (f : A → X) →
+    ((a b : A) → Decides (E a b) (f a ≡ f b)) → (xs ys : List A) →
+    Decides (pointwise E xs ys) (map f xs ≡ map f ys)
 pointwise_by E f each [] [] = (λ h. refl, λ h. refl)
 pointwise_by E f each [] (y ∷ ys) = (λ h. absurd cc, λ h. absurd cc)
 pointwise_by E f each (x ∷ xs) [] = (λ h. absurd cc, λ h. absurd cc)
@@ -43,7 +45,8 @@ flags_decide a b = search rules
 -- Five names of each are the same.
 abbrev NamesAgree : ColumnNames → ColumnNames → Type 0
 NamesAgree a b =
-    (a.schema ≡ b.schema) × ((a.table ≡ b.table) × ((a.org_table ≡ b.org_table) × ((a.name ≡ b.name) × (a.org_name ≡ b.org_name))))
+    (a.schema ≡ b.schema) × ((a.table ≡ b.table) ×
+    ((a.org_table ≡ b.org_table) × ((a.name ≡ b.name) × (a.org_name ≡ b.org_name))))
 
 names_decide : (a b : ColumnNames) → Decides (same_names a b) (NamesAgree a b)
 names_decide a b =
@@ -55,7 +58,8 @@ names_decide a b =
 abbrev FieldsAgree : Column → Column → Type 0
 FieldsAgree a b =
     NamesAgree (shared_view a.names) (shared_view b.names) × ((a.character_set ≡ b.character_set) ×
-    ((a.column_length ≡ b.column_length) × ((a.column_type ≡ b.column_type) × ((a.flags ≡ b.flags) × (a.decimals ≡ b.decimals)))))
+    ((a.column_length ≡ b.column_length) ×
+    ((a.column_type ≡ b.column_type) × ((a.flags ≡ b.flags) × (a.decimals ≡ b.decimals)))))
 
 fields_agree : (a b : Column) → column_view a ≡ column_view b → FieldsAgree a b
 fields_agree a b h = (
@@ -84,24 +88,32 @@ fields_agree a b h = (
 pub column_decides : (a b : Column) → Decides (columns.TheImpl.eq-value.it a b) (column_view a ≡ column_view b)
 column_decides a b =
     Decides-like (columns.TheImpl.eq-value.it a b) (λ (h : FieldsAgree a b). cc) (fields_agree a b)
-    (Decides-and _ _ (names_decide (shared_view a.names) (shared_view b.names)) (Decides-and _ _ (Decides-eqb a.character_set b.character_set)
-    (Decides-and _ _ (Decides-eqb a.column_length b.column_length) (Decides-and _ _ (type_decides a.column_type b.column_type)
+    (Decides-and _ _ (names_decide (shared_view a.names) (shared_view b.names))
+    (Decides-and _ _ (Decides-eqb a.character_set b.character_set)
+    (Decides-and _ _ (Decides-eqb a.column_length b.column_length)
+    (Decides-and _ _ (type_decides a.column_type b.column_type)
     (Decides-and _ _ (flags_decide a.flags b.flags) (Decides-eqb a.decimals b.decimals))))))
 
-pub columns_decide : (a b : List Column) → Decides (pointwise columns.TheImpl.eq-value.it a b) (map column_view a ≡ map column_view b)
+pub columns_decide : (a b : List Column) →
+    Decides (pointwise columns.TheImpl.eq-value.it a b) (map column_view a ≡ map column_view b)
 columns_decide a b = pointwise_by columns.TheImpl.eq-value.it column_view column_decides a b
 
 cell_decides : (a b : Option Value) → Decides (option_eq values.TheImpl.eq-value.it a b) (a ≡ b)
-cell_decides (Some a) (Some b) = Decides-like _ (λ h. ap (λ v. let cell : Option Value = Some v in cell) h) (λ h. cc) (value_decides a b)
+cell_decides (Some a) (Some b) =
+    Decides-like _ (λ h. ap (λ v. let cell : Option Value = Some v in cell) h) (λ h. cc)
+    (value_decides a b)
 cell_decides (Some a) None = (λ h. absurd cc, λ h. absurd cc)
 cell_decides None (Some b) = (λ h. absurd cc, λ h. absurd cc)
 cell_decides None None = (λ h. refl, λ h. refl)
 
 pub row_decides : (a b : Row) (r : Bool) →
-    r ≡ (pointwise (option_eq values.TheImpl.eq-value.it) a.cells.items b.cells.items && pointwise columns.TheImpl.eq-value.it (rc_slice_items a.columns) (rc_slice_items b.columns)) →
+    r ≡ (pointwise (option_eq values.TheImpl.eq-value.it) a.cells.items b.cells.items &&
+    pointwise columns.TheImpl.eq-value.it (rc_slice_items a.columns) (rc_slice_items b.columns))
+    →
     Decides r (row_view a ≡ row_view b)
 row_decides a b r is =
     let cells = slice_eq-Decides cell_decides a.cells.items b.cells.items _ refl in
     let columns = columns_decide (rc_slice_items a.columns) (rc_slice_items b.columns) in
     let both = Decides-and _ _ cells columns in
-    Decides-like r (λ h. cc) (λ h. (ap (λ (v : RowOf). v.cells) h, ap (λ (v : RowOf). v.columns) h)) (Decides-at r _ is both)
+    Decides-like r (λ h. cc) (λ h. (ap (λ (v : RowOf). v.cells) h, ap (λ (v : RowOf). v.columns) h))
+    (Decides-at r _ is both)

@@ -1,6 +1,8 @@
 -- Fields that were read: what their forms hold, and that bytes are left behind them.
-use Rattle.std.proofs.Common.{◌≡◌, ◌<◌, ◌≤◌, ◌+◌, ◌^◌, ◌==◌, if◌then◌else◌, nat_lt, ℕ, suc, Bool, true, false, List, [], ◌∷◌, length}
-use Rattle.std.proofs.Common.{take, drop, Option, None, Some, Ok, Err, inl, inr, refl, sym, ap, ◌∙◌, subst, arith, lit<, length-append, length-drop}
+use Rattle.std.proofs.Common.{◌≡◌, ◌<◌, ◌≤◌, ◌+◌, ◌^◌, ◌==◌, if◌then◌else◌, nat_lt, ℕ, suc, Bool, true, false, List, []}
+use Rattle.std.proofs.Common.{◌∷◌, length}
+use Rattle.std.proofs.Common.{take, drop, Option, None, Some, Ok, Err, inl, inr, refl, sym, ap, ◌∙◌, subst, arith, lit<}
+use Rattle.std.proofs.Common.{length-append, length-drop}
 use Rattle.std.proofs.lemmas.Bool.{cases_lt, eqb-true}
 use Rattle.std.proofs.lemmas.List.{get_or-drop, get_or-take, get_or_past, length-take}
 use Rattle.byteorder.specs.Endian.{little_number}
@@ -85,7 +87,8 @@ constant_read size n bytes x small h =
     subst (λ (y : ℕ × List ℕ). Takes bytes size y.1) (constant_by (number.0.0 == n) number.0 x number.2).1
     (number_read size bytes number.0 small number.1).1
 
-text_by : (b : Bool) (rest : List ℕ) (y : Unit {0} × List ℕ) → (if b then done (tt, rest) else Err BadConstant) ≡ done y →
+text_by : (b : Bool) (rest : List ℕ) (y : Unit {0} × List ℕ) →
+    (if b then done (tt, rest) else Err BadConstant) ≡ done y →
     rest ≡ y.1
 text_by true rest y h = ap (λ (z : Unit {0} × List ℕ). z.1) (ok_same (tt, rest) y h)
 text_by false rest y h = absurd cc
@@ -123,7 +126,8 @@ lenenc_read (b ∷ bs) x small h = go (nat_lt b 251) (b == 252) (b == 253) (b ==
   rest : AreBytes bs
   rest i = small (suc i)
 
-  go : (one two three eight : Bool) → (if one then Some (b, bs) else if two then little_at 2 bs else if three then little_at 3 bs
+  go : (one two three eight : Bool) →
+      (if one then Some (b, bs) else if two then little_at 2 bs else if three then little_at 3 bs
       else if eight then little_at 8 bs else Some (0, bs)) ≡ Some x → LengthRead x
   go true two three eight e =
       let low : b < 256 = small 0 in
@@ -147,7 +151,8 @@ TextRead bytes x = (length x.0 < 2 ^ 64) × AreBytes x.0 × Takes bytes (length 
 
 pub text_read : (bytes : List ℕ) (x : List ℕ × List ℕ) → AreBytes bytes → lenenc_text_at bytes ≡ Ok x → TextRead bytes x
 text_read bytes x small h = go (lenenc_int_at bytes) refl h where
-  go : (o : Option (ℕ × List ℕ)) → lenenc_int_at bytes ≡ o → or_end (buffer.then_at o buffer.bytes_at) ≡ Ok x → TextRead bytes x
+  go : (o : Option (ℕ × List ℕ)) → lenenc_int_at bytes ≡ o →
+      or_end (buffer.then_at o buffer.bytes_at) ≡ Ok x → TextRead bytes x
   go None is e = absurd cc
   go (Some n) is e =
       let number = length_read bytes n small (ap or_end is) in
@@ -164,7 +169,8 @@ text_read bytes x small h = go (lenenc_int_at bytes) refl h where
 pub short_text_read : (bytes : List ℕ) (x : List ℕ × List ℕ) → AreBytes bytes → u8_text_at bytes ≡ Ok x →
     AreBytes x.0 × AreBytes x.1
 short_text_read bytes x small h = go (little_at 1 bytes) refl h where
-  go : (o : Option (ℕ × List ℕ)) → little_at 1 bytes ≡ o → or_end (buffer.then_at o buffer.bytes_at) ≡ Ok x → AreBytes x.0 × AreBytes x.1
+  go : (o : Option (ℕ × List ℕ)) → little_at 1 bytes ≡ o →
+      or_end (buffer.then_at o buffer.bytes_at) ≡ Ok x → AreBytes x.0 × AreBytes x.1
   go None is e = absurd cc
   go (Some n) is e =
       let number = number_read 1 bytes n small (ap or_end is) in

@@ -1,5 +1,6 @@
 -- Packets that were read hold what their types hold, and are read again of what is written of them.
-use Rattle.std.proofs.Common.{◌≡◌, ◌<◌, ◌^◌, ◌/◌, ◌%◌, ◌==◌, if◌then◌else◌, ℕ, Bool, true, false, List, [], ◌∷◌, ◌++◌, length, take}
+use Rattle.std.proofs.Common.{◌≡◌, ◌<◌, ◌^◌, ◌/◌, ◌%◌, ◌==◌, if◌then◌else◌, ℕ, Bool, true, false, List, [], ◌∷◌, ◌++◌}
+use Rattle.std.proofs.Common.{length, take}
 use Rattle.std.proofs.Common.{Option, None, Some, Ok, Err, refl, sym, ap, ◌∙◌, subst, arith, lit<, append-nil}
 use Rattle.std.specs.Prelude.{is_some}
 use Rattle.std.specs.Option.{IfSome}
@@ -51,19 +52,22 @@ in_block {X} n read_at bytes x h = block_by (lacks (Some n) (length bytes)) (rea
 -- OK PACKETS
 
 pub ok_again : (capabilities : ℕ) (bytes : List ℕ) (x : OkPacket × List ℕ) → AreBytes bytes → length bytes < 2 ^ 64 →
-    ok_packet_at capabilities bytes ≡ Ok x → ok_packet_at capabilities (ok_packet_bytes 0 capabilities x.0) ≡ Ok (x.0, [])
+    ok_packet_at capabilities bytes ≡ Ok x →
+    ok_packet_at capabilities (ok_packet_bytes 0 capabilities x.0) ≡ Ok (x.0, [])
 ok_again capabilities bytes x small few h =
     let own = ok_packet_own capabilities bytes x.1 x.0 small few h in
     ok_packet-back capabilities x.0 own.0 ∙ ap (λ (p : OkPacket). all p) own.1
 
-pub terminator_again : (capabilities : ℕ) (bytes : List ℕ) (x : OkPacket × List ℕ) → AreBytes bytes → length bytes < 2 ^ 64 →
+pub terminator_again : (capabilities : ℕ) (bytes : List ℕ) (x : OkPacket × List ℕ) →
+    AreBytes bytes → length bytes < 2 ^ 64 →
     result_set_terminator_at capabilities bytes ≡ Ok x →
     result_set_terminator_at capabilities (ok_packet_bytes 254 capabilities x.0) ≡ Ok (x.0, [])
 terminator_again capabilities bytes x small few h =
     let own = terminator_own capabilities bytes x.1 x.0 small few h in
     terminator-back capabilities x.0 own.0 ∙ ap (λ (p : OkPacket). all p) own.1
 
-pub eof_again : (bytes : List ℕ) (x : OkPacket × List ℕ) → AreBytes bytes → length bytes < 2 ^ 64 → old_eof_at bytes ≡ Ok x →
+pub eof_again : (bytes : List ℕ) (x : OkPacket × List ℕ) → AreBytes bytes → length bytes < 2 ^ 64 →
+    old_eof_at bytes ≡ Ok x →
     old_eof_at (eof_bytes x.0) ≡ Ok (x.0, [])
 eof_again bytes x small few h =
     let own = eof_own bytes x.1 x.0 small few h in
@@ -121,12 +125,14 @@ state_read : (protocol : Bool) (bytes : List ℕ) (x : Option (List ℕ) × List
 state_read true bytes x small h =
     let state = bind_ok (sql_state_at bytes) _ x h in
     let made : Option (List ℕ) × List ℕ = (Some state.0.0, state.0.1) in
-    subst (λ (y : Option (List ℕ) × List ℕ). HasState true y.0) (ok_same made x state.2) (state_five bytes state.0 small state.1)
+    subst (λ (y : Option (List ℕ) × List ℕ). HasState true y.0) (ok_same made x state.2)
+    (state_five bytes state.0 small state.1)
 state_read false bytes x small h =
     let made : Option (List ℕ) × List ℕ = (None, bytes) in
     subst (λ (y : Option (List ℕ) × List ℕ). HasState false y.0) (ok_same made x h) tt
 
-code_back : (code : ℕ) (rest : List ℕ) → code < 2 ^ 16 → error_code_at (255 ∷ (little_bytes 2 code ++ rest)) ≡ Ok (code, rest)
+code_back : (code : ℕ) (rest : List ℕ) → code < 2 ^ 16 →
+    error_code_at (255 ∷ (little_bytes 2 code ++ rest)) ≡ Ok (code, rest)
 unfolding error_code_at
 code_back code rest small = rw (
   bytes_at-back 3 (255 ∷ little_bytes 2 code) rest refl,
@@ -134,12 +140,14 @@ code_back code rest small = rw (
   fixed_number_at-back 2 code [] small,
 ) refl
 
-error_back : (capabilities : ℕ) (e : ServerError) → e.error_code < 2 ^ 16 → HasState (protocol_41 capabilities) e.sql_state →
+error_back : (capabilities : ℕ) (e : ServerError) → e.error_code < 2 ^ 16 →
+    HasState (protocol_41 capabilities) e.sql_state →
     error_at capabilities (err_packet (Error e)) ≡ Ok (e, [])
 unfolding error_at
 error_back capabilities e code state = rw (
   code_back e.error_code (server_error e ++ []) code,
-  server_error_at-back (protocol_41 capabilities) e.error_code e [] (record { error_code = refl; sql_state = state }) refl,
+  server_error_at-back (protocol_41 capabilities) e.error_code e []
+      (record { error_code = refl; sql_state = state }) refl,
 ) refl
 
 -- an error is read again, and what is written of it begins as it did
@@ -156,15 +164,18 @@ error_again capabilities bytes x small h =
     let state = bind_ok (state_part_at (protocol_41 capabilities) code.0.1) _ x code.2 in
     let has = state_read (protocol_41 capabilities) code.0.1 state.0 read.2 state.1 in
     let e : ServerError = record { error_code = code.0.0; sql_state = state.0.0; error_message = state.0.1 } in
-    let made : ServerError × List ℕ = (record { error_code = code.0.0; sql_state = state.0.0; error_message = state.0.1 }, []) in
-    subst (ErrorAgain capabilities bytes) (ok_same made x state.2) (error_back capabilities made.0 read.0 has, sym read.1)
+    let made : ServerError × List ℕ =
+    (record { error_code = code.0.0; sql_state = state.0.0; error_message = state.0.1 }, []) in
+    subst (ErrorAgain capabilities bytes) (ok_same made x state.2)
+    (error_back capabilities made.0 read.0 has, sym read.1)
 
 -- PROGRESS REPORTS
 
 abbrev pub StageRead : StageProgress → Type 0
 StageRead p = (p.stage < 2 ^ 8) × (p.max_stage < 2 ^ 8) × (p.progress < 2 ^ 24)
 
-stage_read : (bytes : List ℕ) (x : StageProgress × List ℕ) → AreBytes bytes → stage_progress_at bytes ≡ Ok x → StageRead x.0
+stage_read : (bytes : List ℕ) (x : StageProgress × List ℕ) → AreBytes bytes →
+    stage_progress_at bytes ≡ Ok x → StageRead x.0
 unfolding stage_progress_at
 stage_read bytes x small h =
     let count = bind_ok (fixed_number_at 1 bytes) _ x h in
@@ -178,8 +189,15 @@ stage_read bytes x small h =
     let one : stage.0.0 < 256 ^ 1 = b.0 in
     let two : most.0.0 < 256 ^ 1 = d.0 in
     let three : progress.0.0 < 256 ^ 3 = e.0 in
-    let made : StageProgress × List ℕ = (record { stage = stage.0.0; max_stage = most.0.0; progress = progress.0.0 }, progress.0.1) in
-    subst (λ (y : StageProgress × List ℕ). StageRead y.0) (ok_same made x progress.2) (omega arith, omega arith, omega arith)
+    let made : StageProgress × List ℕ = (
+      record { stage = stage.0.0; max_stage = most.0.0; progress = progress.0.0 },
+      progress.0.1,
+    ) in
+    subst (λ (y : StageProgress × List ℕ). StageRead y.0) (ok_same made x progress.2) (
+      omega arith,
+      omega arith,
+      omega arith,
+    )
 
 report_read : (bytes : List ℕ) (x : ProgressReport × List ℕ) → AreBytes bytes → progress_body_at bytes ≡ Ok x →
     IsProgressReport x.0
@@ -205,7 +223,10 @@ report_read bytes x small h =
 
 report_back : (r : ProgressReport) → IsProgressReport r → progress_report_at (err_packet (Progress r)) ≡ Ok (r, [])
 unfolding progress_report_at
-report_back r h = rw (bytes_at-back 3 (255 ∷ 255 ∷ 255 ∷ []) (progress_body r ++ []) refl, progress_body_at-back r [] h) refl
+report_back r h = rw (
+  bytes_at-back 3 (255 ∷ 255 ∷ 255 ∷ []) (progress_body r ++ []) refl,
+  progress_body_at-back r [] h,
+) refl
 
 pub report_again : (bytes : List ℕ) (x : ProgressReport × List ℕ) → AreBytes bytes → progress_report_at bytes ≡ Ok x →
     progress_report_at (err_packet (Progress x.0)) ≡ Ok (x.0, [])
@@ -248,7 +269,8 @@ names_read bytes x small h =
     subst NamesRead (ok_same made x org_name.2) (a.0, b.0, d.0, e.0, f.0, f.2.1)
 
 -- bytes behind a type's number
-type_by : (found : Option ColumnType) (rest : List ℕ) (x : ColumnType × List ℕ) → or_unknown found rest ≡ Ok x → rest ≡ x.1
+type_by : (found : Option ColumnType) (rest : List ℕ) (x : ColumnType × List ℕ) →
+    or_unknown found rest ≡ Ok x → rest ≡ x.1
 type_by None rest x h = absurd cc
 type_by (Some t) rest x h = ap (λ (y : ColumnType × List ℕ). y.1) (ok_same (t, rest) x h)
 
@@ -262,7 +284,8 @@ type_read bytes x small h =
 abbrev pub NumbersRead : ColumnFields → Type 0
 NumbersRead f = (f.character_set < 2 ^ 16) × (f.column_length < 2 ^ 32) × (f.flags.0 < 2 ^ 16) × (f.decimals < 2 ^ 8)
 
-fields_read : (bytes : List ℕ) (x : ColumnFields × List ℕ) → AreBytes bytes → column_fields_at bytes ≡ Ok x → NumbersRead x.0
+fields_read : (bytes : List ℕ) (x : ColumnFields × List ℕ) → AreBytes bytes →
+    column_fields_at bytes ≡ Ok x → NumbersRead x.0
 unfolding column_fields_at
 fields_read bytes x small h =
     let size = bind_ok (constant_at 1 12 bytes) _ x h in
@@ -356,7 +379,8 @@ default_read [] x small h =
     subst (λ (y : Option (List ℕ) × List ℕ). IfSome y.0 (λ text. length text < 2 ^ 64)) (ok_same made x h) tt
 default_read (b ∷ bytes) x small h = go (b == 0xfb) h where
   go : (none : Bool) → (if none then Ok (None, bytes)
-      else lenenc_text_at (b ∷ bytes) >>= λ text. Ok (Some text.0, text.1)) ≡ Ok x → IfSome x.0 (λ text. length text < 2 ^ 64)
+      else lenenc_text_at (b ∷ bytes) >>= λ text. Ok (Some text.0, text.1)) ≡ Ok x →
+      IfSome x.0 (λ text. length text < 2 ^ 64)
   go true e =
       let made : Option (List ℕ) × List ℕ = (None, bytes) in
       subst (λ (y : Option (List ℕ) × List ℕ). IfSome y.0 (λ text. length text < 2 ^ 64)) (ok_same made x e) tt
@@ -376,8 +400,10 @@ field_again capabilities bytes x small h =
     let text = default_read column.0.1 default.0 read.1 default.1 in
     let made : ListedDefinition × List ℕ = (record { column = column.0.0; default_value = default.0.0 }, default.0.1) in
     let is : IsListed capabilities made.0 = record { column = read.0; default_value = text } in
-    subst (λ (y : ListedDefinition × List ℕ). listed_column_at capabilities (listed_column y.0) ≡ all y.0) (ok_same made x default.2)
-    (ap (listed_column_at capabilities) (sym (append-nil (listed_column made.0))) ∙ listed_column_at-back capabilities made.0 [] is)
+    subst (λ (y : ListedDefinition × List ℕ). listed_column_at capabilities (listed_column y.0) ≡
+    all y.0) (ok_same made x default.2)
+    (ap (listed_column_at capabilities) (sym (append-nil (listed_column made.0))) ∙
+    listed_column_at-back capabilities made.0 [] is)
 
 -- STATEMENTS
 
@@ -415,10 +441,17 @@ fields_of_statement bytes x small h =
       warnings.0.1,
     ) in
     subst StatementRead (ok_same made x warnings.2) (
-      record { statement_id = omega arith; num_columns = omega arith; num_params = omega arith; warning_count = omega arith },
+      record {
+        statement_id = omega arith;
+        num_columns = omega arith;
+        num_params =
+            omega arith;
+        warning_count = omega arith;
+      },
       g.1.1,
     )
 
-pub statement_read : (bytes : List ℕ) (x : PrepareOk × List ℕ) → AreBytes bytes → prepare_ok_at bytes ≡ Ok x → StatementRead x
+pub statement_read : (bytes : List ℕ) (x : PrepareOk × List ℕ) → AreBytes bytes →
+    prepare_ok_at bytes ≡ Ok x → StatementRead x
 unfolding prepare_ok_at
 statement_read bytes x small h = fields_of_statement bytes x small (in_block 12 prepare_ok_fields_at bytes x h)

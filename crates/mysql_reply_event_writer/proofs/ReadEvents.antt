@@ -1,6 +1,8 @@
 -- An event that was read is put, place by place of a reply.
-use Rattle.std.proofs.Common.{◌≡◌, ◌≢◌, ◌<◌, ◌≤◌, ◌^◌, ◌==◌, ◌&&◌, if◌then◌else◌, nat_lt, ℕ, Bool, true, false, List, [], ◌∷◌, ◌++◌, length}
-use Rattle.std.proofs.Common.{take, drop, map, Option, None, Some, Result, Ok, Err, inl, inr, refl, sym, ap, ◌∙◌, subst, arith, lit<, append-nil}
+use Rattle.std.proofs.Common.{◌≡◌, ◌≢◌, ◌<◌, ◌≤◌, ◌^◌, ◌==◌, ◌&&◌, if◌then◌else◌, nat_lt, ℕ, Bool, true, false, List}
+use Rattle.std.proofs.Common.{[], ◌∷◌, ◌++◌, length}
+use Rattle.std.proofs.Common.{take, drop, map, Option, None, Some, Result, Ok, Err, inl, inr, refl, sym, ap, ◌∙◌, subst}
+use Rattle.std.proofs.Common.{arith, lit<, append-nil}
 use Rattle.std.proofs.lemmas.Bool.{eqb-true, le-ltb, lt-ltb, ltb-true, ne_eqb}
 use Rattle.std.proofs.lemmas.Bool.Decides.{eqb_tells, nat_tests}
 use Rattle.std.specs.Str.{bytes_eq}
@@ -29,19 +31,23 @@ use Rattle.mysql_reply_events.specs.declared.context.Context.{Context}
 use Rattle.mysql_reply_events.specs.declared.context.ReplyKind.{ReplyKind}
 use Rattle.mysql_reply_events.specs.declared.context.ReplyKind.TheVariants as kinds
 use Rattle.mysql_reply_events.specs.declared.fault.ReplyFault.{ReplyFault}
-use Rattle.mysql_reply_events.specs.declared.fault.ReplyFault.TheVariants.{BadColumn, BadCount, BadError, BadHeader, BadOk}
+use Rattle.mysql_reply_events.specs.declared.fault.ReplyFault.TheVariants.{BadColumn, BadCount, BadError, BadHeader}
+use Rattle.mysql_reply_events.specs.declared.fault.ReplyFault.TheVariants.{BadOk}
 use Rattle.mysql_reply_events.specs.declared.fault.ReplyFault.TheVariants.{BadPrepare, BadRow, BadTerminator}
 use Rattle.mysql_reply_events.specs.Events.{Awaited, Event, Group, Payload, ReplySoFar}
 use Rattle.mysql_reply_events.specs.Events.Awaited.{Columns, ColumnsEnd, Fields, FileData, First, Nothing, Rows}
 use Rattle.mysql_reply_events.specs.Events.Event.{ColumnEvent, ColumnsEndEvent, CountEvent, ErrorEvent, FieldEvent}
 use Rattle.mysql_reply_events.specs.Events.Event.{FileEvent, LineEvent, OkEvent, PreparedEvent, ProgressEvent}
 use Rattle.mysql_reply_events.specs.Events.Event.{RawRowEvent, RowEvent, RowsEndEvent}
-use Rattle.mysql_reply_events.specs.Readings.{begins_ok, begins_terminator, cached_metadata, column, column_count, count_at}
-use Rattle.mysql_reply_events.specs.Readings.{deprecate_eof, eof, field, follow_at, has_report_form, has_reports, is_binary}
+use Rattle.mysql_reply_events.specs.Readings.{begins_ok, begins_terminator, cached_metadata, column, column_count}
+use Rattle.mysql_reply_events.specs.Readings.{count_at}
+use Rattle.mysql_reply_events.specs.Readings.{deprecate_eof, eof, field, follow_at, has_report_form, has_reports}
+use Rattle.mysql_reply_events.specs.Readings.{is_binary}
 use Rattle.mysql_reply_events.specs.Readings.{mariadb, ok_packet, optional_metadata, or_fault, prepared, prepared_at}
 use Rattle.mysql_reply_events.specs.Readings.{protocol, report, reports_progress, row, server_error, terminator}
 use Rattle.mysql_reply_events.specs.Readings.{whole_or_fault, within}
-use Rattle.mysql_reply_events.specs.Table.{Step, after_count, after_statement, error_or, error_step, first, first_of_result}
+use Rattle.mysql_reply_events.specs.Table.{Step, after_count, after_statement, error_or, error_step, first}
+use Rattle.mysql_reply_events.specs.Table.{first_of_result}
 use Rattle.mysql_reply_events.specs.Table.{first_of_statement, goes_on, in_columns, in_columns_end, in_end, in_fields}
 use Rattle.mysql_reply_events.specs.Table.{count_step, in_place, in_rows, is_due, ok_step, plain, row_event}
 use Rattle.mysql_reply_event_writer.proofs.PacketsRead.{column_again, eof_again, error_again, field_again, ok_again}
@@ -122,7 +128,8 @@ begins_field : (b : ℕ) (p : ListedDefinition) → (3 == b) ≡ false → begin
 unfolding listed_column extended_column
 begins_field b p other = other
 
-column_put : (c : Context) (s : ReplySoFar) (group : Group) (n : ℕ) (earlier : List ColumnDefinition) (payload : Payload)
+column_put : (c : Context) (s : ReplySoFar) (group : Group) (n : ℕ)
+    (earlier : List ColumnDefinition) (payload : Payload)
     (event : Event) (next : ReplySoFar) → AreBytes payload → in_columns c s group n earlier payload ≡ Ok (event, next) →
     Again (in_columns c s group n earlier) c event next
 column_put c s group n earlier payload event next small h =
@@ -164,7 +171,8 @@ unfolding eof_bytes
 begins_eof b ok = refl
 
 columns_end_put : (c : Context) (s : ReplySoFar) (group : Group) (known : Bool) (payload : Payload) (event : Event)
-    (next : ReplySoFar) → AreBytes payload → length payload < 2 ^ 64 → in_columns_end c s group known payload ≡ Ok (event, next) →
+    (next : ReplySoFar) → AreBytes payload → length payload < 2 ^ 64 →
+    in_columns_end c s group known payload ≡ Ok (event, next) →
     Again (in_columns_end c s group known) c event next
 columns_end_put c s group known payload event next small few h =
     let part = step_ok (eof payload) _ (event, next) h in
@@ -178,7 +186,8 @@ columns_end_put c s group known payload event next small few h =
 
 -- OK PACKETS
 
-begins_packet : (header b capabilities : ℕ) (ok : OkPacket) → begins_with b (ok_packet_bytes header capabilities ok) ≡ (header == b)
+begins_packet : (header b capabilities : ℕ) (ok : OkPacket) →
+    begins_with b (ok_packet_bytes header capabilities ok) ≡ (header == b)
 unfolding ok_packet_bytes
 begins_packet header b capabilities ok = refl
 
@@ -216,7 +225,8 @@ begins_end deprecated payload = begins_with 254 payload && nat_lt (length payloa
 
 -- it is read as it, and stands where it stood
 abbrev pub EndPut : Bool → ℕ → OkPacket → Type 0
-EndPut deprecated capabilities ok = (end_at deprecated capabilities (end_bytes deprecated capabilities ok) ≡ gave ok []) ×
+EndPut deprecated capabilities ok =
+    (end_at deprecated capabilities (end_bytes deprecated capabilities ok) ≡ gave ok []) ×
     (begins_end deprecated (end_bytes deprecated capabilities ok) ≡ true) ×
     (begins_with 255 (end_bytes deprecated capabilities ok) ≡ false) ×
     (begins_with 0 (end_bytes deprecated capabilities ok) ≡ false)
@@ -233,10 +243,12 @@ end_put : (deprecated : Bool) (capabilities : ℕ) (payload : Payload) (x : OkPa
     length payload < 2 ^ 64 → begins_end deprecated payload ≡ true → end_at deprecated capabilities payload ≡ Ok x →
     EndPut deprecated capabilities x.0
 end_put true capabilities payload x small few begins h =
-    let short = ltb-true (length payload) 16777215 (second (begins_with 254 payload) (nat_lt (length payload) 16777215) begins) in
+    let short = ltb-true (length payload) 16777215
+    (second (begins_with 254 payload) (nat_lt (length payload) 16777215) begins) in
     let written = terminator_short capabilities payload x small short h in (
       terminator_again capabilities payload x small few h,
-      rw (begins_packet 254 254 capabilities x.0) (lt-ltb (length (ok_packet_bytes 254 capabilities x.0)) 16777215 written),
+      rw (begins_packet 254 254 capabilities x.0)
+          (lt-ltb (length (ok_packet_bytes 254 capabilities x.0)) 16777215 written),
       begins_packet 254 255 capabilities x.0,
       begins_packet 254 0 capabilities x.0,
     )
@@ -249,7 +261,8 @@ TerminatorPut c s event next = (written : Payload) × (event_payload c event ≡
     (begins_with 255 written ≡ false) × (begins_with 0 written ≡ false) × (begins_terminator c written ≡ true) ×
     (in_end c s written ≡ Ok (event, next))
 
-terminator_put : (c : Context) (s : ReplySoFar) (payload : Payload) (event : Event) (next : ReplySoFar) → AreBytes payload →
+terminator_put : (c : Context) (s : ReplySoFar) (payload : Payload) (event : Event)
+    (next : ReplySoFar) → AreBytes payload →
     length payload < 2 ^ 64 → begins_terminator c payload ≡ true → in_end c s payload ≡ Ok (event, next) →
     TerminatorPut c s event next
 terminator_put c s payload event next small few begins h =
@@ -269,7 +282,8 @@ terminator_put c s payload event next small few begins h =
 
 -- a count's first byte begins no OK packet, no error and no request for a file; few others follow
 abbrev pub CountBegins : ℕ → Type 0
-CountBegins n = (b : ℕ) × (rest : List ℕ) × (lenenc_int n ≡ b ∷ rest) × (b ≢ 0) × (b ≢ 251) × (b ≢ 255) × (length rest ≤ 2)
+CountBegins n = (b : ℕ) × (rest : List ℕ) × (lenenc_int n ≡ b ∷ rest) × (b ≢ 0) × (b ≢ 251) ×
+    (b ≢ 255) × (length rest ≤ 2)
 
 count_begins : (n : ℕ) → 0 < n → n < 65536 → CountBegins n
 count_begins n some few = go (nat_lt n 251) (nat_lt n (2 ^ 16)) refl (lt-ltb n (2 ^ 16) few) where
@@ -279,13 +293,21 @@ count_begins n some few = go (nat_lt n 251) (nat_lt n (2 ^ 16)) refl (lt-ltb n (
   go true two is fits =
       let low = ltb-true n 251 is in
       (n, [], refl, λ e. absurd (omega arith), λ e. absurd (omega arith), λ e. absurd (omega arith), omega arith)
-  go false true is fits =
-      (252, little_bytes 2 n, refl, λ e. absurd (omega arith), λ e. absurd (omega arith), λ e. absurd (omega arith), omega arith)
+  go false true is fits = (
+    252,
+    little_bytes 2 n,
+    refl,
+    λ e. absurd (omega arith),
+    λ e. absurd (omega arith),
+    λ e. absurd (omega arith),
+    omega arith,
+  )
   go false false is fits = absurd cc
 
 -- a payload of a count stands where it stood
 abbrev pub CountStands : Context → Payload → Type 0
-CountStands c written = (begins_ok c written ≡ false) × (begins_with 251 written ≡ false) × ((length written == 0) ≡ false) ×
+CountStands c written = (begins_ok c written ≡ false) × (begins_with 251 written ≡ false) ×
+    ((length written == 0) ≡ false) ×
     (begins_with 255 written ≡ false)
 
 some_bytes : (b : ℕ) (rest : List ℕ) → (length (b ∷ rest) == 0) ≡ false
@@ -340,8 +362,10 @@ number_alone n few = ap lenenc_number_at (sym (append-nil (lenenc_int n))) ∙ l
 -- a count by what is agreed on
 abbrev pub count_by : Bool → Bool → List ℕ → Reading (ℕ × Bool)
 count_by optional cached bytes =
-    if optional then (follow_at bytes >>= λ follow. lenenc_number_at follow.1 >>= λ count. Ok ((count.0, follow.0), count.1))
-    else if cached then (lenenc_number_at bytes >>= λ count. follow_at count.1 >>= λ follow. Ok ((count.0, follow.0), follow.1))
+    if optional then (follow_at bytes >>= λ follow. lenenc_number_at follow.1 >>= λ count. Ok
+    ((count.0, follow.0), count.1))
+    else if cached then (lenenc_number_at bytes >>= λ count. follow_at count.1 >>= λ follow. Ok
+    ((count.0, follow.0), follow.1))
     else (lenenc_number_at bytes >>= λ count. Ok ((count.0, true), count.1))
 
 abbrev pub bytes_by : Bool → Bool → ℕ × Bool → List ℕ
@@ -359,16 +383,23 @@ count_back false true payload count rest few h =
     rw (lenenc_number_at-back count.0 (follow_byte count.1) few, follow_alone count.1) refl
 count_back false false payload count rest few h =
     let number = bind_ok (lenenc_number_at payload) (λ n. gave (n.0, true) n.1) (count, rest) h in
-    let follows : true ≡ count.1 = ap (λ (x : (ℕ × Bool) × List ℕ). x.0.1) (ok_same ((number.0.0, true), number.0.1) (count, rest) number.2) in
+    let follows : true ≡ count.1 =
+    ap (λ (x : (ℕ × Bool) × List ℕ). x.0.1)
+    (ok_same ((number.0.0, true), number.0.1) (count, rest) number.2) in
     rw (number_alone count.0 few) (ap (λ (follow : Bool). gave (count.0, follow) []) follows)
 
 within_ok : (x count : ℕ × Bool) → within x ≡ Ok count → (x ≡ count) × (0 < count.0) × (count.0 < 65536)
 within_ok x count h = go (nat_lt 0 x.0) (nat_lt x.0 65536) refl refl h where
-  go : (some few : Bool) → nat_lt 0 x.0 ≡ some → nat_lt x.0 65536 ≡ few → (if some && few then Ok x else Err BadCount) ≡ Ok count
+  go : (some few : Bool) → nat_lt 0 x.0 ≡ some → nat_lt x.0 65536 ≡ few →
+      (if some && few then Ok x else Err BadCount) ≡ Ok count
       → (x ≡ count) × (0 < count.0) × (count.0 < 65536)
   go true true some few e =
       let same : x ≡ count = cc in
-      subst (λ (y : ℕ × Bool). (x ≡ y) × (0 < y.0) × (y.0 < 65536)) same (refl, ltb-true 0 x.0 some, ltb-true x.0 65536 few)
+      subst (λ (y : ℕ × Bool). (x ≡ y) × (0 < y.0) × (y.0 < 65536)) same (
+        refl,
+        ltb-true 0 x.0 some,
+        ltb-true x.0 65536 few,
+      )
   go true false some few e = absurd cc
   go false few some fits e = absurd cc
 
@@ -416,24 +447,29 @@ file_put c s payload event next h =
 
 result_put : (c : Context) (s : ReplySoFar) (payload : Payload) (event : Event) (next : ReplySoFar) → AreBytes payload →
     length payload < 2 ^ 64 → first_of_result c s payload ≡ Ok (event, next) → Again (first_of_result c s) c event next
-result_put c s payload event next small few h = go (begins_ok c payload) (begins_with 251 payload) (length payload == 0) h where
-  go : (ok file none : Bool) → (if ok then ok_step c s payload else if file then goes_on s (FileEvent (drop 1 payload)) FileData
-      else if none then Err BadHeader else count_step c s payload) ≡ Ok (event, next) → Again (first_of_result c s) c event next
-  go true file none e =
-      let put = ok_put c s payload event next small few e in (
-        ok_packet_bytes 0 (protocol c) put.0,
-        payload_of c (OkEvent put.0) event (ok_packet_bytes 0 (protocol c) put.0) put.1 refl,
-        begins_packet 0 255 (protocol c) put.0,
-        rw (begins_ok_packet c put.0) put.2,
-      )
-  go false true none e = file_put c s payload event next e
-  go false false true e = absurd cc
-  go false false false e = count_put c s payload event next e
+result_put c s payload event next small few h =
+    go (begins_ok c payload) (begins_with 251 payload) (length payload == 0) h where
+      go : (ok file none : Bool) →
+          (if ok then ok_step c s payload else if file then goes_on s (FileEvent (drop 1 payload))
+          FileData
+          else if none then Err BadHeader else count_step c s payload) ≡ Ok (event, next) →
+          Again (first_of_result c s) c event next
+      go true file none e =
+          let put = ok_put c s payload event next small few e in (
+            ok_packet_bytes 0 (protocol c) put.0,
+            payload_of c (OkEvent put.0) event (ok_packet_bytes 0 (protocol c) put.0) put.1 refl,
+            begins_packet 0 255 (protocol c) put.0,
+            rw (begins_ok_packet c put.0) put.2,
+          )
+      go false true none e = file_put c s payload event next e
+      go false false true e = absurd cc
+      go false false false e = count_put c s payload event next e
 
 plain_put : (c : Context) (s : ReplySoFar) (payload : Payload) (event : Event) (next : ReplySoFar) → AreBytes payload →
     length payload < 2 ^ 64 → plain c s payload ≡ Ok (event, next) → Again (plain c s) c event next
 plain_put c s payload event next small few h = go (begins_with 0 payload) (begins_terminator c payload) refl h where
-  go : (ok end : Bool) → begins_terminator c payload ≡ end → (if ok then ok_step c s payload else if end then in_end c s payload
+  go : (ok end : Bool) → begins_terminator c payload ≡ end →
+      (if ok then ok_step c s payload else if end then in_end c s payload
       else Err BadHeader) ≡ Ok (event, next) → Again (plain c s) c event next
   go true end is e =
       let put = ok_put c s payload event next small few e in (
@@ -455,7 +491,10 @@ follow_behind optional statement =
 
 follow_again : (optional : Bool) (statement : PrepareOk × List ℕ) (x : (PrepareOk × Bool) × List ℕ) →
     follow_behind optional statement ≡ Ok x →
-    (statement.0 ≡ x.0.0) × (follow_behind optional (statement.0, if optional then follow_byte x.0.1 else []) ≡ gave x.0 [])
+    (statement.0 ≡ x.0.0) × (follow_behind optional (
+      statement.0,
+      if optional then follow_byte x.0.1 else [],
+    ) ≡ gave x.0 [])
 follow_again true statement x h =
     let follow = bind_ok (follow_at statement.1) (λ follow. gave (statement.0, follow.0) follow.1) x h in
     let made : (PrepareOk × Bool) × List ℕ = ((statement.0, follow.0.0), follow.0.1) in
@@ -482,7 +521,8 @@ begins_statement : (b : ℕ) (p : PrepareOk) (behind : List ℕ) → begins_with
 unfolding prepare_ok
 begins_statement b p behind = refl
 
-statement_put : (c : Context) (s : ReplySoFar) (payload : Payload) (event : Event) (next : ReplySoFar) → AreBytes payload →
+statement_put : (c : Context) (s : ReplySoFar) (payload : Payload) (event : Event)
+    (next : ReplySoFar) → AreBytes payload →
     first_of_statement c s payload ≡ Ok (event, next) → Again (first_of_statement c s) c event next
 statement_put c s payload event next small h = go (begins_with 0 payload) h where
   read : (x : PrepareOk × Bool) → prepared c payload ≡ Ok x → prepared c (prepare_ok x.0 ++ follow_told c x.1) ≡ Ok x
@@ -490,7 +530,9 @@ statement_put c s payload event next small h = go (begins_with 0 payload) h wher
       let found = read_ok BadPrepare (prepared_at c payload) x e in
       ap (or_fault BadPrepare) (prepared_again c payload (x, found.0) small found.1)
 
-  go : (is : Bool) → (if is then (prepared c payload >>= λ x. goes_on s (PreparedEvent x.0 x.1) (after_statement c x.0.num_params x.0.num_columns x.1)) else Err BadHeader) ≡
+  go : (is : Bool) → (if is then
+      (prepared c payload >>= λ x. goes_on s (PreparedEvent x.0 x.1)
+      (after_statement c x.0.num_params x.0.num_columns x.1)) else Err BadHeader) ≡
       Ok (event, next) → Again (first_of_statement c s) c event next
   go true e =
       let part = step_ok (prepared c payload) _ (event, next) e in
@@ -516,7 +558,9 @@ below_limit : (deprecated : Bool) → terminator_limit deprecated ≤ 16777215
 below_limit true = omega arith
 below_limit false = omega arith
 
-pub text_begins_row : (bytes : List ℕ) → ((b : ℕ) (others : List ℕ) → bytes ≡ b ∷ others → (b ≢ 255) × (b ≡ 254 → 2 ^ 24 ≤ length bytes)) →
+pub text_begins_row : (bytes : List ℕ) →
+    ((b : ℕ) (others : List ℕ) → bytes ≡ b ∷ others → (b ≢ 255) ×
+    (b ≡ 254 → 2 ^ 24 ≤ length bytes)) →
     BeginsRow bytes
 text_begins_row [] begins = (refl, λ deprecated. refl)
 text_begins_row (b ∷ others) begins =
@@ -524,7 +568,8 @@ text_begins_row (b ∷ others) begins =
       ne_eqb b 255 part.0,
       λ deprecated. elim (eqb_tells b 254) [
         | inl same ↦ rw (same.0)
-            (le-ltb (length (b ∷ others)) (terminator_limit deprecated) (omega (arith, below_limit deprecated, part.1 same.1)))
+            (le-ltb (length (b ∷ others)) (terminator_limit deprecated)
+            (omega (arith, below_limit deprecated, part.1 same.1)))
         | inr other ↦ rw (other.0) refl
       ],
     )
@@ -537,7 +582,8 @@ RowPut binary columns values =
     else text_row_at columns (if binary then binary_row columns values else text_row values)) ≡ gave values []) ×
     BeginsRow (if binary then binary_row columns values else text_row values)
 
-row_put : RowLaws → (binary : Bool) (columns : List ColumnDefinition) (payload : Payload) (values : List Value) → AreBytes payload →
+row_put : RowLaws → (binary : Bool) (columns : List ColumnDefinition) (payload : Payload)
+    (values : List Value) → AreBytes payload →
     (if binary then binary_resultset_row_at columns payload else text_row_at columns payload) ≡ gave values [] →
     (binary ≡ true → map without_zero_sign values ≡ values) → RowPut binary columns values
 row_put laws true columns payload values small h own =
@@ -561,7 +607,8 @@ row_put laws false columns payload values small h own =
 -- an event of a row that is read again
 abbrev pub RowEventPut : Context → Bool → Option (List ColumnDefinition) → Event → Type 0
 RowEventPut c known columns event = (written : Payload) × (event_payload c event ≡ Some written) ×
-    (begins_with 255 written ≡ false) × (begins_terminator c written ≡ false) × (row_event c known columns written ≡ Ok event)
+    (begins_with 255 written ≡ false) × (begins_terminator c written ≡ false) ×
+    (row_event c known columns written ≡ Ok event)
 
 -- the payload of a row of these values
 pub row_payload : (c : Context) (columns : List ColumnDefinition) (values : List Value) →
@@ -570,23 +617,28 @@ pub row_payload : (c : Context) (columns : List ColumnDefinition) (values : List
     Some (if is_binary c.kind then binary_row columns values else text_row values)
 row_payload c columns values none = rw (none, same_values values) refl
 
-known_row_put : RowLaws → (c : Context) (columns : List ColumnDefinition) (payload : Payload) (event : Event) → AreBytes payload →
+known_row_put : RowLaws →
+    (c : Context) (columns : List ColumnDefinition) (payload : Payload) (event : Event) →
+    AreBytes payload →
     HasOwnForm c event → row_event c true (Some columns) payload ≡ Ok event → RowEventPut c true (Some columns) event
 known_row_put laws c columns payload event small own h =
     let part = step_ok (row c columns payload) _ event h in
     let is : RowEvent part.0 ≡ event = cc in
     let read = whole_ok BadRow _ part.0 part.1 in
-    let values = bind_ok (if is_binary c.kind then binary_resultset_row_at columns payload else text_row_at columns payload)
+    let values = bind_ok (if is_binary c.kind then binary_resultset_row_at columns payload else
+    text_row_at columns payload)
     (λ x. gave (whole_row columns x.0) x.1) (part.0, []) read in
     let made : Row × List ℕ = (whole_row columns values.0.0, values.0.1) in
     let same = ok_same made (part.0, []) values.2 in
     let row_is : whole_row columns values.0.0 ≡ part.0 = ap (λ (x : Row × List ℕ). x.0) same in
     let none_left : values.0.1 ≡ [] = ap (λ (x : Row × List ℕ). x.1) same in
     let event_is : RowEvent (whole_row columns values.0.0) ≡ event = ap (λ (r : Row). RowEvent r) row_is ∙ is in
-    let reads : (if is_binary c.kind then binary_resultset_row_at columns payload else text_row_at columns payload) ≡ gave values.0.0 [] =
+    let reads : (if is_binary c.kind then binary_resultset_row_at columns payload else text_row_at
+    columns payload) ≡ gave values.0.0 [] =
     values.1 ∙ ap (λ (rest : List ℕ). gave values.0.0 rest) none_left in
     let form : HasOwnForm c (RowEvent (whole_row columns values.0.0)) = subst (HasOwnForm c) (sym event_is) own in
-    let keeps : is_binary c.kind ≡ true → map without_zero_sign values.0.0 ≡ values.0.0 = λ binary. rw (same_values values.0.0) at (form binary) in
+    let keeps : is_binary c.kind ≡ true → map without_zero_sign values.0.0 ≡ values.0.0 =
+    λ binary. rw (same_values values.0.0) at (form binary) in
     let put = row_put laws (is_binary c.kind) columns payload values.0.0 small reads keeps in (
       if is_binary c.kind then binary_row columns values.0.0 else text_row values.0.0,
       payload_of c (RowEvent (whole_row columns values.0.0)) event _ event_is (row_payload c columns values.0.0 put.0),
@@ -596,25 +648,34 @@ known_row_put laws c columns payload event small own h =
     )
 
 -- a row as it came
-raw_row_put : (c : Context) (known : Bool) (columns : Option (List ColumnDefinition)) (payload : Payload) (event : Event) →
+raw_row_put : (c : Context) (known : Bool) (columns : Option (List ColumnDefinition))
+    (payload : Payload) (event : Event) →
     begins_with 255 payload ≡ false → begins_terminator c payload ≡ false →
-    (if optional_metadata c then Ok (RawRowEvent payload) else Err BadRow) ≡ Ok event → row_event c known columns payload ≡ Ok event →
+    (if optional_metadata c then Ok (RawRowEvent payload) else Err BadRow) ≡ Ok event →
+    row_event c known columns payload ≡ Ok event →
     RowEventPut c known columns event
 raw_row_put c known columns payload event quiet goes_on h reads = go (optional_metadata c) h where
-  go : (optional : Bool) → (if optional then Ok (RawRowEvent payload) else Err BadRow) ≡ Ok event → RowEventPut c known columns event
+  go : (optional : Bool) → (if optional then Ok (RawRowEvent payload) else Err BadRow) ≡ Ok event →
+      RowEventPut c known columns event
   go true e =
       let is : RawRowEvent payload ≡ event = cc in
       (payload, payload_of c (RawRowEvent payload) event payload is refl, quiet, goes_on, reads)
   go false e = absurd cc
 
-row_event_put : RowLaws → (c : Context) (known : Bool) (columns : Option (List ColumnDefinition)) (payload : Payload) (event : Event) →
+row_event_put : RowLaws →
+    (c : Context) (known : Bool) (columns : Option (List ColumnDefinition)) (payload : Payload)
+    (event : Event) →
     AreBytes payload → begins_with 255 payload ≡ false → begins_terminator c payload ≡ false → HasOwnForm c event →
     row_event c known columns payload ≡ Ok event → RowEventPut c known columns event
-row_event_put laws c true (Some columns) payload event small quiet goes_on own h = known_row_put laws c columns payload event small own h
-row_event_put laws c true None payload event small quiet goes_on own h = raw_row_put c true None payload event quiet goes_on h h
-row_event_put laws c false columns payload event small quiet goes_on own h = raw_row_put c false columns payload event quiet goes_on h h
+row_event_put laws c true (Some columns) payload event small quiet goes_on own h =
+    known_row_put laws c columns payload event small own h
+row_event_put laws c true None payload event small quiet goes_on own h =
+    raw_row_put c true None payload event quiet goes_on h h
+row_event_put laws c false columns payload event small quiet goes_on own h =
+    raw_row_put c false columns payload event quiet goes_on h h
 
-rows_put : RowLaws → (c : Context) (s : ReplySoFar) (known : Bool) (payload : Payload) (event : Event) (next : ReplySoFar) →
+rows_put : RowLaws → (c : Context) (s : ReplySoFar) (known : Bool) (payload : Payload)
+    (event : Event) (next : ReplySoFar) →
     AreBytes payload → length payload < 2 ^ 64 → begins_with 255 payload ≡ false → HasOwnForm c event →
     in_rows c s known payload ≡ Ok (event, next) → Again (in_rows c s known) c event next
 rows_put laws c s known payload event next small few quiet own h = go (begins_terminator c payload) refl h where
@@ -637,7 +698,8 @@ fields_put : (c : Context) (s : ReplySoFar) (payload : Payload) (event : Event) 
     length payload < 2 ^ 64 → in_fields c s payload ≡ Ok (event, next) → Again (in_fields c s) c event next
 fields_put c s payload event next small few h = go (begins_terminator c payload) refl h where
   go : (end : Bool) → begins_terminator c payload ≡ end → (if end then in_end c s payload
-      else field c payload >>= λ found. goes_on s (FieldEvent found) Fields) ≡ Ok (event, next) → Again (in_fields c s) c event next
+      else field c payload >>= λ found. goes_on s (FieldEvent found) Fields) ≡ Ok (event, next) →
+      Again (in_fields c s) c event next
   go true is e =
       let put = terminator_put c s payload event next small few is e in
       (put.0, put.1, put.2, rw (put.4) put.5)
@@ -661,19 +723,22 @@ neither true true d h = h
 neither true false d h = refl
 neither false b d h = refl
 
-other_front : (payload : Payload) → begins_with 255 payload ≡ false → bytes_eq (take 3 payload) (255 ∷ 255 ∷ 255 ∷ []) ≡ false
+other_front : (payload : Payload) → begins_with 255 payload ≡ false →
+    bytes_eq (take 3 payload) (255 ∷ 255 ∷ 255 ∷ []) ≡ false
 other_front [] h = refl
 other_front (b ∷ others) h = rw h refl
 
 pub no_report : (c : Context) (payload : Payload) → begins_with 255 payload ≡ false → has_report_form c payload ≡ false
 no_report c payload h =
-    neither (has_reports c.kind) (reports_progress c) (bytes_eq (take 3 payload) (255 ∷ 255 ∷ 255 ∷ [])) (other_front payload h)
+    neither (has_reports c.kind) (reports_progress c)
+    (bytes_eq (take 3 payload) (255 ∷ 255 ∷ 255 ∷ [])) (other_front payload h)
 
 placed : (step : Payload → Step) (c : Context) (event : Event) (next : ReplySoFar) → Again step c event next →
     Placed step c event next
 placed step c event next put = (put.0, put.1, no_report c put.0 put.2, put.3)
 
-error_put : (c : Context) (s : ReplySoFar) (step : Payload → Step) (payload : Payload) (event : Event) (next : ReplySoFar) →
+error_put : (c : Context) (s : ReplySoFar) (step : Payload → Step) (payload : Payload)
+    (event : Event) (next : ReplySoFar) →
     AreBytes payload → has_report_form c payload ≡ false → error_step c s payload ≡ Ok (event, next) →
     Placed (λ p. error_or c s p (step p)) c event next
 error_put c s step payload event next small quiet h =
@@ -682,26 +747,30 @@ error_put c s step payload event next small quiet h =
     let again = error_again (protocol c) payload (part.0, read.0) small read.1 in
     let is = same_event (ErrorEvent part.0) event _ next part.2 in
     let front : has_report_form c (err_packet (Error part.0)) ≡ has_report_form c payload =
-    ap (λ (three : List ℕ). has_reports c.kind && reports_progress c && bytes_eq three (255 ∷ 255 ∷ 255 ∷ [])) again.1 in (
+    ap (λ (three : List ℕ). has_reports c.kind && reports_progress c &&
+    bytes_eq three (255 ∷ 255 ∷ 255 ∷ [])) again.1 in (
       err_packet (Error part.0),
       payload_of c (ErrorEvent part.0) event (err_packet (Error part.0)) is refl,
       front ∙ quiet,
       rw again.0 part.2,
     )
 
-error_or_put : (c : Context) (s : ReplySoFar) (step : Payload → Step) (payload : Payload) (event : Event) (next : ReplySoFar) →
+error_or_put : (c : Context) (s : ReplySoFar) (step : Payload → Step) (payload : Payload)
+    (event : Event) (next : ReplySoFar) →
     AreBytes payload → has_report_form c payload ≡ false →
     (begins_with 255 payload ≡ false → step payload ≡ Ok (event, next) → Again step c event next) →
     error_or c s payload (step payload) ≡ Ok (event, next) → Placed (λ p. error_or c s p (step p)) c event next
 error_or_put c s step payload event next small quiet again h = go (begins_with 255 payload) refl h where
-  go : (error : Bool) → begins_with 255 payload ≡ error → (if error then error_step c s payload else step payload) ≡ Ok (event, next) →
+  go : (error : Bool) → begins_with 255 payload ≡ error →
+      (if error then error_step c s payload else step payload) ≡ Ok (event, next) →
       Placed (λ p. error_or c s p (step p)) c event next
   go true is e = error_put c s step payload event next small quiet e
   go false is e =
       let put = again is e in
       (put.0, put.1, no_report c put.0 put.2, rw (put.2) put.3)
 
-first_put : RowLaws → (c : Context) (s : ReplySoFar) (kind : ReplyKind) (payload : Payload) (event : Event) (next : ReplySoFar) →
+first_put : RowLaws → (c : Context) (s : ReplySoFar) (kind : ReplyKind) (payload : Payload)
+    (event : Event) (next : ReplySoFar) →
     AreBytes payload → length payload < 2 ^ 64 → HasOwnForm c event → begins_with 255 payload ≡ false →
     first c s kind payload ≡ Ok (event, next) → Again (first c s kind) c event next
 first_put laws c s kinds.Text payload event next small few own quiet h = result_put c s payload event next small few h
@@ -711,18 +780,23 @@ first_put laws c s kinds.Plain payload event next small few own quiet h = plain_
 first_put laws c s kinds.Line payload event next small few own quiet h =
     let is = same_event (LineEvent payload) event _ next h in
     (payload, payload_of c (LineEvent payload) event payload is refl, quiet, h)
-first_put laws c s kinds.FieldList payload event next small few own quiet h = fields_put c s payload event next small few h
-first_put laws c s kinds.Fetch payload event next small few own quiet h = rows_put laws c s true payload event next small few quiet own h
+first_put laws c s kinds.FieldList payload event next small few own quiet h =
+    fields_put c s payload event next small few h
+first_put laws c s kinds.Fetch payload event next small few own quiet h =
+    rows_put laws c s true payload event next small few quiet own h
 
-place_put : RowLaws → (c : Context) (s : ReplySoFar) (a : Awaited) (payload : Payload) (event : Event) (next : ReplySoFar) →
+place_put : RowLaws → (c : Context) (s : ReplySoFar) (a : Awaited) (payload : Payload)
+    (event : Event) (next : ReplySoFar) →
     AreBytes payload → length payload < 2 ^ 64 → HasOwnForm c event → is_due a && has_report_form c payload ≡ false →
     in_place c s a payload ≡ Ok (event, next) → Placed (in_place c s a) c event next
 place_put laws c s First payload event next small few own quiet h =
-    error_or_put c s (first c s c.kind) payload event next small quiet (first_put laws c s c.kind payload event next small few own) h
+    error_or_put c s (first c s c.kind) payload event next small quiet
+    (first_put laws c s c.kind payload event next small few own) h
 place_put laws c s (Columns group n earlier) payload event next small few own quiet h =
     placed (in_columns c s group n earlier) c event next (column_put c s group n earlier payload event next small h)
 place_put laws c s (ColumnsEnd group known) payload event next small few own quiet h =
-    placed (in_columns_end c s group known) c event next (columns_end_put c s group known payload event next small few h)
+    placed (in_columns_end c s group known) c event next
+    (columns_end_put c s group known payload event next small few h)
 place_put laws c s (Rows known) payload event next small few own quiet h =
     error_or_put c s (in_rows c s known) payload event next small quiet
     (λ other e. rows_put laws c s known payload event next small few other own e) h
@@ -748,7 +822,8 @@ report_form : (c : Context) (payload : Payload) (r : ProgressReport) → has_rep
 report_form c payload r h =
     still_reports (has_reports c.kind) (reports_progress c) (bytes_eq (take 3 payload) (255 ∷ 255 ∷ 255 ∷ [])) h
 
-progress_put : (c : Context) (s : ReplySoFar) (payload : Payload) (event : Event) (next : ReplySoFar) → AreBytes payload →
+progress_put : (c : Context) (s : ReplySoFar) (payload : Payload) (event : Event)
+    (next : ReplySoFar) → AreBytes payload →
     is_due s.awaited && has_report_form c payload ≡ true →
     (report payload >>= λ found. leads (ProgressEvent found) s) ≡ Ok (event, next) → IsPutThere c s event next
 progress_put c s payload event next small due h =
@@ -763,11 +838,13 @@ progress_put c s payload event next small due h =
     )
 
 pub events_are_put : RowLaws → ReadEventsArePut
-events_are_put laws c s payload event next small few h own = go (is_due s.awaited && has_report_form c payload) refl h where
-  go : (reports : Bool) → is_due s.awaited && has_report_form c payload ≡ reports →
-      (if reports then (report payload >>= λ found. leads (ProgressEvent found) s) else in_place c s s.awaited payload) ≡
-      Ok (event, next) → IsPutThere c s event next
-  go true is e = progress_put c s payload event next small is e
-  go false is e =
-      let put = place_put laws c s s.awaited payload event next small few own is e in
-      (put.0, put.1, rw (put.2, never (is_due s.awaited)) put.3)
+events_are_put laws c s payload event next small few h own =
+    go (is_due s.awaited && has_report_form c payload) refl h where
+      go : (reports : Bool) → is_due s.awaited && has_report_form c payload ≡ reports →
+          (if reports then (report payload >>= λ found. leads (ProgressEvent found) s) else in_place c s
+          s.awaited payload) ≡
+          Ok (event, next) → IsPutThere c s event next
+      go true is e = progress_put c s payload event next small is e
+      go false is e =
+          let put = place_put laws c s s.awaited payload event next small few own is e in
+          (put.0, put.1, rw (put.2, never (is_due s.awaited)) put.3)

@@ -1,5 +1,6 @@
 -- Values of rows that were read fit their fields.
-use Rattle.std.proofs.Common.{◌≡◌, ◌<◌, ◌≤◌, ◌+◌, ◌^◌, ◌==◌, if◌then◌else◌, nat_lt, pos, ℕ, zero, suc, Bool, true, false, List, [], ◌∷◌, length, drop}
+use Rattle.std.proofs.Common.{◌≡◌, ◌<◌, ◌≤◌, ◌+◌, ◌^◌, ◌==◌, if◌then◌else◌, nat_lt, pos, ℕ, zero, suc, Bool, true}
+use Rattle.std.proofs.Common.{false, List, [], ◌∷◌, length, drop}
 use Rattle.std.proofs.Common.{Ok, Err, refl, subst, arith, FitsSigned}
 use Rattle.std.proofs.Math.Facts.{sfits_to_z}
 use Rattle.std.proofs.lemmas.Bool.{ltb-true}
@@ -27,7 +28,8 @@ use Rattle.mysql_fields.specs.Laws.{bind_ok, done, ok_same}
 use Rattle.mysql_fields.specs.Texts.{lenenc_text_at, u8_text_at}
 use Rattle.mysql_fields.specs.Wire.{◌>>=◌}
 use Rattle.mysql_fields.specs.declared.error.WireError.TheVariants.{BadLength}
-use Rattle.mysql_rows.specs.Rows.{binary_cell_at, binary_cells_at, binary_resultset_row_at, binary_row_body_at, text_row_at}
+use Rattle.mysql_rows.specs.Rows.{binary_cell_at, binary_cells_at, binary_resultset_row_at, binary_row_body_at}
+use Rattle.mysql_rows.specs.Rows.{text_row_at}
 use Rattle.mysql_reply_event_writer.proofs.FieldsRead.{block_read, constant_read, left_bytes, number_read}
 use Rattle.mysql_reply_event_writer.proofs.FieldsRead.{short_text_read, text_read}
 
@@ -154,7 +156,8 @@ text_cell_fits (b ∷ bytes) x small h = go (b == 251) (b == 255) h where
 abbrev pub ValuesRead : ℕ → List Value × List ℕ → Type 0
 ValuesRead n x = (length x.0 ≡ n) × AllByRecursion (λ value. FitsFields value) x.0
 
-text_cells_fit : (n : ℕ) (bytes : List ℕ) (x : List Value × List ℕ) → AreBytes bytes → elements_at text_cell_at n bytes ≡ Ok x →
+text_cells_fit : (n : ℕ) (bytes : List ℕ) (x : List Value × List ℕ) → AreBytes bytes →
+    elements_at text_cell_at n bytes ≡ Ok x →
     ValuesRead n x
 unfolding elements_at
 text_cells_fit zero bytes x small h =
@@ -179,7 +182,8 @@ binary_cell_fits true column bytes x small h =
     let value : Value × List ℕ = (NULL, bytes) in subst ValueRead (ok_same value x h) (tt, small)
 binary_cell_fits false column bytes x small h = column_cell_fits column bytes x small h
 
-binary_cells_fit : (bitmap : List ℕ) (place : ℕ) (columns : List ColumnDefinition) (bytes : List ℕ) (x : List Value × List ℕ) →
+binary_cells_fit : (bitmap : List ℕ) (place : ℕ) (columns : List ColumnDefinition) (bytes : List ℕ)
+    (x : List Value × List ℕ) →
     AreBytes bytes → binary_cells_at 2 bitmap place columns bytes ≡ Ok x → ValuesRead (length columns) x
 unfolding binary_cells_at
 binary_cells_fit bitmap place [] bytes x small h =

@@ -1,5 +1,6 @@
 -- What ends rows is no longer as it is written than as it was read.
-use Rattle.std.proofs.Common.{◌≡◌, ◌<◌, ◌≤◌, ◌+◌, ◌⊎◌, ◌^◌, ◌==◌, ◌&&◌, if◌then◌else◌, nat_lt, ℕ, Bool, true, false, List, [], ◌∷◌, ◌++◌, length}
+use Rattle.std.proofs.Common.{◌≡◌, ◌<◌, ◌≤◌, ◌+◌, ◌⊎◌, ◌^◌, ◌==◌, ◌&&◌, if◌then◌else◌, nat_lt, ℕ, Bool, true, false}
+use Rattle.std.proofs.Common.{List, [], ◌∷◌, ◌++◌, length}
 use Rattle.std.proofs.Common.{Option, None, Ok, inl, inr, refl, ap, subst, arith, append-nil, length-append}
 use Rattle.byteorder.specs.Endian.{little_bytes}
 use Rattle.mysql_buf.specs.Bytes.{AreBytes}
@@ -12,7 +13,8 @@ use Rattle.mysql_fields.specs.Texts.{lenenc_text_at}
 use Rattle.mysql_fields.specs.Wire.{◌>>=◌}
 use Rattle.mysql_ok_packets.specs.OkPackets.{OkPacket, info_at, result_set_terminator_at, session_state_changed}
 use Rattle.mysql_ok_packets.specs.OkPackets.{session_track, status_and_info_at, unless_empty, unless_zero}
-use Rattle.mysql_ok_packets.specs.Written.{info_bytes, lenenc_unless_empty, ok_packet_bytes, or_empty, or_zero, tells_state}
+use Rattle.mysql_ok_packets.specs.Written.{info_bytes, lenenc_unless_empty, ok_packet_bytes, or_empty, or_zero}
+use Rattle.mysql_ok_packets.specs.Written.{tells_state}
 use Rattle.mysql_reply_event_writer.proofs.FieldsRead.{block_read, constant_read, length_read, text_read}
 
 -- TEXTS
@@ -47,7 +49,8 @@ not_tracked : (tracks changed : Bool) → tracks ≡ false → (tracks && change
 not_tracked true changed is = absurd cc
 not_tracked false changed is = refl
 
-two_texts : (told : Bool) (info state bytes : List ℕ) → length (lenenc_str info) + length (lenenc_str state) ≤ length bytes →
+two_texts : (told : Bool) (info state bytes : List ℕ) →
+    length (lenenc_str info) + length (lenenc_str state) ≤ length bytes →
     AreFew bytes (texts told info state)
 two_texts true info state bytes few = inr (omega (arith, few, length-append (lenenc_str info) (lenenc_str state)))
 two_texts false info state bytes few = inr (omega (arith, few, info_shorter info))
@@ -59,7 +62,8 @@ InfoRead capabilities status bytes x = AreFew bytes (texts (tells_state capabili
 tracked : (capabilities status : ℕ) (bytes : List ℕ) (changed : Bool) (info : List ℕ × List ℕ)
     (x : (List ℕ × List ℕ) × List ℕ) → session_state_changed status ≡ changed → AreBytes info.1 →
     length (lenenc_str info.0) + length info.1 ≤ length bytes →
-    (if changed then (lenenc_text_at info.1 >>= λ state. done ((info.0, state.0), state.1)) else done ((info.0, []), info.1)) ≡ Ok x →
+    (if changed then (lenenc_text_at info.1 >>= λ state. done ((info.0, state.0), state.1)) else
+    done ((info.0, []), info.1)) ≡ Ok x →
     InfoRead capabilities status bytes x
 tracked capabilities status bytes true info x is small few h =
     let state = bind_ok (lenenc_text_at info.1) (λ state. done ((info.0, state.0), state.1)) x h in
@@ -92,7 +96,8 @@ info_read capabilities status (b ∷ bytes) x small h = go (session_track capabi
       tracked capabilities status (b ∷ bytes) (session_state_changed status) info.0 x refl read.2.1 read.2.0 info.2
   go false true is e =
       let made : (List ℕ × List ℕ) × List ℕ = (([], []), b ∷ bytes) in
-      subst (InfoRead capabilities status (b ∷ bytes)) (ok_same made x e) (no_texts (tells_state capabilities status) (b ∷ bytes))
+      subst (InfoRead capabilities status (b ∷ bytes)) (ok_same made x e)
+      (no_texts (tells_state capabilities status) (b ∷ bytes))
   go false false is e =
       let info = bind_ok (lenenc_text_at (b ∷ bytes)) (λ info. done ((info.0, []), info.1)) x e in
       let read = text_read (b ∷ bytes) info.0 small info.1 in
@@ -142,13 +147,18 @@ behind capabilities bytes x small h =
       },
       info.0.1,
     ) in
-    subst (Behind capabilities (length bytes)) (ok_same made x info.2)
-    (refl, refl, behind_by capabilities status.0.0.0 info.0.0.0 info.0.0.1 block.0.1 (length bytes) (omega (arith, four.3.0)) read)
+    subst (Behind capabilities (length bytes)) (ok_same made x info.2) (
+      refl,
+      refl,
+      behind_by capabilities status.0.0.0 info.0.0.0 info.0.0.1 block.0.1 (length bytes)
+          (omega (arith, four.3.0)) read,
+    )
 
 -- a length takes a byte at least
 some_byte : (n : ℕ) → 1 ≤ length (lenenc_int n)
 some_byte n = go (nat_lt n 251) (nat_lt n (2 ^ 16)) (nat_lt n (2 ^ 24)) where
-  go : (a b c : Bool) → 1 ≤ length (if a then n ∷ [] else if b then 252 ∷ little_bytes 2 n else if c then 253 ∷ little_bytes 3 n else 254 ∷ little_bytes 8 n)
+  go : (a b c : Bool) → 1 ≤ length (if a then n ∷ [] else if b then 252 ∷
+      little_bytes 2 n else if c then 253 ∷ little_bytes 3 n else 254 ∷ little_bytes 8 n)
   go true b c = omega arith
   go false true c = omega arith
   go false false true = omega arith
@@ -164,13 +174,16 @@ packet_size : (capabilities : ℕ) (p : OkPacket) → p.affected_rows ≡ 0 → 
     length (ok_packet_bytes 254 capabilities p) ≡ 7 + length (info_bytes capabilities p)
 unfolding ok_packet_bytes
 packet_size capabilities p rows id =
-    let one = length-append (lenenc_int p.affected_rows) (lenenc_int (or_zero p.last_insert_id) ++ last_bytes capabilities p) in
+    let one = length-append (lenenc_int p.affected_rows) (lenenc_int (or_zero p.last_insert_id) ++
+    last_bytes capabilities p) in
     let two = length-append (lenenc_int (or_zero p.last_insert_id)) (last_bytes capabilities p) in
     let first : length (lenenc_int p.affected_rows) ≡ 1 = ap (λ (n : ℕ). length (lenenc_int n)) rows in
-    let second : length (lenenc_int (or_zero p.last_insert_id)) ≡ 1 = ap (λ (o : Option ℕ). length (lenenc_int (or_zero o))) id in
+    let second : length (lenenc_int (or_zero p.last_insert_id)) ≡ 1 =
+    ap (λ (o : Option ℕ). length (lenenc_int (or_zero o))) id in
     omega (arith, one, two, first, second, ap length (append-nil (info_bytes capabilities p)))
 
-pub terminator_short : (capabilities : ℕ) (bytes : List ℕ) (x : OkPacket × List ℕ) → AreBytes bytes → length bytes < 16777215 →
+pub terminator_short : (capabilities : ℕ) (bytes : List ℕ) (x : OkPacket × List ℕ) →
+    AreBytes bytes → length bytes < 16777215 →
     result_set_terminator_at capabilities bytes ≡ Ok x → length (ok_packet_bytes 254 capabilities x.0) < 16777215
 unfolding result_set_terminator_at
 terminator_short capabilities bytes x small few h =
@@ -192,6 +205,7 @@ terminator_short capabilities bytes x small few h =
 pub ok_size : (capabilities : ℕ) (p : OkPacket) → 6 < length (ok_packet_bytes 0 capabilities p)
 unfolding ok_packet_bytes
 ok_size capabilities p =
-    let one = length-append (lenenc_int p.affected_rows) (lenenc_int (or_zero p.last_insert_id) ++ last_bytes capabilities p) in
+    let one = length-append (lenenc_int p.affected_rows) (lenenc_int (or_zero p.last_insert_id) ++
+    last_bytes capabilities p) in
     let two = length-append (lenenc_int (or_zero p.last_insert_id)) (last_bytes capabilities p) in
     omega (arith, one, two, some_byte p.affected_rows, some_byte (or_zero p.last_insert_id))

@@ -1,5 +1,6 @@
 -- A binary row of a result set is a server's row whose first byte is a zero.
-use Rattle.std.proofs.Common.{◌≡◌, ℕ, List, [], ◌∷◌, take, ◌==◌, Bool, true, false, Ok, Err, sym, ap, ◌∙◌, arith, if◌then◌else◌}
+use Rattle.std.proofs.Common.{◌≡◌, ℕ, List, [], ◌∷◌, take, ◌==◌, Bool, true, false, Ok, Err, sym, ap, ◌∙◌, arith}
+use Rattle.std.proofs.Common.{if◌then◌else◌}
 use Rattle.byteorder.specs.Endian.{little_number}
 use Rattle.mysql_buf.specs.FirstBytes.{first-enough, first-short}
 use Rattle.mysql_columns.specs.Columns.{ColumnDefinition}
@@ -18,12 +19,20 @@ after_constant n x header h = by (x.0 == n) h
     by true e = ap (λ (p : ℕ × List ℕ). p.1) (sym (ok_same x header e))
     by false e = absurd cc
 
-pub zero_begins : (columns : List ColumnDefinition) (bytes : List ℕ) (header : ℕ × List ℕ) → constant_at 1 0 bytes ≡ Ok header → binary_resultset_row_at columns bytes ≡ binary_row_at 2 columns bytes
+pub zero_begins : (columns : List ColumnDefinition) (bytes : List ℕ) (header : ℕ × List ℕ) →
+    constant_at 1 0 bytes ≡ Ok header → binary_resultset_row_at columns bytes ≡
+    binary_row_at 2 columns bytes
 unfolding binary_resultset_row_at binary_row_at
 zero_begins columns [] header h = absurd (let none = ap or_end (first-short 1 (little_number 1) [] (omega arith)) in cc)
 zero_begins columns (b ∷ rest) header h =
-    let number : fixed_number_at 1 (b ∷ rest) ≡ Ok (little_number 1 (b ∷ rest), rest) = ap or_end (first-enough 1 (little_number 1) (b ∷ rest) (omega arith)) in
-    let byte : bytes_at 1 (b ∷ rest) ≡ Ok (take 1 (b ∷ rest), rest) = ap or_end (first-enough 1 (take 1) (b ∷ rest) (omega arith)) in
-    let after : header.1 ≡ rest = after_constant 0 (little_number 1 (b ∷ rest), rest) header (sym (ap (λ (r : Reading ℕ). r >>= is_constant 0) number) ∙ h) in
+    let number : fixed_number_at 1 (b ∷ rest) ≡ Ok (little_number 1 (b ∷ rest), rest) =
+    ap or_end (first-enough 1 (little_number 1) (b ∷ rest) (omega arith)) in
+    let byte : bytes_at 1 (b ∷ rest) ≡ Ok (take 1 (b ∷ rest), rest) =
+    ap or_end (first-enough 1 (take 1) (b ∷ rest) (omega arith)) in
+    let after : header.1 ≡ rest =
+    after_constant 0 (
+      little_number 1 (b ∷ rest),
+      rest,
+    ) header (sym (ap (λ (r : Reading ℕ). r >>= is_constant 0) number) ∙ h) in
     ap (λ (r : Reading ℕ). r >>= λ x. binary_row_body_at 2 columns x.1) h ∙ ap (binary_row_body_at 2 columns) after
     ∙ sym (ap (λ (r : Reading (List ℕ)). r >>= λ x. binary_row_body_at 2 columns x.1) byte)

@@ -1,5 +1,6 @@
 -- A payload that is taken as the next row is the row of the table, and one that isn't is none.
-use Rattle.std.proofs.Common.{◌≡◌, List, [], ◌∷◌, Bool, true, false, Some, None, Result, Ok, Err, arith, inl, inr, refl, ap, sym, subst, ◌∙◌}
+use Rattle.std.proofs.Common.{◌≡◌, List, [], ◌∷◌, Bool, true, false, Some, None, Result, Ok, Err, arith, inl, inr, refl}
+use Rattle.std.proofs.Common.{ap, sym, subst, ◌∙◌}
 use Rattle.std.specs.Prelude.{◌==◌, ◌&&◌, ℕ, bytes_eq, nat_lt, take}
 use Rattle.std.proofs.lemmas.Bool.Decides.{nat_tests}
 use Rattle.mysql_columns.specs.Columns.{ColumnDefinition}
@@ -32,7 +33,8 @@ never false y = refl
 starts_none : (b c : Bool) → b ≡ false → (b && c) ≡ false
 starts_none b c h = rw h refl
 
-no_report : (c : Context) (first : ℕ) (rest : Payload) → nat_lt first 254 ≡ true → has_report_form c (first ∷ rest) ≡ false
+no_report : (c : Context) (first : ℕ) (rest : Payload) → nat_lt first 254 ≡ true →
+    has_report_form c (first ∷ rest) ≡ false
 no_report c first rest h =
     ap (λ (b : Bool). has_reports c.kind && reports_progress c && b)
     (starts_none (first == 255) (bytes_eq (take 2 rest) (255 ∷ 255 ∷ [])) (other first 255 h refl))
@@ -48,7 +50,8 @@ awaits Fields payload h = absurd cc
 awaits FileData payload h = absurd cc
 awaits Nothing payload h = absurd cc
 
-begins : (payload : Payload) → is_next_row (Rows true) payload ≡ true → (c : Context) (columns : List ColumnDefinition) →
+begins : (payload : Payload) → is_next_row (Rows true) payload ≡ true →
+    (c : Context) (columns : List ColumnDefinition) →
     is_row_due c (record { awaited = Rows true; columns = Some columns }) payload ≡ true
 begins [] h c columns = absurd cc
 begins (first ∷ rest) h c columns =
@@ -58,22 +61,30 @@ due_by : (c : Context) (s : ReplySoFar) (payload : Payload) (columns : List Colu
     s.columns ≡ Some columns → is_next_row s.awaited payload ≡ true → is_row_due c s payload ≡ true
 due_by c s payload columns awaited stand next =
     let rows : is_next_row (Rows true) payload ≡ true = ap (λ a. is_next_row a payload) (sym awaited) ∙ next in
-    let same : s ≡ record { awaited = Rows true; columns = Some columns } = (λ i. record { awaited = awaited i; columns = stand i }) in
+    let same : s ≡ record { awaited = Rows true; columns = Some columns } =
+    (λ i. record { awaited = awaited i; columns = stand i }) in
     ap (λ (s : ReplySoFar). is_row_due c s payload) same ∙ begins payload rows c columns
 
-row_refused : (c : Context) (payload : Payload) (format : RowFormat) (columns these : List ColumnDefinition) (error : RowError) →
-    format ≡ format_of c.kind → columns ≡ these → row_of format columns payload ≡ Err error → row c these payload ≡ Err BadRow
+row_refused : (c : Context) (payload : Payload) (format : RowFormat)
+    (columns these : List ColumnDefinition) (error : RowError) →
+    format ≡ format_of c.kind → columns ≡ these → row_of format columns payload ≡ Err error →
+    row c these payload ≡ Err BadRow
 row_refused c payload format columns these error same e none =
     row_is c these payload ∙ (λ i. or_bad_row (row_of (sym same i) (sym e i) payload)) ∙ ap or_bad_row none
 
-refused : (old : ReaderState) (payload : Payload) (format : RowFormat) (columns : List ColumnDefinition) (error : RowError) →
-    is_row_due old.context old.so_far payload ≡ true → format ≡ format_of old.context.kind → old.so_far.columns ≡ Some columns →
+refused : (old : ReaderState) (payload : Payload) (format : RowFormat)
+    (columns : List ColumnDefinition) (error : RowError) →
+    is_row_due old.context old.so_far payload ≡ true → format ≡ format_of old.context.kind →
+    old.so_far.columns ≡ Some columns →
     row_of format columns payload ≡ Err error → event_at old.context old.so_far payload ≡ Err BadRow
 refused old payload format columns error due same stand none =
     let step = row_due old.context old.so_far payload due in
     let these : columns ≡ step.0 = cc in
     let read = row_refused old.context payload format columns step.0 error same these none in
-    step.2 ∙ ap (λ (r : Result Row ReplyFault). r >>= λ found. Ok (RowEvent found, record old.so_far { awaited = Rows true })) read
+    step.2 ∙ ap (λ (r : Result Row ReplyFault). r >>= λ found. Ok (
+      RowEvent found,
+      record old.so_far { awaited = Rows true },
+    )) read
 
 -- By what the reader of rows answers.
 pub takes : (old new : ReaderState) (payload : Payload) (standing : Standing) (taken : Bool) →
@@ -86,10 +97,13 @@ takes old new payload standing true next columns rows format fault same took =
     let due = due_by old.context old.so_far payload took.0 awaited stand next in (
       awaited,
       reads_row old new payload standing.format due format (ap (λ (s : ReaderState). s.context) same)
-          (ap (λ (s : ReaderState). s.so_far) same ∙ ap (λ a. let s : ReplySoFar = record { awaited = a; columns = old.so_far.columns } in s) awaited)
+          (ap (λ (s : ReaderState). s.so_far) same ∙
+          ap (λ a. let s : ReplySoFar = record { awaited = a; columns = old.so_far.columns } in
+          s) awaited)
           (ap (λ (s : ReaderState). s.fault) same ∙ fault)
           (λ these h. let e : took.0 ≡ these = cc in
-          subst (λ (columns : List ColumnDefinition). ReadsAt standing.format columns payload (Ok tt) new.rows) e took.2),
+          subst (λ (columns : List ColumnDefinition). ReadsAt standing.format columns payload
+          (Ok tt) new.rows) e took.2),
     )
 takes old new payload standing false next columns rows format fault same (inl none) = (same, inl (sym rows ∙ none))
 takes old new payload standing false next columns rows format fault same (inr (these, error, stand, none)) =

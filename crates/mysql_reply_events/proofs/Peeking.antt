@@ -15,27 +15,35 @@ use Rattle.mysql_reply_events.proofs.LeadingOn.{LeadsOn, leads_on}
 
 -- A step that says an event is a step of it.
 event_of : (step : Step) (event : Event) → said step ≡ Ok event → (next : ReplySoFar) × (step ≡ Ok (event, next))
-event_of (Ok x) event e = let same : x.0 ≡ event = cc in (x.1, ap (λ (event : Event). let step : Step = Ok (event, x.1) in step) same)
+event_of (Ok x) event e = let same : x.0 ≡ event = cc in
+    (x.1, ap (λ (event : Event). let step : Step = Ok (event, x.1) in step) same)
 event_of (Err fault) event e = absurd cc
 
 -- A step that says a fault is that fault.
 fault_of : (step : Step) (fault : ReplyFault) → said step ≡ Err fault → step ≡ Err fault
 fault_of (Ok x) fault e = absurd cc
-fault_of (Err found) fault e = let same : found ≡ fault = cc in ap (λ (fault : ReplyFault). let step : Step = Err fault in step) same
+fault_of (Err found) fault e = let same : found ≡ fault = cc in
+    ap (λ (fault : ReplyFault). let step : Step = Err fault in step) same
 
 -- What a payload says is what reading it would answer.
 pub peeks : (reader : ReaderState) (payload : Payload) (r : Result ReplyEvent ReplyFault) →
     Says (event_at reader.context reader.so_far payload) r → Peeks reader payload r
 peeks reader payload (Ok event) h = event_of (event_at reader.context reader.so_far payload) (event_view event) h
 peeks reader payload (Err faults.Memory) h = tt
-peeks reader payload (Err faults.BadHeader) h = fault_of (event_at reader.context reader.so_far payload) faults.BadHeader h
-peeks reader payload (Err faults.BadCount) h = fault_of (event_at reader.context reader.so_far payload) faults.BadCount h
-peeks reader payload (Err faults.BadColumn) h = fault_of (event_at reader.context reader.so_far payload) faults.BadColumn h
+peeks reader payload (Err faults.BadHeader) h =
+    fault_of (event_at reader.context reader.so_far payload) faults.BadHeader h
+peeks reader payload (Err faults.BadCount) h =
+    fault_of (event_at reader.context reader.so_far payload) faults.BadCount h
+peeks reader payload (Err faults.BadColumn) h =
+    fault_of (event_at reader.context reader.so_far payload) faults.BadColumn h
 peeks reader payload (Err faults.BadOk) h = fault_of (event_at reader.context reader.so_far payload) faults.BadOk h
-peeks reader payload (Err faults.BadError) h = fault_of (event_at reader.context reader.so_far payload) faults.BadError h
+peeks reader payload (Err faults.BadError) h =
+    fault_of (event_at reader.context reader.so_far payload) faults.BadError h
 peeks reader payload (Err faults.BadRow) h = fault_of (event_at reader.context reader.so_far payload) faults.BadRow h
-peeks reader payload (Err faults.BadTerminator) h = fault_of (event_at reader.context reader.so_far payload) faults.BadTerminator h
-peeks reader payload (Err faults.BadPrepare) h = fault_of (event_at reader.context reader.so_far payload) faults.BadPrepare h
+peeks reader payload (Err faults.BadTerminator) h =
+    fault_of (event_at reader.context reader.so_far payload) faults.BadTerminator h
+peeks reader payload (Err faults.BadPrepare) h =
+    fault_of (event_at reader.context reader.so_far payload) faults.BadPrepare h
 peeks reader payload (Err faults.NotDue) h = fault_of (event_at reader.context reader.so_far payload) faults.NotDue h
 
 -- Who is behind the event that a payload says is behind the payload.

@@ -1,5 +1,6 @@
 -- A row that is due and lies in its payload is the row of the table.
-use Rattle.std.proofs.Common.{◌≡◌, List, Bool, true, false, Option, Some, None, Result, Ok, Err, refl, ap, sym, subst, ◌∙◌}
+use Rattle.std.proofs.Common.{◌≡◌, List, Bool, true, false, Option, Some, None, Result, Ok, Err, refl, ap, sym, subst}
+use Rattle.std.proofs.Common.{◌∙◌}
 use Rattle.std.specs.Prelude.{◌==◌, ◌&&◌, not, if◌then◌else◌, length}
 use Rattle.mysql_columns.specs.Columns.{ColumnDefinition}
 use Rattle.mysql_const.specs.declared.capabilities.Capabilities.{Capabilities}
@@ -19,14 +20,16 @@ use Rattle.mysql_reply_events.specs.declared.fault.ReplyFault.TheVariants as fau
 use Rattle.mysql_reply_events.specs.Events.{Awaited, Payload, ReplySoFar}
 use Rattle.mysql_reply_events.specs.Events.Awaited.{Columns, ColumnsEnd, Fields, FileData, First, Nothing, Rows}
 use Rattle.mysql_reply_events.specs.Events.Event.{RowEvent}
-use Rattle.mysql_reply_events.specs.Readings.{begins_terminator, deprecate_eof, has_report_form, is_binary, row, whole_or_fault}
+use Rattle.mysql_reply_events.specs.Readings.{begins_terminator, deprecate_eof, has_report_form, is_binary, row}
+use Rattle.mysql_reply_events.specs.Readings.{whole_or_fault}
 use Rattle.mysql_reply_events.specs.Reader.{HasFailed, ReaderState, ReadsOn, ReadsRow, is_row_due}
 use Rattle.mysql_reply_events.specs.Standing.{ReadsAt, format_of, or_bad_row}
 use Rattle.mysql_reply_events.specs.Table.{Step, event_at, goes_on}
 use Rattle.mysql_reply_events.specs.Views.{Refuses}
 
 -- What a reader of rows reads is the row of the table.
-whole_if : (b : Bool) (found : Row) (error : RowError) → (if b then Ok found else Err faults.BadRow) ≡ or_bad_row (if b then Ok found else Err error)
+whole_if : (b : Bool) (found : Row) (error : RowError) →
+    (if b then Ok found else Err faults.BadRow) ≡ or_bad_row (if b then Ok found else Err error)
 whole_if true found error = refl
 whole_if false found error = refl
 
@@ -35,12 +38,15 @@ whole_is (Ok x) = whole_if (length x.1 == 0) x.0 BytesLeft
 whole_is (Err e) = refl
 
 row_is_by : (binary : Bool) (columns : List ColumnDefinition) (payload : Payload) →
-    whole_or_fault faults.BadRow (as_row columns (if binary then binary_resultset_row_at columns payload else text_row_at columns payload)) ≡
+    whole_or_fault faults.BadRow
+    (as_row columns (if binary then binary_resultset_row_at columns payload else text_row_at
+    columns payload)) ≡
     or_bad_row (row_of (if binary then Binary else Text) columns payload)
 row_is_by true columns payload = whole_is (as_row columns (binary_resultset_row_at columns payload))
 row_is_by false columns payload = whole_is (as_row columns (text_row_at columns payload))
 
-pub row_is : (c : Context) (columns : List ColumnDefinition) (payload : Payload) → row c columns payload ≡ or_bad_row (row_of (format_of c.kind) columns payload)
+pub row_is : (c : Context) (columns : List ColumnDefinition) (payload : Payload) →
+    row c columns payload ≡ or_bad_row (row_of (format_of c.kind) columns payload)
 row_is c columns payload = row_is_by (is_binary c.kind) columns payload
 
 -- Tests that are passed.
@@ -60,7 +66,8 @@ row_step c s columns payload =
 
 -- Columns stand, and the payload is the row under them.
 abbrev pub IsRowStep : Context → ReplySoFar → Payload → Type 0
-IsRowStep c s payload = (columns : List ColumnDefinition) × (s.columns ≡ Some columns) × (event_at c s payload ≡ row_step c s columns payload)
+IsRowStep c s payload = (columns : List ColumnDefinition) × (s.columns ≡ Some columns) ×
+    (event_at c s payload ≡ row_step c s columns payload)
 
 -- A row's step by the table's two steps.
 two_steps : (r : Result Row ReplyFault) (s : ReplySoFar) →
@@ -69,9 +76,12 @@ two_steps : (r : Result Row ReplyFault) (s : ReplySoFar) →
 two_steps (Ok found) s = refl
 two_steps (Err fault) s = refl
 
-first_place : (kind : ReplyKind) (capabilities : Capabilities) (columns : Option (List ColumnDefinition)) (payload : Payload) →
-    is_row_due (record { kind = kind; capabilities = capabilities }) (record { awaited = First; columns = columns }) payload ≡ true →
-    IsRowStep (record { kind = kind; capabilities = capabilities }) (record { awaited = First; columns = columns }) payload
+first_place : (kind : ReplyKind) (capabilities : Capabilities)
+    (columns : Option (List ColumnDefinition)) (payload : Payload) →
+    is_row_due (record { kind = kind; capabilities = capabilities })
+    (record { awaited = First; columns = columns }) payload ≡ true →
+    IsRowStep (record { kind = kind; capabilities = capabilities })
+    (record { awaited = First; columns = columns }) payload
 first_place kinds.Fetch capabilities (Some columns) payload h =
     let c : Context = record { kind = kinds.Fetch; capabilities = capabilities } in
     let s : ReplySoFar = record { awaited = First; columns = Some columns } in
@@ -111,25 +121,32 @@ abbrev pub Answered : ReaderState → Payload → RowFormat → Result (Unit {0}
 Answered old payload format r new =
     (columns : List ColumnDefinition) → old.so_far.columns ≡ Some columns → ReadsAt format columns payload r new.rows
 
-pub reads_row : (old new : ReaderState) (payload : Payload) (format : RowFormat) → is_row_due old.context old.so_far payload ≡ true →
-    format ≡ format_of old.context.kind → new.context ≡ old.context → new.so_far ≡ record old.so_far { awaited = Rows true } →
+pub reads_row : (old new : ReaderState) (payload : Payload) (format : RowFormat) →
+    is_row_due old.context old.so_far payload ≡ true →
+    format ≡ format_of old.context.kind → new.context ≡ old.context → new.so_far ≡
+    record old.so_far { awaited = Rows true } →
     new.fault ≡ None → Answered old payload format (Ok tt) new → ReadsRow old payload new
 reads_row old new payload format due same context so_far fault answered =
     let step = row_due old.context old.so_far payload due in
     let found = answered step.0 step.1 in
     let row_read : row old.context step.0 payload ≡ Ok found.0 =
-    row_is old.context step.0 payload ∙ ap (λ f. or_bad_row (row_of f step.0 payload)) (sym same) ∙ ap or_bad_row found.2 in
+    row_is old.context step.0 payload ∙ ap (λ f. or_bad_row (row_of f step.0 payload)) (sym same) ∙
+    ap or_bad_row found.2 in
     record {
       row = found.0;
       lies = found.1;
       event =
-          step.2 ∙ ap (λ (r : Result Row ReplyFault). r >>= λ found. Ok (RowEvent found, record old.so_far { awaited = Rows true })) row_read
+          step.2 ∙ ap (λ (r : Result Row ReplyFault). r >>= λ found. Ok (
+            RowEvent found,
+            record old.so_far { awaited = Rows true },
+          )) row_read
           ∙ ap (λ (s : ReplySoFar). Ok (RowEvent found.0, s)) (sym so_far);
       awaits = ap (λ (s : ReplySoFar). s.awaited) so_far;
       goes_on = record { context = context; fault = fault };
     }
 
-pub refused_on : {A B : Type 0} (fault : ReplyFault) (r : Result A ReplyFault) (f : A → Result B ReplyFault) → Refuses fault r → Refuses fault (r >>= f)
+pub refused_on : {A B : Type 0} (fault : ReplyFault) (r : Result A ReplyFault) (f : A →
+    Result B ReplyFault) → Refuses fault r → Refuses fault (r >>= f)
 refused_on faults.Memory r f h = tt
 refused_on faults.BadHeader r f h = ap (λ r. r >>= f) h
 refused_on faults.BadCount r f h = ap (λ r. r >>= f) h
@@ -141,7 +158,9 @@ refused_on faults.BadTerminator r f h = ap (λ r. r >>= f) h
 refused_on faults.BadPrepare r f h = ap (λ r. r >>= f) h
 refused_on faults.NotDue r f h = ap (λ r. r >>= f) h
 
-pub read_fails : (old new : ReaderState) (payload : Payload) (fault : ReplyFault) → HasFailed old fault new → Refuses fault (event_at old.context old.so_far payload) → ReadsOn old payload (Err fault) new
+pub read_fails : (old new : ReaderState) (payload : Payload) (fault : ReplyFault) →
+    HasFailed old fault new → Refuses fault (event_at old.context old.so_far payload) →
+    ReadsOn old payload (Err fault) new
 read_fails old new payload faults.Memory failed h = failed
 read_fails old new payload faults.BadHeader failed h = (h, failed)
 read_fails old new payload faults.BadCount failed h = (h, failed)
@@ -153,12 +172,16 @@ read_fails old new payload faults.BadTerminator failed h = (h, failed)
 read_fails old new payload faults.BadPrepare failed h = (h, failed)
 read_fails old new payload faults.NotDue failed h = (h, failed)
 
-pub reads_no_row : (old new between : ReaderState) (payload : Payload) (format : RowFormat) (fault : ReplyFault) → is_row_due old.context old.so_far payload ≡ true →
-    format ≡ format_of old.context.kind → HasFailed old fault new → Answered old payload format (Err fault) between → ReadsOn old payload (Err fault) new
+pub reads_no_row : (old new between : ReaderState) (payload : Payload) (format : RowFormat)
+    (fault : ReplyFault) → is_row_due old.context old.so_far payload ≡ true →
+    format ≡ format_of old.context.kind → HasFailed old fault new →
+    Answered old payload format (Err fault) between → ReadsOn old payload (Err fault) new
 reads_no_row old new between payload format fault due same failed answered =
     let step = row_due old.context old.so_far payload due in
     let refused : Refuses fault (row old.context step.0 payload) =
     subst (λ (r : Result Row ReplyFault). Refuses fault r) (sym (row_is old.context step.0 payload))
     (subst (λ (f : RowFormat). Refuses fault (or_bad_row (row_of f step.0 payload))) same (answered step.0 step.1)) in
     read_fails old new payload fault failed
-    (subst (λ (r : Step). Refuses fault r) (sym step.2) (refused_on fault (row old.context step.0 payload) (λ found. Ok (RowEvent found, record old.so_far { awaited = Rows true })) refused))
+    (subst (λ (r : Step). Refuses fault r) (sym step.2)
+    (refused_on fault (row old.context step.0 payload)
+    (λ found. Ok (RowEvent found, record old.so_far { awaited = Rows true })) refused))

@@ -9,6 +9,8 @@ first_fits : (cell : Option Value) → IfSome cell (λ value. FitsFields value) 
 first_fits None h = tt
 first_fits (Some value) h = h
 
-pub each_fits : (cells : List (Option Value)) → ((k : ℕ) → k < length cells → IfSome (option_flatten (slice_get cells k)) (λ value. FitsFields value)) → CellsFit cells
+pub each_fits : (cells : List (Option Value)) →
+    ((k : ℕ) → k < length cells →
+    IfSome (option_flatten (slice_get cells k)) (λ value. FitsFields value)) → CellsFit cells
 each_fits [] h = tt
 each_fits (cell ∷ cells) h = (first_fits cell (h 0 (omega arith)), each_fits cells (λ k lt. h (suc k) (omega arith)))

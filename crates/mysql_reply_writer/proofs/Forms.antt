@@ -1,5 +1,6 @@
 -- No payload of a result has the form of a progress report.
-use Rattle.std.proofs.Common.{◌≡◌, ℕ, ◌/◌, ◌%◌, ◌<◌, ◌≤◌, ◌⊎◌, ◌^◌, ◌==◌, ◌&&◌, nat_lt, Bool, true, false, if◌then◌else◌, inl, inr, List, [], ◌∷◌, ◌++◌, map, take, bytes_eq, refl, ap, ◌∙◌, arith}
+use Rattle.std.proofs.Common.{◌≡◌, ℕ, ◌/◌, ◌%◌, ◌<◌, ◌≤◌, ◌⊎◌, ◌^◌, ◌==◌, ◌&&◌, nat_lt, Bool, true, false}
+use Rattle.std.proofs.Common.{if◌then◌else◌, inl, inr, List, [], ◌∷◌, ◌++◌, map, take, bytes_eq, refl, ap, ◌∙◌, arith}
 use Rattle.std.specs.List.{AllByRecursion}
 use Rattle.std.proofs.lemmas.Bool.{lt-ltb, ltb-false, ltb-true}
 use Rattle.std.proofs.lemmas.Bool.Decides.{eqb_tells}
@@ -7,12 +8,14 @@ use Rattle.mysql_buf.specs.Writing.{lenenc_int}
 use Rattle.mysql_columns.specs.Columns.{ColumnDefinition, column}
 use Rattle.mysql_ok_packets.specs.Written.{eof_bytes, ok_packet_bytes}
 use Rattle.mysql_ok_packets.specs.OkPackets.{OkPacket}
-use Rattle.mysql_server_packets.specs.Packets.{Error, PrepareOk, Progress, ProgressReport, ServerError, err_packet, local_infile, prepare_ok}
+use Rattle.mysql_server_packets.specs.Packets.{Error, PrepareOk, Progress, ProgressReport, ServerError, err_packet}
+use Rattle.mysql_server_packets.specs.Packets.{local_infile, prepare_ok}
 use Rattle.mysql_reply_events.specs.declared.context.Context.{Context}
 use Rattle.mysql_row_refs.specs.Lines.{begins_with}
 use Rattle.mysql_reply_events.specs.Readings.{deprecate_eof, has_report_form, optional_metadata, protocol}
 use Rattle.mysql_reply_writer.specs.Refusals.{reads_as_report}
-use Rattle.mysql_reply_writer.specs.Written.{count_payload, eof_due, group_payloads, nothing_said, tells_progress, terminator_payload}
+use Rattle.mysql_reply_writer.specs.Written.{count_payload, eof_due, group_payloads, nothing_said, tells_progress}
+use Rattle.mysql_reply_writer.specs.Written.{terminator_payload}
 use Rattle.mysql_reply_writer.proofs.Causes.{all_both}
 use Rattle.mysql_reply_writer.proofs.Groups.{and_false}
 
@@ -24,16 +27,19 @@ pub no_form : (c : Context) (payload : List ℕ) → begins_with 255 payload ≡
 no_form c [] h = and_false (tells_progress c)
 no_form c (b ∷ rest) h = rw h (and_false (tells_progress c))
 
-two_bytes : (low high : ℕ) → (low ≡ 255 → high ≡ 255 → ⊥) → bytes_eq (255 ∷ low ∷ high ∷ []) (255 ∷ 255 ∷ 255 ∷ []) ≡ false
+two_bytes : (low high : ℕ) → (low ≡ 255 → high ≡ 255 → ⊥) →
+    bytes_eq (255 ∷ low ∷ high ∷ []) (255 ∷ 255 ∷ 255 ∷ []) ≡ false
 two_bytes low high other = elim (eqb_tells low 255) [
   | inl a ↦ elim (eqb_tells high 255) [ inl b ↦ absurd (other a.1 b.1) | inr b ↦ rw (a.0, b.0) refl ]
   | inr a ↦ rw a.0 refl
 ]
 
 -- an error of another code, or of any where there are no reports
-pub error_no_form : (c : Context) (e : ServerError) → e.error_code < 2 ^ 16 → reads_as_report c e ≡ false → has_report_form c (err_packet (Error e)) ≡ false
+pub error_no_form : (c : Context) (e : ServerError) → e.error_code < 2 ^ 16 → reads_as_report c e ≡
+    false → has_report_form c (err_packet (Error e)) ≡ false
 error_no_form c e small h = elim (eqb_tells e.error_code 0xffff) [
-  | inl same ↦ let none : tells_progress c ≡ false = unless_code (e.error_code == 0xffff) (tells_progress c) same.0 h in rw none refl
+  | inl same ↦ let none : tells_progress c ≡ false =
+      unless_code (e.error_code == 0xffff) (tells_progress c) same.0 h in rw none refl
   | inr other ↦ ap (λ (b : Bool). tells_progress c && b) (other_bytes other.1) ∙ and_false (tells_progress c)
 ] where
   unless_code : (a b : Bool) → a ≡ true → (a && b) ≡ false → b ≡ false
@@ -60,7 +66,8 @@ eof_no_forms c (first ∷ others) = go (deprecate_eof c) where
 
 pub group_no_forms : (c : Context) (columns : List ColumnDefinition) → NoForms c (group_payloads c columns)
 group_no_forms c columns =
-    all_both (λ payload. has_report_form c payload ≡ false) (map column columns) (eof_due c columns) (columns_no_forms c columns) (eof_no_forms c columns)
+    all_both (λ payload. has_report_form c payload ≡ false) (map column columns) (eof_due c columns)
+    (columns_no_forms c columns) (eof_no_forms c columns)
 
 pub ok_no_form : (c : Context) (p : OkPacket) → has_report_form c (ok_packet_bytes 0 (protocol c) p) ≡ false
 unfolding ok_packet_bytes
@@ -77,7 +84,8 @@ pub file_no_form : (c : Context) (name : List ℕ) → has_report_form c (local_
 unfolding local_infile
 file_no_form c name = no_form c (local_infile name) refl
 
-pub statement_no_form : (c : Context) (s : PrepareOk) (behind : List ℕ) → has_report_form c (prepare_ok s ++ behind) ≡ false
+pub statement_no_form : (c : Context) (s : PrepareOk) (behind : List ℕ) →
+    has_report_form c (prepare_ok s ++ behind) ≡ false
 unfolding prepare_ok
 statement_no_form c s behind = no_form c (prepare_ok s ++ behind) refl
 
@@ -89,7 +97,8 @@ lt_tells a b = go (nat_lt a b) refl where
 
 count_first : (n : ℕ) → n < 65536 → begins_with 255 (lenenc_int n) ≡ false
 count_first n h = elim (lt_tells n 251) [
-  | inl a ↦ elim (eqb_tells n 255) [ inl same ↦ absurd (omega (arith, a.1, same.1)) | inr other ↦ rw (a.0, other.0) refl ]
+  | inl a ↦ elim (eqb_tells n 255)
+      [ inl same ↦ absurd (omega (arith, a.1, same.1)) | inr other ↦ rw (a.0, other.0) refl ]
   | inr a ↦ rw (a.0, lt-ltb n 65536 h) refl
 ]
 
@@ -100,5 +109,6 @@ count_no_form c n h = no_form c (count_payload c n) (by (optional_metadata c)) w
   by false = count_first n h
 
 -- a report has it
-pub report_form : (c : Context) (r : ProgressReport) → tells_progress c ≡ true → has_report_form c (err_packet (Progress r)) ≡ true
+pub report_form : (c : Context) (r : ProgressReport) → tells_progress c ≡ true →
+    has_report_form c (err_packet (Progress r)) ≡ true
 report_form c r h = rw h refl

@@ -6,15 +6,20 @@ use Rattle.mysql_reply_writer.specs.Refusals.{too_large}
 use Rattle.mysql_reply_writer.specs.Puts.{Place, Puts}
 
 -- one payload within the limit
-pub fits_room : (room payloads : ℕ) (payload : List ℕ) → length payload ≤ room → payloads < 18446744073709551615 → too_large room payloads (payload ∷ []) ≡ None
-fits_room room payloads payload small few = rw (le-leb (length payload) room small, lt-ltb payloads 18446744073709551615 few) refl
+pub fits_room : (room payloads : ℕ) (payload : List ℕ) → length payload ≤ room →
+    payloads < 18446744073709551615 → too_large room payloads (payload ∷ []) ≡ None
+fits_room room payloads payload small few =
+    rw (le-leb (length payload) room small, lt-ltb payloads 18446744073709551615 few) refl
 
 abbrev pub place_of : ℕ → ℕ → Place
 place_of number payloads = record { number = number; payloads = payloads }
 
 -- a payload was framed
-pub framed_put : (room number payloads next count : ℕ) (payload before after : List ℕ) → too_large room payloads (payload ∷ []) ≡ None
-    → after ≡ before ++ framing payload number → next ≡ number_after payload number → count ≡ payloads + 1 → Puts room (place_of number payloads) (payload ∷ []) (place_of next count) before after
+pub framed_put : (room number payloads next count : ℕ) (payload before after : List ℕ) →
+    too_large room payloads (payload ∷ []) ≡ None
+    → after ≡ before ++ framing payload number → next ≡ number_after payload number → count ≡
+    payloads + 1 → Puts room (place_of number payloads) (payload ∷ []) (place_of next count)
+    before after
 framed_put room number payloads next count payload before after fit put follows counted = record {
   fit = fit;
   place = ap (λ (n : ℕ). place_of n count) follows ∙ ap (place_of (number_after payload number)) counted;

@@ -23,7 +23,8 @@ replied each only unfinished c first_id limit results progress old new none put 
     let stream : List ℕ = reply_stream c first_id results progress in
     let same : is.0 ≡ stream = append_cancel_left old is.0 stream (sym is.1 ∙ put) in
     let framed : IsFramedReply c first_id limit stream (results_read c results) (reports_read c progress) =
-    subst (λ (l : List ℕ). IsFramedReply c first_id limit l (results_read c results) (reports_read c progress)) same is.2 in
+    subst (λ (l : List ℕ). IsFramedReply c first_id limit l (results_read c results)
+    (reports_read c progress)) same is.2 in
     record {
       no_cause = none;
       appended = put;
@@ -34,6 +35,8 @@ replied each only unfinished c first_id limit results progress old new none put 
             (subst (λ (l : List ℕ). IsReplyOf c first_id limit l (whole_answer c results progress)) (sym joined)
             (each c first_id limit stream (results_read c results) (reports_read c progress) framed)),
       );
-      fronts = λ front back next answer cut reply. unfinished c first_id limit front back next (results_read c results) (reports_read c progress) answer
-          (subst (λ (l : List ℕ). IsFramedReply c first_id limit l (results_read c results) (reports_read c progress)) cut framed) reply;
+      fronts = λ front back next answer cut reply. unfinished c first_id limit front back next
+          (results_read c results) (reports_read c progress) answer
+          (subst (λ (l : List ℕ). IsFramedReply c first_id limit l (results_read c results)
+          (reports_read c progress)) cut framed) reply;
     }

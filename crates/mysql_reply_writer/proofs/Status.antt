@@ -24,15 +24,18 @@ or_masked a m k ha hm = same_from_bits (bit_and (bit_or a m) k) (bit_or a m) (λ
     let v = bit_at_and m k i in
     let p = bit_at_and (bit_or a m) k i in
     let q = bit_at_or a m i in
-    in_bits (bit_at (bit_and (bit_or a m) k) i) (bit_at (bit_or a m) i) (bit_at a i) (bit_at m i) (bit_at k i) p q (sym x ∙ u) (sym y ∙ v)) where
+    in_bits (bit_at (bit_and (bit_or a m) k) i) (bit_at (bit_or a m) i) (bit_at a i) (bit_at m i)
+    (bit_at k i) p q (sym x ∙ u) (sym y ∙ v)) where
       in_bits : (r o a m k : ℕ) → r ≡ min o k → o ≡ max a m → a ≡ min a k → m ≡ min m k → r ≡ o
       in_bits r o a m k hr ho ha hm = omega arith
 
 and_masked : (a m k : ℕ) → bit_and a k ≡ a → bit_and (bit_and a m) k ≡ bit_and a m
-and_masked a m k h = and_assoc k a m ∙ ap (λ (n : ℕ). bit_and a n) (and_comm m k) ∙ sym (and_assoc m a k) ∙ ap (λ (n : ℕ). bit_and n m) h
+and_masked a m k h = and_assoc k a m ∙ ap (λ (n : ℕ). bit_and a n) (and_comm m k) ∙
+    sym (and_assoc m a k) ∙ ap (λ (n : ℕ). bit_and n m) h
 
 -- Each bit of it still has a name.
-pub stays_named : (more : Bool) (status : ℕ) → is_named_status status ≡ true → is_named_status (with_more more status) ≡ true
+pub stays_named : (more : Bool) (status : ℕ) → is_named_status status ≡ true →
+    is_named_status (with_more more status) ≡ true
 unfolding known_from
 stays_named true status h = eq-eqb _ _ (or_masked status 8 65531 (eqb-true _ _ h) refl)
 stays_named false status h = eq-eqb _ _ (and_masked status 0xfff7 65531 (eqb-true _ _ h))

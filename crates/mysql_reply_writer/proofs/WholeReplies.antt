@@ -16,14 +16,20 @@ use Rattle.mysql_reply_writer.proofs.Ends.{whole_end}
 use Rattle.mysql_reply_writer.specs.Refusals.{end_cause}
 
 -- where there is a result, what speaks against the reply speaks against its steps or their end
-pub refusal_is : (c : Context) (limit : ℕ) (results : List ReplyResult) (progress : List ProgressReport) → (length results == 0) ≡ false
-    → refusal_of c limit (outcome_views results) progress ≡ whole_cause (nothing_written c limit) (reply_steps (outcome_views results) progress)
+pub refusal_is : (c : Context) (limit : ℕ) (results : List ReplyResult)
+    (progress : List ProgressReport) → (length results == 0) ≡ false
+    → refusal_of c limit (outcome_views results) progress ≡
+    whole_cause (nothing_written c limit) (reply_steps (outcome_views results) progress)
 refusal_is c limit [] progress h = absurd cc
 refusal_is c limit (r ∷ rs) progress h = refl
 
-module _ (c : Context) (first_id limit : ℕ) (results : List ReplyResult) (progress : List ProgressReport) (some : (length results == 0) ≡ false) (old : Writer) (fresh : old ≡ fresh_writer c first_id limit) where
+module _ (c : Context) (first_id limit : ℕ) (results : List ReplyResult)
+    (progress : List ProgressReport) (some : (length results == 0) ≡ false) (old : Writer)
+    (fresh : old ≡ fresh_writer c first_id limit) where
   -- a refusal of its steps or their end
-  module _ (new : Writer) (before after : List ℕ) (wrote : Wrote old (reply_steps (outcome_views results) progress) new before after) (end : end_cause new.so_far ≡ None) where
+  module _ (new : Writer) (before after : List ℕ)
+      (wrote : Wrote old (reply_steps (outcome_views results) progress) new before after)
+      (end : end_cause new.so_far ≡ None) where
     pub reply_allowed : refusal_of c limit (outcome_views results) progress ≡ None
     reply_allowed =
         refusal_is c limit results progress some
@@ -32,15 +38,25 @@ module _ (c : Context) (first_id limit : ℕ) (results : List ReplyResult) (prog
 
     pub reply_written : after ≡ before ++ framings (reply_payloads c (outcome_views results) progress) (OnFrom first_id)
     reply_written =
-        (subst (λ (w : Writer). Wrote w (reply_steps (outcome_views results) progress) new before after) fresh wrote).appended
+        (subst (λ (w : Writer). Wrote w (reply_steps (outcome_views results) progress) new before
+        after) fresh wrote).appended
 
-    pub reply_read : mariadb c ≡ 0 → WrittenRepliesAreFramed → AppendsReply c first_id limit (results_read c (outcome_views results)) (reports_read c progress) before after
-    reply_read plain law =
-        (framings (reply_payloads c (outcome_views results) progress) (OnFrom first_id), reply_written, law c first_id limit (outcome_views results) progress plain wrote.fit reply_allowed)
+    pub reply_read : mariadb c ≡ 0 → WrittenRepliesAreFramed →
+        AppendsReply c first_id limit (results_read c (outcome_views results))
+        (reports_read c progress) before after
+    reply_read plain law = (
+      framings (reply_payloads c (outcome_views results) progress) (OnFrom first_id),
+      reply_written,
+      law c first_id limit (outcome_views results) progress plain wrote.fit
+          reply_allowed,
+    )
 
 -- the same of any results, the first of which there is
 pub whole_writing : WrittenRepliesAreFramed → WholeWritingsAreReplies
 whole_writing law c first_id limit first others progress new before after plain wrote end =
     let none : refusal_of c limit (first ∷ others) progress ≡ None =
-    whole_end (fresh_writer c first_id limit) new (reply_steps (first ∷ others) progress) before after wrote ∙ end in
-    (framings (reply_payloads c (first ∷ others) progress) (OnFrom first_id), wrote.appended, law c first_id limit (first ∷ others) progress plain wrote.fit none)
+    whole_end (fresh_writer c first_id limit) new (reply_steps (first ∷ others) progress) before after wrote ∙ end in (
+      framings (reply_payloads c (first ∷ others) progress) (OnFrom first_id),
+      wrote.appended,
+      law c first_id limit (first ∷ others) progress plain wrote.fit none,
+    )

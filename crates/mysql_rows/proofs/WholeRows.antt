@@ -1,5 +1,6 @@
 -- The cells of a row of which each one has a form are its values.
-use Rattle.std.proofs.Common.{◌≡◌, ℕ, ◌+◌, Bool, true, false, cond, List, [], ◌∷◌, ◌++◌, length, map, Option, Some, None, Result, Ok, Err, refl, ◌∙◌, ap, arith}
+use Rattle.std.proofs.Common.{◌≡◌, ℕ, ◌+◌, Bool, true, false, cond, List, [], ◌∷◌, ◌++◌, length, map, Option, Some}
+use Rattle.std.proofs.Common.{None, Result, Ok, Err, refl, ◌∙◌, ap, arith}
 use Rattle.std.specs.Prelude.{is_err, is_none, unwrap_or, zip, OnOk}
 use Rattle.std.specs.List.{position_from}
 use Rattle.std.specs.Option.{option_and_then}
@@ -8,12 +9,14 @@ use Rattle.mysql_cells.specs.Values.{is_null}
 use Rattle.mysql_cells.specs.declared.value.Value.{Value}
 use Rattle.mysql_columns.specs.Columns.{ColumnDefinition}
 use Rattle.mysql_rows.specs.CellsWritten.{cells_in, holds_null, null_marks, text_cells}
-use Rattle.mysql_rows.specs.Written.{binary_cause, binary_cells, binary_row, bits_bytes, cell_in, text_cell, text_row, values_of}
+use Rattle.mysql_rows.specs.Written.{binary_cause, binary_cells, binary_row, bits_bytes, cell_in, text_cell, text_row}
+use Rattle.mysql_rows.specs.Written.{values_of}
 
 pub text_of_cells : (cells : List (Option Value)) → text_cells cells ≡ text_row (values_of cells)
 text_of_cells [] = refl
 text_of_cells (None ∷ cells) = text_of_cells cells
-text_of_cells (Some value ∷ cells) = ap (λ (later : List ℕ). unwrap_or (text_cell value) [] ++ later) (text_of_cells cells)
+text_of_cells (Some value ∷ cells) =
+    ap (λ (later : List ℕ). unwrap_or (text_cell value) [] ++ later) (text_of_cells cells)
 
 -- what is looked for isn't the first one, nor is it later
 pub not_first : (b : Bool) (place : ℕ) (later : Option ℕ) → cond b (Some place) later ≡ None → later ≡ None
@@ -32,30 +35,43 @@ speaks_not false place later h none = none
 
 -- each cell has a form by its column
 abbrev pub NoneSpeaks : List ColumnDefinition → List (Option Value) → ℕ → Type 0
-NoneSpeaks columns cells place = position_from (λ placed. is_none (option_and_then (cell_in placed.0) placed.1)) place (zip columns cells) ≡ None
+NoneSpeaks columns cells place =
+    position_from (λ placed. is_none (option_and_then (cell_in placed.0) placed.1)) place
+    (zip columns cells) ≡ None
 
-cells_of_values : (columns : List ColumnDefinition) (cells : List (Option Value)) (place : ℕ) → length columns ≡ length cells → NoneSpeaks columns cells place → cells_in columns cells ≡ binary_cells columns (values_of cells)
+cells_of_values : (columns : List ColumnDefinition) (cells : List (Option Value)) (place : ℕ) →
+    length columns ≡ length cells → NoneSpeaks columns cells place → cells_in columns cells ≡
+    binary_cells columns (values_of cells)
 cells_of_values [] [] place same none = refl
 cells_of_values [] (cell ∷ cells) place same none = absurd (omega (arith, same))
 cells_of_values (column ∷ columns) [] place same none = absurd (omega (arith, same))
 cells_of_values (column ∷ columns) (None ∷ cells) place same none = absurd (cc)
 cells_of_values (column ∷ columns) (Some value ∷ cells) place same none =
-    ap (λ (later : List ℕ). unwrap_or (cell_in column value) [] ++ later) (cells_of_values columns cells (place + 1) (omega (arith, same)) (not_first (is_none (cell_in column value)) place _ none))
+    ap (λ (later : List ℕ). unwrap_or (cell_in column value) [] ++
+    later) (cells_of_values columns cells (place + 1) (omega (arith, same))
+    (not_first (is_none (cell_in column value)) place _ none))
 
-marks_of_values : (columns : List ColumnDefinition) (cells : List (Option Value)) (place : ℕ) → length columns ≡ length cells → NoneSpeaks columns cells place → map holds_null cells ≡ map is_null (values_of cells)
+marks_of_values : (columns : List ColumnDefinition) (cells : List (Option Value)) (place : ℕ) →
+    length columns ≡ length cells → NoneSpeaks columns cells place → map holds_null cells ≡
+    map is_null (values_of cells)
 marks_of_values [] [] place same none = refl
 marks_of_values [] (cell ∷ cells) place same none = absurd (omega (arith, same))
 marks_of_values (column ∷ columns) [] place same none = absurd (omega (arith, same))
 marks_of_values (column ∷ columns) (None ∷ cells) place same none = absurd (cc)
 marks_of_values (column ∷ columns) (Some value ∷ cells) place same none =
-    ap (λ (later : List Bool). is_null value ∷ later) (marks_of_values columns cells (place + 1) (omega (arith, same)) (not_first (is_none (cell_in column value)) place _ none))
+    ap (λ (later : List Bool). is_null value ∷
+    later) (marks_of_values columns cells (place + 1) (omega (arith, same))
+    (not_first (is_none (cell_in column value)) place _ none))
 
 -- the row of cells is that of their values
-pub row_of_values : (columns : List ColumnDefinition) (cells : List (Option Value)) → length columns ≡ length cells → binary_cause columns cells ≡ None
+pub row_of_values : (columns : List ColumnDefinition) (cells : List (Option Value)) →
+    length columns ≡ length cells → binary_cause columns cells ≡ None
     → 0 ∷ (bits_bytes (null_marks cells) ++ cells_in columns cells) ≡ binary_row columns (values_of cells)
 row_of_values columns cells same none =
-    ap (λ (marks : List Bool). 0 ∷ (bits_bytes (false ∷ false ∷ marks) ++ cells_in columns cells)) (marks_of_values columns cells 0 same none)
-    ∙ ap (λ (l : List ℕ). 0 ∷ (bits_bytes (false ∷ false ∷ map is_null (values_of cells)) ++ l)) (cells_of_values columns cells 0 same none)
+    ap (λ (marks : List Bool). 0 ∷ (bits_bytes (false ∷ false ∷ marks) ++ cells_in columns cells))
+    (marks_of_values columns cells 0 same none)
+    ∙ ap (λ (l : List ℕ). 0 ∷ (bits_bytes (false ∷ false ∷ map is_null (values_of cells)) ++ l))
+    (cells_of_values columns cells 0 same none)
 
 -- cells of which nothing was taken
 pub values_of_some : (values : List Value) → values_of (map Some values) ≡ values

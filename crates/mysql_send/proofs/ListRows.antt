@@ -1,10 +1,12 @@
 -- Rows of values that stand in the query's order.
-use Rattle.std.proofs.Common.{◌≡◌, ℕ, ◌+◌, ◌<◌, ◌≤◌, Bool, true, false, not, cond, List, [], ◌∷◌, ◌++◌, length, take, drop, get_or, Some, None, refl, sym, ◌∙◌, ap, arith, append_assoc, Bor, below_more, set}
+use Rattle.std.proofs.Common.{◌≡◌, ℕ, ◌+◌, ◌<◌, ◌≤◌, Bool, true, false, not, cond, List, [], ◌∷◌, ◌++◌, length, take}
+use Rattle.std.proofs.Common.{drop, get_or, Some, None, refl, sym, ◌∙◌, ap, arith, append_assoc, Bor, below_more, set}
 use Rattle.std.specs.Prelude.{◌||◌, is_none}
 use Rattle.std.specs.List.{position_from}
 use Rattle.std.proofs.lemmas.Bool.{cond-false, cond-true}
 use Rattle.std.proofs.lemmas.Grind.{flat_map-append}
-use Rattle.std.proofs.lemmas.List.{append-nil, drop_all, get_or-set_other, get_or-set_same, get_or_default, length-map, map-set, take_all, take_more}
+use Rattle.std.proofs.lemmas.List.{append-nil, drop_all, get_or-set_other, get_or-set_same, get_or_default, length-map}
+use Rattle.std.proofs.lemmas.List.{map-set, take_all, take_more}
 use Rattle.mysql_cells.specs.declared.value.Value.TheVariants.{NULL}
 use Rattle.mysql_values.specs.Values.{FitsFields}
 use Rattle.mysql_values.specs.Values.{content_of, first_float}
@@ -33,18 +35,24 @@ or_second false true c e = refl
 or_second false false c e = absurd cc
 
 -- a value is the first of its column
-pub first_joins : (firsts : List (Bor Value)) (column : ℕ) (first value : Bor Value) → column < length firsts → first ≡ get_or firsts column first → is_null first.now ≡ true → is_none (content_of value.now) ≡ false →
+pub first_joins : (firsts : List (Bor Value)) (column : ℕ) (first value : Bor Value) →
+    column < length firsts → first ≡ get_or firsts column first → is_null first.now ≡ true →
+    is_none (content_of value.now) ≡ false →
     JoinsColumn (row_in firsts) (row_in (set firsts column value)) column value.now
 first_joins firsts column first value lt first_is null no_float =
     let was : Value = get_or (row_in firsts) column NULL in
     let inside : column < length (row_in firsts) = omega (arith, lt, length-map firsts (λ (v : Bor Value). v.now)) in
-    let seen : row_in (set firsts column value) ≡ set (row_in firsts) column value.now = map-set (λ (v : Bor Value). v.now) firsts column value in
+    let seen : row_in (set firsts column value) ≡ set (row_in firsts) column value.now =
+    map-set (λ (v : Bor Value). v.now) firsts column value in
     let test : is_null was ≡ true = ap is_null (value_at firsts column first NULL lt first_is) ∙ null in
     record {
       no_float = no_float;
       one_kind = or_second (is_null value.now) (is_null was) (same_kind was value.now) test;
-      first = ap (λ (r : Row). get_or r column NULL) seen ∙ get_or-set_same (row_in firsts) column value.now NULL inside ∙ sym (cond-true (is_null was) value.now was test);
-      others = λ other ne. ap (λ (r : Row). get_or r other NULL) seen ∙ get_or-set_other (row_in firsts) column other value.now NULL ne;
+      first = ap (λ (r : Row). get_or r column NULL) seen ∙
+          get_or-set_same (row_in firsts) column value.now NULL inside ∙
+          sym (cond-true (is_null was) value.now was test);
+      others = λ other ne. ap (λ (r : Row). get_or r other NULL) seen ∙
+          get_or-set_other (row_in firsts) column other value.now NULL ne;
     }
 
 -- the values of a row before a place joined their columns, and were appended
@@ -55,7 +63,9 @@ pub record ListSoFar (was now : List (Bor Value)) (row : Row) (i : ℕ) (old out
   pub fit : Fit (take i row)
   pub bytes : out ≡ old ++ row_bytes (take i row)
 
-module _ (was now new : List (Bor Value)) (row : Row) (i : ℕ) (value : Value) (old out new_out : List ℕ) (s : ListSoFar was now row i old out) (lt : i < length row) (is : value ≡ get_or row i value)
+module _ (was now new : List (Bor Value)) (row : Row) (i : ℕ) (value : Value)
+    (old out new_out : List ℕ) (s : ListSoFar was now row i old out) (lt : i < length row)
+    (is : value ≡ get_or row i value)
     (j : JoinsColumn (row_in now) (row_in new) i value) where
   -- the value stands in the row
   at : get_or row i NULL ≡ value
@@ -68,20 +78,25 @@ module _ (was now new : List (Bor Value)) (row : Row) (i : ℕ) (value : Value) 
   -- the column's first value is filled
   filled_more : Filled was new row (i + 1)
   filled_more = record {
-    put = below_more (λ column. get_or (row_in new) column NULL ≡ filled (get_or (row_in was) column NULL) (get_or row column NULL)) i
+    put = below_more (λ column. get_or (row_in new) column NULL ≡
+        filled (get_or (row_in was) column NULL) (get_or row column NULL)) i
         (λ column less. j.others column (λ e. absurd (omega (arith, less, e))) ∙ s.filled.put column less)
-        (j.first ∙ ap (λ v. filled (get_or (row_in now) i NULL) v) (sym at) ∙ ap (λ v. filled v (get_or row i NULL)) (s.filled.rest i (omega arith)));
+        (j.first ∙ ap (λ v. filled (get_or (row_in now) i NULL) v) (sym at) ∙
+        ap (λ v. filled v (get_or row i NULL)) (s.filled.rest i (omega arith)));
     rest = λ column le. j.others column (λ e. absurd (omega (arith, le, e))) ∙ s.filled.rest column (omega (arith, le));
   }
 
   -- the value is of the column's kind
   alike_here : is_other (get_or (row_in was) i NULL) (get_or row i NULL) ≡ false
-  alike_here = ap (λ v. is_other v (get_or row i NULL)) (sym (s.filled.rest i (omega arith))) ∙ ap (λ v. is_other (get_or (row_in now) i NULL) v) at ∙ ap not j.one_kind
+  alike_here = ap (λ v. is_other v (get_or row i NULL)) (sym (s.filled.rest i (omega arith))) ∙
+      ap (λ v. is_other (get_or (row_in now) i NULL) v) at ∙ ap not j.one_kind
 
   -- the value is no float
   float_more : position_from (λ value. is_none (content_of value)) (i + 1) (drop (i + 1) row) ≡ first_float row
   float_more =
-      sym (cond-false (is_none (content_of value)) (Some i) (position_from (λ value. is_none (content_of value)) (i + 1) (drop (i + 1) row)) j.no_float)
+      sym (cond-false (is_none (content_of value)) (Some i)
+      (position_from (λ value. is_none (content_of value)) (i + 1) (drop (i + 1) row))
+      j.no_float)
       ∙ ap (λ l. position_from (λ value. is_none (content_of value)) i l) (sym (next_set row i value lt is)) ∙ s.float
 
   -- its bytes are behind those of the values before
@@ -89,7 +104,8 @@ module _ (was now new : List (Bor Value)) (row : Row) (i : ℕ) (value : Value) 
   bytes_more put =
       put ∙ ap (λ l. l ++ value_bytes value) s.bytes ∙ append_assoc old (row_bytes (take i row)) (value_bytes value)
       ∙ ap (λ l. old ++ (row_bytes (take i row) ++ l)) (sym (append-nil (value_bytes value)))
-      ∙ ap (λ l. old ++ l) (sym (flat_map-append value_bytes (take i row) (value ∷ [])) ∙ ap (λ l. row_bytes l) (sym more))
+      ∙ ap (λ l. old ++ l) (sym (flat_map-append value_bytes (take i row) (value ∷ [])) ∙
+      ap (λ l. row_bytes l) (sym more))
 
   -- one more value
   pub one_value : FitsFields value → new_out ≡ out ++ value_bytes value → ListSoFar was new row (i + 1) old new_out
@@ -105,26 +121,37 @@ module _ (was now new : List (Bor Value)) (row : Row) (i : ℕ) (value : Value) 
       ap_fit all = rw more all
 
 -- no value is of another kind than the first one of its column in the rows before
-none_is_other : (firsts : List (Bor Value)) (row : Row) (before : List Row) → length row ≡ length firsts → row_in firsts ≡ first_values (length firsts) before →
-    ((k : ℕ) → k < length row → is_other (get_or (row_in firsts) k NULL) (get_or row k NULL) ≡ false) → place_where (is_of_other_kind before) row ≡ None
+none_is_other : (firsts : List (Bor Value)) (row : Row) (before : List Row) → length row ≡
+    length firsts → row_in firsts ≡ first_values (length firsts) before →
+    ((k : ℕ) → k < length row → is_other (get_or (row_in firsts) k NULL) (get_or row k NULL) ≡
+    false) → place_where (is_of_other_kind before) row ≡ None
 none_is_other firsts row before wide is none =
     first_at_none (λ place value. cond (is_of_other_kind before place value) (Some place) None) row NULL (λ k lt.
-    let first : first_in_column k before ≡ get_or (row_in firsts) k NULL = sym (ap (λ (r : Row). get_or r k NULL) is ∙ first_here (length firsts) before k NULL (omega (arith, lt, wide))) in
-    cond-false (is_of_other_kind before k (get_or row k NULL)) (Some k) None (ap (λ v. is_other v (get_or row k NULL)) first ∙ none k lt))
+    let first : first_in_column k before ≡ get_or (row_in firsts) k NULL =
+    sym (ap (λ (r : Row). get_or r k NULL) is ∙
+    first_here (length firsts) before k NULL (omega (arith, lt, wide))) in
+    cond-false (is_of_other_kind before k (get_or row k NULL)) (Some k) None
+    (ap (λ v. is_other v (get_or row k NULL)) first ∙ none k lt))
 
 -- all values
-pub all_values_put : (firsts now : List (Bor Value)) (row : Row) (i : ℕ) (old out : List ℕ) → ListSoFar firsts now row i old out → length row ≡ length firsts → length now ≡ length firsts → length row ≤ i →
+pub all_values_put : (firsts now : List (Bor Value)) (row : Row) (i : ℕ) (old out : List ℕ) →
+    ListSoFar firsts now row i old out → length row ≡ length firsts → length now ≡ length firsts →
+    length row ≤ i →
     PutsRow (row_in firsts) (row_in now) row old out
 all_values_put firsts now row i old out s wide len end =
     let columns : length (row_in firsts) ≡ length firsts = length-map firsts (λ (v : Bor Value). v.now) in
     let whole : take i row ≡ row = take_all i row end in
     record {
       wide = wide ∙ sym columns;
-      no_float = sym (ap (λ l. position_from (λ value. is_none (content_of value)) i l) (sym (drop_all i row end)) ∙ s.float);
+      no_float = sym (ap (λ l. position_from (λ value. is_none (content_of value)) i l)
+          (sym (drop_all i row end)) ∙ s.float);
       fit = fits whole s.fit;
-      one_kind = λ before is. none_is_other firsts row before wide (is ∙ ap (λ n. first_values n before) columns) (λ k lt. s.alike k (omega (arith, lt, end)));
+      one_kind = λ before is. none_is_other firsts row before wide (is ∙
+          ap (λ n. first_values n before) columns) (λ k lt. s.alike k (omega (arith, lt, end)));
       firsts_are = λ before is.
-          first_values_more (length firsts) firsts now row refl len (λ column lt. s.filled.put column (omega (arith, lt, wide, end))) before (is ∙ ap (λ n. first_values n before) columns)
+          first_values_more (length firsts) firsts now row refl len
+          (λ column lt. s.filled.put column (omega (arith, lt, wide, end))) before (is ∙
+          ap (λ n. first_values n before) columns)
           ∙ ap (λ n. first_values n (before ++ row ∷ [])) (sym columns);
       appended = s.bytes ∙ ap (λ l. old ++ row_bytes l) whole;
     }

@@ -1,7 +1,9 @@
 -- Packets that were written are read again.
 use Rattle.std.proofs.Common.{[], append-nil, refl}
-use Rattle.mysql_server_packets.specs.PacketLaws.{local_infile_at-back, prepare_ok_at-back, progress_body_at-back, server_error_at-back, sql_state_at-back}
-use Rattle.mysql_server_packets.specs.Statements.{ErrorsReadBack, FileRequestsReadBack, ReportsReadBack, StatementsReadBack, StatesReadBack}
+use Rattle.mysql_server_packets.specs.PacketLaws.{local_infile_at-back, prepare_ok_at-back, progress_body_at-back}
+use Rattle.mysql_server_packets.specs.PacketLaws.{server_error_at-back, sql_state_at-back}
+use Rattle.mysql_server_packets.specs.Statements.{ErrorsReadBack, FileRequestsReadBack, ReportsReadBack}
+use Rattle.mysql_server_packets.specs.Statements.{StatementsReadBack, StatesReadBack}
 
 pub states_read_back : StatesReadBack
 states_read_back = sql_state_at-back

@@ -1,5 +1,6 @@
 -- Sets that were sent in a form that can be read back are delivered, and what follows of sets that are delivered.
-use Rattle.std.proofs.Common.{◌≡◌, ℕ, ◌+◌, ◌<◌, List, [], ◌∷◌, ◌++◌, filter, length, map, None, Ok, refl, sym, ◌∙◌, ap, subst}
+use Rattle.std.proofs.Common.{◌≡◌, ℕ, ◌+◌, ◌<◌, List, [], ◌∷◌, ◌++◌, filter, length, map, None, Ok, refl, sym, ◌∙◌, ap}
+use Rattle.std.proofs.Common.{subst}
 use Rattle.std.specs.List.{AllByRecursion, concat}
 use Rattle.std.proofs.lemmas.List.{append-nil, append_cancel_left, get_or-append-add}
 use Rattle.mysql_wire.specs.Bytes.{AreBytes}
@@ -26,7 +27,8 @@ use Rattle.mysql_send.specs.Executions.{AppendsMore, limits_of}
 use Rattle.mysql_recoding.specs.Causes.{values_of_sets}
 use Rattle.mysql_recoding.specs.Laws.{RecodingsAreSent}
 use Rattle.mysql_session.specs.Delivery.{Delivers, ReadsWholeAs}
-use Rattle.mysql_session.specs.Laws.{DeliveriesAreReadBack, DeliveriesAreReceived, FurtherSetsAreDelivered, ReadableSetsAreDelivered, RecodingsAreDelivered}
+use Rattle.mysql_session.specs.Laws.{DeliveriesAreReadBack, DeliveriesAreReceived, FurtherSetsAreDelivered}
+use Rattle.mysql_session.specs.Laws.{ReadableSetsAreDelivered, RecodingsAreDelivered}
 
 -- ---- one audit
 
@@ -36,14 +38,19 @@ whole_of contents = record { sets = contents; ending = Whole }
 
 -- bytes behind others are bytes
 bytes_behind : (front back : List ℕ) → AreBytes (front ++ back) → AreBytes back
-bytes_behind front back bytes = λ i. subst (λ (n : ℕ). n < 256) (get_or-append-add front back i 0) (bytes (length front + i))
+bytes_behind front back bytes =
+    λ i. subst (λ (n : ℕ). n < 256) (get_or-append-add front back i 0) (bytes (length front + i))
 
 -- a stream of bytes with such an audit has no other, in whichever pieces
-one_audit : CuttingsAgree → (query : Sql) (id limit : ℕ) (stream : List ℕ) (contents : List Set) → AreBytes stream → AuditOf query id limit stream (whole_of contents) → ReadsWholeAs query id limit stream contents
+one_audit : CuttingsAgree → (query : Sql) (id limit : ℕ) (stream : List ℕ) (contents : List Set) →
+    AreBytes stream → AuditOf query id limit stream (whole_of contents) →
+    ReadsWholeAs query id limit stream contents
 one_audit agree query id limit stream contents bytes is pieces audit joined =
-    let there : AuditOf query id limit (concat pieces) (whole_of contents) = subst (λ (l : List ℕ). AuditOf query id limit l (whole_of contents)) (sym joined) is in
+    let there : AuditOf query id limit (concat pieces) (whole_of contents) =
+    subst (λ (l : List ℕ). AuditOf query id limit l (whole_of contents)) (sym joined) is in
     let alone : concat pieces ≡ concat (concat pieces ∷ []) = sym (append-nil (concat pieces)) in (
-      λ other. agree query id limit pieces (concat pieces ∷ []) audit (whole_of contents) (subst (λ (l : List ℕ). AreBytes l) (sym joined) bytes) alone other
+      λ other. agree query id limit pieces (concat pieces ∷ []) audit (whole_of contents)
+          (subst (λ (l : List ℕ). AreBytes l) (sym joined) bytes) alone other
           (subst (λ (l : List ℕ). AuditOf query id limit l (whole_of contents)) alone there),
       λ same. subst (λ (a : Audit). AuditOf query id limit (concat pieces) a) (sym same) there,
     )
@@ -68,16 +75,22 @@ one_values (x ∷ xs) (y ∷ ys) same =
 abbrev Counts : List (List ℕ) → List (List Value) → Type 0
 Counts tokens values = AllByRecursion (λ set. length set ≡ length (filter is_place tokens)) values
 
-counted : (tokens others : List (List ℕ)) (values same : List (List Value)) → tokens ≡ others → values ≡ same → Counts tokens values → Counts others same
-counted tokens others values same one two counts = subst (λ (l : List (List Value)). Counts others l) two (subst (λ (t : List (List ℕ)). Counts t values) one counts)
+counted : (tokens others : List (List ℕ)) (values same : List (List Value)) → tokens ≡ others →
+    values ≡ same → Counts tokens values → Counts others same
+counted tokens others values same one two counts =
+    subst (λ (l : List (List Value)). Counts others l) two
+    (subst (λ (t : List (List ℕ)). Counts t values) one counts)
 
 -- sets of values that can be read back
 abbrev AreReadable : Road → Sql → ℕ → List (List ℕ) → List (List Value) → Type 0
 AreReadable road query id tokens values = AllByRecursion (IsReadable road (statement_of query tokens id).query) values
 
-readable_by : (road : Road) (query : Sql) (id : ℕ) (tokens others : List (List ℕ)) (values same : List (List Value)) → tokens ≡ others → values ≡ same → AreReadable road query id tokens values → AreReadable road query id others same
+readable_by : (road : Road) (query : Sql) (id : ℕ) (tokens others : List (List ℕ))
+    (values same : List (List Value)) → tokens ≡ others → values ≡ same →
+    AreReadable road query id tokens values → AreReadable road query id others same
 readable_by road query id tokens others values same one two readable =
-    subst (λ (l : List (List Value)). AreReadable road query id others l) two (subst (λ (t : List (List ℕ)). AreReadable road query id t values) one readable)
+    subst (λ (l : List (List Value)). AreReadable road query id others l) two
+    (subst (λ (t : List (List ℕ)). AreReadable road query id t values) one readable)
 
 -- ---- the laws
 
@@ -88,11 +101,18 @@ delivered sent fit agree once road query sets id limit old new small room short 
     let contents : List Set = d.read_back.contents in
     let m : AreMeanings query sets contents = d.read_back.reads.meanings in
     let tokens : m.tokens ≡ s.tokens = once query.mode query.text m.tokens s.tokens m.has s.has in
-    let values : m.values ≡ s.values = one_values m.values s.values (sym m.given ∙ ap (λ t. sets (names_of t)) tokens ∙ s.given) in
-    let same_tokens : q.sends.tokens ≡ s.tokens = once query.mode query.text q.sends.tokens s.tokens q.sends.has s.has in
-    let same_values : q.sends.values ≡ s.values = one_values q.sends.values s.values (sym q.sends.given ∙ ap (λ t. sets (names_of t)) same_tokens ∙ s.given) in
-    let stream : d.read_back.stream ≡ stream_of s.sent = append_cancel_left old d.read_back.stream (stream_of s.sent) (sym d.read_back.appended ∙ s.appended) in
-    let none : cause_of road (statement_of query s.tokens id) limit (map Ok s.values) ≡ None = ap (λ l. cause_of road (statement_of query s.tokens id) limit l) (sym s.given) ∙ s.none in
+    let values : m.values ≡ s.values =
+    one_values m.values s.values (sym m.given ∙ ap (λ t. sets (names_of t)) tokens ∙ s.given) in
+    let same_tokens : q.sends.tokens ≡ s.tokens =
+    once query.mode query.text q.sends.tokens s.tokens q.sends.has s.has in
+    let same_values : q.sends.values ≡ s.values =
+    one_values q.sends.values s.values (sym q.sends.given ∙
+    ap (λ t. sets (names_of t)) same_tokens ∙ s.given) in
+    let stream : d.read_back.stream ≡ stream_of s.sent =
+    append_cancel_left old d.read_back.stream (stream_of s.sent) (sym d.read_back.appended ∙
+    s.appended) in
+    let none : cause_of road (statement_of query s.tokens id) limit (map Ok s.values) ≡ None =
+    ap (λ l. cause_of road (statement_of query s.tokens id) limit l) (sym s.given) ∙ s.none in
     record {
       tokens = s.tokens;
       has = s.has;
@@ -106,8 +126,11 @@ delivered sent fit agree once road query sets id limit old new small room short 
       appended = s.appended;
       contents = contents;
       meanings = subst (λ (l : List (List Value)). HaveContents l contents) values m.each;
-      readable = readable_by road query id q.sends.tokens s.tokens q.sends.values s.values same_tokens same_values q.readable;
-      read_back = one_audit agree query id limit (stream_of s.sent) contents (bytes_behind old (stream_of s.sent) (subst (λ (l : List ℕ). AreBytes l) s.appended bytes))
+      readable = readable_by road query id q.sends.tokens s.tokens q.sends.values s.values
+          same_tokens same_values q.readable;
+      read_back = one_audit agree query id limit (stream_of s.sent) contents
+          (bytes_behind old (stream_of s.sent)
+          (subst (λ (l : List ℕ). AreBytes l) s.appended bytes))
           (subst (λ (l : List ℕ). AuditOf query id limit l (whole_of contents)) stream d.read_back.reads.audit);
       fronts = d.whole.fronts;
       fewest = d.whole.fewest;
@@ -115,10 +138,13 @@ delivered sent fit agree once road query sets id limit old new small room short 
 
 pub recoded : RecodingsAreSent → ReadableSetsAreDelivered → RecodingsAreDelivered
 recoded sent delivers query id limit stream old new small least room short bytes appended is =
-    delivers Execute query (all_given_in_places (values_of_sets is.audit.sets)) id limit old new small least short appended (sent query id limit stream old new room bytes is)
+    delivers Execute query (all_given_in_places (values_of_sets is.audit.sets)) id limit old new
+    small least short appended (sent query id limit stream old new room bytes is)
 
 -- what was sent of them
-abbrev sent_of : (road : Road) (query : Sql) (sets : List (List ℕ) → List Given) (id limit : ℕ) (old new : List ℕ) → Delivers road query sets id limit old new → SendsGiven road query sets id limit old new
+abbrev sent_of : (road : Road) (query : Sql) (sets : List (List ℕ) → List Given) (id limit : ℕ)
+    (old new : List ℕ) → Delivers road query sets id limit old new →
+    SendsGiven road query sets id limit old new
 sent_of road query sets id limit old new d = record {
   tokens = d.tokens;
   has = d.has;
@@ -140,8 +166,17 @@ read_back road query sets id limit old new d =
         appended = d.appended;
         contents = d.contents;
         reads = record {
-          meanings = record { tokens = d.tokens; has = d.has; values = d.values; given = d.given; counts = d.counts; each = d.meanings };
-          audit = subst (λ (l : List ℕ). AuditOf query id limit l (whole_of d.contents)) alone ((d.read_back (stream ∷ []) (whole_of d.contents) alone).1 refl);
+          meanings = record {
+            tokens = d.tokens;
+            has = d.has;
+            values = d.values;
+            given =
+                d.given;
+            counts = d.counts;
+            each = d.meanings;
+          };
+          audit = subst (λ (l : List ℕ). AuditOf query id limit l (whole_of d.contents)) alone
+              ((d.read_back (stream ∷ []) (whole_of d.contents) alone).1 refl);
         };
       };
       whole = record {
@@ -154,10 +189,19 @@ read_back road query sets id limit old new d =
 pub further : FurtherSetsAreSent → ReadableSetsAreDelivered → OneTokens → FurtherSetsAreDelivered
 further goes_on delivers once query sets limit first more old mid new small least short bytes d count a =
     let tokens : a.tokens ≡ d.tokens = once query.sql.mode query.sql.text a.tokens d.tokens a.has d.has in
-    delivers Execute query.sql (λ names. sets names ++ all_given_in_places more names) query.id limit old new small least short bytes
-    (goes_on query.sql sets query.id limit first more old mid new (record { sends = sent_of Execute query.sql sets query.id limit old mid d; readable = d.readable }) count
-    (subst (λ (t : List (List ℕ)). AppendsMore query.id (limits_of (places_of query.sql t) limit) first more mid new) tokens a.appends))
+    delivers Execute query.sql (λ names. sets names ++ all_given_in_places more names) query.id
+    limit old new small least short bytes
+    (goes_on query.sql sets query.id limit first more old mid new
+    (record {
+      sends = sent_of Execute query.sql sets query.id limit old mid d;
+      readable =
+          d.readable;
+    }) count
+    (subst (λ (t : List (List ℕ)). AppendsMore query.id (limits_of (places_of query.sql t) limit)
+    first more mid new) tokens a.appends))
 
 pub received : DeliveriesAreReceived
 received road query sets id limit old new pieces answer d appended is known =
-    (d.read_back pieces answer (append_cancel_left old (concat pieces) (stream_of d.sent) (sym appended ∙ d.appended))).0 (is.audit known)
+    (d.read_back pieces answer
+    (append_cancel_left old (concat pieces) (stream_of d.sent) (sym appended ∙ d.appended))).0
+    (is.audit known)

@@ -1,5 +1,7 @@
 -- What a search for a word passes over.
-use Rattle.std.proofs.Common.{◌≡◌, ◌==◌, ◌&&◌, Bool, true, false, cond, ℕ, zero, suc, ◌+◌, ◌-◌, ◌<◌, ◌≤◌, ◌%◌, nat_le, nat_lt, List, [], ◌∷◌, length, drop, slice_index, refl, sym, ap, ◌∙◌, arith, drop-drop, get_or-drop, eqb-true, leb-true, true≢false, take, take_all, length-drop, le_of_eq}
+use Rattle.std.proofs.Common.{◌≡◌, ◌==◌, ◌&&◌, Bool, true, false, cond, ℕ, zero, suc, ◌+◌, ◌-◌, ◌<◌, ◌≤◌, ◌%◌, nat_le}
+use Rattle.std.proofs.Common.{nat_lt, List, [], ◌∷◌, length, drop, slice_index, refl, sym, ap, ◌∙◌, arith, drop-drop}
+use Rattle.std.proofs.Common.{get_or-drop, eqb-true, leb-true, true≢false, take, take_all, length-drop, le_of_eq}
 use Rattle.std.proofs.Math.Nat.{add-mod_right}
 use Rattle.std.proofs.lemmas.Bool.{false_from_ne_true}
 use Rattle.std.specs.Char.{to_ascii_lowercase}
@@ -17,10 +19,14 @@ letter_at : (word text : List ℕ) (j : ℕ) → is_word_at word text ≡ true �
 unfolding is_word_at
 letter_at [] text j is less = absurd (omega arith)
 letter_at (letter ∷ word) [] j is less = absurd (true≢false (sym is))
-letter_at (letter ∷ word) (byte ∷ text) zero is less =
-    (omega arith, eqb-true (to_ascii_lowercase byte) letter (both_true (to_ascii_lowercase byte == letter) (is_word_at word text) is).0)
+letter_at (letter ∷ word) (byte ∷ text) zero is less = (
+  omega arith,
+  eqb-true (to_ascii_lowercase byte) letter
+      (both_true (to_ascii_lowercase byte == letter) (is_word_at word text) is).0,
+)
 letter_at (letter ∷ word) (byte ∷ text) (suc j) is less =
-    let rest = letter_at word text j (both_true (to_ascii_lowercase byte == letter) (is_word_at word text) is).1 (omega arith) in
+    let rest = letter_at word text j
+    (both_true (to_ascii_lowercase byte == letter) (is_word_at word text) is).1 (omega arith) in
     (omega arith, rest.1)
 
 -- the low five bits are the same in both cases
@@ -62,9 +68,11 @@ passed word (byte ∷ rest) (suc step) none =
 pub one_on : (word text : List ℕ) (at : ℕ) → is_word_at word (drop at text) ≡ false →
     has_word word (drop (at + 1) text) ≡ has_word word (drop at text)
 one_on word text at none =
-    let whole : drop 1 (drop at text) ≡ drop (at + 1) text = drop-drop 1 at text ∙ ap (λ i. drop i text) (omega arith) in
+    let whole : drop 1 (drop at text) ≡ drop (at + 1) text = drop-drop 1 at text ∙
+    ap (λ i. drop i text) (omega arith) in
     ap (λ t. has_word word t) (sym whole)
-    ∙ passed word (drop at text) 1 (λ k less. let first : k ≡ 0 = omega arith in ap (λ i. is_word_at word (drop i (drop at text))) first ∙ none)
+    ∙ passed word (drop at text) 1 (λ k less. let first : k ≡ 0 = omega arith in
+    ap (λ i. is_word_at word (drop i (drop at text))) first ∙ none)
 
 -- no word begins before a step's end
 module _ (word steps text : List ℕ) (last : ℕ) (ends : last + 1 ≡ length word)
@@ -80,17 +88,20 @@ module _ (word steps text : List ℕ) (last : ℕ) (ends : last + 1 ≡ length w
       get_or-drop (at + k) text (last - k) 0 ∙ ap (λ i. slice_index text i) place in
       let bits : slice_index word (last - k) % 32 ≡ slice_index text (at + last) % 32 =
       ap (λ n. n % 32) (sym here.1) ∙ low_bits (slice_index (drop (at + k) text) (last - k)) ∙ ap (λ n. n % 32) byte in
-      let same : slice_index steps (slice_index word (last - k) % 32) ≡ slice_index steps (slice_index text (at + last) % 32) =
+      let same : slice_index steps (slice_index word (last - k) % 32) ≡
+      slice_index steps (slice_index text (at + last) % 32) =
       ap (λ i. slice_index steps i) bits in
       omega arith
 
   pub goes_on : (at step : ℕ) → step ≡ slice_index steps (slice_index text (at + last) % 32) →
       has_word word (drop (at + step) text) ≡ has_word word (drop at text)
   goes_on at step is =
-      let whole : drop step (drop at text) ≡ drop (at + step) text = drop-drop step at text ∙ ap (λ i. drop i text) (omega arith) in
+      let whole : drop step (drop at text) ≡ drop (at + step) text = drop-drop step at text ∙
+      ap (λ i. drop i text) (omega arith) in
       ap (λ t. has_word word t) (sym whole)
       ∙ passed word (drop at text) step (λ k less. false_from_ne_true (is_word_at word (drop k (drop at text))) (λ e.
-      let place : drop k (drop at text) ≡ drop (at + k) text = drop-drop k at text ∙ ap (λ i. drop i text) (omega arith) in
+      let place : drop k (drop at text) ≡ drop (at + k) text = drop-drop k at text ∙
+      ap (λ i. drop i text) (omega arith) in
       not_before at k (omega arith) (ap (λ t. is_word_at word t) (sym place) ∙ e)))
 
 -- what is left is shorter than the word

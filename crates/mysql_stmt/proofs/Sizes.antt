@@ -20,19 +20,24 @@ length-cells : CellLength → (values : List Value) → length (flat_map (sent_c
 length-cells lengths [] = refl
 length-cells lengths (value ∷ values) =
     length-append (sent_cell false value) (flat_map (sent_cell false) values)
-    ∙ ap (λ n. n + length (flat_map (sent_cell false) values)) (lengths value) ∙ ap (λ n. bin_len value + n) (length-cells lengths values) ∙ sym (sum_by-cons bin_len value values)
+    ∙ ap (λ n. n + length (flat_map (sent_cell false) values)) (lengths value) ∙
+    ap (λ n. bin_len value + n) (length-cells lengths values) ∙
+    sym (sum_by-cons bin_len value values)
 
 -- ten bytes stand before what is carried of the values
-length-execution : (id : ℕ) (values : List Value) → length (execute_command id values false) ≡ 10 + length (parameters (null_bitmap values) values false)
+length-execution : (id : ℕ) (values : List Value) → length (execute_command id values false) ≡
+    10 + length (parameters (null_bitmap values) values false)
 unfolding execution
 length-execution id values = omega arith
 
 -- bitmap, mark, types and cells
-length-parts : (bitmap types cells : List ℕ) → length (bitmap ++ 1 ∷ (types ++ cells)) ≡ length bitmap + 1 + length types + length cells
+length-parts : (bitmap types cells : List ℕ) → length (bitmap ++ 1 ∷ (types ++ cells)) ≡
+    length bitmap + 1 + length types + length cells
 length-parts bitmap types cells = omega (arith, length-append bitmap (1 ∷ (types ++ cells)), length-append types cells)
 
 -- the sum of all parts
-total : (bitmap count types cells all sum : ℕ) → all ≡ 10 + (bitmap + 1 + types + cells) → bitmap ≡ count → types ≡ 2 * sum → (size : ℕ) → cells ≡ size → all ≡ 10 + count + 1 + 2 * sum + size
+total : (bitmap count types cells all sum : ℕ) → all ≡ 10 + (bitmap + 1 + types + cells) → bitmap ≡
+    count → types ≡ 2 * sum → (size : ℕ) → cells ≡ size → all ≡ 10 + count + 1 + 2 * sum + size
 total bitmap count types cells all sum is b t size c = omega (arith, is, b, t, c)
 
 -- the law of the sizes
@@ -41,7 +46,11 @@ executions_have_sizes lengths = (
   λ id. length-execution id [],
   λ id value values.
       let all : List Value = value ∷ values in
-      total (length (null_bitmap all)) ((length all + 7) / 8) (length (flat_map type_bytes all)) (length (flat_map (sent_cell false) all)) (length (execute_command id all false)) (length all)
-      (length-execution id all ∙ ap (λ n. 10 + n) (length-parts (null_bitmap all) (flat_map type_bytes all) (flat_map (sent_cell false) all)))
+      total (length (null_bitmap all)) ((length all + 7) / 8) (length (flat_map type_bytes all))
+      (length (flat_map (sent_cell false) all)) (length (execute_command id all false))
+      (length all)
+      (length-execution id all ∙
+      ap (λ n. 10 + n) (length-parts (null_bitmap all) (flat_map type_bytes all)
+      (flat_map (sent_cell false) all)))
       (bitmap_length all) (length-types all) (sum_by bin_len all) (length-cells lengths all),
 )

@@ -17,12 +17,14 @@ IsEntryCopy e f = (AllZip (λ (x : ℕ) y. y ≡ x) e.0.items f.0.items × (vec_
 same_name : (e f : Entry) → IsEntryCopy e f → f.0.items ≡ e.0.items
 same_name e f h = same_from_all_zip (λ (x : ℕ) y. y ≡ x) e.0.items f.0.items h.0.0 (λ x y same. same)
 
-named_alike : (es fs : List Entry) (name : List ℕ) → AllZip IsEntryCopy es fs → value_named name fs ≡ value_named name es
+named_alike : (es fs : List Entry) (name : List ℕ) → AllZip IsEntryCopy es fs →
+    value_named name fs ≡ value_named name es
 named_alike [] [] name h = refl
 named_alike [] (f ∷ fs) name h = absurd h
 named_alike (e ∷ es) [] name h = absurd h
 named_alike (e ∷ es) (f ∷ fs) name h = rw (same_name e f h.0, h.0.1, named_alike es fs name h.1) refl
 
-pub values_alike : (es fs : List Entry) (names : List (List ℕ)) → AllZip IsEntryCopy es fs → values_named fs names ≡ values_named es names
+pub values_alike : (es fs : List Entry) (names : List (List ℕ)) → AllZip IsEntryCopy es fs →
+    values_named fs names ≡ values_named es names
 values_alike es fs [] h = refl
 values_alike es fs (name ∷ names) h = rw (named_alike es fs name h, values_alike es fs names h) refl

@@ -1,12 +1,15 @@
 -- The framing of a payload is found as this payload.
-use Rattle.std.proofs.Common.{◌≡◌, ℕ, zero, suc, ◌+◌, ◌-◌, ◌*◌, ◌/◌, ◌%◌, ◌≤◌, ◌<◌, Bool, true, false, List, ◌++◌, length, take, drop, arith, refl, ap, sym, ◌∙◌, append_assoc, add-one, length-drop, length-take-le}
+use Rattle.std.proofs.Common.{◌≡◌, ℕ, zero, suc, ◌+◌, ◌-◌, ◌*◌, ◌/◌, ◌%◌, ◌≤◌, ◌<◌, Bool, true, false, List, ◌++◌}
+use Rattle.std.proofs.Common.{length, take, drop, arith, refl, ap, sym, ◌∙◌, append_assoc, add-one, length-drop}
+use Rattle.std.proofs.Common.{length-take-le}
 use Rattle.std.specs.Prelude.{nat_le, nat_lt, ◌==◌, if◌then◌else◌}
 use Rattle.std.specs.List.{flat_map, range_with_len}
 use Rattle.std.proofs.lemmas.List.{append-nil, take_all, take_at, drop_at, drop-drop, take-append-drop}
 use Rattle.std.proofs.lemmas.Bool.Decides.{nat_tests}
 use Rattle.std.proofs.lemmas.Grind.{common_steps}
 use Rattle.mysql_wire.specs.Framing.{max_payload_len, chunk, slice, chunks, framing}
-use Rattle.mysql_wire.specs.FirstPacket.{Found, Whole, first_packet, packet_by, by_tests, with_chunk, announced, next_number, most_chunks}
+use Rattle.mysql_wire.specs.FirstPacket.{Found, Whole, first_packet, packet_by, by_tests, with_chunk, announced}
+use Rattle.mysql_wire.specs.FirstPacket.{next_number, most_chunks}
 use Rattle.mysql_wire.specs.FirstPacketLaws.{FramingsAreFound}
 
 -- a header's three bytes announce the length that they were written for
@@ -49,11 +52,13 @@ chunk_found many limit before number own bytes rest h k e =
     let n = length bytes in
     let all = bytes ++ rest in
     chunk_said many limit before number own bytes rest h
-    ∙ (λ i. by_tests (not_long limit (before + n) k i) (is_whole bytes rest i) (is_same (own % 256) number e i) (n == max_payload_len)
+    ∙ (λ i. by_tests (not_long limit (before + n) k i) (is_whole bytes rest i)
+    (is_same (own % 256) number e i) (n == max_payload_len)
     (own % 256) (take n all) (next_number number) (drop n all)
     (packet_by many limit (before + n) (next_number number) (drop n all)))
     ∙ (λ i. if n == max_payload_len
-    then with_chunk (take_at bytes rest n refl i) (packet_by many limit (before + n) (next_number number) (drop_at bytes rest n refl i))
+    then with_chunk (take_at bytes rest n refl i)
+    (packet_by many limit (before + n) (next_number number) (drop_at bytes rest n refl i))
     else Whole (take_at bytes rest n refl i) (next_number number) (drop_at bytes rest n refl i))
 
 -- the last chunk, and a full one with what follows it
@@ -62,7 +67,9 @@ last_found : (many limit before number own : ℕ) (bytes rest : List ℕ) → le
     packet_by (suc many) limit before number (chunk own bytes ++ rest) ≡ Whole bytes (next_number number) rest
 last_found many limit before number own bytes rest h k e =
     chunk_found many limit before number own bytes rest (omega arith) k e
-    ∙ ap (λ (b : Bool). if b then with_chunk bytes (packet_by many limit (before + length bytes) (next_number number) rest) else Whole bytes (next_number number) rest)
+    ∙ ap (λ (b : Bool). if b then with_chunk bytes
+    (packet_by many limit (before + length bytes) (next_number number) rest) else Whole bytes
+    (next_number number) rest)
     (is_other (length bytes) max_payload_len h)
 
 full_found : (many limit before number own : ℕ) (bytes rest : List ℕ) → length bytes ≡ max_payload_len →
@@ -71,7 +78,9 @@ full_found : (many limit before number own : ℕ) (bytes rest : List ℕ) → le
     with_chunk bytes (packet_by many limit (before + max_payload_len) (next_number number) rest)
 full_found many limit before number own bytes rest h k e =
     chunk_found many limit before number own bytes rest (omega arith) (omega arith) e
-    ∙ ap (λ (b : Bool). if b then with_chunk bytes (packet_by many limit (before + length bytes) (next_number number) rest) else Whole bytes (next_number number) rest)
+    ∙ ap (λ (b : Bool). if b then with_chunk bytes
+    (packet_by many limit (before + length bytes) (next_number number) rest) else Whole bytes
+    (next_number number) rest)
     (is_same (length bytes) max_payload_len h)
     ∙ ap (λ (n : ℕ). with_chunk bytes (packet_by many limit (before + n) (next_number number) rest)) h
 
@@ -87,7 +96,8 @@ left_from payload from = drop (from * max_payload_len) payload
 low_next : (from later n : ℕ) → (from + suc later) * max_payload_len ≤ n → (from + 1 + later) * max_payload_len ≤ n
 low_next from later n h = omega arith
 
-high_next : (from later n : ℕ) → n < (from + suc later + 1) * max_payload_len → n < (from + 1 + later + 1) * max_payload_len
+high_next : (from later n : ℕ) → n < (from + suc later + 1) * max_payload_len →
+    n < (from + 1 + later + 1) * max_payload_len
 high_next from later n h = omega arith
 
 fewer_next : (later many : ℕ) → suc later < suc many → later < many
@@ -112,7 +122,8 @@ found_from payload rest id limit zero (suc many) from number low high short m e 
     let size : length left ≡ length payload - from * max_payload_len = length-drop (from * max_payload_len) payload in
     let all : slice payload from ≡ left = take_all max_payload_len left (omega arith) in
     let next : next_number number ≡ (id + from + 1) % 256 = omega arith in
-    ap (λ (l : List ℕ). packet_by (suc many) limit (from * max_payload_len) number (l ++ rest)) (append-nil (chunk (id + from) (slice payload from)))
+    ap (λ (l : List ℕ). packet_by (suc many) limit (from * max_payload_len) number (l ++ rest))
+    (append-nil (chunk (id + from) (slice payload from)))
     ∙ ap (λ (l : List ℕ). packet_by (suc many) limit (from * max_payload_len) number (chunk (id + from) l ++ rest)) all
     ∙ last_found many limit (from * max_payload_len) number (id + from) left rest (omega arith) (omega arith) e
     ∙ ap (λ (n : ℕ). Whole left n rest) next
@@ -146,5 +157,6 @@ framings_are_found limit number payload rest byte h =
     let one : later + 1 ≡ suc later = add-one later in
     let next : number + 0 + suc later ≡ number + (later + 1) = omega arith in
     ap (λ (n : ℕ). first_packet limit number (chunks_from payload number 0 n ++ rest)) one
-    ∙ found_from payload rest number limit later (most_chunks limit) 0 number (omega arith) (omega arith) h (omega arith) (omega arith)
+    ∙ found_from payload rest number limit later (most_chunks limit) 0 number (omega arith)
+    (omega arith) h (omega arith) (omega arith)
     ∙ (λ i. Whole payload (next i % 256) rest)

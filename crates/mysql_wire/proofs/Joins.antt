@@ -1,5 +1,6 @@
 -- How the payload of several chunks is joined, and that it fills a chunk.
-use Rattle.std.proofs.Common.{◌≡◌, ◌≢◌, ℕ, zero, suc, ◌+◌, ◌≤◌, List, ◌++◌, length, take, drop, arith, refl, ap, sym, ◌∙◌, add-one, length-drop, length-append, length-take-le, subst}
+use Rattle.std.proofs.Common.{◌≡◌, ◌≢◌, ℕ, zero, suc, ◌+◌, ◌≤◌, List, ◌++◌, length, take, drop, arith, refl, ap, sym}
+use Rattle.std.proofs.Common.{◌∙◌, add-one, length-drop, length-append, length-take-le, subst}
 use Rattle.std.specs.Result.{OnErr}
 use Rattle.std.specs.Prelude.{Result, Ok, Err}
 use Rattle.std.proofs.lemmas.List.{drop-drop}
@@ -22,7 +23,8 @@ pub joins_chunk : (bytes : List ℕ) (count : ℕ) (payload rest chunk new next 
     Joined bytes (count + 1) new next
 joins_chunk bytes count payload rest chunk new next j fits e is_chunk is_next =
     let place : header_behind count + (4 + max_payload_len) ≡ header_behind (count + 1) = omega arith in
-    let more : full_payloads (suc count) bytes ≡ full_payloads (count + 1) bytes = ap (λ (n : ℕ). full_payloads n bytes) (sym (add-one count)) in
+    let more : full_payloads (suc count) bytes ≡ full_payloads (count + 1) bytes =
+    ap (λ (n : ℕ). full_payloads n bytes) (sym (add-one count)) in
     record {
       joined = e
           ∙ (λ i. j.joined i ++ is_chunk i)

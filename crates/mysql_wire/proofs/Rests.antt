@@ -1,5 +1,6 @@
 -- Rests by the bytes that are left, and the bytes that a framing takes.
-use Rattle.std.proofs.Common.{◌≡◌, ℕ, zero, suc, ◌+◌, ◌<◌, List, [], ◌∷◌, ◌++◌, length, refl, ap, ◌∙◌, arith, take, drop}
+use Rattle.std.proofs.Common.{◌≡◌, ℕ, zero, suc, ◌+◌, ◌<◌, List, [], ◌∷◌, ◌++◌, length, refl, ap, ◌∙◌, arith, take}
+use Rattle.std.proofs.Common.{drop}
 use Rattle.std.proofs.lemmas.List.{length-append}
 use Rattle.mysql_wire.specs.Framing.{chunks}
 use Rattle.mysql_wire.specs.Stream.{IsRest}
@@ -26,10 +27,23 @@ some_bytes : (limit id : ℕ) (bytes : List ℕ) → IsRest limit id bytes Open 
 some_bytes limit id bytes r = by_count r.count refl
   where
     by_count : (n : ℕ) → r.count ≡ n → 0 < length bytes
-    by_count zero e = omega (arith, ap length r.joined, length-append (chunks r.body id r.count) r.tail, r.ends.0, r.full, e)
+    by_count zero e = omega (
+      arith,
+      ap length r.joined,
+      length-append (chunks r.body id r.count) r.tail,
+      r.ends.0,
+      r.full,
+      e,
+    )
     by_count (suc n) e =
-        let first : bytes ≡ _ = r.joined ∙ ap (λ (k : ℕ). chunks r.body id k ++ r.tail) e ∙ chunks_first r.body id n r.tail in
-        omega (arith, ap length first, length-chunk id (take 16777215 r.body) (chunks (drop 16777215 r.body) (id + 1) n ++ r.tail))
+        let first : bytes ≡ _ = r.joined ∙ ap (λ (k : ℕ). chunks r.body id k ++ r.tail) e ∙
+        chunks_first r.body id n r.tail in
+        omega (
+          arith,
+          ap length first,
+          length-chunk id (take 16777215 r.body) (chunks (drop 16777215 r.body) (id + 1) n ++
+              r.tail),
+        )
 
 pub rests_are_told : RestsAreTold
 rests_are_told limit id = (empty_rest limit id, λ bytes. (no_bytes limit id bytes, some_bytes limit id bytes))

@@ -1,11 +1,13 @@
 -- What was found stays with more bytes behind.
-use Rattle.std.proofs.Common.{◌≡◌, ℕ, zero, suc, ◌+◌, Bool, true, false, List, [], ◌∷◌, ◌++◌, length, take, drop, refl, sym, ap, subst, ◌∙◌, arith}
+use Rattle.std.proofs.Common.{◌≡◌, ℕ, zero, suc, ◌+◌, Bool, true, false, List, [], ◌∷◌, ◌++◌, length, take, drop, refl}
+use Rattle.std.proofs.Common.{sym, ap, subst, ◌∙◌, arith}
 use Rattle.std.specs.Prelude.{nat_le, nat_lt, ◌==◌}
 use Rattle.std.proofs.lemmas.List.{take-append-le, drop-append-le}
 use Rattle.std.proofs.lemmas.Bool.Decides.{nat_tests}
 use Rattle.std.proofs.lemmas.Grind.{common_steps}
 use Rattle.mysql_wire.specs.Framing.{max_payload_len}
-use Rattle.mysql_wire.specs.FirstPacket.{Found, Short, TooLarge, OutOfSync, Whole, with_chunk, by_tests, announced, next_number, packet_by, most_chunks}
+use Rattle.mysql_wire.specs.FirstPacket.{Found, Short, TooLarge, OutOfSync, Whole, with_chunk, by_tests, announced}
+use Rattle.mysql_wire.specs.FirstPacket.{next_number, packet_by, most_chunks}
 use Rattle.mysql_wire.specs.FirstPacketLaws.{StaysBy, PacketsStay}
 
 with_chunk_stays : (bytes piece : List ℕ) (old new : Found) → StaysBy piece old new →

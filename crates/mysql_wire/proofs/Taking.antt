@@ -1,10 +1,12 @@
 -- A packet takes its payload and a header at least from the bytes.
-use Rattle.std.proofs.Common.{◌≡◌, ℕ, zero, suc, ◌+◌, ◌≤◌, Bool, true, false, List, [], ◌∷◌, length, take, drop, refl, arith}
+use Rattle.std.proofs.Common.{◌≡◌, ℕ, zero, suc, ◌+◌, ◌≤◌, Bool, true, false, List, [], ◌∷◌, length, take, drop, refl}
+use Rattle.std.proofs.Common.{arith}
 use Rattle.std.specs.Prelude.{nat_le, nat_lt, ◌==◌}
 use Rattle.std.proofs.lemmas.Bool.Decides.{nat_tests}
 use Rattle.std.proofs.lemmas.Grind.{common_steps}
 use Rattle.mysql_wire.specs.Framing.{max_payload_len}
-use Rattle.mysql_wire.specs.FirstPacket.{Found, Short, TooLarge, OutOfSync, Whole, with_chunk, by_tests, announced, next_number, packet_by, most_chunks}
+use Rattle.mysql_wire.specs.FirstPacket.{Found, Short, TooLarge, OutOfSync, Whole, with_chunk, by_tests, announced}
+use Rattle.mysql_wire.specs.FirstPacket.{next_number, packet_by, most_chunks}
 use Rattle.mysql_wire.specs.FirstPacketLaws.{TakesBytes, PacketsTakeBytes}
 
 -- a whole chunk and its rest are the bytes

@@ -11,10 +11,12 @@ behind_four bytes next l e h = let n = ap length e ∙ length-drop next bytes in
 
 pub changes_end_behind_their_data : ChangesEndBehindTheirData
 unfolding state_at first
-changes_end_behind_their_data next type len h = behind_four (1 ∷ 2 ∷ 1 ∷ 0x61 ∷ 1 ∷ 1 ∷ 0 ∷ []) next (omega arith) h.2 h.4
+changes_end_behind_their_data next type len h =
+    behind_four (1 ∷ 2 ∷ 1 ∷ 0x61 ∷ 1 ∷ 1 ∷ 0 ∷ []) next (omega arith) h.2 h.4
 
 pub taken_results_take_the_reports : TakenResultsTakeTheReports
-taken_results_take_the_reports number old new h = ap (λ r. reports_in r.so_far) h.1.1 ∙ none (without_results old.reader.so_far)
+taken_results_take_the_reports number old new h = ap (λ r. reports_in r.so_far) h.1.1 ∙
+    none (without_results old.reader.so_far)
   where
     none : (s : ReplySoFar) → reports_in (without_reports s) ≡ []
     none (GoingOn s) = refl

@@ -29,7 +29,8 @@ unfolding is_secure tells response_at ssl_request_at ssl_fields_at first bitflag
 tls_is_offered_by_both request e = let f : false ≡ true = ap (tells is_secure) e in cc
 
 pub fields_stand_by_both_capabilities : FieldsStandByBothCapabilities
-unfolding is_cut_off tells response_at response_to_at ssl_request_at ssl_fields_at fields_by_at scramble_at named_parts_at first bitflags_on_literals
+unfolding is_cut_off tells response_at response_to_at ssl_request_at ssl_fields_at fields_by_at
+    scramble_at named_parts_at first bitflags_on_literals
 fields_stand_by_both_capabilities request e = let f : false ≡ true = ap (tells is_cut_off) e in cc
 
 pub long_answers_are_not_put : LongAnswersAreNotPut

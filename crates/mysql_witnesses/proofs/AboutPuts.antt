@@ -106,7 +106,8 @@ rows_are_not_put_under_other_columns m new column other before behind differ put
     let put = puts.0.0 in
     let event = Replied (RowEvent (null_under other)) in
     let said = said_of (rows_due column) put.2.after event (0xfb ∷ []) put.0 put.1 put.2.may.says in
-    let e : ◌≡◌ {A = List ColumnDefinition} (column ∷ []) (other ∷ []) = sym (its_column column) ∙ ap columns_said said in
+    let e : ◌≡◌ {A = List ColumnDefinition} (column ∷ []) (other ∷ []) = sym (its_column column) ∙
+    ap columns_said said in
     differ cc
 
 -- ---- packets past the turn
@@ -165,10 +166,12 @@ not_both new before behind (p ∷ []) stand puts = let e : ping ≡ [] = ap rest
 not_both new before behind (p ∷ q ∷ payloads) stand puts =
     let one = puts.2.puts.0.1 in
     let other = puts.3.2.puts.0.1 in
-    let said = subst (λ (bytes : List ℕ). step client_of_bytes.world.standing bytes ≡ Ok (puts.2.puts.0.0, one.written.after))
+    let said = subst (λ (bytes : List ℕ). step client_of_bytes.world.standing bytes ≡
+    Ok (puts.2.puts.0.0, one.written.after))
     (sym (ap payload_found stand.2)) one.says in
     let phase = ap (λ (w : World). w.standing.phase) one.written.goes ∙ sym (ap phase_behind said) ∙ reply_is_due in
-    let e : Server ≡ Client = sym (server_replies puts.0.world.standing q phase) ∙ ap side_said other.says ∙ other.its_own in
+    let e : Server ≡ Client = sym (server_replies puts.0.world.standing q phase) ∙
+    ap side_said other.says ∙ other.its_own in
     cc
 
 pub packets_wait_for_their_turn : PacketsWaitForTheirTurn

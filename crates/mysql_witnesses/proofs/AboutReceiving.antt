@@ -54,7 +54,8 @@ each_row_is_a_set t (a ∷ []) h = let e = behind_first t a h.0 h.1 in let f = h
 each_row_is_a_set t (a ∷ b ∷ []) h = refl
 each_row_is_a_set t (a ∷ b ∷ c ∷ sets) h =
     let k = subst (λ r. RowsAt (t ∷ []) r (b ∷ c ∷ sets) []) (sym (behind_first t a h.0 h.1)) h.2 in
-    absurd (none_at_the_end t c sets (subst (λ r. RowsAt (t ∷ []) r (c ∷ sets) []) (sym (behind_second t b k.0 k.1)) k.2))
+    absurd (none_at_the_end t c sets
+    (subst (λ r. RowsAt (t ∷ []) r (c ∷ sets) []) (sym (behind_second t b k.0 k.1)) k.2))
 
 -- ---- streams of no bytes
 

@@ -1,7 +1,8 @@
 -- What events show of prepared statements.
 use Rattle.std.proofs.Common.{refl}
 use Rattle.mysql_buf.specs.Reading.{first}
-use Rattle.mysql_witnesses.specs.Shown.{ChangesOfUserAreShown, ClosesAreShown, ExecutionsOfTheLastAreShown, PreparesShowTheirTexts, ResetsAreShown}
+use Rattle.mysql_witnesses.specs.Shown.{ChangesOfUserAreShown, ClosesAreShown, ExecutionsOfTheLastAreShown}
+use Rattle.mysql_witnesses.specs.Shown.{PreparesShowTheirTexts, ResetsAreShown}
 
 pub prepares_show_their_texts : PreparesShowTheirTexts
 prepares_show_their_texts = (refl, refl, refl)

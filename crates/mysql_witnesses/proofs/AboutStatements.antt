@@ -5,4 +5,7 @@ use Rattle.mysql_witnesses.specs.Statements.{LongDataIsNotPadded}
 
 pub long_data_is_not_padded : LongDataIsNotPadded
 unfolding IsStrictlySortedBy
-long_data_is_not_padded = (record { in_order = (tt, tt); size = omega arith }, λ counted. absurd (omega (arith, counted.size)))
+long_data_is_not_padded = (
+  record { in_order = (tt, tt); size = omega arith },
+  λ counted. absurd (omega (arith, counted.size)),
+)

@@ -1,12 +1,19 @@
 -- Streams, fields and packets.
-use Rattle.std.proofs.Common.{◌≡◌, ℕ, true, false, List, [], ◌∷◌, Option, Some, None, Err, refl, ap, inl, inr, ◌+◌, ◌/◌, ◌%◌}
+use Rattle.std.proofs.Common.{◌≡◌, ℕ, true, false, List, [], ◌∷◌, Option, Some, None, Err, refl, ap, inl, inr, ◌+◌, ◌/◌}
+use Rattle.std.proofs.Common.{◌%◌}
 use Rattle.mysql_buf.specs.Reading as buffer
 use Rattle.mysql_fields.specs.Wire.{or_end}
 use Rattle.mysql_fields.specs.declared.error.WireError.TheVariants.{Memory}
-use Rattle.mysql_witnesses.specs.Wire.{BytesAskForNoMemory, EmptyChunksEndFullPackets, FbIsInvalidData, RefusalsKeepTheNumber, RefusalsLeaveAllBytes}
+use Rattle.mysql_witnesses.specs.Wire.{BytesAskForNoMemory, EmptyChunksEndFullPackets, FbIsInvalidData}
+use Rattle.mysql_witnesses.specs.Wire.{RefusalsKeepTheNumber, RefusalsLeaveAllBytes}
 
 pub fb_is_invalid_data : FbIsInvalidData
-fb_is_invalid_data such h = elim (h (inl refl)) [ inl k ↦ (let e : ◌≡◌ {A = List ℕ} [] (0xfb ∷ []) = k in cc) | inr k ↦ k.1 ]
+fb_is_invalid_data such h =
+    elim (h (inl refl)) [
+      | inl k ↦ (let e : ◌≡◌ {A = List ℕ} [] (0xfb ∷ []) = k in
+          cc)
+      | inr k ↦ k.1
+    ]
 
 never_memory : (found : Option (List ℕ × List ℕ)) → or_end found ≡ Err Memory → ⊥
 never_memory None e = cc

@@ -7,15 +7,21 @@ use Rattle.mysql_bulk_builder.proofs.reading.row_of.Goals as goal
 pub returns-in_err-value : goal.returns-in_err-value
 returns-in_err-value c =
     let p = err_from_is_err_and c.from_residual.result c.from_residual.ensures.1 in
-    rw (p.1, p.2) (ends bulk_value_at c.loop-column.row.items c.args.columns.now c.loop-column.column-index c.loop-column.rest.0.now (each_at bulk_value_at c.args.columns.now c.args.rest.now.0.now)
+    rw (p.1, p.2) (ends bulk_value_at c.loop-column.row.items c.args.columns.now
+    c.loop-column.column-index c.loop-column.rest.0.now
+    (each_at bulk_value_at c.args.columns.now c.args.rest.now.0.now)
     c.in_err-value.field-0.0 _ _ c.loop-column-test.true refl c.in_err-value.ensures c.loop-column.invariant)
 
 pub loop-column-preserved : goal.loop-column-preserved
 loop-column-preserved c =
-    rw c.in_ok-push.ensures.items (goes_on bulk_value_at c.loop-column.row.items c.args.columns.now c.loop-column.column-index c.loop-column.rest.0.now (each_at bulk_value_at c.args.columns.now c.args.rest.now.0.now)
-    _ _ c.in_ok-value.value c.value_of.new.rest.0.now c.loop-column-test.true refl c.in_ok-value.ensures c.loop-column.invariant)
+    rw c.in_ok-push.ensures.items
+    (goes_on bulk_value_at c.loop-column.row.items c.args.columns.now c.loop-column.column-index
+    c.loop-column.rest.0.now (each_at bulk_value_at c.args.columns.now c.args.rest.now.0.now)
+    _ _ c.in_ok-value.value c.value_of.new.rest.0.now c.loop-column-test.true refl
+    c.in_ok-value.ensures c.loop-column.invariant)
 
 pub returns : goal.returns
 returns c =
-    is_done bulk_value_at c.loop-column.row.items c.args.columns.now c.loop-column.column-index c.loop-column.rest.0.now (each_at bulk_value_at c.args.columns.now c.args.rest.now.0.now)
+    is_done bulk_value_at c.loop-column.row.items c.args.columns.now c.loop-column.column-index
+    c.loop-column.rest.0.now (each_at bulk_value_at c.args.columns.now c.args.rest.now.0.now)
     c.loop-column-test.false c.loop-column.invariant

@@ -4,4 +4,7 @@ use Rattle.mysql_bulk_builder.specs.Reading.{each_at, param_value_at}
 use Rattle.mysql_bulk_builder.proofs.reading.values_of.Given as goal
 
 abbrev pub invariant-loop-column : goal.invariant-loop-column
-invariant-loop-column l = with_front l.values.items (each_at param_value_at (drop l.column-index l.columns) l.rest.0.now) ≡ each_at param_value_at l.columns l.initial.rest.0.now
+invariant-loop-column l =
+    with_front l.values.items
+    (each_at param_value_at (drop l.column-index l.columns) l.rest.0.now) ≡
+    each_at param_value_at l.columns l.initial.rest.0.now

@@ -5,7 +5,8 @@ use Rattle.mysql_bulk_builder.proofs.requests.fill.Given as goal
 
 -- the rows so far were taken from the front of those given
 abbrev pub invariant-loop-row : goal.invariant-loop-row
-invariant-loop-row l = Took l.initial.builder (giving l.initial.builder.names l.initial.given) l.builder (giving l.builder.names l.given)
+invariant-loop-row l = Took l.initial.builder (giving l.initial.builder.names l.initial.given)
+    l.builder (giving l.builder.names l.given)
 
 abbrev pub decreases-loop-row : goal.decreases-loop-row
 decreases-loop-row l = length (giving l.builder.names l.given)

@@ -6,6 +6,7 @@ use Rattle.mysql_bulk_builder.proofs.search.mark.Given as goal
 
 abbrev pub invariant-loop-i : goal.invariant-loop-i
 invariant-loop-i l = record {
-  marked : (column : ℕ) → column < l.i → get_or l.seen column false ≡ (get_or l.initial.seen column false || has_value_at column (row_in l.row));
+  marked : (column : ℕ) → column < l.i → get_or l.seen column false ≡
+      (get_or l.initial.seen column false || has_value_at column (row_in l.row));
   rest : (column : ℕ) → l.i ≤ column → get_or l.seen column false ≡ get_or l.initial.seen column false;
 }

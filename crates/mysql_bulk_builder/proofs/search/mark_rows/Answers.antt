@@ -8,6 +8,8 @@ use Rattle.mysql_bulk_builder.proofs.search.mark_rows.Goals as goal
 
 pub loop-k-preserved : goal.loop-k-preserved
 loop-k-preserved c =
-    seen_more (length c.args.seen.now) (rows_in c.args.rows.now) c.loop-k.k c.loop-k.seen c.mark.new.seen (row_in c.index-rows-k.result.now) c.loop-k.invariant
+    seen_more (length c.args.seen.now) (rows_in c.args.rows.now) c.loop-k.k c.loop-k.seen
+    c.mark.new.seen (row_in c.index-rows-k.result.now) c.loop-k.invariant
     (omega (arith, c.requires.within, length-map c.args.rows.now (λ (r : Bor (List (Bor Value))). row_in r.now)))
-    (row_at c.args.rows.now c.loop-k.k c.index-rows-k.result [] (omega (arith, c.requires.within)) c.index-rows-k.is) c.mark.auto.seen c.mark.ensures
+    (row_at c.args.rows.now c.loop-k.k c.index-rows-k.result [] (omega (arith, c.requires.within))
+    c.index-rows-k.is) c.mark.auto.seen c.mark.ensures

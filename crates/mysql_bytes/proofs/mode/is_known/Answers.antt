@@ -14,8 +14,10 @@ returns-else-is_listed-2 c =
       | else-is_listed w ↦ sym w.if-is_listed.ensures
     ] in
     let second : is_one_of modes_with_ansi_quotes name ≡ false = elim c.if-is_listed.branch [
-      | then-is_listed w ↦ absurd (let f : true ≡ false = w.if-is_listed.ensures ∙ sym c.is_listed.ensures ∙ sym w.value-is ∙ c.if-is_listed-2.false in cc)
+      | then-is_listed w ↦ absurd (let f : true ≡ false = w.if-is_listed.ensures ∙
+          sym c.is_listed.ensures ∙ sym w.value-is ∙ c.if-is_listed-2.false in cc)
       | else-is_listed w ↦ sym w.is_listed-else-is_listed.ensures ∙ sym w.value-is ∙ c.if-is_listed-2.false
     ] in
-    last_of_three (is_one_of modes_without_escapes name) (is_one_of modes_with_ansi_quotes name) (is_one_of modes_of_other_things name)
+    last_of_three (is_one_of modes_without_escapes name) (is_one_of modes_with_ansi_quotes name)
+    (is_one_of modes_of_other_things name)
     c.is_listed-else-is_listed-2.result first second c.is_listed-else-is_listed-2.ensures

@@ -7,5 +7,7 @@ pub returns-in-Err-clause-err : goal.returns-in-Err-clause-err
 returns-in-Err-clause-err c =
     elim c.in-Err.ensures.err [
       | inl memory ↦ inl memory
-      | inr why ↦ inr (first_error_at (parameter_value c.args.bytes.now) c.args.parameters.now c.loop-parameter.parameter-index c.loop-parameter.values.items _ c.in-Err.code c.loop-parameter-test.true c.loop-parameter.invariant why)
+      | inr why ↦ inr (first_error_at (parameter_value c.args.bytes.now) c.args.parameters.now
+          c.loop-parameter.parameter-index c.loop-parameter.values.items _ c.in-Err.code
+          c.loop-parameter-test.true c.loop-parameter.invariant why)
     ]

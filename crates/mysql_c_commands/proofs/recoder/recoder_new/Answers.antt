@@ -11,5 +11,7 @@ returns-in-Err c =
       made = λ zero. absurd (c.in-Err.ensures.cause.1 (cc));
       kept = λ other. refl;
       small = λ low. let is = c.in-Err.ensures.small low in cc;
-      cause = inr (subst (λ (n : ℕ). IsWhyNoRecoder (read_by c.in-Some.mode c.in-Some.spelling c.args.query.now) c.args.id c.args.limit n) (sym number) c.in-Err.ensures.cause.0);
+      cause = inr (subst (λ (n : ℕ). IsWhyNoRecoder
+          (read_by c.in-Some.mode c.in-Some.spelling c.args.query.now) c.args.id c.args.limit n)
+          (sym number) c.in-Err.ensures.cause.0);
     })

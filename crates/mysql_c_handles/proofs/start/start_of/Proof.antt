@@ -11,7 +11,8 @@ use contract.Monad.{Fun}
 use contract.Running.{tables, tables_of}
 use sound.WpLaws.{WpFn-mono}
 use types.Logic.{Logic}
-use types.Kit.{‵, raw, ◌⊛◌, prop, ◌$◌, ◌∵◌, !, qed, move, keep, drop, split, fsplit, fjoin, feq_l, feq_i, regoal, suffices, done, flt_l, group}
+use types.Kit.{‵, raw, ◌⊛◌, prop, ◌$◌, ◌∵◌, !, qed, move, keep, drop, split, fsplit, fjoin, feq_l, feq_i, regoal}
+use types.Kit.{suffices, done, flt_l, group}
 use types.Part.{sub, whole}
 use types.Run.{enter, returns, fld, stop, addr, from, hop}
 use types.ByLocal.{alloc_all, pass_all, free_all, look_at, sets, look_in_at}
@@ -55,25 +56,36 @@ module _ {M : Type 1} {𝓤 : Ura M} (𝓛 : Logic 𝓤) (at_mem : Memory → SP
     abbrev toks : SProp 𝓤
     toks = alive 𝓛 ended.signature z.0.0 z.0.1
 
-    walks : ent 𝓤 ((walk_of 𝓛 ended stayed held).pre z) (WpFn 𝓤 H C Λ function ((walk_of 𝓛 ended stayed held).args z) Post)
+    walks : ent 𝓤 ((walk_of 𝓛 ended stayed held).pre z)
+        (WpFn 𝓤 H C Λ function ((walk_of 𝓛 ended stayed held).args z) Post)
     walks =
         let a = z.0.3 in
         let vss = z.0.4 in
         let xs = a.0.now in
         let b = a.0.ref_ptr.0 in
         let o = a.0.ref_ptr.1 in
-        qed 𝓛 ((raw toks ⊛ ‵ (owns (types_at ended.signature.params z.0.0) a vss)) ∷ raw ((held z.0.0 a).requires z.1) ∷ []) ∵
-        keep ! (0 ∷ []) $ split ! $ move ! (1 ∷ []) $ fsplit ! $ fsplit ! $ fsplit ! $ feq_l ! (λ is. fsplit ! $ flt_l ! (λ count. flt_l ! (λ size. unhide ! $ move ! (1 ∷ []) $ drop ! $
+        qed 𝓛 ((raw toks ⊛ ‵ (owns (types_at ended.signature.params z.0.0) a vss)) ∷
+        raw ((held z.0.0 a).requires z.1) ∷ []) ∵
+        keep ! (0 ∷ []) $ split ! $ move ! (1 ∷ []) $ fsplit ! $ fsplit ! $ fsplit ! $ feq_l !
+        (λ is. fsplit ! $ flt_l !
+        (λ count. flt_l ! (λ size. unhide ! $ move ! (1 ∷ []) $ drop ! $
         regoal ! (λ (us : List Val). prop (WpFn 𝓤 H C Λ function (us ++ []) Post)) is refl $
-        enter ! C Λ function (slice_val (b, o) (length xs) ∷ []) Post $ alloc_all ! (λ l. pass_all ! refl ((tt, (tt, (record { fits = count }, tt))), tt) $
+        enter ! C Λ function (slice_val (b, o) (length xs) ∷ []) Post $ alloc_all !
+        (λ l. pass_all ! refl ((tt, (tt, (record { fits = count }, tt))), tt) $
         sets ! (addr ! (from ! (fld ! refl (hop ! (look_in_at ! 1 (sub ! 0 refl (whole !))) (stop !))))) refl (tt, tt) $
         returns ! (look_at ! 0 refl) $ free_all ! refl $
         suffices ! _ (ends_at 𝓛 ended stayed held z (vptr b o) (block_ptr b o) (tt, tt) (tt, tt)) $
-        feq_i ! (List Val) (vptr b o ∷ []) (vptr b o ∷ []) refl $ nothing ! $ nothing ! $ fjoin ! $ move ! (2 ∷ []) $ drop ! $ move ! (2 ∷ 0 ∷ 1 ∷ []) $ group ! 3 $ nothing ! $ move ! (1 ∷ 0 ∷ []) $ done !))))
+        feq_i ! (List Val) (vptr b o ∷ []) (vptr b o ∷ []) refl $ nothing ! $ nothing ! $ fjoin ! $
+        move ! (2 ∷ []) $ drop ! $ move ! (2 ∷ 0 ∷ 1 ∷ []) $ group ! 3 $ nothing ! $ move ! (1 ∷
+        0 ∷ []) $ done !))))
 
   meets : (𝓣 : Tables 𝓤 H) → Meets 𝓛 ended.signature (WpFn 𝓤 H 𝓣.C 𝓣.Λ function) (closing 𝓛 ended held)
   meets 𝓣 =
-      walk_Meets 𝓛 ended stayed (Goes-dropped 𝓛 1 (SliceRefOf (0 ∷ []) tt (plain (λ _. u8)) (λ _. tt)) yes (λ κs x f. refl), tt) held
+      walk_Meets 𝓛 ended stayed (
+        Goes-dropped 𝓛 1 (SliceRefOf (0 ∷ []) tt (plain (λ _. u8)) (λ _. tt)) yes
+            (λ κs x f. refl),
+        tt,
+      ) held
       (WpFn 𝓤 H 𝓣.C 𝓣.Λ function) (WpFn-mono 𝓤 H 𝓛.laws 𝓣 function) (walks 𝓣.C 𝓣.Λ)
 
 pub start_of_spec : {M : Type 1} → stated.statement M

@@ -7,6 +7,9 @@ use Rattle.mysql_c_replies.proofs.finding.reply_state.Goals as goal
 pub returns-clause-shown : goal.returns-clause-shown
 returns-clause-shown c =
     let held : c.deref.result.now ≡ c.args.handle.now.object = c.deref.ensures ∙ c.in-Some.ensures.taken in
-    subst (λ (number : ℕ). ShowsChangeIn c.args.handle.now.object c.args.number c.args.position.now number c.state_of-code.new.position c.state_of-code.new.kind c.state_of-code.new.len)
+    subst (λ (number : ℕ). ShowsChangeIn c.args.handle.now.object c.args.number c.args.position.now
+    number c.state_of-code.new.position c.state_of-code.new.kind c.state_of-code.new.len)
     (sym c.number-2.ensures)
-    (subst (λ (object : Object). ShowsChangeIn object c.args.number c.args.position.now (code_number c.state_of-code.result) c.state_of-code.new.position c.state_of-code.new.kind c.state_of-code.new.len) held c.state_of-code.ensures)
+    (subst (λ (object : Object). ShowsChangeIn object c.args.number c.args.position.now
+    (code_number c.state_of-code.result) c.state_of-code.new.position c.state_of-code.new.kind
+    c.state_of-code.new.len) held c.state_of-code.ensures)

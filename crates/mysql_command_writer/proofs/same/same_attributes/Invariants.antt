@@ -4,4 +4,5 @@ use Rattle.mysql_handshake_response.specs.AttributeViews.{attributes_view}
 use Rattle.mysql_command_writer.proofs.same.same_attributes.Given as goal
 
 abbrev pub invariant-loop-place : goal.invariant-loop-place
-invariant-loop-place l = (k : ℕ) → k < l.place → slice_get (attributes_view l.one) k ≡ slice_get (attributes_view l.other) k
+invariant-loop-place l = (k : ℕ) → k < l.place → slice_get (attributes_view l.one) k ≡
+    slice_get (attributes_view l.other) k

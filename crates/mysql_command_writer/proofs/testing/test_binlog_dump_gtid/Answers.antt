@@ -39,7 +39,8 @@ returns-then-not-branch c =
     } in
     λ _. (
       rw named refl,
-      long_sids c.args.capabilities (option_copied c.args.parameters) p parts named (ltb-false (length (block_bytes p.sids)) (2 ^ 32) short),
+      long_sids c.args.capabilities (option_copied c.args.parameters) p parts named
+          (ltb-false (length (block_bytes p.sids)) (2 ^ 32) short),
     )
 
 pub returns-then-not-is_whole : goal.returns-then-not-is_whole
@@ -58,7 +59,8 @@ returns-then-not-is_whole c =
     } in
     λ _. (
       rw named refl,
-      long_names c.args.capabilities (option_copied c.args.parameters) p parts named (ltb-false (length p.filename) (2 ^ 32) whole)
+      long_names c.args.capabilities (option_copied c.args.parameters) p parts named
+          (ltb-false (length p.filename) (2 ^ 32) whole)
           (ltb-true (length (block_bytes p.sids)) (2 ^ 32) short),
     )
 
@@ -76,5 +78,6 @@ returns c =
       pos = omega arith;
       sids = subst (AllByRecursion IsSid) c.sids.ensures c.sids_are.ensures;
     } in
-    gtids_read c.args.capabilities (option_copied c.args.parameters) p parts named (ltb-true (length p.filename) (2 ^ 32) whole)
+    gtids_read c.args.capabilities (option_copied c.args.parameters) p parts named
+    (ltb-true (length p.filename) (2 ^ 32) whole)
     (ltb-true (length (block_bytes p.sids)) (2 ^ 32) short)

@@ -3,7 +3,12 @@ use Rattle.mysql_connection_contents.proofs.promise_laws.all_see_the_same.Goals 
 
 pub returns : goal.returns
 returns c = all_see_the_same (record {
-  packets = record { stay = c.packets_stay.ensures; take = c.packets_take_bytes.ensures; follow = c.rests_follow.ensures };
+  packets = record {
+    stay = c.packets_stay.ensures;
+    take = c.packets_take_bytes.ensures;
+    follow =
+        c.rests_follow.ensures;
+  };
   fronts = c.fronts_read_on.ensures;
   positions = c.positions_stay.ensures;
   reads = c.puts_are_read.ensures;

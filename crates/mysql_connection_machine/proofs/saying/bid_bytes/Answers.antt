@@ -13,4 +13,5 @@ pub returns-in-Err-clause-says : goal.returns-in-Err-clause-says
 returns-in-Err-clause-says c =
     let s = c.args.state.now.standing in
     not_said c.args.limits Server c.args.next c.args.state.now c.go_on.new.state c.args.payload.now c.in_ok-event.event
-    (words_step s c.args.payload.now) c.in-Err.fault c.go_on.new.state.standing (words_put s c.args.payload.now) (c.in_ok-event.ensures s) c.in-Err.ensures
+    (words_step s c.args.payload.now) c.in-Err.fault c.go_on.new.state.standing
+    (words_put s c.args.payload.now) (c.in_ok-event.ensures s) c.in-Err.ensures

@@ -1,4 +1,5 @@
-use Rattle.mysql_connection_rules.proofs.Within.{events_stay_within_limits, fresh_is_within_limits, held_stays, pieces_stay_within_limits}
+use Rattle.mysql_connection_rules.proofs.Within.{events_stay_within_limits, fresh_is_within_limits, held_stays}
+use Rattle.mysql_connection_rules.proofs.Within.{pieces_stay_within_limits}
 use Rattle.mysql_connection_rules.proofs.laws.held_stays.Goals as goal
 
 pub returns-clause-fresh : goal.returns-clause-fresh
@@ -8,7 +9,14 @@ pub returns-clause-pieces : goal.returns-clause-pieces
 returns-clause-pieces c = pieces_stay_within_limits
 
 pub returns-clause-events : goal.returns-clause-events
-returns-clause-events c = events_stay_within_limits (record { stay = c.packets_stay.ensures; take = c.packets_take_bytes.ensures; follow = c.rests_follow.ensures })
+returns-clause-events c =
+    events_stay_within_limits
+    (record {
+      stay = c.packets_stay.ensures;
+      take = c.packets_take_bytes.ensures;
+      follow =
+          c.rests_follow.ensures;
+    })
 
 pub returns-clause-held : goal.returns-clause-held
 returns-clause-held c = held_stays

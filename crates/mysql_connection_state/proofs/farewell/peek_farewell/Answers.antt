@@ -8,11 +8,14 @@ use Rattle.mysql_connection_state.proofs.Phases.{farewell_said, gives_fault, giv
 use Rattle.mysql_connection_state.proofs.farewell.peek_farewell.Goals as goal
 
 pub returns-then-not-begins_error : goal.returns-then-not-begins_error
-returns-then-not-begins_error c = λ s. nothing_bidden s c.args.payload.now (sym c.begins_error.ensures ∙ c.if-not-begins_error.true)
+returns-then-not-begins_error c =
+    λ s. nothing_bidden s c.args.payload.now (sym c.begins_error.ensures ∙
+    c.if-not-begins_error.true)
 
 pub returns-in-Ok : goal.returns-in-Ok
 returns-in-Ok c = λ s.
-    farewell_said s c.args.payload.now (sym c.begins_error.ensures ∙ c.if-not-begins_error.false) ∙ ap (saying events.Farewell) c.in-Ok.ensures
+    farewell_said s c.args.payload.now (sym c.begins_error.ensures ∙ c.if-not-begins_error.false) ∙
+    ap (saying events.Farewell) c.in-Ok.ensures
 
 pub returns-in-Err : goal.returns-in-Err
 returns-in-Err c = λ s.

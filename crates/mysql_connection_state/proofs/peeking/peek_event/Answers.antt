@@ -9,7 +9,8 @@ pub returns-in-Some-clause-peeks : goal.returns-in-Some-clause-peeks
 returns-in-Some-clause-peeks c =
     gives_so _ _ c.peek_authentication.result
     (exchange_said c.args.state.now.standing c.args.payload.now c.in-Some.exchange (sym c.in-Some.ensures)
-    ∙ ap (λ (x : Capabilities). said_in_exchange c.in-Some.exchange x.protocol.0 c.args.payload.now) (sym c.capabilities.ensures))
+    ∙ ap (λ (x : Capabilities). said_in_exchange c.in-Some.exchange x.protocol.0 c.args.payload.now)
+    (sym c.capabilities.ensures))
     c.peek_authentication.ensures
 
 pub returns-in-Some-reply_reader-clause-peeks : goal.returns-in-Some-reply_reader-clause-peeks
@@ -21,10 +22,12 @@ returns-in-Some-reply_reader-clause-peeks c =
 
 pub returns-in-Some-clause-unclear : goal.returns-in-Some-clause-unclear
 returns-in-Some-clause-unclear c =
-    gives_none c.args.state.now.standing c.args.payload.now c.peek_authentication.result _ (exchange_none c.in-Some.exchange _ c.args.payload.now)
+    gives_none c.args.state.now.standing c.args.payload.now c.peek_authentication.result _
+    (exchange_none c.in-Some.exchange _ c.args.payload.now)
     c.peek_authentication.ensures
 
 pub returns-in-Some-reply_reader-clause-unclear : goal.returns-in-Some-reply_reader-clause-unclear
 returns-in-Some-reply_reader-clause-unclear c =
-    gives_none c.args.state.now.standing c.args.payload.now c.peek_in_reply.result _ (reply_none _ c.in-Some-reply_reader.reader.now c.args.payload.now)
+    gives_none c.args.state.now.standing c.args.payload.now c.peek_in_reply.result _
+    (reply_none _ c.in-Some-reply_reader.reader.now c.args.payload.now)
     c.peek_in_reply.ensures

@@ -1,4 +1,8 @@
-use Rattle.mysql_connection_statements.proofs.Counting.{begins_counted, stays_counted_at_a_change, stays_counted_at_a_close, stays_counted_at_a_prepare, all_counted, columns_counted, executed_counted, lists_counted, long_data_counted, pending_counted, prepared_counted, reset_counted, taken_back_counted}
+use Rattle.mysql_connection_statements.proofs.Counting.{begins_counted, stays_counted_at_a_change}
+use Rattle.mysql_connection_statements.proofs.Counting.{stays_counted_at_a_close, stays_counted_at_a_prepare}
+use Rattle.mysql_connection_statements.proofs.Counting.{all_counted, columns_counted, executed_counted, lists_counted}
+use Rattle.mysql_connection_statements.proofs.Counting.{long_data_counted, pending_counted, prepared_counted}
+use Rattle.mysql_connection_statements.proofs.Counting.{reset_counted, taken_back_counted}
 use Rattle.mysql_connection_statements.proofs.laws.kept_lists_are_counted.Goals as goal
 
 pub returns-clause-prepare : goal.returns-clause-prepare

@@ -12,8 +12,12 @@ pub returns-in-Some-columns : goal.returns-in-Some-columns
 returns-in-Some-columns c =
     let known : c.in-Some.reader.now.so_far.columns ≡ Some (column_views c.as_slice.result.now) =
     sym c.in-Some-columns.ensures
-    ∙ ap (λ (columns : List Column). let all : Option (List ColumnDefinition) = Some (column_views columns) in all) (sym c.as_slice.ensures.value) in
-    next_row_written c.args.state.now.standing c.in-Some.reader.now (row_view c.args.row.now) (column_views c.as_slice.result.now)
+    ∙ ap (λ (columns : List Column). let all : Option (List ColumnDefinition) =
+    Some (column_views columns) in all) (sym c.as_slice.ensures.value) in
+    next_row_written c.args.state.now.standing c.in-Some.reader.now (row_view c.args.row.now)
+    (column_views c.as_slice.result.now)
     c.args.out.now.items c.write_next_row.new.out.items c.write_next_row.result c.requires c.in-Some.ensures known
-    (subst (λ (context : Context). written.WritesNextRow context (under (column_views c.as_slice.result.now) (row_view c.args.row.now))
-    c.write_next_row.result c.args.out.now.items c.write_next_row.new.out.items) c.context.ensures c.write_next_row.ensures)
+    (subst (λ (context : Context). written.WritesNextRow context
+    (under (column_views c.as_slice.result.now) (row_view c.args.row.now))
+    c.write_next_row.result c.args.out.now.items c.write_next_row.new.out.items) c.context.ensures
+    c.write_next_row.ensures)

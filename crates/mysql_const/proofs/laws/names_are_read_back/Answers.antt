@@ -1,4 +1,5 @@
-use Rattle.mysql_const.proofs.Numbers.{commands_are_a_table, column_types_are_a_table, bulk_indicators_are_a_table, session_states_are_a_table, geometries_are_a_table, item_results_are_a_table}
+use Rattle.mysql_const.proofs.Numbers.{commands_are_a_table, column_types_are_a_table, bulk_indicators_are_a_table}
+use Rattle.mysql_const.proofs.Numbers.{session_states_are_a_table, geometries_are_a_table, item_results_are_a_table}
 use Rattle.mysql_const.proofs.laws.names_are_read_back.Goals as goal
 
 pub returns-clause-commands : goal.returns-clause-commands

@@ -12,36 +12,55 @@ kind_is h e = sym (ap kind_view e) ∙ h
 
 pub returns-then-is_identifier-clause-lexeme : goal.returns-then-is_identifier-clause-lexeme
 returns-then-is_identifier-clause-lexeme c last d =
-    quoted_begins c.args.mode c.in-Quoted.quote last c.args.text.now c.token_end-end.result true c.token_end-end.ensures.some c.token_end-end.ensures.in_range c.token_end-end.ensures.token (kind_is c.kind_at-kind.ensures c.in-Quoted.is) c.if-is_identifier.ensures d
+    quoted_begins c.args.mode c.in-Quoted.quote last c.args.text.now c.token_end-end.result true
+    c.token_end-end.ensures.some c.token_end-end.ensures.in_range c.token_end-end.ensures.token
+    (kind_is c.kind_at-kind.ensures c.in-Quoted.is) c.if-is_identifier.ensures d
 
 pub returns-else-is_identifier-clause-lexeme : goal.returns-else-is_identifier-clause-lexeme
 returns-else-is_identifier-clause-lexeme c last d =
-    quoted_begins c.args.mode c.in-Quoted.quote last c.args.text.now c.token_end-end.result false c.token_end-end.ensures.some c.token_end-end.ensures.in_range c.token_end-end.ensures.token (kind_is c.kind_at-kind.ensures c.in-Quoted.is) c.if-is_identifier.ensures d
+    quoted_begins c.args.mode c.in-Quoted.quote last c.args.text.now c.token_end-end.result false
+    c.token_end-end.ensures.some c.token_end-end.ensures.in_range c.token_end-end.ensures.token
+    (kind_is c.kind_at-kind.ensures c.in-Quoted.is) c.if-is_identifier.ensures d
 
 pub returns-in-LineComment-clause-lexeme : goal.returns-in-LineComment-clause-lexeme
 returns-in-LineComment-clause-lexeme c last d =
-    token_begins c.args.mode LineComment last c.args.text.now c.token_end-end.result Gap c.token_end-end.ensures.some c.token_end-end.ensures.in_range c.token_end-end.ensures.token (kind_is c.kind_at-kind.ensures c.in-LineComment.is) (λ ls. refl) d
+    token_begins c.args.mode LineComment last c.args.text.now c.token_end-end.result Gap
+    c.token_end-end.ensures.some c.token_end-end.ensures.in_range c.token_end-end.ensures.token
+    (kind_is c.kind_at-kind.ensures c.in-LineComment.is) (λ ls. refl) d
 
 pub returns-in-BlockComment-clause-lexeme : goal.returns-in-BlockComment-clause-lexeme
 returns-in-BlockComment-clause-lexeme c last d =
-    token_begins c.args.mode BlockComment last c.args.text.now c.token_end-end.result Gap c.token_end-end.ensures.some c.token_end-end.ensures.in_range c.token_end-end.ensures.token (kind_is c.kind_at-kind.ensures c.in-BlockComment.is) (λ ls. refl) d
+    token_begins c.args.mode BlockComment last c.args.text.now c.token_end-end.result Gap
+    c.token_end-end.ensures.some c.token_end-end.ensures.in_range c.token_end-end.ensures.token
+    (kind_is c.kind_at-kind.ensures c.in-BlockComment.is) (λ ls. refl) d
 
 pub returns-in-Opening-clause-lexeme : goal.returns-in-Opening-clause-lexeme
 returns-in-Opening-clause-lexeme c last d =
-    token_begins c.args.mode Opening last c.args.text.now c.token_end-end.result Gap c.token_end-end.ensures.some c.token_end-end.ensures.in_range c.token_end-end.ensures.token (kind_is c.kind_at-kind.ensures c.in-Opening.is) (λ ls. refl) d
+    token_begins c.args.mode Opening last c.args.text.now c.token_end-end.result Gap
+    c.token_end-end.ensures.some c.token_end-end.ensures.in_range c.token_end-end.ensures.token
+    (kind_is c.kind_at-kind.ensures c.in-Opening.is) (λ ls. refl) d
 
 pub returns-in-Closing-clause-lexeme : goal.returns-in-Closing-clause-lexeme
 returns-in-Closing-clause-lexeme c last d =
-    token_begins c.args.mode Closing last c.args.text.now c.token_end-end.result Gap c.token_end-end.ensures.some c.token_end-end.ensures.in_range c.token_end-end.ensures.token (kind_is c.kind_at-kind.ensures c.in-Closing.is) (λ ls. refl) d
+    token_begins c.args.mode Closing last c.args.text.now c.token_end-end.result Gap
+    c.token_end-end.ensures.some c.token_end-end.ensures.in_range c.token_end-end.ensures.token
+    (kind_is c.kind_at-kind.ensures c.in-Closing.is) (λ ls. refl) d
 
 pub returns-in-Name-clause-lexeme : goal.returns-in-Name-clause-lexeme
 returns-in-Name-clause-lexeme c last d =
-    token_begins c.args.mode Name last c.args.text.now c.token_end-end.result Value c.token_end-end.ensures.some c.token_end-end.ensures.in_range c.token_end-end.ensures.token (kind_is c.kind_at-kind.ensures c.in-Name.is) (λ ls. refl) d
+    token_begins c.args.mode Name last c.args.text.now c.token_end-end.result Value
+    c.token_end-end.ensures.some c.token_end-end.ensures.in_range c.token_end-end.ensures.token
+    (kind_is c.kind_at-kind.ensures c.in-Name.is) (λ ls. refl) d
 
 pub returns-in-Mark-clause-lexeme : goal.returns-in-Mark-clause-lexeme
 returns-in-Mark-clause-lexeme c last d =
-    token_begins c.args.mode Mark last c.args.text.now c.token_end-end.result Value c.token_end-end.ensures.some c.token_end-end.ensures.in_range c.token_end-end.ensures.token (kind_is c.kind_at-kind.ensures c.in-Mark.is) (λ ls. refl) d
+    token_begins c.args.mode Mark last c.args.text.now c.token_end-end.result Value
+    c.token_end-end.ensures.some c.token_end-end.ensures.in_range c.token_end-end.ensures.token
+    (kind_is c.kind_at-kind.ensures c.in-Mark.is) (λ ls. refl) d
 
 pub returns-in-Plain-clause-lexeme : goal.returns-in-Plain-clause-lexeme
 returns-in-Plain-clause-lexeme c last d =
-    plain_begins c.args.mode last c.args.text.now c.token_end-end.result c.requires.some c.token_end-end.ensures.some c.token_end-end.ensures.in_range d c.token_end-end.ensures.token (kind_is c.kind_at-kind.ensures c.in-Plain.is) c.requires.no_word c.requires.no_operator c.requires.no_blank
+    plain_begins c.args.mode last c.args.text.now c.token_end-end.result c.requires.some
+    c.token_end-end.ensures.some c.token_end-end.ensures.in_range d
+    c.token_end-end.ensures.token (kind_is c.kind_at-kind.ensures c.in-Plain.is)
+    c.requires.no_word c.requires.no_operator c.requires.no_blank

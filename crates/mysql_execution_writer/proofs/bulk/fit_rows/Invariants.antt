@@ -5,4 +5,6 @@ use Rattle.mysql_execution_writer.specs.Bulks.{is_row}
 use Rattle.mysql_execution_writer.proofs.bulk.fit_rows.Given as goal
 
 abbrev pub invariant-loop-row : goal.invariant-loop-row
-invariant-loop-row l = list_all (is_row (types_by (types_of l.own) l.s.types)) (rows_of (drop l.row-index l.rows)) ≡ list_all (is_row (types_by (types_of l.own) l.s.types)) (rows_of l.rows)
+invariant-loop-row l = list_all (is_row (types_by (types_of l.own) l.s.types))
+    (rows_of (drop l.row-index l.rows)) ≡
+    list_all (is_row (types_by (types_of l.own) l.s.types)) (rows_of l.rows)

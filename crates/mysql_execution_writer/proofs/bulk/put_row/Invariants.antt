@@ -5,4 +5,6 @@ use Rattle.mysql_execution_writer.proofs.bulk.put_row.Given as goal
 
 abbrev pub invariant-loop-place : goal.invariant-loop-place
 invariant-loop-place l =
-    l.out.items ++ row_bytes (drop l.place (types_by (types_of l.own) l.s.types)) (drop l.place l.row) ≡ l.initial.out.items ++ row_bytes (types_by (types_of l.own) l.s.types) l.row
+    l.out.items ++ row_bytes (drop l.place (types_by (types_of l.own) l.s.types))
+    (drop l.place l.row) ≡ l.initial.out.items ++
+    row_bytes (types_by (types_of l.own) l.s.types) l.row

@@ -8,4 +8,5 @@ use Rattle.mysql_executions.proofs.bulk_reading.begins_row.Given as goal
 abbrev pub invariant-loop-place : goal.invariant-loop-place
 invariant-loop-place l =
     is_some (row_at (types_by (types_of l.own) l.in_force) l.bytes)
-    ≡ is_some (each_at (λ place t b. bulk_value_at t b) l.place (drop l.place (types_by (types_of l.own) l.in_force)) l.rest)
+    ≡ is_some (each_at (λ place t b. bulk_value_at t b) l.place
+    (drop l.place (types_by (types_of l.own) l.in_force)) l.rest)

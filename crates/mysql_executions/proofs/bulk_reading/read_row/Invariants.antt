@@ -7,5 +7,7 @@ use Rattle.mysql_executions.proofs.bulk_reading.read_row.Given as goal
 
 abbrev pub invariant-loop-place : goal.invariant-loop-place
 invariant-loop-place l =
-    with_front l.values.items (each_at (λ place t b. bulk_value_at t b) l.place (drop l.place (types_by (types_of l.own) l.in_force)) l.rest)
+    with_front l.values.items
+    (each_at (λ place t b. bulk_value_at t b) l.place
+    (drop l.place (types_by (types_of l.own) l.in_force)) l.rest)
     ≡ row_at (types_by (types_of l.own) l.in_force) l.bytes

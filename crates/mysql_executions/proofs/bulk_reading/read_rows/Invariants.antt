@@ -6,5 +6,6 @@ use Rattle.mysql_executions.proofs.bulk_reading.read_rows.Given as goal
 
 abbrev pub invariant-loop : goal.invariant-loop
 invariant-loop l =
-    rows_behind (rows_of l.found.items) (rows_at (length l.bytes - l.counter) (types_by (types_of l.own) l.in_force) l.rest)
+    rows_behind (rows_of l.found.items)
+    (rows_at (length l.bytes - l.counter) (types_by (types_of l.own) l.in_force) l.rest)
     ≡ rows_at (length l.bytes) (types_by (types_of l.own) l.in_force) l.bytes

@@ -13,7 +13,12 @@ length_kept : (carried : ℕ) (types : List ParameterType) →
 length_kept carried types =
     let front = take carried types in
     length-take-le (undisputed front) types
-    (omega (arith, prefix_len-le-length (λ (t : ParameterType). not (is_disputed t.column_type)) front, length-take carried types))
+    (omega (
+      arith,
+      prefix_len-le-length (λ (t : ParameterType). not (is_disputed t.column_type))
+          front,
+      length-take carried types,
+    ))
 
 pub returns-else-kept-carried : goal.returns-else-kept-carried
 returns-else-kept-carried c =

@@ -9,5 +9,7 @@ abbrev pub invariant-loop-bound_type : goal.invariant-loop-bound_type
 invariant-loop-bound_type l =
     (l.fn.types.items ≡ l.yielded ++ l.bound_type-iterator.rest.items)
     × (l.place ≡ l.first + length l.yielded)
-    × (with_front l.attributes.items (each_at (λ at t b. attribute_at (is_null_at 0 l.nulls at) t b) l.place l.bound_type-iterator.rest.items l.rest)
+    × (with_front l.attributes.items
+    (each_at (λ at t b. attribute_at (is_null_at 0 l.nulls at) t b) l.place
+    l.bound_type-iterator.rest.items l.rest)
     ≡ attributes_at l.nulls l.first l.fn.types.items l.bytes)

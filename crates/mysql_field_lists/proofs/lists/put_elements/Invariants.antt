@@ -3,4 +3,5 @@ use Rattle.std.specs.List.{flat_map}
 use Rattle.mysql_field_lists.proofs.lists.put_elements.Given as goal
 
 abbrev pub invariant-loop-item : goal.invariant-loop-item
-invariant-loop-item g l = l.buf.items ≡ l.initial.buf.items ++ flat_map g.T.MySerialize.written (take l.item-index l.all)
+invariant-loop-item g l = l.buf.items ≡ l.initial.buf.items ++
+    flat_map g.T.MySerialize.written (take l.item-index l.all)

@@ -10,5 +10,8 @@ returns-in_err-push-2 c =
     let p = err_from_is_err_and c.from_residual-in_err-push-2.result c.from_residual-in_err-push-2.ensures.1 in
     let old = c.args.out.now.items in
     let text = time_text c.args.negative c.args.days c.args.hours c.args.minutes c.args.seconds c.args.micros in
-    let quoted : c.push-2.new.self.items ≡ old ++ single_quote ∷ text = c.in_err-push-2.ensures.items ∙ c.in_ok-put_time_text.ensures ∙ ap (λ y. y ++ text) c.in_ok-push.ensures.items ∙ append_assoc old (single_quote ∷ []) text in
+    let quoted : c.push-2.new.self.items ≡ old ++ single_quote ∷ text =
+    c.in_err-push-2.ensures.items ∙ c.in_ok-put_time_text.ensures ∙
+    ap (λ y. y ++ text) c.in_ok-push.ensures.items ∙
+    append_assoc old (single_quote ∷ []) text in
     rw p.1 (ap (take (length old)) quoted ∙ take_at old (single_quote ∷ text) (length old) refl)

@@ -10,7 +10,8 @@ not_text bytes true e n = absurd (n (IsUtf8-from_is_utf8 bytes e))
 not_text bytes false e n = refl
 
 -- an answer of a reader of UTF-8 is the test
-tells : {A B : Type 0} (bytes : List ℕ) (r : Result A B) (P : A → Type 0) (Q : B → Type 0) → MatchResult r (λ a. P a × IsUtf8 bytes) (λ b. ¬ (IsUtf8 bytes) × Q b) → is_ok r ≡ is_utf8 bytes
+tells : {A B : Type 0} (bytes : List ℕ) (r : Result A B) (P : A → Type 0) (Q : B → Type 0) →
+    MatchResult r (λ a. P a × IsUtf8 bytes) (λ b. ¬ (IsUtf8 bytes) × Q b) → is_ok r ≡ is_utf8 bytes
 tells bytes (Ok a) P Q h = sym (is_utf8-from_IsUtf8 bytes h.1)
 tells bytes (Err b) P Q h = not_text bytes (is_utf8 bytes) refl h.0
 

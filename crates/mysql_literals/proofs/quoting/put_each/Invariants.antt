@@ -5,6 +5,7 @@ use Rattle.mysql_literals.proofs.quoting.put_each.Given as goal
 
 abbrev pub invariant-loop-byte : goal.invariant-loop-byte
 invariant-loop-byte l = record {
-  written : l.text.items ≡ l.initial.text.items ++ flat_map (written_byte l.no_backslash_escape) (take l.byte-index l.bytes);
+  written : l.text.items ≡ l.initial.text.items ++
+      flat_map (written_byte l.no_backslash_escape) (take l.byte-index l.bytes);
   room : vec_len l.text + 2 * (length l.bytes - l.byte-index) ≤ vec_capacity l.text;
 }

@@ -7,5 +7,6 @@ pub returns-then-not-is_empty : goal.returns-then-not-is_empty
 returns-then-not-is_empty c = λ tokens h.
     let text = c.args.text.now in
     let n = c.run_end.result in
-    run_is c.args.mode text n tokens c.is_closing.result h (sym c.if-digit_first.ensures) (c.run_end.ensures.run tokens h)
+    run_is c.args.mode text n tokens c.is_closing.result h (sym c.if-digit_first.ensures)
+    (c.run_end.ensures.run tokens h)
     (c.is_closing.ensures ∙ ap is_closing_kind (kind_to_end _ text n c.kind_at.ensures))

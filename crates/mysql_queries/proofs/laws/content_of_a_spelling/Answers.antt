@@ -14,7 +14,8 @@ pub returns-clause-worked : goal.returns-clause-worked
 returns-clause-worked c = worked_spellings
 
 pub returns-clause-read : goal.returns-clause-read
-returns-clause-read c = λ mode sp run rest other after content another e i l j m. one_read mode sp run rest other after content another e i l j m
+returns-clause-read c = λ mode sp run rest other after content another e i l j m. one_read mode sp
+    run rest other after content another e i l j m
 
 pub returns-clause-written : goal.returns-clause-written
 returns-clause-written c = written_is_read

@@ -6,4 +6,6 @@ use Rattle.mysql_queries.proofs.literals.read_literal.Goals as goal
 
 pub returns-clause-none : goal.returns-clause-none
 returns-clause-none c =
-    subst (λ mode. IfOk c.read_literal_in.result (λ found. IfNone found (IsNoLiteral mode Quoted c.args.text.now))) (is_default c.default.result c.default.ensures) c.read_literal_in.ensures.none
+    subst (λ mode. IfOk c.read_literal_in.result
+    (λ found. IfNone found (IsNoLiteral mode Quoted c.args.text.now)))
+    (is_default c.default.result c.default.ensures) c.read_literal_in.ensures.none

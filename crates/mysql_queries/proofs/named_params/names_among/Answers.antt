@@ -14,16 +14,28 @@ loop-place-preserved c =
     let places = c.args.places.now in
     let k = c.loop-place.place-index in
     let p = get_or places k no_place in
-    let n : Next query c.loop-place.invariant.order.0 p (drop (k + 1) places) = next_in_order query c.loop-place.invariant.order.0 places k c.loop-place-test.true c.loop-place.invariant.order.1 in
+    let n : Next query c.loop-place.invariant.order.0 p (drop (k + 1) places) =
+    next_in_order query c.loop-place.invariant.order.0 places k c.loop-place-test.true
+    c.loop-place.invariant.order.1 in
     record {
       order = (p.end, n.rest);
       listed = elim c.if-place.branch [
         | then-place+in_ok-push w ↦ (let pushed = ap (λ v. v.items) w.names-is ∙ w.in_ok-push.ensures.items in
-            c.loop-place.invariant.listed ∙ ap (λ y. map cow_slice_items c.loop-place.names.items ++ y) (name_more query places k c.loop-place-test.true w.if-place.true)
-            ∙ sym (append_assoc (map cow_slice_items c.loop-place.names.items) (drop 1 (slice_range query p.start p.end) ∷ []) (names_at query (drop (k + 1) places)))
-            ∙ ap (λ y. y ++ names_at query (drop (k + 1) places)) (sym (ap (map cow_slice_items) pushed ∙ map-append cow_slice_items c.loop-place.names.items _
-            ∙ ap (λ y. map cow_slice_items c.loop-place.names.items ++ y ∷ []) (to_end (slice_range query p.start p.end) 1))))
-        | else-place w ↦ (c.loop-place.invariant.listed ∙ ap (λ y. map cow_slice_items c.loop-place.names.items ++ y) (name_skipped query places k c.loop-place-test.true w.if-place.false)
-            ∙ ap (λ y. map cow_slice_items y ++ names_at query (drop (k + 1) places)) (sym (ap (λ v. v.items) w.names-is)))
+            c.loop-place.invariant.listed ∙
+            ap (λ y. map cow_slice_items c.loop-place.names.items ++
+            y) (name_more query places k c.loop-place-test.true w.if-place.true)
+            ∙ sym (append_assoc (map cow_slice_items c.loop-place.names.items)
+            (drop 1 (slice_range query p.start p.end) ∷
+            []) (names_at query (drop (k + 1) places)))
+            ∙ ap (λ y. y ++ names_at query (drop (k + 1) places))
+            (sym (ap (map cow_slice_items) pushed ∙
+            map-append cow_slice_items c.loop-place.names.items _
+            ∙ ap (λ y. map cow_slice_items c.loop-place.names.items ++ y ∷
+            []) (to_end (slice_range query p.start p.end) 1))))
+        | else-place w ↦ (c.loop-place.invariant.listed ∙
+            ap (λ y. map cow_slice_items c.loop-place.names.items ++
+            y) (name_skipped query places k c.loop-place-test.true w.if-place.false)
+            ∙ ap (λ y. map cow_slice_items y ++ names_at query (drop (k + 1) places))
+            (sym (ap (λ v. v.items) w.names-is)))
       ];
     }

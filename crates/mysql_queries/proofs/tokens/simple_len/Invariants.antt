@@ -4,7 +4,11 @@ use Rattle.mysql_queries.specs.Tokens.{is_simple_byte}
 use Rattle.mysql_queries.proofs.tokens.simple_len.Given as goal
 
 abbrev pub invariant-loop-at : goal.invariant-loop-at
-invariant-loop-at l = record { in_range : l.at ≤ length l.text; so_far : prefix_len is_simple_byte l.text ≡ l.at + prefix_len is_simple_byte (drop l.at l.text) }
+invariant-loop-at l = record {
+  in_range : l.at ≤ length l.text;
+  so_far : prefix_len is_simple_byte
+      l.text ≡ l.at + prefix_len is_simple_byte (drop l.at l.text);
+}
 
 abbrev pub decreases-loop-at : goal.decreases-loop-at
 decreases-loop-at l = length l.text - l.at

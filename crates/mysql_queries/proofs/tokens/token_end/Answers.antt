@@ -9,7 +9,12 @@ kind_is : {kind other : TokenKind} {k : Kind} → kind_view kind ≡ k → kind 
 kind_is h e = sym (ap kind_view e) ∙ h
 
 pub quoted_end-requires-clause-begins : goal.quoted_end-requires-clause-begins
-quoted_end-requires-clause-begins c = quote_first c.args.text.now c.in-Quoted.quote c.requires.some (kind_is c.requires.kind c.in-Quoted.is)
+quoted_end-requires-clause-begins c =
+    quote_first c.args.text.now c.in-Quoted.quote c.requires.some
+    (kind_is c.requires.kind c.in-Quoted.is)
 
 pub returns-in-LineComment-clause-some : goal.returns-in-LineComment-clause-some
-returns-in-LineComment-clause-some c = token_some c.args.mode c.args.text.now c.line_end.result (token_of c.args.mode LineComment c.args.text.now c.line_end.result (kind_is c.requires.kind c.in-LineComment.is) (c.line_end.ensures.run, c.line_end.ensures.end))
+returns-in-LineComment-clause-some c =
+    token_some c.args.mode c.args.text.now c.line_end.result
+    (token_of c.args.mode LineComment c.args.text.now c.line_end.result
+    (kind_is c.requires.kind c.in-LineComment.is) (c.line_end.ensures.run, c.line_end.ensures.end))

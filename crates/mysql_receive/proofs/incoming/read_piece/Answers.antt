@@ -11,13 +11,17 @@ returns-then-take_within c =
     let r = c.args.packets.now in
     let k = statement_view c.args.statement.now in
     let piece = c.args.piece.now in
-    let behind = behind_none laws k r.limit c.args.progress.now (r.bytes ++ piece) (codec_by r) (r.bytes ++ piece) [] (piece_reads laws r piece c.requires.open) in
+    let behind = behind_none laws k r.limit c.args.progress.now (r.bytes ++ piece) (codec_by r)
+    (r.bytes ++ piece) [] (piece_reads laws r piece c.requires.open) in
     record {
       fed = piece_fed k r.limit c.args.progress.now r.bytes piece _
-          (waits_fed laws k r.limit c.args.progress.now (r.bytes ++ piece) r c.take_within.new.self piece [] c.args.progress.now c.requires.open.number behind
+          (waits_fed laws k r.limit c.args.progress.now (r.bytes ++ piece) r c.take_within.new.self
+          piece [] c.args.progress.now c.requires.open.number behind
           c.if-take_within.ensures.waits c.if-take_within.ensures.used);
-      is_open = waits_open laws k r.limit c.args.progress.now (r.bytes ++ piece) r c.take_within.new.self piece [] c.args.progress.now
-          (bytes_append r.bytes piece c.requires.open.bytes (λ i. omega (arith, c.type_inv.piece i))) c.requires.open.number behind
+      is_open = waits_open laws k r.limit c.args.progress.now (r.bytes ++
+          piece) r c.take_within.new.self piece [] c.args.progress.now
+          (bytes_append r.bytes piece c.requires.open.bytes
+          (λ i. omega (arith, c.type_inv.piece i))) c.requires.open.number behind
           c.if-take_within.ensures.waits c.if-take_within.ensures.used;
       stopped = search rules;
       limit = search rules;

@@ -7,4 +7,7 @@ use Rattle.mysql_receive.proofs.reading.has_waiting_data.Goals as goal
 
 pub loop-place-preserved : goal.loop-place-preserved
 loop-place-preserved c =
-    any_goes_on (λ place. is_some (data_waiting c.args.state.now.long_data.items place)) c.loop-place.place (length c.args.statement.now.places.items) (is_waiting (statement_view c.args.statement.now) (state_of c.args.state.now)) (omega (arith, c.len-place-end.ensures)) c.if-has_data_for.ensures c.loop-place.invariant
+    any_goes_on (λ place. is_some (data_waiting c.args.state.now.long_data.items place))
+    c.loop-place.place (length c.args.statement.now.places.items)
+    (is_waiting (statement_view c.args.statement.now) (state_of c.args.state.now))
+    (omega (arith, c.len-place-end.ensures)) c.if-has_data_for.ensures c.loop-place.invariant

@@ -12,4 +12,5 @@ returns-in_err-sets-clause-judged c =
 pub returns-clause-ok : goal.returns-clause-ok
 returns-clause-ok c =
     let told = c.in_ok-sets.ensures (state_of c.args.state.now) in
-    c.prepare.ensures ∙ sym (behind_prepare (statement_view c.args.statement.now) (state_of c.args.state.now) c.args.body.now told.0)
+    c.prepare.ensures ∙ sym (behind_prepare (statement_view c.args.statement.now)
+    (state_of c.args.state.now) c.args.body.now told.0)

@@ -10,5 +10,6 @@ abbrev pub invariant-pieces : goal.invariant-pieces
 invariant-pieces l = record {
   about : IsAbout l.receiver.statement (read_by l.fn.mode l.fn.spelling l.fn.query) l.fn.stmt_id;
   limit : l.receiver.limit ≡ l.fn.limit;
-  so_far : SoFar l.receiver.statement l.receiver.limit (map (λ piece. piece.now) (take l.piece-index l.pieces)) (receiver_state l.receiver);
+  so_far : SoFar l.receiver.statement l.receiver.limit
+      (map (λ piece. piece.now) (take l.piece-index l.pieces)) (receiver_state l.receiver);
 }

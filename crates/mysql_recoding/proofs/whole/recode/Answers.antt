@@ -9,10 +9,15 @@ use Rattle.mysql_recoding.proofs.whole.recode.Goals as goal
 
 pub returns-clause-recoded : goal.returns-clause-recoded
 returns-clause-recoded c =
-    subst (λ m. OnOk c.recode_in.result (Recodes (read_in m c.args.query.now) c.args.stmt_id c.args.limit (flat_map (λ piece. piece.now) c.args.pieces.now) c.args.out.now.items c.recode_in.new.out.items))
+    subst (λ m. OnOk c.recode_in.result
+    (Recodes (read_in m c.args.query.now) c.args.stmt_id c.args.limit
+    (flat_map (λ piece. piece.now) c.args.pieces.now) c.args.out.now.items
+    c.recode_in.new.out.items))
     (is_default c.default.result c.default.ensures) c.recode_in.ensures.recoded
 
 pub returns-clause-refused : goal.returns-clause-refused
 returns-clause-refused c =
-    subst (λ m. IfErr c.recode_in.result (RefusesRecoding (read_in m c.args.query.now) c.args.stmt_id c.args.limit (flat_map (λ piece. piece.now) c.args.pieces.now)))
+    subst (λ m. IfErr c.recode_in.result
+    (RefusesRecoding (read_in m c.args.query.now) c.args.stmt_id c.args.limit
+    (flat_map (λ piece. piece.now) c.args.pieces.now)))
     (is_default c.default.result c.default.ensures) c.recode_in.ensures.refused

@@ -13,10 +13,16 @@ use Rattle.mysql_recoding.proofs.whole.send_contents.Goals as goal
 
 pub returns-clause-sent : goal.returns-clause-sent
 returns-clause-sent c =
-    subst (λ m. OnOk c.send_contents_in.result (SentReadable Execute (read_in m c.args.query.now) (all_given_in_places (values_of_sets (sets_of c.args.sets.items))) c.args.stmt_id c.args.limit c.args.out.now.items
+    subst (λ m. OnOk c.send_contents_in.result
+    (SentReadable Execute (read_in m c.args.query.now)
+    (all_given_in_places (values_of_sets (sets_of c.args.sets.items))) c.args.stmt_id
+    c.args.limit c.args.out.now.items
     c.send_contents_in.new.out.items)) (is_default c.default.result c.default.ensures) c.send_contents_in.ensures.sent
 
 pub returns-clause-refused : goal.returns-clause-refused
 returns-clause-refused c =
-    subst (λ m. IfErr c.send_contents_in.result (RefusesGiven Execute (read_in m c.args.query.now) (all_given_in_places (values_of_sets (sets_of c.args.sets.items))) c.args.stmt_id c.args.limit))
+    subst (λ m. IfErr c.send_contents_in.result
+    (RefusesGiven Execute (read_in m c.args.query.now)
+    (all_given_in_places (values_of_sets (sets_of c.args.sets.items))) c.args.stmt_id
+    c.args.limit))
     (is_default c.default.result c.default.ensures) c.send_contents_in.ensures.refused

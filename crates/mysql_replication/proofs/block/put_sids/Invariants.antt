@@ -5,4 +5,5 @@ use Rattle.mysql_replication.specs.Sids.{sid_view}
 use Rattle.mysql_replication.proofs.block.put_sids.Given as goal
 
 abbrev pub invariant-loop-sid : goal.invariant-loop-sid
-invariant-loop-sid l = l.buf.items ≡ l.initial.buf.items ++ flat_map (λ sid. sid_bytes l.tagged (sid_view sid)) (take l.sid-index l.sids)
+invariant-loop-sid l = l.buf.items ≡ l.initial.buf.items ++
+    flat_map (λ sid. sid_bytes l.tagged (sid_view sid)) (take l.sid-index l.sids)

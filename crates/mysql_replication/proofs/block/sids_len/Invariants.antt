@@ -5,4 +5,6 @@ use Rattle.mysql_replication.specs.Sids.{sid_view}
 use Rattle.mysql_replication.proofs.block.sids_len.Given as goal
 
 abbrev pub invariant-loop-sid : goal.invariant-loop-sid
-invariant-loop-sid l = l.len ≡ min (length (flat_map (λ sid. sid_bytes l.tagged (sid_view sid)) (take l.sid-index l.sids))) (2 ^ 32 - 1)
+invariant-loop-sid l = l.len ≡
+    min (length (flat_map (λ sid. sid_bytes l.tagged (sid_view sid)) (take l.sid-index l.sids)))
+    (2 ^ 32 - 1)

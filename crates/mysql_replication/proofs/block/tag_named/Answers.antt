@@ -11,7 +11,9 @@ returns-in_default c = no_utf8 c.args.text.now c.in_default.ensures.cases.0 c.if
 pub returns-in-Ok-try_from : goal.returns-in-Ok-try_from
 returns-in-Ok-try_from c =
     let same : c.in-Ok-try_from.tag ≡ c.args.text.now = c.in-Ok-try_from.ensures.0.0 ∙ c.in-Ok.ensures.cases.0 in
-    rw same (tag_text c.args.text.now c.in-Ok.ensures.cases.1 (rw same at c.in-Ok-try_from.ensures.0.1) c.if-is_empty.ensures)
+    rw same (tag_text c.args.text.now c.in-Ok.ensures.cases.1
+    (rw same at c.in-Ok-try_from.ensures.0.1) c.if-is_empty.ensures)
 
 pub returns-in-Err : goal.returns-in-Err
-returns-in-Err c = text_at_fault c.args.text.now c.in-Err.field-0 (rw c.in-Ok.ensures.cases.0 at c.in-Err.ensures.1) c.if-is_empty.ensures
+returns-in-Err c = text_at_fault c.args.text.now c.in-Err.field-0
+    (rw c.in-Ok.ensures.cases.0 at c.in-Err.ensures.1) c.if-is_empty.ensures

@@ -16,7 +16,11 @@ returns c =
     let parameters = column_views c.args.params.items in
     let awaited = c.args.events.now.so_far.awaited in
     let full : nat_lt (length parameters) statement.num_params ≡ false = grind (arith, common_steps, nat_tests) in
-    let pushed : column_views c.push-2.new.self.items ≡ column_views c.args.columns.items ++ column_view c.args.column ∷ [] =
-    rw (c.push-2.ensures.items, c.if-is_err-2.ensures.negation) (map_push column_view c.args.columns.items c.args.column) in
+    let pushed : column_views c.push-2.new.self.items ≡ column_views c.args.columns.items ++
+    column_view c.args.column ∷ [] =
+    rw (c.push-2.ensures.items, c.if-is_err-2.ensures.negation)
+    (map_push column_view c.args.columns.items c.args.column) in
     rw full
-    (subst (λ (columns : List ColumnDefinition). IsPut [] (statement_at statement parameters columns awaited) c.statement_at-2.result) pushed c.statement_at-2.ensures)
+    (subst (λ (columns : List ColumnDefinition). IsPut []
+    (statement_at statement parameters columns awaited) c.statement_at-2.result) pushed
+    c.statement_at-2.ensures)

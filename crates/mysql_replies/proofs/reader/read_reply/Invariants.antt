@@ -6,4 +6,5 @@ use Rattle.mysql_replies.proofs.Fed.{IsFed}
 use Rattle.mysql_replies.proofs.reader.read_reply.Given as goal
 
 abbrev pub invariant-loop-piece : goal.invariant-loop-piece
-invariant-loop-piece l = IsFed (fault_of l.reader.so_far) (context_by l.fn.kind l.fn.capabilities) l.fn.first_id l.fn.limit (map (λ piece. piece.now) (take l.piece-index l.pieces)) l.reader
+invariant-loop-piece l = IsFed (fault_of l.reader.so_far) (context_by l.fn.kind l.fn.capabilities)
+    l.fn.first_id l.fn.limit (map (λ piece. piece.now) (take l.piece-index l.pieces)) l.reader

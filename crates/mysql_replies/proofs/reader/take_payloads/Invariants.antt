@@ -6,7 +6,8 @@ use Rattle.mysql_replies.proofs.reader.take_payloads.Given as goal
 
 abbrev pub invariant-packets : goal.invariant-packets
 invariant-packets l = record {
-  taking : Taking l.fn.state (codec_by l.fn.packets) (l.fn.packets.bytes ++ l.fn.piece) [] l.state (codec_by l.packets) (l.packets.bytes ++ l.rest) [];
+  taking : Taking l.fn.state (codec_by l.fn.packets) (l.fn.packets.bytes ++ l.fn.piece) [] l.state
+      (codec_by l.packets) (l.packets.bytes ++ l.rest) [];
   over : IsOver l.state → l.packets.bytes ≡ [];
 }
 

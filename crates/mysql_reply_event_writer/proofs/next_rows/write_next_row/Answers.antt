@@ -14,5 +14,6 @@ returns c =
       text_begins = c.text_rows_begin.ensures;
       binary_back = c.binary_rows_read_back.ensures;
     }) c.args.context c.has_binary_rows.result (column_views c.args.columns.now) (row_view c.args.row.now)
-    c.write_own_cells.result c.args.out.now.items c.write_own_cells.new.out.items c.has_binary_rows.ensures same c.cells_fit.ensures
+    c.write_own_cells.result c.args.out.now.items c.write_own_cells.new.out.items
+    c.has_binary_rows.ensures same c.cells_fit.ensures
     c.write_own_cells.ensures

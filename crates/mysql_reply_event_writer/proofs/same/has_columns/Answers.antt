@@ -8,5 +8,6 @@ use Rattle.mysql_reply_event_writer.proofs.same.has_columns.Goals as goal
 
 pub returns : goal.returns
 returns c =
-    subst (λ (own : List ColumnDefinition). Decides c.eq.result (own ≡ column_views c.args.columns.now)) c.columns_ref.ensures
+    subst (λ (own : List ColumnDefinition). Decides c.eq.result (own ≡
+    column_views c.args.columns.now)) c.columns_ref.ensures
     (Decides-at c.eq.result _ c.eq.ensures (columns_decide c.columns_ref.result.now c.args.columns.now))

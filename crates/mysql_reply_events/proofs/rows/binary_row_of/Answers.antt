@@ -16,4 +16,5 @@ pub returns : goal.returns
 returns c =
     let columns = shared_columns c.args.columns in
     let same = zero_begins columns c.args.buf.now.0.now _ c.in_ok-parse.ensures in
-    ap (as_row columns) same ∙ c.in_ok-row.ensures ∙ ap (λ row. Ok (row_view row, c.parse-2.new.self.0.now)) (sym c.into_inner.ensures)
+    ap (as_row columns) same ∙ c.in_ok-row.ensures ∙
+    ap (λ row. Ok (row_view row, c.parse-2.new.self.0.now)) (sym c.into_inner.ensures)

@@ -14,8 +14,15 @@ returns-in-Ok-clause-delivered c =
     let old = c.args.out.now.items in
     let new = c.put_reply.new.out.items in
     let some : (length results == 0) ≡ false = search rules in
-    replied c.whole_bytes_are_framed_results.ensures.some c.byte_fronts_are_unfinished.ensures.whole c.byte_fronts_are_unfinished.ensures.unfinished
+    replied c.whole_bytes_are_framed_results.ensures.some c.byte_fronts_are_unfinished.ensures.whole
+    c.byte_fronts_are_unfinished.ensures.unfinished
     context c.args.first_id c.args.limit (outcome_views results) progress old new
-    (reply_allowed context c.args.first_id c.args.limit results progress some c.new-writer.result c.new-writer.ensures c.put_reply.new.writer old new c.in-Ok.ensures.ok c.in-Ok.ensures.whole)
-    (reply_written context c.args.first_id c.args.limit results progress some c.new-writer.result c.new-writer.ensures c.put_reply.new.writer old new c.in-Ok.ensures.ok c.in-Ok.ensures.whole)
-    (reply_read context c.args.first_id c.args.limit results progress some c.new-writer.result c.new-writer.ensures c.put_reply.new.writer old new c.in-Ok.ensures.ok c.in-Ok.ensures.whole refl c.written_replies_are_whole.ensures.framed)
+    (reply_allowed context c.args.first_id c.args.limit results progress some c.new-writer.result
+    c.new-writer.ensures c.put_reply.new.writer old new c.in-Ok.ensures.ok
+    c.in-Ok.ensures.whole)
+    (reply_written context c.args.first_id c.args.limit results progress some c.new-writer.result
+    c.new-writer.ensures c.put_reply.new.writer old new c.in-Ok.ensures.ok
+    c.in-Ok.ensures.whole)
+    (reply_read context c.args.first_id c.args.limit results progress some c.new-writer.result
+    c.new-writer.ensures c.put_reply.new.writer old new c.in-Ok.ensures.ok c.in-Ok.ensures.whole
+    refl c.written_replies_are_whole.ensures.framed)

@@ -6,4 +6,5 @@ use Rattle.mysql_reply_writer.proofs.whole.put_reports.Given as goal
 
 abbrev pub invariant-reports : goal.invariant-reports
 invariant-reports l =
-    WroteSoFar l.fn.writer (map ReportStep (report_views l.progress)) l.writer (map ReportStep (report_views (drop l.report-index l.progress))) l.fn.out.items l.out.items
+    WroteSoFar l.fn.writer (map ReportStep (report_views l.progress)) l.writer
+    (map ReportStep (report_views (drop l.report-index l.progress))) l.fn.out.items l.out.items

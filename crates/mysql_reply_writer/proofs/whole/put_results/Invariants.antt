@@ -6,4 +6,5 @@ use Rattle.mysql_reply_writer.proofs.whole.put_results.Given as goal
 
 abbrev pub invariant-results : goal.invariant-results
 invariant-results l =
-    WroteSoFar l.fn.writer (results_steps (outcome_views l.results)) l.writer (results_steps (outcome_views (drop l.index l.results))) l.fn.out.items l.out.items
+    WroteSoFar l.fn.writer (results_steps (outcome_views l.results)) l.writer
+    (results_steps (outcome_views (drop l.index l.results))) l.fn.out.items l.out.items

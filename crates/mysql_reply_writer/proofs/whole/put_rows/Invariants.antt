@@ -9,4 +9,5 @@ abbrev pub invariant-rows : goal.invariant-rows
 invariant-rows l =
     (columns_of l.writer.so_far.rows ≡ columns_of l.fn.writer.so_far.rows)
     × WroteSoFar l.fn.writer (map (RowStep (columns_of l.fn.writer.so_far.rows)) (row_views l.rows)) l.writer
-    (map (RowStep (columns_of l.fn.writer.so_far.rows)) (row_views (drop l.row-index l.rows))) l.fn.out.items l.out.items
+    (map (RowStep (columns_of l.fn.writer.so_far.rows)) (row_views (drop l.row-index l.rows)))
+    l.fn.out.items l.out.items

@@ -9,7 +9,10 @@ abbrev pub invariant-loop-column : goal.invariant-loop-column
 invariant-loop-column g l =
     let offset = g.S.SerializationSide.BIT_OFFSET in
     record {
-      cells : with_front l.cells.items (cells_from offset l.fn.bitmap l.columns l.column-index l.rest.0.now) ≡ some_cells (binary_cells_at offset l.fn.bitmap 0 (column_views l.columns) l.initial.rest.0.now);
+      cells : with_front l.cells.items
+          (cells_from offset l.fn.bitmap l.columns l.column-index l.rest.0.now) ≡
+          some_cells (binary_cells_at offset l.fn.bitmap 0 (column_views l.columns)
+          l.initial.rest.0.now);
       len : length l.cells.items ≡ l.column-index;
       room : length l.columns ≤ vec_capacity l.cells;
     }

@@ -7,4 +7,6 @@ use Rattle.mysql_rows.proofs.text_writing.put_row.Goals as goal
 
 pub returns-clause-ok : goal.returns-clause-ok
 returns-clause-ok g c =
-    all_held g.C.Held.held (λ cell. unwrap_or (option_and_then text_cell cell) []) c.args.cells.now c.args.out.now.items c.loop-cell.out.items c.loop-cell.cell-index c.loop-cell-test.false c.loop-cell.invariant
+    all_held g.C.Held.held (λ cell. unwrap_or (option_and_then text_cell cell) []) c.args.cells.now
+    c.args.out.now.items c.loop-cell.out.items c.loop-cell.cell-index c.loop-cell-test.false
+    c.loop-cell.invariant

@@ -5,4 +5,6 @@ use Rattle.mysql_rows.specs.Written.{text_cell}
 use Rattle.mysql_rows.proofs.text_writing.put_row.Given as goal
 
 abbrev pub invariant-loop-cell : goal.invariant-loop-cell
-invariant-loop-cell g l = l.out.items ≡ l.initial.out.items ++ flat_map (λ cell. unwrap_or (option_and_then text_cell (g.C.Held.held cell)) []) (take l.cell-index l.cells)
+invariant-loop-cell g l = l.out.items ≡ l.initial.out.items ++
+    flat_map (λ cell. unwrap_or (option_and_then text_cell (g.C.Held.held cell)) [])
+    (take l.cell-index l.cells)

@@ -10,7 +10,11 @@ pub returns-then-is_ok : goal.returns-then-is_ok
 returns-then-is_ok g c =
     let cells = map g.C.Held.held c.args.cells.now in
     let columns = column_views c.args.columns.now in
-    let same : length columns ≡ length cells = length-map c.args.columns.now column_view ∙ c.requires ∙ sym (length-map c.args.cells.now g.C.Held.held) in
+    let same : length columns ≡ length cells = length-map c.args.columns.now column_view ∙
+    c.requires ∙ sym (length-map c.args.cells.now g.C.Held.held) in
     let ok = sym c.is_ok.ensures.value ∙ c.if-is_ok.true in
-    let none = where_ok c.put_row.result ok c.put_row.ensures.form in
-    (none, where_ok c.put_row.result ok c.put_row.ensures.ok ∙ ap (λ (l : List ℕ). c.args.out.now.items ++ l) (row_of_values columns cells same none))
+    let none = where_ok c.put_row.result ok c.put_row.ensures.form in (
+      none,
+      where_ok c.put_row.result ok c.put_row.ensures.ok ∙
+          ap (λ (l : List ℕ). c.args.out.now.items ++ l) (row_of_values columns cells same none),
+    )

@@ -8,5 +8,6 @@ returns g c =
     let cells = map g.C.Held.held c.args.cells.now in (
       c.in-Ok.ensures,
       where_done c.put_row.result (sym c.is_err.ensures.value ∙ c.if-is_err.false) c.put_row.ensures.ok
-          ∙ ap (λ (l : List ℕ). l ++ text_cells cells) c.in_ok-reserve.ensures.items ∙ ap (λ (l : List ℕ). c.args.out.now.items ++ l) (text_of_cells cells),
+          ∙ ap (λ (l : List ℕ). l ++ text_cells cells) c.in_ok-reserve.ensures.items ∙
+          ap (λ (l : List ℕ). c.args.out.now.items ++ l) (text_of_cells cells),
     )

@@ -8,5 +8,6 @@ use Rattle.mysql_rows.proofs.writing.write_text_row.Goals as goal
 
 pub returns : goal.returns
 returns c =
-    subst (λ (values : List Value). PutsRow (text_cause (map Some c.args.values.now)) (text_row values) c.args.out.now.items c.write_text.new.out.items c.write_text.result)
+    subst (λ (values : List Value). PutsRow (text_cause (map Some c.args.values.now))
+    (text_row values) c.args.out.now.items c.write_text.new.out.items c.write_text.result)
     (values_of_some c.args.values.now) c.write_text.ensures

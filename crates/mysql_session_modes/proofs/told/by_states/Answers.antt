@@ -20,18 +20,24 @@ returns-in_default c =
 
 pub loop-rest-smaller : goal.loop-rest-smaller
 loop-rest-smaller c =
-    state_at-eats c.loop-rest.rest.0.now (record { data_type = c.in-Ok.state.data_type; content = c.in-Ok.state.content.now }, c.read_state.new.buf.0.now) c.in-Ok.ensures
+    state_at-eats c.loop-rest.rest.0.now (
+      record { data_type = c.in-Ok.state.data_type; content = c.in-Ok.state.content.now },
+      c.read_state.new.buf.0.now,
+    ) c.in-Ok.ensures
 
 pub loop-rest-preserved : goal.loop-rest-preserved
 loop-rest-preserved c =
     let some = some_bytes (length c.loop-rest.rest.0.now) c.is_empty.result c.is_empty.ensures c.loop-rest-test.true in
-    ap (λ told. walked told_by_state Unreadable told (to_end_at state_at c.read_state.new.buf.0.now)) c.by_state-told.ensures
+    ap (λ told. walked told_by_state Unreadable told
+    (to_end_at state_at c.read_state.new.buf.0.now)) c.by_state-told.ensures
     ∙ sym (goes_on told_by_state state_at state_at-eats Unreadable (told_view c.loop-rest.told) c.loop-rest.rest.0.now
-    (record { data_type = c.in-Ok.state.data_type; content = c.in-Ok.state.content.now }) c.read_state.new.buf.0.now some c.in-Ok.ensures)
+    (record { data_type = c.in-Ok.state.data_type; content = c.in-Ok.state.content.now })
+    c.read_state.new.buf.0.now some c.in-Ok.ensures)
     ∙ c.loop-rest.invariant
 
 pub returns : goal.returns
 returns c =
     let none = no_bytes (length c.loop-rest.rest.0.now) c.is_empty.result c.is_empty.ensures c.loop-rest-test.false in
-    sym (is_done told_by_state state_at state_at-eats Unreadable (told_view c.loop-rest.told) c.loop-rest.rest.0.now none)
+    sym (is_done told_by_state state_at state_at-eats Unreadable (told_view c.loop-rest.told)
+    c.loop-rest.rest.0.now none)
     ∙ c.loop-rest.invariant

@@ -6,10 +6,14 @@ pub loop-at-preserved-then-step-gt0 : goal.loop-at-preserved-then-step-gt0
 loop-at-preserved-then-step-gt0 c =
     let some = c.requires.some in
     let before = c.loop-at-test.true in
-    let bound = within_at c.args.steps.now c.args.word.now (slice_index c.args.text.now (c.loop-at.at + (length c.args.word.now - 1)) % 32) c.requires.within in (
+    let bound = within_at c.args.steps.now c.args.word.now
+    (slice_index c.args.text.now (c.loop-at.at + (length c.args.word.now - 1)) % 32)
+    c.requires.within in (
       omega arith,
-      goes_on c.args.word.now c.args.steps.now c.args.text.now (length c.args.word.now - 1) (omega arith) c.requires.within c.requires.short c.loop-at.at
-          (slice_index c.args.steps.now (slice_index c.args.text.now (c.loop-at.at + (length c.args.word.now - 1)) % 32)) refl
+      goes_on c.args.word.now c.args.steps.now c.args.text.now (length c.args.word.now - 1)
+          (omega arith) c.requires.within c.requires.short c.loop-at.at
+          (slice_index c.args.steps.now
+          (slice_index c.args.text.now (c.loop-at.at + (length c.args.word.now - 1)) % 32)) refl
           ∙ c.loop-at.invariant.1,
     )
 

@@ -10,5 +10,7 @@ abbrev pub invariant-loop-value : goal.invariant-loop-value
 invariant-loop-value g l = record {
   sum : whole_size (map g.V.HasValue.value l.values) + l.room ≡ l.most + left g.V.HasValue.value l.values l.value-index;
   small : l.room ≤ l.most;
-  floats : position_from (λ value. is_none (content_of value)) l.value-index (map g.V.HasValue.value (drop l.value-index l.values)) ≡ first_float (map g.V.HasValue.value l.values);
+  floats : position_from (λ value. is_none (content_of value)) l.value-index
+      (map g.V.HasValue.value (drop l.value-index l.values)) ≡
+      first_float (map g.V.HasValue.value l.values);
 }

@@ -15,7 +15,8 @@ returns-then-len-lt-MAX_PAYLOAD_LEN-clause-found c =
 pub chunks-preserved : goal.chunks-preserved
 chunks-preserved c =
     let b = c.chunks.invariant in
-    goes_behind c.args.limit c.args.number c.args.bytes.now c.chunks.full c.chunks.room c.chunks.due c.chunks.rest.now _ b
+    goes_behind c.args.limit c.args.number c.args.bytes.now c.chunks.full c.chunks.room c.chunks.due
+    c.chunks.rest.now _ b
     c.in-Whole.len (omega arith) c.in-Whole.ensures.stands
     (c.in-Whole.ensures.found (c.chunks.room / max_payload_len) c.args.limit (c.chunks.full * max_payload_len) b.fits)
     (take_rest c.chunks.rest.now (4 + c.in-Whole.len))

@@ -7,7 +7,8 @@ use Rattle.mysql_wire.proofs.laws.reader_laws.Goals as goal
 
 pub returns : goal.returns
 returns c = record {
-  one_split = λ limit numbering bytes h. let found = some_split limit numbering bytes h in (found.0, found.1, λ other s. at_most_one limit numbering bytes other found.0 s found.1);
+  one_split = λ limit numbering bytes h. let found = some_split limit numbering bytes h in
+      (found.0, found.1, λ other s. at_most_one limit numbering bytes other found.0 s found.1);
   goes_on = split_goes_on;
   fault_stays = fault_stays;
   come_first = framed_come_first;

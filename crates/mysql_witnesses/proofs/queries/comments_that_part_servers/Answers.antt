@@ -1,4 +1,5 @@
-use Rattle.mysql_witnesses.proofs.AboutQueries.{hints_are_comments, others_part_servers, quotes_make_no_simple_comment, simple_comments_part_none}
+use Rattle.mysql_witnesses.proofs.AboutQueries.{hints_are_comments, others_part_servers, quotes_make_no_simple_comment}
+use Rattle.mysql_witnesses.proofs.AboutQueries.{simple_comments_part_none}
 use Rattle.mysql_witnesses.proofs.queries.comments_that_part_servers.Goals as goal
 
 pub returns-clause-hints : goal.returns-clause-hints

@@ -26,7 +26,9 @@ returns-then-size-lt-MAX_PAYLOAD_LEN c =
     let at : c.len-start.result ≡ length c.args.out.now.items = search rules in
     let size = room_length c.args.out.now.items w.0 c.write_behind_room.new.out.items c.len-start.result w.3 at in
     let held : c.len.result ≡ length c.write_behind_room.new.out.items = search rules in
-    let limit : c.limit_of.result ≡ limit_of (side_of (event_view c.args.event.now)) c.args.self.now.world.limits = search rules in
+    let limit : c.limit_of.result ≡
+    limit_of (side_of (event_view c.args.event.now)) c.args.self.now.world.limits =
+    search rules in
     let within : length w.0 ≤ limit_of (side_of (event_view c.args.event.now)) c.args.self.now.world.limits =
     omega (arith, size, held, limit, c.if-size-limit_of.false) in
     puts_due c.args.self.now c.put_chunk.new.self (event_view c.args.event.now) c.args.out.now.items w.0
@@ -39,7 +41,9 @@ returns-else-size-lt-MAX_PAYLOAD_LEN c =
     let at : c.len-start.result ≡ length c.args.out.now.items = search rules in
     let size = room_length c.args.out.now.items w.0 c.write_behind_room.new.out.items c.len-start.result w.3 at in
     let held : c.len.result ≡ length c.write_behind_room.new.out.items = search rules in
-    let limit : c.limit_of.result ≡ limit_of (side_of (event_view c.args.event.now)) c.args.self.now.world.limits = search rules in
+    let limit : c.limit_of.result ≡
+    limit_of (side_of (event_view c.args.event.now)) c.args.self.now.world.limits =
+    search rules in
     let within : length w.0 ≤ limit_of (side_of (event_view c.args.event.now)) c.args.self.now.world.limits =
     omega (arith, size, held, limit, c.if-size-limit_of.false) in
     puts_due c.args.self.now c.put_chunks.new.self (event_view c.args.event.now) c.args.out.now.items w.0

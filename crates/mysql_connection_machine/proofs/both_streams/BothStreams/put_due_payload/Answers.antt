@@ -10,17 +10,23 @@ use Rattle.mysql_connection_machine.proofs.both_streams.BothStreams.put_due_payl
 
 pub put_payload-requires : goal.put_payload-requires
 put_payload-requires c =
-    let peeked = subst (λ (r : LendingWorld). said_in (step r.world.standing c.args.payload.now) ≡ Ok (event_view c.in-Ok.event))
+    let peeked = subst (λ (r : LendingWorld). said_in (step r.world.standing c.args.payload.now) ≡
+    Ok (event_view c.in-Ok.event))
     c.self.view_is c.in-Ok.ensures.peeks in
-    record { said = said c.payloads_are_in_turn.ensures c.args.self.now.world c.args.payload.now (event_view c.in-Ok.event) peeked }
+    record {
+      said = said c.payloads_are_in_turn.ensures c.args.self.now.world c.args.payload.now
+          (event_view c.in-Ok.event) peeked;
+    }
 
 pub returns-in-Ok-put_payload-clause-puts : goal.returns-in-Ok-put_payload-clause-puts
 returns-in-Ok-put_payload-clause-puts c =
-    let peeked = subst (λ (r : LendingWorld). said_in (step r.world.standing c.args.payload.now) ≡ Ok (event_view c.in-Ok.event))
+    let peeked = subst (λ (r : LendingWorld). said_in (step r.world.standing c.args.payload.now) ≡
+    Ok (event_view c.in-Ok.event))
     c.self.view_is c.in-Ok.ensures.peeks in
     let due : IsDue c.args.self.now.world c.args.side c.args.payload.now = record {
       awaited = sym c.awaits_payload.ensures ∙ c.if-not-awaits_payload.false;
-      within = subst (λ (r : LendingWorld). length c.args.payload.now ≤ limit_of c.args.side r.world.limits) c.self.view_is
+      within = subst (λ (r : LendingWorld). length c.args.payload.now ≤ limit_of c.args.side
+          r.world.limits) c.self.view_is
           (subst (λ (n : ℕ). length c.args.payload.now ≤ n) c.limit_of.ensures c.if-payload-limit_of.false);
     } in
     appended c.payloads_are_in_turn.ensures c.args.self.now c.args.side c.args.payload.now (event_view c.in-Ok.event)
@@ -29,11 +35,13 @@ returns-in-Ok-put_payload-clause-puts c =
 
 pub returns-in-Err-Held-clause-puts : goal.returns-in-Err-Held-clause-puts
 returns-in-Err-Held-clause-puts c =
-    let peeked = subst (λ (r : LendingWorld). said_in (step r.world.standing c.args.payload.now) ≡ Ok (event_view c.in-Ok.event))
+    let peeked = subst (λ (r : LendingWorld). said_in (step r.world.standing c.args.payload.now) ≡
+    Ok (event_view c.in-Ok.event))
     c.self.view_is c.in-Ok.ensures.peeks in
     let due : IsDue c.args.self.now.world c.args.side c.args.payload.now = record {
       awaited = sym c.awaits_payload.ensures ∙ c.if-not-awaits_payload.false;
-      within = subst (λ (r : LendingWorld). length c.args.payload.now ≤ limit_of c.args.side r.world.limits) c.self.view_is
+      within = subst (λ (r : LendingWorld). length c.args.payload.now ≤ limit_of c.args.side
+          r.world.limits) c.self.view_is
           (subst (λ (n : ℕ). length c.args.payload.now ≤ n) c.limit_of.ensures c.if-payload-limit_of.false);
     } in
     held_back c.payloads_are_in_turn.ensures c.args.self.now c.args.side c.args.payload.now (event_view c.in-Ok.event)

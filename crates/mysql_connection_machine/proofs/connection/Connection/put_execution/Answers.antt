@@ -11,4 +11,6 @@ returns-clause-read c =
     (execution_said m.world.standing c.args.id c.args.values.now) c.args.out.now.items
     c.put_execution.new.out.items c.put_execution.new.self.world)) c.self.view_is
     (read_put c.puts_are_read.ensures _ c.put_execution.new.self _ c.args.out.now.items
-    c.put_execution.new.out.items c.put_execution.result (rw (← c.state.ensures, ← c.number-number.ensures) c.number-number.type_inv) c.put_execution.ensures)
+    c.put_execution.new.out.items c.put_execution.result
+    (rw (← c.state.ensures, ← c.number-number.ensures) c.number-number.type_inv)
+    c.put_execution.ensures)

@@ -6,6 +6,7 @@ use Rattle.mysql_connection_machine.proofs.connection.Connection.put_first_comma
 
 pub returns-in-None-Client : goal.returns-in-None-Client
 returns-in-None-Client c =
-    rw (← c.self.view_is) (machine_put _ _ c.args.side c.args.packets.now c.args.out.now.items c.put_first_command.new.out.items
+    rw (← c.self.view_is) (machine_put _ _ c.args.side c.args.packets.now c.args.out.now.items
+    c.put_first_command.new.out.items
     c.put_first_command.result c.in-None-Client.is-1 (ap (option_map failure_view) c.in-None-Client.is-0) refl
     c.put_first_command.ensures)

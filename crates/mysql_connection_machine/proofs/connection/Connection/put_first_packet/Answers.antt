@@ -10,8 +10,11 @@ returns-in_ok-put_without_event-in-Whole c =
     let going = due_unfailed c.args.self.now c.args.side due in
     let found = rw c.in-Whole.is at c.in_ok-first_packet.ensures.found in
     let within = rw c.in-Whole.is at c.in_ok-first_packet.ensures.within in
-    put_first_by c.packets_take_bytes.ensures c.args.self.now c.put_without_event.new.self c.args.side c.args.packets.now
-    c.args.out.now.items c.put_without_event.new.out.items c.as_slice.result.now c.limit_of-limit.result c.number_of.result
+    put_first_by c.packets_take_bytes.ensures c.args.self.now c.put_without_event.new.self
+    c.args.side c.args.packets.now
+    c.args.out.now.items c.put_without_event.new.out.items c.as_slice.result.now
+    c.limit_of-limit.result c.number_of.result
     c.in-Whole.used c.in-Whole.next c.limit_of-limit.ensures c.number_of.ensures
-    (found ∙ ap (λ (p : List ℕ). Whole p c.in-Whole.next (drop c.in-Whole.used c.args.packets.now)) (sym c.as_slice.ensures.value))
+    (found ∙ ap (λ (p : List ℕ). Whole p c.in-Whole.next (drop c.in-Whole.used c.args.packets.now))
+    (sym c.as_slice.ensures.value))
     within going c.in_ok-put_without_event-in-Whole.ensures

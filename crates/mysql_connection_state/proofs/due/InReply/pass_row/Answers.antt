@@ -12,8 +12,11 @@ returns c = λ size.
     let old = c.args.self.now in
     let row = c.requires.row.0 in
     let new = c.row_came.new.self in
-    let Came : ReaderState → Type 0 = λ reader. in_reply_view new ≡ reply_after (in_reply_view (record old { reader = reader })) size (RowEvent row) reader.so_far in
-    passes_row old new size c.args.room (c.going_size-going.result + (old.earlier + old.coming)) (reply_view c.args.event.now) row c.args.statements.now
+    let Came : ReaderState → Type 0 = λ reader. in_reply_view new ≡
+    reply_after (in_reply_view (record old { reader = reader })) size (RowEvent row)
+    reader.so_far in
+    passes_row old new size c.args.room (c.going_size-going.result + (old.earlier + old.coming))
+    (reply_view c.args.event.now) row c.args.statements.now
     c.requires.row.1 c.requires.going (c.row_came.ensures.reader ∙ c.pass.ensures)
     (subst Came c.pass.ensures (c.row_came.ensures.reply size row))
     (ap (λ (n : ℕ). n + (old.earlier + old.coming)) c.going_size-going.ensures.size) c.in_ok-fit.ensures

@@ -11,6 +11,10 @@ pub returns-clause-unclear : goal.returns-clause-unclear
 returns-clause-unclear c =
     let s = c.args.self.now.standing in
     let payload = c.args.payload.now in
-    subst (λ (p : Option InForce). IfOk c.read.result (λ command. HasUnclear s.capabilities p payload command)) c.parameters_in_question-parameters.ensures
-    (subst (λ (k : Capabilities). IfOk c.read.result (λ command. HasUnclear k (option_copied c.parameters_in_question-parameters.result) payload command))
+    subst (λ (p : Option InForce). IfOk c.read.result
+    (λ command. HasUnclear s.capabilities p payload command))
+    c.parameters_in_question-parameters.ensures
+    (subst (λ (k : Capabilities). IfOk c.read.result
+    (λ command. HasUnclear k (option_copied c.parameters_in_question-parameters.result) payload
+    command))
     c.capabilities.ensures c.read.ensures.unclear)

@@ -2,7 +2,8 @@ use Rattle.std.proofs.Common.{subst}
 use Rattle.mysql_authentication.specs.Views.{authentication_view, greeting_view, response_event_view}
 use Rattle.mysql_commands.specs.Views.{command_view}
 use Rattle.mysql_reply_events.specs.Views.{event_view as reply_view}
-use Rattle.mysql_connection_rules.specs.Events.Event.{Answer, Asked, Authentication, FileData, Greeting, Replied, Response}
+use Rattle.mysql_connection_rules.specs.Events.Event.{Answer, Asked, Authentication, FileData, Greeting, Replied}
+use Rattle.mysql_connection_rules.specs.Events.Event.{Response}
 use Rattle.mysql_connection_rules.specs.Standing.{Standing}
 use Rattle.mysql_connection_rules.specs.Steps.{after_authentication, after_command, after_greeting, after_response}
 use Rattle.mysql_connection_state.proofs.GoingOn.{authentication_leads, follows_if, follows_one, none_leads}
@@ -30,15 +31,20 @@ pub returns-in-Some : goal.returns-in-Some
 returns-in-Some c =
     let old = c.args.self.now in
     let said = authentication_view c.deref-in-Some.result.now in
-    rw (c.in-Authentication.is, ← c.deref-in-Some.ensures) (follows_one old c.pass_authentication.new.self (Authentication said)
-    c.args.payload.now c.args.room c.pass_authentication.result (after_authentication c.in-Some.exchange old.standing said)
-    (λ after leads. authentication_leads old.standing said c.args.payload.now c.in-Some.exchange after c.in-Some.ensures leads)
+    rw (c.in-Authentication.is, ← c.deref-in-Some.ensures)
+    (follows_one old c.pass_authentication.new.self (Authentication said)
+    c.args.payload.now c.args.room c.pass_authentication.result
+    (after_authentication c.in-Some.exchange old.standing said)
+    (λ after leads. authentication_leads old.standing said c.args.payload.now c.in-Some.exchange
+    after c.in-Some.ensures leads)
     c.pass_authentication.ensures)
 
 pub returns-in-None : goal.returns-in-None
 returns-in-None c =
     let old = c.args.self.now in
-    rw c.in-Authentication.is (λ after leads. absurd (none_leads old.standing (authentication_view c.in-Authentication.said.value)
+    rw c.in-Authentication.is
+    (λ after leads. absurd (none_leads old.standing
+    (authentication_view c.in-Authentication.said.value)
     c.args.payload.now after c.in-None.ensures leads))
 
 pub returns-in-Command : goal.returns-in-Command
@@ -62,7 +68,8 @@ pub returns-in-Reply : goal.returns-in-Reply
 returns-in-Reply c =
     let old = c.args.self.now in
     let said = reply_view c.deref-in-Reply.result.now in
-    rw (c.in-Reply.is, ← c.deref-in-Reply.ensures) (follows_if old c.pass_reply.new.self (Replied said) c.args.payload.now c.args.room
+    rw (c.in-Reply.is, ← c.deref-in-Reply.ensures)
+    (follows_if old c.pass_reply.new.self (Replied said) c.args.payload.now c.args.room
     c.pass_reply.result c.pass_reply.ensures.err (λ after leads.
     let found = step_leads old.standing c.args.payload.now (Replied said) after leads in
     let Q : Standing → Type 0 = λ after. Goes old after c.args.room c.pass_reply.result c.pass_reply.new.self in
@@ -71,7 +78,8 @@ returns-in-Reply c =
 pub returns-in-FileData : goal.returns-in-FileData
 returns-in-FileData c =
     let old = c.args.self.now in
-    rw c.in-FileData.is (follows_if old c.pass_file_data.new.self (FileData c.in-FileData.field-0) c.args.payload.now c.args.room
+    rw c.in-FileData.is (follows_if old c.pass_file_data.new.self (FileData c.in-FileData.field-0)
+    c.args.payload.now c.args.room
     c.pass_file_data.result c.pass_file_data.ensures.err (λ after leads.
     let found = step_leads old.standing c.args.payload.now (FileData c.in-FileData.field-0) after leads in
     let Q : Standing → Type 0 = λ after. Goes old after c.args.room c.pass_file_data.result c.pass_file_data.new.self in

@@ -13,5 +13,7 @@ returns c = λ is.
     let body = c.args.body.now in
     subst (λ (p : List ℕ). goes (after_said old.standing p)) (sym is)
     (subst goes (bulk_said old.standing body)
-    (subst (λ (p : List ℕ). goes (behind_statement old.standing (execution_of 0xfa body (id_in_question old.standing.statements p)
+    (subst (λ (p : List ℕ). goes
+    (behind_statement old.standing
+    (execution_of 0xfa body (id_in_question old.standing.statements p)
     (statement_in_question old.standing.statements p) old.standing))) is c.pass_unread.ensures))

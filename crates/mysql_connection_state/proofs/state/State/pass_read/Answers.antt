@@ -17,9 +17,11 @@ returns c =
     ap command_view c.deref-said.ensures ∙ read in
     let mode : c.mode_asked-mode.result ≡ mode_asked (command_view c.deref-said.result.now) old.standing.mode =
     c.mode_asked-mode.ensures ∙ ap (mode_asked (command_view c.deref-said.result.now)) c.session_mode.ensures in
-    let went = c.pass_in_mode.ensures old (steps.after_command old.standing c.args.payload.now (command_view c.deref-said.result.now))
+    let went = c.pass_in_mode.ensures old
+    (steps.after_command old.standing c.args.payload.now (command_view c.deref-said.result.now))
     c.args.room c.pass_command-passed.ensures in
     subst (λ (k : Command). Goes old (steps.in_mode (mode_asked k old.standing.mode)
-    (steps.after_command old.standing c.args.payload.now k)) c.args.room c.pass_in_mode.result c.pass_in_mode.new.self) said
+    (steps.after_command old.standing c.args.payload.now k)) c.args.room c.pass_in_mode.result
+    c.pass_in_mode.new.self) said
     (subst (λ (m : SessionMode). Goes old (steps.in_mode m (steps.after_command old.standing c.args.payload.now
     (command_view c.deref-said.result.now))) c.args.room c.pass_in_mode.result c.pass_in_mode.new.self) mode went)

@@ -5,8 +5,10 @@ use Rattle.mysql_connection_statements.proofs.statements.Statements.execute.Goal
 
 pub returns-clause-ok : goal.returns-clause-ok
 returns-clause-ok c =
-    rw (← c.self.view_is) (changed_in_place _ c.args.id (executed c.args.types.now) c.in-Some.statement.now c.execute.new.self _ _
-    c.in-Some.ensures.ordered c.in-Some.ensures.value c.in_ok-pending.ensures.ok (c.get_mut.follows.holds c.execute.new.self).0
+    rw (← c.self.view_is) (changed_in_place _ c.args.id (executed c.args.types.now)
+    c.in-Some.statement.now c.execute.new.self _ _
+    c.in-Some.ensures.ordered c.in-Some.ensures.value c.in_ok-pending.ensures.ok
+    (c.get_mut.follows.holds c.execute.new.self).0
     (rw (← c.size.ensures.size, ← c.size_executed-after.ensures.size) c.in_ok-stored.ensures.ok))
 
 pub returns-in_err-stored-clause-err : goal.returns-in_err-stored-clause-err

@@ -8,9 +8,16 @@ use Rattle.mysql_connection_statements.proofs.statements.Statements.set_columns.
 
 pub returns-clause-ok : goal.returns-clause-ok
 returns-clause-ok c =
-    rw (← c.self.view_is) (changed_in_place _ c.args.id (having_columns (option_map shared_columns c.args.columns) c.args.size) c.in-Some.statement.now c.set_columns.new.self _ _
-    c.in-Some.ensures.ordered c.in-Some.ensures.value c.set_columns.ensures (c.get_mut.follows.holds c.set_columns.new.self).0
-    (rw (← c.size.ensures.size, ← c.size_with_columns-after.ensures.size (option_map shared_columns c.args.columns)) c.in_ok-stored.ensures.ok))
+    rw (← c.self.view_is) (changed_in_place _ c.args.id
+    (having_columns (option_map shared_columns c.args.columns) c.args.size)
+    c.in-Some.statement.now c.set_columns.new.self _ _
+    c.in-Some.ensures.ordered c.in-Some.ensures.value c.set_columns.ensures
+    (c.get_mut.follows.holds c.set_columns.new.self).0
+    (rw (
+      ← c.size.ensures.size,
+      ← c.size_with_columns-after.ensures.size (option_map shared_columns c.args.columns),
+    )
+    c.in_ok-stored.ensures.ok))
 
 pub returns-in_err-stored-clause-unchanged : goal.returns-in_err-stored-clause-unchanged
 returns-in_err-stored-clause-unchanged c =
@@ -21,4 +28,7 @@ pub returns-in_err-stored-clause-err : goal.returns-in_err-stored-clause-err
 returns-in_err-stored-clause-err c =
     let these = option_map shared_columns c.args.columns in
     rw (← c.self.view_is) (too_large _ _ c.args.id c.in-Some.statement.now (having_columns these c.args.size) _
-    c.in-Some.ensures.value (rw (← c.size.ensures.size, ← c.size_with_columns-after.ensures.size these) c.in_err-stored.ensures.err))
+    c.in-Some.ensures.value (rw (
+      ← c.size.ensures.size,
+      ← c.size_with_columns-after.ensures.size these,
+    ) c.in_err-stored.ensures.err))

@@ -9,6 +9,7 @@ by_zero columns false is = refl
 
 pub returns-clause-size : goal.returns-clause-size
 returns-clause-size c = λ text count kept.
-    let twice = changed_twice c.args.self.now c.args.id (prepared_as text count c.args.size) (having_columns kept c.args.columns) (Some c.args.id) in
+    let twice = changed_twice c.args.self.now c.args.id (prepared_as text count c.args.size)
+    (having_columns kept c.args.columns) (Some c.args.id) in
     let described = by_zero c.args.columns _ refl in
     omega arith

@@ -5,7 +5,8 @@ use Rattle.mysql_connection_statements.proofs.statements.Statements.size_with_lo
 pub returns-in-Some-clause-size : goal.returns-in-Some-clause-size
 returns-in-Some-clause-size c = λ bytes.
     rw (
-      changed_stored c.args.self.now c.args.id c.in-Some.statement.now (with_long_data c.args.place bytes c.args.size) (c.in-Some.ensures),
+      changed_stored c.args.self.now c.args.id c.in-Some.statement.now
+          (with_long_data c.args.place bytes c.args.size) (c.in-Some.ensures),
       ← c.size_with_long_data-after.ensures.size bytes,
       ← c.size.ensures.size,
       ← c.stored.ensures,

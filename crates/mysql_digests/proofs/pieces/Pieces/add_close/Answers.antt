@@ -7,4 +7,6 @@ use Rattle.mysql_digests.proofs.pieces.Pieces.add_close.Goals as goal
 
 pub returns-in-None : goal.returns-in-None
 returns-in-None c = on_ok_weaker c.push_mark.result (λ k pieces h.
-    subst (λ y. Holds y c.push_mark.new.self) (sym (close_plain pieces (sym (c.in-None.ensures pieces h)))) (k pieces Close h refl refl)) c.push_mark.ensures
+    subst (λ y. Holds y c.push_mark.new.self)
+    (sym (close_plain pieces (sym (c.in-None.ensures pieces h)))) (k pieces Close h refl refl))
+    c.push_mark.ensures

@@ -4,4 +4,5 @@ use Rattle.mysql_handshake_response.specs.AttributeViews.{attributes_view, shown
 use Rattle.mysql_handshake_response.proofs.attributes.ConnectAttributes.into_owned.Given as goal
 
 abbrev pub invariant-loop-key : goal.invariant-loop-key
-invariant-loop-key l = attributes_view l.all ++ map shown_attribute (into_iter_items l.key-iterator) ≡ attributes_view l.fn.self
+invariant-loop-key l = attributes_view l.all ++
+    map shown_attribute (into_iter_items l.key-iterator) ≡ attributes_view l.fn.self

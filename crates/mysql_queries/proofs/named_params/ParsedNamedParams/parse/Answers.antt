@@ -5,7 +5,9 @@ use Rattle.mysql_queries.specs.Sql.{read_by_default}
 use Rattle.mysql_queries.proofs.named_params.ParsedNamedParams.parse.Goals as goal
 
 pub returns-in_err-places-clause-mixed : goal.returns-in_err-places-clause-mixed
-returns-in_err-places-clause-mixed c = let p = err_from_is_err_and c.from_residual.result c.from_residual.ensures.1 in rw (p.1, p.2) (inl refl)
+returns-in_err-places-clause-mixed c = let p =
+    err_from_is_err_and c.from_residual.result c.from_residual.ensures.1 in rw (p.1, p.2) (inl refl)
 
 pub parse_at-requires : goal.parse_at-requires
-parse_at-requires c = subst (HasPlaces (read_by_default c.args.query.now)) (sym c.deref.ensures.value) c.in_ok-places.ensures
+parse_at-requires c = subst (HasPlaces (read_by_default c.args.query.now))
+    (sym c.deref.ensures.value) c.in_ok-places.ensures

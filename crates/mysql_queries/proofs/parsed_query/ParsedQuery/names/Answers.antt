@@ -7,6 +7,8 @@ use Rattle.mysql_queries.proofs.QueryWritten.{has_names}
 use Rattle.mysql_queries.proofs.parsed_query.ParsedQuery.names.Goals as goal
 
 pub returns-clause-of_text : goal.returns-clause-of_text
-returns-clause-of_text c = subst (λ (q : Query). HasNames q.sql (map cow_slice_items c.as_slice.result.now)) c.self.view_is
-    (has_names (sql_of_inside c.self.inside) (map cow_slice_items c.as_slice.result.now) c.self.inside.places.items c.self.invariant.places
+returns-clause-of_text c =
+    subst (λ (q : Query). HasNames q.sql (map cow_slice_items c.as_slice.result.now)) c.self.view_is
+    (has_names (sql_of_inside c.self.inside) (map cow_slice_items c.as_slice.result.now)
+    c.self.inside.places.items c.self.invariant.places
     (ap (map cow_slice_items) c.as_slice.ensures.value ∙ c.self.invariant.names))

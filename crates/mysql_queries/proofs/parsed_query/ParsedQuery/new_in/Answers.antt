@@ -6,4 +6,5 @@ use Rattle.mysql_queries.proofs.parsed_query.ParsedQuery.new_in.Goals as goal
 
 pub names_among-requires : goal.names_among-requires
 names_among-requires c = subst (InOrder c.args.text.now 0) (sym c.deref.ensures.value)
-    (places_in_order (read_by c.args.mode c.args.spelling c.args.text.now) c.in_ok-places.places.items c.in_ok-places.ensures)
+    (places_in_order (read_by c.args.mode c.args.spelling c.args.text.now)
+    c.in_ok-places.places.items c.in_ok-places.ensures)

@@ -8,8 +8,10 @@ use Rattle.mysql_receive.proofs.receiver.Receiver.new.Goals as goal
 
 pub returns-clause-one_kind : goal.returns-clause-one_kind
 returns-clause-one_kind c =
-    subst (λ mode. OnOk c.new_in.result (HasMixed (read_in mode c.args.query.now) false)) (is_default c.default.result c.default.ensures) c.new_in.ensures.one_kind
+    subst (λ mode. OnOk c.new_in.result (HasMixed (read_in mode c.args.query.now) false))
+    (is_default c.default.result c.default.ensures) c.new_in.ensures.one_kind
 
 pub returns-clause-mixed : goal.returns-clause-mixed
 returns-clause-mixed c =
-    subst (λ mode. IfErr c.new_in.result (IsReceiverError (read_in mode c.args.query.now))) (is_default c.default.result c.default.ensures) c.new_in.ensures.mixed
+    subst (λ mode. IfErr c.new_in.result (IsReceiverError (read_in mode c.args.query.now)))
+    (is_default c.default.result c.default.ensures) c.new_in.ensures.mixed

@@ -8,7 +8,9 @@ use Rattle.mysql_recoding.proofs.recoder.Recoder.new.Goals as goal
 
 pub returns-clause-new : goal.returns-clause-new
 returns-clause-new c =
-    subst (λ m. IfOk c.new_in.result (λ recoder. IsNewRecoder (read_in m c.args.query.now) c.args.stmt_id c.args.limit (recoder_state recoder)))
+    subst (λ m. IfOk c.new_in.result
+    (λ recoder. IsNewRecoder (read_in m c.args.query.now) c.args.stmt_id c.args.limit
+    (recoder_state recoder)))
     (is_default c.default.result c.default.ensures) c.new_in.ensures.new
 
 pub returns-clause-refused : goal.returns-clause-refused

@@ -7,4 +7,6 @@ use Rattle.mysql_replication.proofs.sid.IntervalsPartDisplay.fmt.Given as goal
 abbrev pub invariant-loop-interval : goal.invariant-loop-interval
 invariant-loop-interval g l =
     IsPlainFormatter l.initial.f
-    → HasWritten g.W.Write.write_str_gives l.initial.f (flat_map (λ interval. 58 ∷ interval_text interval) (take l.interval-index l.interval-items)) l.f
+    → HasWritten g.W.Write.write_str_gives l.initial.f
+    (flat_map (λ interval. 58 ∷ interval_text interval)
+    (take l.interval-index l.interval-items)) l.f

@@ -11,7 +11,13 @@ returns-in-Some c =
     let s = c.self.inside.parts.state in
     let old = c.self.inside.parts.packets in
     let piece = c.args.rest.now.now in (
-      (refl, (λ _. tt), subst (λ held. BorrowsNext held piece (Err c.in-Some.fault) (reader_state s old) piece) c.self.view_is (next_stays s old piece c.in-Some.fault c.in-Some.is)),
+      (
+        refl,
+        (λ _. tt),
+        subst (λ held. BorrowsNext held piece (Err c.in-Some.fault)
+            (reader_state s old) piece) c.self.view_is
+            (next_stays s old piece c.in-Some.fault c.in-Some.is),
+      ),
       record { after = tt; uses = tt },
     )
 
@@ -28,7 +34,9 @@ returns-in-Ok-Some c =
         refl,
         (λ _. tt),
         subst (λ held. BorrowsNext held piece (Ok (Some c.row_ref.result)) (reader_state next new) rest) c.self.view_is
-            (next_borrowed start next old new piece rest c.in-Ok-Some.place c.row_ref.result behind c.row_ref.ensures c.in-None.is c.in-Ok-Some.ensures.paused.0 c.in-Ok-Some.ensures.keeps_none),
+            (next_borrowed start next old new piece rest c.in-Ok-Some.place c.row_ref.result behind
+            c.row_ref.ensures c.in-None.is c.in-Ok-Some.ensures.paused.0
+            c.in-Ok-Some.ensures.keeps_none),
       ),
       record { after = tt; uses = rw c.in-Ok-Some.field-0-is at c.in-Ok-Some.ensures.uses },
     )
@@ -43,12 +51,14 @@ returns-in-Ok-None c =
     let rest = c.take_to_row.new.rest.now in
     let all = rw c.in-Ok-None.field-0-is at c.in-Ok-None.ensures.found in
     let paused = c.in-Ok-None.ensures.paused in
-    let found = found_none c.framing_laws.ensures next (codec_by new) new.bytes [] c.take_to_row.ensures.reading paused.0 paused.1 in (
+    let found = found_none c.framing_laws.ensures next (codec_by new) new.bytes []
+    c.take_to_row.ensures.reading paused.0 paused.1 in (
       (
         refl,
         (λ _. tt),
         subst (λ held. BorrowsNext held piece (Ok None) (reader_state next new) rest) c.self.view_is
-            (next_none start next old new piece rest all.0 c.in-None.is paused.0 all.1 all.2 found c.in-Ok-None.ensures.keeps_none),
+            (next_none start next old new piece rest all.0 c.in-None.is paused.0 all.1 all.2 found
+            c.in-Ok-None.ensures.keeps_none),
       ),
       record { after = tt; uses = all.0 },
     )
@@ -64,7 +74,8 @@ returns-in-Err c =
         refl,
         (λ _. tt),
         subst (λ held. BorrowsNext held piece (Err c.in-Err.fault) (reader_state next new) piece) c.self.view_is
-            (next_fails start next old new piece c.in-Err.fault c.in-None.is c.in-Err.ensures.fault c.in-Err.ensures.goes_on c.in-Err.ensures.short c.in-Err.ensures.keeps_none),
+            (next_fails start next old new piece c.in-Err.fault c.in-None.is c.in-Err.ensures.fault
+            c.in-Err.ensures.goes_on c.in-Err.ensures.short c.in-Err.ensures.keeps_none),
       ),
       record { after = tt; uses = tt },
     )

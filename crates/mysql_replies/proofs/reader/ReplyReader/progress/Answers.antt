@@ -8,4 +8,5 @@ use Rattle.mysql_replies.proofs.reader.ReplyReader.progress.Goals as goal
 pub returns : goal.returns
 returns c =
     ap report_views c.as_slice.ensures.value
-    ∙ subst (λ (held : ReaderState). report_views c.self.inside.parts.state.progress.items ≡ reports_in held.so_far) c.self.view_is (state_reports c.self.inside.parts.state)
+    ∙ subst (λ (held : ReaderState). report_views c.self.inside.parts.state.progress.items ≡
+    reports_in held.so_far) c.self.view_is (state_reports c.self.inside.parts.state)

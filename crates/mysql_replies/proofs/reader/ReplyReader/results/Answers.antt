@@ -9,5 +9,8 @@ use Rattle.mysql_replies.proofs.reader.ReplyReader.results.Goals as goal
 pub returns : goal.returns
 returns c =
     let s = c.self.inside.parts.state in
-    subst (λ (held : ReaderState). ListsResults held.so_far (outcome_views c.as_slice.result.now)) c.self.view_is
-    (rows_awaited (part_view s.part), subst (λ items. Lists (reply_so_far s) (outcome_views items) (rows_awaited (part_view s.part))) (sym c.as_slice.ensures.value) (state_lists s))
+    subst (λ (held : ReaderState). ListsResults held.so_far (outcome_views c.as_slice.result.now)) c.self.view_is (
+      rows_awaited (part_view s.part),
+      subst (λ items. Lists (reply_so_far s) (outcome_views items)
+          (rows_awaited (part_view s.part))) (sym c.as_slice.ensures.value) (state_lists s),
+    )

@@ -10,14 +10,22 @@ use Rattle.mysql_replies.proofs.reader.ReplyReader.take_progress.Goals as goal
 
 pub invariant_of-self : goal.invariant_of-self
 invariant_of-self c =
-    receiving_reports c.self.inside.parts.state c.take_progress.new.self (codec_by c.self.inside.parts.packets) c.self.inside.parts.packets.bytes [] c.take_progress.ensures.left c.self.invariant
+    receiving_reports c.self.inside.parts.state c.take_progress.new.self
+    (codec_by c.self.inside.parts.packets) c.self.inside.parts.packets.bytes []
+    c.take_progress.ensures.left c.self.invariant
 
 pub returns-clause-taken : goal.returns-clause-taken
 returns-clause-taken c =
     ap (λ reports. report_views reports.items) c.take_progress.ensures.taken
-    ∙ subst (λ (held : ReaderState). report_views c.self.inside.parts.state.progress.items ≡ reports_in held.so_far) c.self.view_is (state_reports c.self.inside.parts.state)
+    ∙ subst (λ (held : ReaderState). report_views c.self.inside.parts.state.progress.items ≡
+    reports_in held.so_far) c.self.view_is (state_reports c.self.inside.parts.state)
 
 pub returns-clause-left : goal.returns-clause-left
 returns-clause-left c =
-    subst (λ (held : ReaderState). reader_state c.take_progress.new.self c.self.inside.parts.packets ≡ record held { so_far = without_reports held.so_far }) c.self.view_is
-    (ap (λ (so_far : ReplySoFar). record (reader_state c.self.inside.parts.state c.self.inside.parts.packets) { so_far = so_far }) (state_without_reports c.self.inside.parts.state c.take_progress.new.self c.take_progress.ensures.left c.take_progress.ensures.none))
+    subst (λ (held : ReaderState). reader_state c.take_progress.new.self
+    c.self.inside.parts.packets ≡ record held { so_far = without_reports held.so_far })
+    c.self.view_is
+    (ap (λ (so_far : ReplySoFar). record
+    (reader_state c.self.inside.parts.state c.self.inside.parts.packets) { so_far = so_far })
+    (state_without_reports c.self.inside.parts.state c.take_progress.new.self
+    c.take_progress.ensures.left c.take_progress.ensures.none))

@@ -16,7 +16,9 @@ returns-in_err-event-clause-step c =
     let fault = c.in_err-event.field-0.0 in
     let p = err_from_is_err_and c.from_residual.result c.from_residual.ensures.1 in
     let h = behind_fault old new c.args.payload.now fault c.requires.going c.in_err-event.ensures in
-    let step : StateBorrowsNext old c.args.payload.now (Err fault) new = failed_step old new c.args.payload.now fault c.requires.going c.requires.room h.fault h.goes_on h.short in
+    let step : StateBorrowsNext old c.args.payload.now (Err fault) new =
+    failed_step old new c.args.payload.now fault c.requires.going c.requires.room h.fault
+    h.goes_on h.short in
     rw (p.1, p.2) step
 
 pub put-requires : goal.put-requires
@@ -33,7 +35,9 @@ returns-in_ok-put-in_default c =
     let payload = c.args.payload.now in
     let event = event_view c.in_ok-event.event in
     let put : HasPut between event new = c.in_ok-put-in_default.ensures in
-    let h = behind_event old between new payload event (Ok tt) c.requires.reading c.requires.going c.in_ok-event.ensures put in
-    let kept = put_rows_kept old between new payload event (Ok tt) c.requires.going (no_row c.in_ok-event.event c.in_default.not-Row) c.in_ok-event.ensures put in
+    let h = behind_event old between new payload event (Ok tt) c.requires.reading c.requires.going
+    c.in_ok-event.ensures put in
+    let kept = put_rows_kept old between new payload event (Ok tt) c.requires.going
+    (no_row c.in_ok-event.event c.in_default.not-Row) c.in_ok-event.ensures put in
     let k = passed old new payload c.requires.going c.requires.room h kept in
     record { reading = k.reading; ok = k.ok; fault = k.fault; step = k.step; keeps_none = k.keeps_none }

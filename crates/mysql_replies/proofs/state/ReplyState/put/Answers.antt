@@ -18,7 +18,12 @@ returns-in-Moved c =
     let old = c.args.self.now in
     let new : ReplyState = record c.list.new.self { count = c.list.new.self.count + 1 } in
     let stepped = Moved c.in-Moved.listed c.in-Moved.next in
-    let put : IsPut (listed (part_view old.part)) (together.put (part_view old.part) (event_view c.args.event) old.events.so_far) stepped =
-    subst (λ (p : PartOf). IsPut (listed (part_view p)) (together.put (part_view p) (event_view c.args.event) old.events.so_far) stepped) c.replace-part.ensures.value c.in-Moved.ensures in
-    put_moved old new (event_view c.args.event) c.in-Moved.listed c.in-Moved.next (no_report c.args.event c.in_default.not-Progress) put c.list.ensures.results
-    (ap (λ (s : ReplyState). let n : ReplyState = record s { count = s.count + 1 } in n) c.list.ensures.rest) c.list.ensures.room
+    let put : IsPut (listed (part_view old.part))
+    (together.put (part_view old.part) (event_view c.args.event) old.events.so_far) stepped =
+    subst (λ (p : PartOf). IsPut (listed (part_view p))
+    (together.put (part_view p) (event_view c.args.event) old.events.so_far) stepped)
+    c.replace-part.ensures.value c.in-Moved.ensures in
+    put_moved old new (event_view c.args.event) c.in-Moved.listed c.in-Moved.next
+    (no_report c.args.event c.in_default.not-Progress) put c.list.ensures.results
+    (ap (λ (s : ReplyState). let n : ReplyState = record s { count = s.count + 1 } in
+    n) c.list.ensures.rest) c.list.ensures.room

@@ -7,8 +7,11 @@ use Rattle.mysql_replies.proofs.state.ReplyState.take.Goals as goal
 
 pub returns-then-self-clause-goes_on : goal.returns-then-self-clause-goes_on
 returns-then-self-clause-goes_on c =
-    subst (λ f. UnlessMemory {X = Unit {0}} (Err f) (NumberedStateGoesOn c.args.self.now c.args.payload.now c.fail.new.self)) (sym c.fail.ensures.same)
-    (too_large c.args.self.now c.fail.new.self c.args.payload.now c.requires.going c.fail.ensures.state c.if-self.true c.requires.awaiting)
+    subst (λ f. UnlessMemory {X =
+    Unit {0}} (Err f) (NumberedStateGoesOn c.args.self.now c.args.payload.now c.fail.new.self))
+    (sym c.fail.ensures.same)
+    (too_large c.args.self.now c.fail.new.self c.args.payload.now c.requires.going
+    c.fail.ensures.state c.if-self.true c.requires.awaiting)
 
 pub returns-in-Ok-true : goal.returns-in-Ok-true
 returns-in-Ok-true c =
@@ -36,7 +39,15 @@ returns-in-Ok-false c =
     let e = c.take_event.ensures in
     let room : old.count + 1 < 2 ^ 64 = omega arith in
     let passed = rw c.in-Ok-false.field-0-test at c.in-Ok-false.ensures in
-    let k : IsBehind mid payload r new = record { reading = e.reading; ok = e.ok; fault = e.fault; goes_on = e.goes_on; short = e.short } in
+    let k : IsBehind mid payload r new =
+    record {
+      reading = e.reading;
+      ok = e.ok;
+      fault = e.fault;
+      goes_on = e.goes_on;
+      short =
+          e.short;
+    } in
     let h = behind_same old mid new payload r passed.0 k in
     record {
       reading = h.reading;

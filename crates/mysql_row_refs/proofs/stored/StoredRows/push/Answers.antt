@@ -13,10 +13,13 @@ invariant_of-self c =
     let inside = c.self.inside in
     let new = c.put_row.new in
     let as_long : length row.places.now ≡ length (shared_columns inside.columns) =
-    row.as_long ∙ sym (length-map (rc_slice_items row.columns.now) column_view) ∙ c.requires ∙ ap (λ (set : ResultSet). length set.columns) (sym c.self.view_is) in
-    kept_after (shared_columns inside.columns) inside.payloads.items row.payload.now inside.payload_ends.items inside.places.items row.places.now c.self.invariant
+    row.as_long ∙ sym (length-map (rc_slice_items row.columns.now) column_view) ∙ c.requires ∙
+    ap (λ (set : ResultSet). length set.columns) (sym c.self.view_is) in
+    kept_after (shared_columns inside.columns) inside.payloads.items row.payload.now
+    inside.payload_ends.items inside.places.items row.places.now c.self.invariant
     new.payloads.items new.ends.items new.places.items as_long
-    c.put_row.result c.put_row.ensures.payloads c.put_row.ensures.ends c.put_row.ensures.places c.put_row.ensures.err row.inside
+    c.put_row.result c.put_row.ensures.payloads c.put_row.ensures.ends c.put_row.ensures.places
+    c.put_row.ensures.err row.inside
 
 pub returns-clause-row : goal.returns-clause-row
 returns-clause-row c =
@@ -24,7 +27,10 @@ returns-clause-row c =
     let inside = c.self.inside in
     let new = c.put_row.new in
     let as_long : length row.places.now ≡ length (shared_columns inside.columns) =
-    row.as_long ∙ sym (length-map (rc_slice_items row.columns.now) column_view) ∙ c.requires ∙ ap (λ (set : ResultSet). length set.columns) (sym c.self.view_is) in
-    rw (← c.self.view_is) (set_after (shared_columns inside.columns) inside.payloads.items row.payload.now inside.payload_ends.items inside.places.items row.places.now c.self.invariant
+    row.as_long ∙ sym (length-map (rc_slice_items row.columns.now) column_view) ∙ c.requires ∙
+    ap (λ (set : ResultSet). length set.columns) (sym c.self.view_is) in
+    rw (← c.self.view_is) (set_after (shared_columns inside.columns) inside.payloads.items
+    row.payload.now inside.payload_ends.items inside.places.items row.places.now
+    c.self.invariant
     new.payloads.items new.ends.items new.places.items as_long
     c.put_row.result c.put_row.ensures.payloads c.put_row.ensures.ends c.put_row.ensures.places)

@@ -6,4 +6,5 @@ use Rattle.mysql_row_refs.proofs.stored_iter.StoredIterIterator.next.Goals as go
 
 pub returns-clause-steps : goal.returns-clause-steps
 returns-clause-steps c =
-    rows_from c.args.self.now.stored.now.rows c.args.self.now.next (row_ref_view c.in_ok-row.row) (sym c.row.ensures ∙ ap (option_map row_ref_view) c.in_ok-row.was)
+    rows_from c.args.self.now.stored.now.rows c.args.self.now.next (row_ref_view c.in_ok-row.row)
+    (sym c.row.ensures ∙ ap (option_map row_ref_view) c.in_ok-row.was)

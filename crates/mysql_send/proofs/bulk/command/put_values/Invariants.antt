@@ -5,4 +5,5 @@ use Rattle.mysql_send.specs.BulkSets.{row_bytes}
 use Rattle.mysql_send.proofs.bulk.command.put_values.Given as goal
 
 abbrev pub invariant-loop-row : goal.invariant-loop-row
-invariant-loop-row l = l.command.items ≡ l.initial.command.items ++ flat_map (λ row. row_bytes (row_in row.now)) (take l.row-index l.rows)
+invariant-loop-row l = l.command.items ≡ l.initial.command.items ++
+    flat_map (λ row. row_bytes (row_in row.now)) (take l.row-index l.rows)

@@ -13,7 +13,10 @@ abbrev pub invariant-parts : goal.invariant-parts
 invariant-parts l = record {
   firsts : row_in l.firsts.items ≡ first_values l.columns (take l.start (rows_in l.rows));
   left : l.start + sum_by (λ part. part.count) (view_parts (drop l.part-index l.cut)) ≡ length l.rows;
-  sent : l.out.items ++ framings (requests_from l.id l.columns (rows_in l.rows) l.start (view_parts (drop l.part-index l.cut))) EachFromZero
-      ≡ l.initial.out.items ++ framings (requests_from l.id l.columns (rows_in l.rows) 0 (view_parts l.cut)) EachFromZero;
+  sent : l.out.items ++ framings
+      (requests_from l.id l.columns (rows_in l.rows) l.start (view_parts (drop l.part-index l.cut)))
+      EachFromZero
+      ≡ l.initial.out.items ++ framings
+      (requests_from l.id l.columns (rows_in l.rows) 0 (view_parts l.cut)) EachFromZero;
   kept : take (length l.initial.out.items) l.out.items ≡ l.initial.out.items;
 }

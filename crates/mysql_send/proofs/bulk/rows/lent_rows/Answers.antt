@@ -14,16 +14,35 @@ rows-preserved c =
       within = omega (arith, c.rows-test.true, c.rows.invariant.within);
       same = λ rows are.
           let before = c.rows.invariant.same rows are in
-          lent_more c.args.columns c.rows.start ((c.rows.start + c.args.columns) - c.rows.start) c.args.values.now c.rows.lent.items c.push.new.self.items _ rows before.0
+          lent_more c.args.columns c.rows.start ((c.rows.start + c.args.columns) - c.rows.start)
+          c.args.values.now c.rows.lent.items c.push.new.self.items _ rows before.0
           c.requires c.rows-test.true cut c.in_ok-push.ensures.items refl before.1 before.2;
       wide =
-          subst (λ (l : List (Bor (List (Bor Value)))). All (λ row. length row.now ≡ c.args.columns) l) (sym c.in_ok-push.ensures.items)
-          (All-push (λ (row : Bor (List (Bor Value))). length row.now ≡ c.args.columns) c.rows.lent.items _ c.rows.invariant.wide
-          (omega (arith, cut, c.rows-test.true, length-take ((c.rows.start + c.args.columns) - c.rows.start) (drop c.rows.start c.args.values.now), length-drop c.rows.start c.args.values.now)));
+          subst (λ (l : List (Bor (List (Bor Value)))). All (λ row. length row.now ≡
+          c.args.columns) l) (sym c.in_ok-push.ensures.items)
+          (All-push (λ (row : Bor (List (Bor Value))). length row.now ≡
+          c.args.columns) c.rows.lent.items _ c.rows.invariant.wide
+          (omega (
+            arith,
+            cut,
+            c.rows-test.true,
+            length-take ((c.rows.start + c.args.columns) - c.rows.start)
+                (drop c.rows.start c.args.values.now),
+            length-drop c.rows.start c.args.values.now,
+          )));
     }
 
 pub returns-clause-same : goal.returns-clause-same
 returns-clause-same c = λ rows are.
     let before = c.rows.invariant.same rows are in
-    let few : length (row_in (drop c.rows.start c.args.values.now)) < c.args.columns = omega (arith, c.rows-test.false, length-map (drop c.rows.start c.args.values.now) (λ (value : Bor Value). value.now), length-drop c.rows.start c.args.values.now) in
-    sym (append-nil (rows_in c.rows.lent.items)) ∙ ap (λ l. rows_in c.rows.lent.items ++ l) (sym (none_behind c.args.columns (row_in (drop c.rows.start c.args.values.now)) before.0 few before.2)) ∙ before.1
+    let few : length (row_in (drop c.rows.start c.args.values.now)) < c.args.columns =
+    omega (
+      arith,
+      c.rows-test.false,
+      length-map (drop c.rows.start c.args.values.now) (λ (value : Bor Value). value.now),
+      length-drop c.rows.start c.args.values.now,
+    ) in
+    sym (append-nil (rows_in c.rows.lent.items)) ∙
+    ap (λ l. rows_in c.rows.lent.items ++
+    l) (sym (none_behind c.args.columns (row_in (drop c.rows.start c.args.values.now)) before.0
+    few before.2)) ∙ before.1

@@ -9,7 +9,9 @@ use Rattle.mysql_send.proofs.bulk.rows.lent_rows.Given as goal
 abbrev pub invariant-rows : goal.invariant-rows
 invariant-rows l = record {
   within : l.start ≤ length l.values;
-  same : (rows : List Row) → AreRows l.columns (row_in l.values) rows → (left : List Row) × (rows_in l.lent.items ++ left ≡ rows) × AreRows l.columns (row_in (drop l.start l.values)) left;
+  same : (rows : List Row) → AreRows l.columns (row_in l.values) rows → (left : List Row) ×
+      (rows_in l.lent.items ++ left ≡ rows) ×
+      AreRows l.columns (row_in (drop l.start l.values)) left;
   wide : All (λ row. length row.now ≡ l.columns) l.lent.items;
 }
 

@@ -26,5 +26,9 @@ sets-preserved c =
 pub returns-in_err-put_row_of_set-clause-err : goal.returns-in_err-put_row_of_set-clause-err
 returns-in_err-put_row_of_set-clause-err c =
     let p = err_from_is_err_and c.from_residual.result c.from_residual.ensures.1 in
-    rw (p.1, p.2) (refused_at (map cow_slice_items c.args.statement.now.names.now) (record { places = c.args.statement.now.places; bytes = c.args.room }) c.args.sets.now c.sets.invariant.given.0 c.sets.set c.sets.invariant.given.1
-    c.index-sets-set.result (next_set c.args.sets.now c.sets.set c.index-sets-set.result c.sets-test.true c.index-sets-set.is) c.args.stop c.in_err-put_row_of_set.field-0.0 c.in_err-put_row_of_set.ensures.err)
+    rw (p.1, p.2) (refused_at (map cow_slice_items c.args.statement.now.names.now)
+    (record { places = c.args.statement.now.places; bytes = c.args.room }) c.args.sets.now
+    c.sets.invariant.given.0 c.sets.set c.sets.invariant.given.1
+    c.index-sets-set.result (next_set c.args.sets.now c.sets.set c.index-sets-set.result
+    c.sets-test.true c.index-sets-set.is) c.args.stop c.in_err-put_row_of_set.field-0.0
+    c.in_err-put_row_of_set.ensures.err)

@@ -8,6 +8,9 @@ use Rattle.mysql_send.proofs.bulk.rows.values_of_sets.Given as goal
 
 abbrev pub invariant-sets : goal.invariant-sets
 invariant-sets l = record {
-  given : (rows : List Row) × RowsSoFar (map cow_slice_items l.statement.names.now) (record { places = l.statement.places; bytes = l.room }) l.sets rows l.set × AreRows l.statement.places (row_in l.values.items) rows;
+  given : (rows : List Row) ×
+      RowsSoFar (map cow_slice_items l.statement.names.now)
+      (record { places = l.statement.places; bytes = l.room }) l.sets rows l.set ×
+      AreRows l.statement.places (row_in l.values.items) rows;
   stop : l.stop ≡ l.fn.stop;
 }

@@ -10,15 +10,20 @@ use Rattle.mysql_send.proofs.execute.executions.put_long.Goals.{then-apart+in_ok
 pub returns-clause-ok : goal.returns-clause-ok
 returns-clause-ok g c =
     let values = map g.V.HasValue.value c.args.values.now in
-    let long = long_by_size c.executions_have_sizes.ensures c.args.id c.args.size g.V.HasValue.value c.args.values.now c.requires.size in
+    let long = long_by_size c.executions_have_sizes.ensures c.args.id c.args.size g.V.HasValue.value
+    c.args.values.now c.requires.size in
     on_ok c.put_buffered.result
     (λ put.
     elim c.if-apart.branch [
       | then-apart+in_ok-put_pieces w ↦
-          sent_apart c.args.id values c.args.out.now.items c.if-apart.out.items c.put_buffered.new.out.items (sym (lt-ltb 16777215 c.args.size w.if-apart.true) ∙ sym long) (ap (λ o. o.items) w.out-is ∙ w.in_ok-put_pieces.ensures.ok)
+          sent_apart c.args.id values c.args.out.now.items c.if-apart.out.items
+          c.put_buffered.new.out.items (sym (lt-ltb 16777215 c.args.size w.if-apart.true) ∙
+          sym long) (ap (λ o. o.items) w.out-is ∙ w.in_ok-put_pieces.ensures.ok)
           (put ∙ ap (λ b. c.if-apart.out.items ++ framing (execute_command c.args.id values b) 0) (sym long))
       | else-apart w ↦
-          sent_whole c.args.id values c.args.out.now.items c.if-apart.out.items c.put_buffered.new.out.items (sym (le-ltb 16777215 c.args.size w.if-apart.false) ∙ sym long) (ap (λ o. o.items) w.out-is)
+          sent_whole c.args.id values c.args.out.now.items c.if-apart.out.items
+          c.put_buffered.new.out.items (sym (le-ltb 16777215 c.args.size w.if-apart.false) ∙
+          sym long) (ap (λ o. o.items) w.out-is)
           (put ∙ ap (λ b. c.if-apart.out.items ++ framing (execute_command c.args.id values b) 0) (sym long))
     ])
     c.put_buffered.ensures.ok

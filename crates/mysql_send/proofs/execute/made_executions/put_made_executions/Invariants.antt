@@ -7,4 +7,5 @@ use Rattle.mysql_send.proofs.execute.made_executions.put_made_executions.Given a
 abbrev pub invariant-loop-number : goal.invariant-loop-number
 invariant-loop-number g l =
     MadeUpTo (g.S.SetMaker.given l.sets) l.number
-    × SentReadable Execute l.statement.sql (first_sets l.number (g.S.SetMaker.given l.sets)) l.statement.id l.limit l.fn.out.items l.out.items
+    × SentReadable Execute l.statement.sql (first_sets l.number (g.S.SetMaker.given l.sets))
+    l.statement.id l.limit l.fn.out.items l.out.items

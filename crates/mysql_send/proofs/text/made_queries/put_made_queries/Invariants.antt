@@ -8,4 +8,5 @@ use Rattle.mysql_send.proofs.text.made_queries.put_made_queries.Given as goal
 abbrev pub invariant-loop-number : goal.invariant-loop-number
 invariant-loop-number g l =
     MadeUpTo (g.S.SetMaker.given l.sets) l.number
-    × ((id : ℕ) → SentReadable Text l.query.sql (first_sets l.number (g.S.SetMaker.given l.sets)) id l.limit l.fn.out.items l.out.items)
+    × ((id : ℕ) → SentReadable Text l.query.sql (first_sets l.number (g.S.SetMaker.given l.sets)) id
+    l.limit l.fn.out.items l.out.items)

@@ -7,8 +7,10 @@ use Rattle.mysql_session.proofs.query.Query.new.Goals as goal
 
 pub returns-clause-kept : goal.returns-clause-kept
 returns-clause-kept c =
-    subst (λ mode. IfOk c.new_in.result (KeepsQuery (read_in mode c.args.text.now) c.args.stmt_id)) (is_default c.default.result c.default.ensures) c.new_in.ensures.kept
+    subst (λ mode. IfOk c.new_in.result (KeepsQuery (read_in mode c.args.text.now) c.args.stmt_id))
+    (is_default c.default.result c.default.ensures) c.new_in.ensures.kept
 
 pub returns-clause-refused : goal.returns-clause-refused
 returns-clause-refused c =
-    subst (λ mode. IfErr c.new_in.result (IsNotKept (read_in mode c.args.text.now) c.args.stmt_id)) (is_default c.default.result c.default.ensures) c.new_in.ensures.refused
+    subst (λ mode. IfErr c.new_in.result (IsNotKept (read_in mode c.args.text.now) c.args.stmt_id))
+    (is_default c.default.result c.default.ensures) c.new_in.ensures.refused

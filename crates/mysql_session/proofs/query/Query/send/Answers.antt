@@ -17,12 +17,24 @@ returns-else-is_err-clause-delivered c =
     let query = c.self.inside in
     let old = c.args.out.now.items in
     on_ok c.match-road.sent
-    (λ sent. c.readable_sets_are_delivered.ensures c.args.road c.args.self.now.sql _ c.args.self.now.id c.args.limit old c.match-road.out.items
+    (λ sent. c.readable_sets_are_delivered.ensures c.args.road c.args.self.now.sql _
+    c.args.self.now.id c.args.limit old c.match-road.out.items
     (subst (λ (k : KeptQuery). k.id < 2 ^ 32) c.self.view_is (omega arith)) c.requires
-    (subst (λ (l : List ℕ). length l < 2 ^ 64) c.as_slice.ensures.value c.are_bytes.ensures.few) (subst (λ (l : List ℕ). AreBytes l) c.as_slice.ensures.value c.are_bytes.ensures.bytes) sent)
-    (subst (λ (k : KeptQuery). OnOk c.match-road.sent (SentReadable c.args.road k.sql (all_given c.args.sets.now) k.id c.args.limit old c.match-road.out.items)) c.self.view_is
+    (subst (λ (l : List ℕ). length l < 2 ^ 64) c.as_slice.ensures.value c.are_bytes.ensures.few)
+    (subst (λ (l : List ℕ). AreBytes l) c.as_slice.ensures.value c.are_bytes.ensures.bytes)
+    sent)
+    (subst (λ (k : KeptQuery). OnOk c.match-road.sent
+    (SentReadable c.args.road k.sql (all_given c.args.sets.now) k.id c.args.limit old
+    c.match-road.out.items)) c.self.view_is
     (elim c.match-road.branch [
-      | in-Text w ↦ rw (w.sent-is, w.out-is, w.in-Text.is) (on_ok w.put_queries-sent.result (λ sent. subst (λ (sql : Sql). SentReadable Text sql (all_given c.args.sets.now) query.statement.id c.args.limit old w.put_queries-sent.new.out.items) w.query.ensures.text (sent query.statement.id)) w.put_queries-sent.ensures.ok)
+      | in-Text w ↦ rw (
+        w.sent-is,
+        w.out-is,
+        w.in-Text.is,
+      ) (on_ok w.put_queries-sent.result
+          (λ sent. subst (λ (sql : Sql). SentReadable Text sql (all_given c.args.sets.now)
+          query.statement.id c.args.limit old w.put_queries-sent.new.out.items) w.query.ensures.text
+          (sent query.statement.id)) w.put_queries-sent.ensures.ok)
       | in-Execute w ↦ rw (w.sent-is, w.out-is, w.in-Execute.is) w.put_executions-sent.ensures.ok
       | in-Bulk w ↦ rw (w.sent-is, w.out-is, w.in-Bulk.is) w.put_requests-sent.ensures.ok
     ]))
@@ -30,9 +42,17 @@ returns-else-is_err-clause-delivered c =
 pub returns-then-is_err-clause-refused : goal.returns-then-is_err-clause-refused
 returns-then-is_err-clause-refused c =
     let query = c.self.inside in
-    subst (λ (k : KeptQuery). IfErr c.match-road.sent (RefusesGiven c.args.road k.sql (all_given c.args.sets.now) k.id c.args.limit)) c.self.view_is
+    subst (λ (k : KeptQuery). IfErr c.match-road.sent
+    (RefusesGiven c.args.road k.sql (all_given c.args.sets.now) k.id c.args.limit))
+    c.self.view_is
     (elim c.match-road.branch [
-      | in-Text w ↦ rw (w.sent-is, w.in-Text.is) (on_err w.put_queries-sent.result (λ refusal why. subst (λ (sql : Sql). RefusesGiven Text sql (all_given c.args.sets.now) query.statement.id c.args.limit refusal) w.query.ensures.text (why query.statement.id)) w.put_queries-sent.ensures.err)
+      | in-Text w ↦ rw (
+        w.sent-is,
+        w.in-Text.is,
+      ) (on_err w.put_queries-sent.result
+          (λ refusal why. subst (λ (sql : Sql). RefusesGiven Text sql (all_given c.args.sets.now)
+          query.statement.id c.args.limit refusal) w.query.ensures.text (why query.statement.id))
+          w.put_queries-sent.ensures.err)
       | in-Execute w ↦ rw (w.sent-is, w.in-Execute.is) w.put_executions-sent.ensures.err
       | in-Bulk w ↦ rw (w.sent-is, w.in-Bulk.is) w.put_requests-sent.ensures.err
     ])
@@ -40,5 +60,7 @@ returns-then-is_err-clause-refused c =
 pub returns-then-is_err-clause-never_mixed : goal.returns-then-is_err-clause-never_mixed
 returns-then-is_err-clause-never_mixed c =
     on_err c.match-road.sent
-    (λ refusal why. never_mixed c.tokens_of_a_text.ensures.one c.args.road c.args.self.now.sql (all_given c.args.sets.now) c.args.self.now.id c.args.limit refusal c.text-text.ensures.one_kind why)
+    (λ refusal why. never_mixed c.tokens_of_a_text.ensures.one c.args.road c.args.self.now.sql
+    (all_given c.args.sets.now) c.args.self.now.id c.args.limit refusal
+    c.text-text.ensures.one_kind why)
     (returns-then-is_err-clause-refused c)

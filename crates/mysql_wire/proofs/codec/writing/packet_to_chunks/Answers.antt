@@ -11,10 +11,15 @@ put_chunk-requires-clause-room g c = omega (arith, length-take 16777215 c.slices
 
 pub slices-preserved : goal.slices-preserved
 slices-preserved g c =
-    writes_slice (g.B.BufMut.written c.args.dst.now) c.args.payload.now c.args.id (g.B.BufMut.written c.slices.dst) (g.B.BufMut.spare c.slices.dst) c.slices.number c.slices.rest.now c.slices.invariant
-    (g.B.BufMut.written c.put_chunk.new.dst) (g.B.BufMut.spare c.put_chunk.new.dst) _ (omega arith) c.put_chunk.ensures.items c.put_chunk.ensures.spare (take_rest c.slices.rest.now 16777215)
+    writes_slice (g.B.BufMut.written c.args.dst.now) c.args.payload.now c.args.id
+    (g.B.BufMut.written c.slices.dst) (g.B.BufMut.spare c.slices.dst) c.slices.number
+    c.slices.rest.now c.slices.invariant
+    (g.B.BufMut.written c.put_chunk.new.dst) (g.B.BufMut.spare c.put_chunk.new.dst) _ (omega arith)
+    c.put_chunk.ensures.items c.put_chunk.ensures.spare (take_rest c.slices.rest.now 16777215)
 
 pub returns-clause-ok : goal.returns-clause-ok
 returns-clause-ok g c =
-    writes_last (g.B.BufMut.written c.args.dst.now) c.args.payload.now c.args.id (g.B.BufMut.written c.slices.dst) (g.B.BufMut.spare c.slices.dst) c.slices.number c.slices.rest.now c.slices.invariant
+    writes_last (g.B.BufMut.written c.args.dst.now) c.args.payload.now c.args.id
+    (g.B.BufMut.written c.slices.dst) (g.B.BufMut.spare c.slices.dst) c.slices.number
+    c.slices.rest.now c.slices.invariant
     (g.B.BufMut.written c.put_chunk-2.new.dst) (omega arith) c.put_chunk-2.ensures.items
