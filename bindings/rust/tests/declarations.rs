@@ -1,4 +1,5 @@
-//! The declarations of this crate are those of the header: their names, their types, their order.
+//! The declarations of this crate, and those of the library, are those of the header: their names, their
+//! types, their order.
 
 use std::collections::BTreeMap;
 use std::fs;
@@ -221,6 +222,111 @@ fn calls_are_those_of_the_header() {
     for (name, fields) in wanted {
         assert_eq!(found[&name], fields, "{name}");
     }
+}
+
+/// The files of the crates whose names begin so, which make the library, one behind the other.
+fn library_sources(crates: &str) -> String {
+    let folder = Path::new(env!("CARGO_MANIFEST_DIR")).join("../../crates");
+    let mut files = Vec::new();
+    for entry in fs::read_dir(folder).expect("there are crates") {
+        let path = entry.expect("a crate").path();
+        let name = path
+            .file_name()
+            .map(|name| name.to_string_lossy().into_owned());
+        if name.is_some_and(|name| name.starts_with(crates)) {
+            files.extend(fs::read_dir(path.join("src")).expect("a crate has sources"));
+        }
+    }
+    let text = |file: std::io::Result<fs::DirEntry>| {
+        fs::read_to_string(file.expect("a file").path()).unwrap_or_default()
+    };
+    files.into_iter().map(text).collect()
+}
+
+/// How C passes a type: a number's own name, or a pointer; a slice is a pointer and a length.
+fn shapes(kind: &str) -> Vec<String> {
+    let words = match kind {
+        "Global" => vec![],
+        _ if kind.starts_with("&[") || kind.starts_with("&mut [") => vec!["*", "usize"],
+        _ if kind.starts_with(['&', '*']) => vec!["*"],
+        _ => vec![kind],
+    };
+    words.into_iter().map(str::to_string).collect()
+}
+
+/// What the library for Rattle calls a struct of the header.
+fn library_name(name: &str) -> String {
+    match name {
+        "Connection" => "Handle".to_string(),
+        "Handle" | "Parameter" => name.to_string(),
+        "ReplyResult" => "ShownResult".to_string(),
+        _ => format!("Shown{name}"),
+    }
+}
+
+/// The fields of each struct that the library hands over to C, but what takes no room.
+fn library_structs() -> Declared {
+    let text = library_sources("mysql_c_");
+    let parts = text.split("#[repr(C)]").skip(1);
+    parts
+        .map(|part| {
+            let (_, rest) = part.split_once("pub struct ").expect("a struct is there");
+            let (name, rest) = rest.split_once(" {\n").expect("a struct has fields");
+            let (fields, _) = rest.split_once("\n}").expect("a struct ends");
+            let lines = fields.lines().filter(|line| {
+                let line = line.trim();
+                !line.starts_with("///") && !line.contains("ghost ") && line != "alloc: Global,"
+            });
+            let fields = fields_of(&lines.collect::<String>());
+            (name.to_string(), with_texts(fields))
+        })
+        .collect()
+}
+
+#[test]
+fn structs_are_those_of_the_library() {
+    let (wanted, found) = (header_structs(), library_structs());
+    for (name, fields) in wanted {
+        let told = |fields: &[(String, String)]| -> Vec<(String, String)> {
+            let name = |name: &str| name.replace("_value", "").replace("column_type", "kind");
+            let kind = |kind: &str| match kind {
+                _ if kind.starts_with("*mut") => "*".to_string(),
+                "ShownText" => "Text".to_string(),
+                _ => kind.to_string(),
+            };
+            let fields = fields.iter();
+            fields
+                .map(|field| (name(&field.0), kind(&field.1)))
+                .collect()
+        };
+        let library = &found[&library_name(&name)];
+        assert_eq!(told(library), told(&fields), "{name}");
+    }
+}
+
+#[test]
+fn calls_are_those_of_the_library() {
+    let text = library_sources("mysql_c");
+    let mut found = BTreeMap::new();
+    for part in text.split("pub extern \"C\" fn ").skip(1) {
+        let (name, rest) = part.split_once('(').expect("a call has arguments");
+        let (arguments, rest) = rest.split_once(')').expect("the arguments end");
+        let kinds = fields_of(arguments).into_iter();
+        let mut fields: Vec<_> = kinds.flat_map(|(_, kind)| shapes(&kind)).collect();
+        let answer = rest.trim_start().strip_prefix("-> ");
+        let answer = answer.and_then(|rest| rest.split_whitespace().next());
+        fields.push(answer.unwrap_or("void").to_string());
+        found.insert(name.to_string(), fields);
+    }
+    let header = header_calls().into_iter();
+    let wanted: BTreeMap<_, _> = header
+        .map(|(name, fields)| {
+            let kinds = fields.iter();
+            (name, kinds.flat_map(|(_, kind)| shapes(kind)).collect())
+        })
+        .collect();
+    assert!(wanted.len() >= 60, "{} calls", wanted.len());
+    assert_eq!(wanted, found);
 }
 
 /// The names of an enum of the header without the prefix, and their numbers.
