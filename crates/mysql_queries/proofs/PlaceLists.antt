@@ -5,7 +5,8 @@ use Rattle.std.proofs.Common.{sym, ap, ◌∙◌, inl, inr, arith, take-append-d
 use Rattle.std.proofs.Common.{length-take-le, length-drop, drop-drop, take_all}
 use Rattle.std.specs.List.{concat, list_all}
 use Rattle.std.proofs.Common.{Global, Vec, Result, Ok, Err, IfOk}
-use Rattle.mysql_queries.specs.Tokens.{HasTokens, IsToken, Kind, Plain, kind_of, slash, dollar, bracket}
+use Rattle.mysql_queries.specs.Tokens.{HasTokens, IsToken, Kind, Mark, Plain, kind_of, slash, dollar, bracket}
+use Rattle.mysql_queries.specs.Tokens.{question}
 use Rattle.mysql_queries.specs.Alone.{agree_at, begins, begins_dollar_quote, begins_for_mariadb, is_blank, is_left_out}
 use Rattle.mysql_queries.specs.Alone.{is_left_out_kind, is_name_kind, is_opening, is_opening_kind, is_read_otherwise}
 use Rattle.mysql_queries.specs.Alone.{is_string, is_string_kind, last_of, meets_string, servers_agree, stands_alone}
@@ -263,6 +264,34 @@ quiet_agrees : (last b : ℕ) (behind : List (List ℕ)) → is_quiet b ≡ true
 quiet_agrees last b behind h =
     let e : is_opening (b ∷ []) ≡ false = ap is_opening_kind (plain_kind b [] (quiet_parts b h).0) in
     rw (quiet_alike last b (concat behind) h, e) refl
+
+-- QUESTION MARKS
+
+mark_agrees : (last : ℕ) (behind : List (List ℕ)) → agree_at last (question ∷ []) behind ≡ true
+mark_agrees last behind = rw (no_mariadb question (concat behind) (λ e. absurd (omega (arith, e)))) refl
+
+-- a question mark is a placeholder, whatever follows it
+pub come_mark : (query : Sql) (at : ℕ) (so_far next : SoFar) (found : List Place) (place : Place) →
+    at < length query.text → get_or query.text at 0 ≡ question → Come query at so_far found →
+    next.last ≡ question → next.opening ≡ false → next.string ≡ false → next.agree ≡ so_far.agree
+    → ((behind : List (List ℕ)) → HasTokens query.mode (drop (at + 1) query.text) behind → place ≡
+    place_between query.text Mark at (at + 1) so_far.opening so_far.string
+    (meets_string query.mode behind))
+    → Come query (at + 1) next (found ++ place ∷ [])
+come_mark query at so_far next found place h e c l o s a f =
+    let d : drop at query.text ≡ question ∷ drop (at + 1) query.text =
+    drop_one query.text at h ∙ ap (λ b. b ∷ drop (at + 1) query.text) e in
+    let t : take 1 (drop at query.text) ≡ question ∷ [] = ap (take 1) d in
+    let i : IsToken query.mode (take 1 (drop at query.text)) (drop 1 (drop at query.text)) =
+    subst (λ y. IsToken query.mode y (drop 1 (drop at query.text))) (sym t) refl in
+    come_place query at 1 so_far next found Mark place (omega arith) c i (sym (ap kind_of d))
+    (subst (λ y. Behind query.mode so_far next Mark y (drop (at + 1) query.text)) (sym t) (record {
+      last = l;
+      opening = o;
+      string = s;
+      agree = λ behind _. a ∙ sym (and_end so_far.agree) ∙
+          ap (λ g. so_far.agree && g) (sym (mark_agrees so_far.last behind));
+    })) refl f
 
 if_and : (p q : Bool) → (if p then q else false) ≡ (q && p)
 if_and true true = refl

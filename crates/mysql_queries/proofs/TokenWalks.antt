@@ -9,10 +9,11 @@ use Rattle.mysql_queries.specs.Tokens.{Closing, Name, Mark, Plain, kind_of, is_d
 use Rattle.mysql_queries.specs.Tokens.{slash, star, hash, dash, colon, question}
 use Rattle.mysql_queries.specs.Alone.{agree_at, begins, begins_dollar_quote, is_closing, is_closing_kind, is_left_out}
 use Rattle.mysql_queries.specs.Alone.{is_left_out_kind, is_opening, is_opening_kind, is_place, is_read_otherwise}
-use Rattle.mysql_queries.specs.Alone.{is_run, is_run_token, is_string, is_string_kind, meets_string}
+use Rattle.mysql_queries.specs.Scanning.{is_plain, is_quiet}
+use Rattle.mysql_queries.specs.Alone.{is_blank, is_run, is_run_token, is_string, is_string_kind, meets_string}
 use Rattle.mysql_queries.specs.PlaceKinds.{is_place_kind}
 use Rattle.mysql_bytes.specs.declared.mode.Mode.{Mode}
-use Rattle.mysql_queries.proofs.AloneKinds.{kind_alone}
+use Rattle.mysql_queries.proofs.AloneKinds.{kind_alone, plain_kind}
 use Rattle.mysql_queries.proofs.Cuts.{drop_end, drop_one}
 use Rattle.mysql_queries.proofs.FirstBytes.{Tells, and_true, bool_tells, kind_tells}
 use Rattle.mysql_queries.proofs.Follow.{and_false, not_equal}
@@ -184,6 +185,25 @@ pub meets_none : (m : Mode) (text : List ℕ) (at : ℕ) → length text ≤ at 
     Walks m (meets_string m) text at → (tokens : List (List ℕ)) → HasTokens m text tokens → false ≡
     meets_string m tokens
 meets_none m text at l w tokens k = sym (walked m (meets_string m) text at [] tokens w (none_left m text at l) k)
+
+-- a quiet byte that is no blank stands for something, and is no string
+pub meets_standing : (m : Mode) (text : List ℕ) (tokens : List (List ℕ)) → 0 < length text →
+    (is_quiet (get_or text 0 0) && not (is_blank (get_or text 0 0))) ≡ true → HasTokens m text tokens →
+    false ≡ meets_string m tokens
+meets_standing m [] tokens l s h = absurd (omega (arith, l))
+meets_standing m (b ∷ x) tokens l s h =
+    let e : (is_quiet b ≡ true) × (not (is_blank b) ≡ true) = and_true (is_quiet b) (not (is_blank b)) s in
+    let p : is_plain b ≡ true = (and_true (is_plain b) _ e.0).0 in
+    meets_at m (b ∷ x) 0 Plain false l (sym (plain_kind b x p)) (left (not_true (is_blank b) e.1)) refl
+    (walk_first m (meets_string m) (b ∷ x)) tokens h
+  where
+    not_true : (p : Bool) → not p ≡ true → false ≡ p
+    not_true true k = cc
+    not_true false k = refl
+
+    left : false ≡ is_blank b → (len : ℕ) → 0 < len → false ≡ is_left_out_kind Plain (take len (b ∷ x))
+    left k zero l = absurd (omega arith)
+    left k (suc len) l = k
 
 -- COMMENTS WITHOUT A VERSION
 

@@ -17,8 +17,9 @@ ghost use Rattle.mysql_queries.specs.Alone.{
   meets_string,
 };
 ghost use Rattle.mysql_queries.specs.PlaceKinds.{is_place_kind};
+ghost use Rattle.mysql_queries.specs.Scanning.{is_quiet};
 ghost use Rattle.mysql_queries.specs.TokenKinds.{kind_view};
-ghost use Rattle.mysql_queries.specs.Tokens.{HasTokens, IsToken, bracket, is_digit, kind_of};
+ghost use Rattle.mysql_queries.specs.Tokens.{HasTokens, IsToken, bracket, is_digit, kind_of, question};
 ghost use Rattle.std.specs.List.{list_all, prefix_len};
 ghost use Rattle.std.specs.Prelude.{
   ◌+◌,
@@ -33,6 +34,7 @@ ghost use Rattle.std.specs.Prelude.{
   false,
   if◌then◌else◌,
   length,
+  not,
   slice_index,
   take,
   true,
@@ -104,8 +106,26 @@ fn string_of(kind: TokenKind, mode: Mode) -> bool
     }
 }
 
+// A `1` at each byte that is a token by itself, stands for something, and is no string.
+static STANDING: [u8; 256] = *b"\
+    11111111100000111111111111111111\
+    01000110110110101111111111011110\
+    11111111111111111111111111101111\
+    01111111111111111111111111111111\
+    11111111111111111111111111111111\
+    11111111111111111111111111111111\
+    11111111111111111111111111111111\
+    11111111111111111111111111111111";
+
+/// Whether a byte is a token by itself, which stands for something and is no string.
+fn standing(b: u8) -> bool
+    ensures { result ≡ (is_quiet b && not (is_blank b)) }
+{
+    STANDING[usize::from(b)] == b'1'
+}
+
 /// Whether the first token of a text that isn't left out is a string.
-pub fn string_first(text: &[u8], mode: Mode) -> bool
+fn string_met(text: &[u8], mode: Mode) -> bool
     ensures { (tokens : List (List ℕ)) → HasTokens mode text.now tokens → result ≡ meets_string mode tokens }
 {
     let mut at = 0;
@@ -118,6 +138,19 @@ pub fn string_first(text: &[u8], mode: Mode) -> bool
         at += token_end(rest, kind, mode);
     }
     false
+}
+
+/// Whether the first token of a text that isn't left out is a string.
+///
+/// Most texts begin with a byte that tells.
+#[inline(always)]
+pub fn string_first(text: &[u8], mode: Mode) -> bool
+    ensures { (tokens : List (List ℕ)) → HasTokens mode text.now tokens → result ≡ meets_string mode tokens }
+{
+    match text {
+        [] => false,
+        [b, ..] => !standing(*b) && string_met(text, mode),
+    }
 }
 
 /// How many bytes of a dollar quote's name come first.
@@ -291,7 +324,24 @@ impl SoFar {
         }
     }
 
+    /// Behind a question mark, which each server reads alike.
+    #[inline(always)]
+    pub(crate) fn behind_mark(self) -> SoFar
+        ensures last { result.last ≡ question }
+        ensures opening { result.opening ≡ false }
+        ensures string { result.string ≡ false }
+        ensures agree { result.agree ≡ self.agree }
+    {
+        SoFar {
+            last: b'?',
+            opening: false,
+            string: false,
+            agree: self.agree,
+        }
+    }
+
     /// Behind bytes that are tokens by themselves and at which servers agree.
+    #[inline(always)]
     pub fn behind_quiet(self, bytes: &[u8]) -> SoFar
         ensures none { length bytes.now ≡ 0 → result ≡ self }
         ensures last { 0 < length bytes.now → result.last ≡ slice_index bytes.now (length bytes.now - 1) }

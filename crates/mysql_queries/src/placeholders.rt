@@ -7,13 +7,14 @@
 ghost use Rattle.mysql_queries.specs.Alone.{is_joining, is_name_kind, meets_string, stands_apart};
 ghost use Rattle.mysql_queries.specs.PlaceKinds.{is_place_kind};
 ghost use Rattle.mysql_queries.specs.Placing.{not_alone, place_between};
-ghost use Rattle.mysql_queries.specs.Tokens.{HasTokens, kind_of};
+ghost use Rattle.mysql_queries.specs.Tokens.{HasTokens, Mark, kind_of};
 ghost use Rattle.mysql_queries.specs.Queries.{HasPlaces, first_not_alone as first_apart};
 ghost use Rattle.mysql_queries.specs.Queries.{is_mixed as has_both_kinds};
 ghost use Rattle.mysql_queries.specs.Sql.{read_by_default, read_in};
 ghost use Rattle.mysql_queries.specs.TokenKinds.{kind_view};
 ghost use Rattle.std.specs.List.{AllByRecursion, list_any};
 ghost use Rattle.std.specs.Prelude.{
+  ◌+◌,
   ◌<◌,
   ◌≡◌,
   ◌≤◌,
@@ -125,6 +126,26 @@ fn place_of(
     })
 }
 
+/// The placeholder that the question mark at a place of the query is, if servers agree about the query.
+#[inline(always)]
+fn mark_at(query: &[u8], so_far: SoFar, at: usize, mode: Mode) -> Place
+    requires { at < length query.now }
+    ensures { (behind : List (List ℕ)) → HasTokens mode (drop (at + 1) query.now) behind →
+        result ≡ place_between query.now Mark at (at + 1) so_far.opening so_far.string
+        (meets_string mode behind) }
+{
+    let end = at + 1;
+    Place {
+        start: at,
+        end,
+        name: false,
+        alone: apart(query, at, end)
+            && !so_far.opening
+            && !so_far.string
+            && !string_first(&query[end..], mode),
+    }
+}
+
 /// The placeholders of a query about which servers disagree: none is alone.
 fn none_alone(alloc: Global, places: &[Place]) -> Result<Vec<Place>, AllocError>
     ensures { IfOk result (λ v. v.items ≡ map not_alone places.now) }
@@ -173,17 +194,22 @@ pub fn places_in(alloc: Global, query: &[u8], mode: Mode) -> Result<Vec<Place>, 
     let mut at = quiet_end(query, 0);
     let mut so_far = SoFar::new().behind_quiet(&query[..at]);
     while at < query.len() {
-        let rest = &query[at..];
-        let kind = kind_at(rest);
-        let len = token_end(rest, kind, mode);
-        let end = at + len;
-        if let Some(place) = place_of(query, so_far, kind, at, end, mode) {
-            found.push(place)?;
+        if query[at] == b'?' {
+            found.push(mark_at(query, so_far, at, mode))?;
+            so_far = so_far.behind_mark();
+            at += 1;
+        } else {
+            let rest = &query[at..];
+            let kind = kind_at(rest);
+            let len = token_end(rest, kind, mode);
+            if let Some(place) = place_of(query, so_far, kind, at, at + len, mode) {
+                found.push(place)?;
+            }
+            so_far = so_far.behind(rest, kind, len, mode);
+            at += len;
         }
-        let next = quiet_end(query, end);
-        so_far = so_far
-            .behind(rest, kind, len, mode)
-            .behind_quiet(&query[end..next]);
+        let next = quiet_end(query, at);
+        so_far = so_far.behind_quiet(&query[at..next]);
         at = next;
     }
     if so_far.agree {
