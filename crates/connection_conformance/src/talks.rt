@@ -107,7 +107,7 @@ impl Talk {
         let first = fields.next().unwrap_or("").trim();
         let second = fields.next().unwrap_or("").trim();
         match kind {
-            "at" | "event" | "held" | "turn" | "mode" | "end" => return Ok(()),
+            "at" | "event" | "held" | "turn" | "mode" | "spelling" | "end" => return Ok(()),
             "in" => return self.log_in(first, second),
             "limits" => self.depends_on_order = true,
             "close" => self.has_closed = true,

@@ -2,16 +2,16 @@
 //! Written by `tools/faces` from the sources. A name that the crate doesn't pass on is refused here.
 
 use mysql_connection::{
-    Attribute, AuthenticationEvent, BadEvent, BoundType, BulkExecution, BulkValue, Capabilities,
-    CapabilityFlags, Command, CommandRefusal, Connection, ConnectionFault, Context, End, Event,
-    EventReader, Execution, ExtendedColumn, Fault, FeedRefusal, Form, GreetingEvent, LentEvent,
-    Limits, ListedColumn, LoginFault, LoginRefusal, LoginResponse, MariadbCapabilities,
-    PacketsRefusal, ParameterType, PayloadRefusal, Phase, PutRefusal, Reason, RecodingRefusal,
-    Refused, Reply, ReplyEvent, ReplyFault, ReplyKind, ReplyPutRefusal, ResponseEvent, Secrets,
-    SessionMode, Side, Statement, StatementIds, StatementParameters, Statements, Texts, Tracking,
-    Turn, UnclearCells, UnclearValues, capabilities_in_force, mode_begun, mode_behind_ok,
-    put_authentication, put_command, put_event, put_greeting, put_response, read_authentication,
-    read_bulk_types, read_execution_types, read_greeting, read_response,
+    ASK_SESSION_MODE, Attribute, AuthenticationEvent, BadEvent, BoundType, BulkExecution,
+    BulkValue, Capabilities, CapabilityFlags, Command, CommandRefusal, Connection, ConnectionFault,
+    Context, End, Event, EventReader, Execution, ExtendedColumn, Fault, FeedRefusal, Form,
+    GreetingEvent, LentEvent, Limits, ListedColumn, LoginFault, LoginRefusal, LoginResponse,
+    MariadbCapabilities, PacketsRefusal, ParameterType, PayloadRefusal, Phase, PutRefusal, Reason,
+    RecodingRefusal, Refused, Reply, ReplyEvent, ReplyFault, ReplyKind, ReplyPutRefusal,
+    ResponseEvent, Secrets, SessionMode, SetsRefusal, Side, Statement, StatementIds,
+    StatementParameters, Statements, Texts, Turn, UnclearCells, UnclearValues,
+    capabilities_in_force, put_authentication, put_command, put_event, put_greeting, put_response,
+    read_authentication, read_bulk_types, read_execution_types, read_greeting, read_response,
     write_authentication_event, write_command, write_end, write_event, write_event_as,
     write_greeting_event, write_lent_row, write_lent_row_as, write_reply_event,
     write_response_event, write_row_ref,
@@ -19,11 +19,11 @@ use mysql_connection::{
 
 mod laws {
     use mysql_connection::laws::{
-        all_see_the_same, clients_go_on, connection_executions_are_received, events_lead_on,
-        executions_are_shown, kept_lists_are_counted, packets_are_commands, packets_are_spoken,
-        payloads_are_in_turn, put_packets_are_about, queries_are_shown, read_commands_are_put,
-        read_events_are_put, sent_packets_are_put, sent_sets_are_of_their_statement,
-        stored_is_the_sum, texts_are_shown,
+        all_see_the_same, clients_go_on, connection_executions_are_received, counts_are_checked,
+        events_lead_on, executions_are_shown, kept_lists_are_counted, packets_are_commands,
+        packets_are_spoken, payloads_are_in_turn, put_packets_are_about, put_values_are_counted,
+        queries_are_shown, read_commands_are_put, read_events_are_put, sent_packets_are_put,
+        sent_sets_are_of_their_statement, stored_is_the_sum, texts_are_shown,
     };
 
     mod agreement {

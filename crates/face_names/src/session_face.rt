@@ -2,19 +2,18 @@
 //! Written by `tools/faces` from the sources. A name that the crate doesn't pass on is refused here.
 
 use mysql_session::{
-    Audit, BindError, ByteString, CapabilityFlags, ChunkHeader, Column, ColumnIndex, Content, End,
-    Flags, FromRow, FromRowError, FromRowRef, FromValue, FromValueError, FromValueRef,
-    Intermediate, IntoParams, LentRow, LocalInfilePacket, MissingNamedParameterError, Mode,
-    OkPacket, PacketCodecError, PacketReader, Params, ParamsConfusionError, ParamsError, ParseIr,
-    ProgressReport, Query, Receiver, ReceiverError, RecodeError, Recoder, Refusal, Reply, ReplyEnd,
-    ReplyFault, ReplyKind, ReplyReader, ReplyRefusal, ReplyResult, ReplyWriter, Road, Row,
-    RowConversionError, RowError, RowExt, RowFormat, RowLender, RowReader, RowRef, RowRefExt,
+    ASK_SESSION_MODE, Audit, BindError, ByteString, CapabilityFlags, ChunkHeader, Column,
+    ColumnIndex, Content, End, Flags, FromRow, FromRowError, FromRowRef, FromValue, FromValueError,
+    FromValueRef, Intermediate, IntoParams, LentRow, LocalInfilePacket, MissingNamedParameterError,
+    Mode, OkPacket, PacketCodecError, PacketReader, Params, ParamsConfusionError, ParamsError,
+    ParseIr, ProgressReport, Query, Receiver, ReceiverError, RecodeError, Recoder, Refusal, Reply,
+    ReplyEnd, ReplyFault, ReplyKind, ReplyReader, ReplyRefusal, ReplyResult, ReplyWriter, Road,
+    Row, RowConversionError, RowError, RowExt, RowFormat, RowLender, RowReader, RowRef, RowRefExt,
     SendToError, ServerError, SessionMode, SetError, SingleValue, SingleValueRef, Spelling,
-    SqlState, StatusFlags, StmtPacket, StoredRows, StreamFault, ToValue, ToValueError, Tracking,
-    Value, ValueRef, from_cell, from_cell_ref, from_row, from_row_opt, from_row_ref, from_value,
-    from_value_opt, is_safe_to_quote, mode_begun, mode_behind_ok, packet_to_chunks, read_reply,
-    receive, receive_in, recode, recode_in, send, send_contents, send_contents_in, send_values,
-    write_reply,
+    SqlState, StatusFlags, StmtPacket, StoredRows, StreamFault, ToValue, ToValueError, Value,
+    ValueRef, WrongCount, from_cell, from_cell_ref, from_row, from_row_opt, from_row_ref,
+    from_value, from_value_opt, is_safe_to_quote, packet_to_chunks, read_reply, receive,
+    receive_in, recode, recode_in, send, send_contents, send_contents_in, send_values, write_reply,
 };
 
 mod laws {

@@ -2,7 +2,9 @@
 
 ghost use Rattle.mysql_c_commands.specs.Adding.{AddsSetIn};
 ghost use Rattle.mysql_c_commands.specs.Digests.{PutsDigestTo};
+ghost use Rattle.mysql_c_commands.specs.Counting.{CountsPlaces};
 ghost use Rattle.mysql_c_commands.specs.Executing.{PutsExecutionFrom};
+ghost use Rattle.mysql_c_commands.specs.Known.{IsBehindText, ok_telling, session_known, session_shown};
 ghost use Rattle.mysql_c_commands.specs.Modes.{InMode, flagged, unknown_mode};
 ghost use Rattle.mysql_c_commands.specs.Receivers.{EndsAs, IsFedBy, LetsGo, MakesReceiver, OfReceiver, content_at};
 ghost use Rattle.mysql_c_commands.specs.Receivers.{missing_code, reading_code, sets_held};
@@ -14,6 +16,7 @@ ghost use Rattle.mysql_c_commands.specs.Texts.{BindsTextFrom, PutsLiteralFrom};
 ghost use Rattle.mysql_c_handles.specs.Bytes.{HasLength, IsBytes, IsCleared, OfBytes};
 ghost use Rattle.mysql_c_handles.specs.Codes.{code_number};
 ghost use Rattle.mysql_c_handles.specs.Sets.{IsSets, OfSets};
+ghost use Rattle.mysql_session_modes.specs.Told.{mode_behind_ok};
 ghost use Rattle.mysql_values.specs.Modes.{is_safe_to_quote as is_safe, mode_of_sql_mode as told_by_variable};
 ghost use Rattle.mysql_values.specs.Modes.{mode_of_status as told_by_status};
 ghost use Rattle.mysql_values.specs.Spelling.TheVariants.{Quoted};
@@ -23,12 +26,13 @@ ghost use Rattle.std.specs.Prelude.{MatchOption, None, Some, [], false, length, 
 ghost use Rattle.mysql_cells.specs.declared.value.Value.TheVariants as value;
 
 use mysql_c_commands::{
-    Parameter, ShownContent, ShownPlace, ShownStop, bind_text, digest_put, execution_put,
-    is_safe_to_quote, mode_of_sql_mode, mode_of_status, receiver_clear, receiver_content,
-    receiver_end, receiver_feed, receiver_new, receiver_sets, receiver_width, recoder_end,
-    recoder_feed, recoder_new, send, sets_add, sets_clear, sets_count, sets_end_set, sets_new,
-    sets_push_bytes, sets_push_date, sets_push_double, sets_push_float, sets_push_int,
-    sets_push_null, sets_push_time, sets_push_uint, value_text,
+    Parameter, ShownContent, ShownPlace, ShownSession, ShownStop, bind_text, digest_put,
+    execution_put, is_safe_to_quote, mode_of_sql_mode, mode_of_status, place_count, receiver_clear,
+    receiver_content, receiver_end, receiver_feed, receiver_new, receiver_sets, receiver_width,
+    recoder_end, recoder_feed, recoder_new, send, session_behind_ok, session_behind_text, sets_add,
+    sets_clear, sets_count, sets_end_set, sets_new, sets_push_bytes, sets_push_date,
+    sets_push_double, sets_push_float, sets_push_int, sets_push_null, sets_push_time,
+    sets_push_uint, value_text,
 };
 use mysql_c_handles::{Handle, ShownEnd, bytes_clear, bytes_data, bytes_new};
 use std::alloc::Global;
@@ -89,6 +93,27 @@ pub extern "C" fn mysql_session_is_safe_to_quote(collation: u16) -> u32
     ensures hidden { is_safe collation ≡ false → result ≡ 0 }
 {
     is_safe_to_quote(collation)
+}
+
+/// Goes on with what is known of a session behind a statement of this text.
+#[unsafe(no_mangle)]
+pub extern "C" fn mysql_session_known_behind_text(known: &mut ShownSession, text: &[u8])
+    ensures { IsBehindText text.now known.old known.new }
+{
+    session_behind_text(known, text)
+}
+
+/// Goes on with what is known of a session behind an OK packet of the reply.
+#[unsafe(no_mangle)]
+pub extern "C" fn mysql_session_known_behind_ok(
+    known: &mut ShownSession,
+    status: u16,
+    changes: &[u8],
+)
+    ensures { known.new ≡
+        session_shown (mode_behind_ok (session_known known.old) (ok_telling status changes.now)) }
+{
+    session_behind_ok(known, status, changes)
 }
 
 /// Makes the handle refer to a receiver of a stream of commands about this query.
@@ -359,6 +384,19 @@ pub extern "C" fn mysql_session_sets_clear(alloc: Global, handle: &mut Handle) -
     ensures { OfSets handle.old.object result handle.new.object (LosesAll result handle.new.object) }
 {
     sets_clear(alloc, handle)
+}
+
+/// Tells how many placeholders a query has, for a server in the mode that the flags tell.
+#[unsafe(no_mangle)]
+pub extern "C" fn mysql_session_place_count(
+    alloc: Global,
+    query: &[u8],
+    flags: u32,
+    count: &mut usize,
+) -> u32
+    ensures { CountsPlaces flags query.now count.old result count.new }
+{
+    place_count(alloc, query, flags, count)
 }
 
 /// Appends the whole parameter sets of one handle, as commands, to the bytes of another.

@@ -1,24 +1,25 @@
 //! Whole connections, as exports.
 
-ghost use Rattle.std.specs.Prelude.{◌≡◌, ◌≢◌, MatchOption, None};
+ghost use Rattle.std.specs.Prelude.{◌≡◌, ◌≢◌, MatchOption};
 ghost use Rattle.std.specs.Option.{option_map};
-ghost use Rattle.mysql_c_commands.specs.Modes.{flagged, unknown_mode};
+ghost use Rattle.mysql_c_commands.specs.Known.{session_shown};
+ghost use Rattle.mysql_c_commands.specs.Modes.{flagged};
 ghost use Rattle.mysql_c_connection.specs.Codes.{code_number, side_numbered};
 ghost use Rattle.mysql_c_connection.specs.Columns.{column_held};
 ghost use Rattle.mysql_c_connection.specs.Lent.{TellsLent};
 ghost use Rattle.mysql_connection_rules.specs.Streams.{from_login};
+ghost use Rattle.mysql_session_modes.specs.SessionModes.{spelling_in};
 ghost use Rattle.mysql_c_connection.specs.Opened.{Closes, Finishes, IsFed, IsNew, IsNewFrom, IsOpen, Lines};
 ghost use Rattle.mysql_c_connection.specs.Opened.{OfOpen, OfSide};
-ghost use Rattle.mysql_c_connection.specs.Putting.{ArePutIn, IsPutIn, OfSideAndBytes};
+ghost use Rattle.mysql_c_connection.specs.Putting.{ArePutIn, IsPutIn, OfBoth, OfSideAndBytes, SetsArePutIn};
 ghost use Rattle.mysql_c_connection.specs.Opened.{Tells};
-ghost use Rattle.mysql_c_connection.specs.Standing.{RestOf, StandingIn, StatementIn, mode_in};
+ghost use Rattle.mysql_c_connection.specs.Standing.{RestOf, StandingIn, StatementIn, session_in};
 ghost use Rattle.mysql_c_connection.specs.Unclear.{ShowsUnclear, read_event};
 ghost use Rattle.mysql_c_connection.specs.Values.{ShowsBulk, ShowsNamed, attribute_held, unheld_code, value_held};
 ghost use Rattle.mysql_c_connection.specs.declared.object.Object.TheVariants.{Empty};
 ghost use Rattle.mysql_c_replies.specs.Shown.{ShowsColumn};
-ghost use Rattle.mysql_values.specs.Spelling.TheVariants.{Quoted};
 
-use mysql_c_commands::mode_flags;
+use mysql_c_commands::{ShownSession, shown_session};
 use mysql_c_connection::{Form, Handle, Secrets, ShownConnectionEnd, ShownStanding};
 use mysql_c_connection_events::ShownEvent;
 use mysql_c_handles::Handle as BytesHandle;
@@ -170,6 +171,24 @@ pub extern "C" fn mysql_session_connection_put_packets(
     mysql_c_connection::connection_put_packets(alloc, handle, side, packets, out, used)
 }
 
+/// Puts packets of a query's sets, if the statement has as many parameters as the query placeholders.
+#[unsafe(no_mangle)]
+pub extern "C" fn mysql_session_connection_put_sets(
+    alloc: Global,
+    handle: &mut Handle,
+    statement: u32,
+    places: usize,
+    packets: &[u8],
+    out: &mut BytesHandle,
+    used: &mut usize,
+) -> u32
+    ensures { OfBoth handle.old.object out.old.object result handle.new.object out.new.object
+        (SetsArePutIn statement places packets.now result handle.new.object out.new.object
+        used.new) }
+{
+    mysql_c_connection::connection_put_sets(alloc, handle, statement, places, packets, out, used)
+}
+
 /// Shows a value of the event that was told last.
 ///
 /// It is a cell of a row, or a parameter of an execution or of a row of a bulk execution.
@@ -314,16 +333,20 @@ pub extern "C" fn mysql_session_connection_standing(
     mysql_c_connection::connection_standing(alloc, handle, shown)
 }
 
-/// The flags that tell the mode of a connection's session.
-///
-/// They are 8 where it isn't known, and for a handle that refers to nothing.
+/// Shows what is known of a connection's session: of a handle that refers to nothing, nothing.
 #[unsafe(no_mangle)]
-pub extern "C" fn mysql_session_connection_mode(alloc: Global, handle: &mut Handle) -> u32
+pub extern "C" fn mysql_session_connection_known(
+    alloc: Global,
+    handle: &mut Handle,
+    known: &mut ShownSession,
+)
     ensures kept { handle.new.object ≡ handle.old.object }
-    ensures told { flagged result ≡ option_map (λ mode. (mode, Quoted)) (mode_in handle.old.object) }
-    ensures unknown { mode_in handle.old.object ≡ None → result ≡ unknown_mode }
+    ensures shown { known.new ≡ session_shown (session_in handle.old.object) }
+    ensures told { flagged known.new.flags ≡ option_map
+        (λ mode. (mode, spelling_in (session_in handle.old.object)))
+        (session_in handle.old.object).mode }
 {
-    mode_flags(mysql_c_connection::connection_mode(alloc, handle))
+    *known = shown_session(mysql_c_connection::connection_session(alloc, handle));
 }
 
 /// Shows the prepared statement that an id of a command refers to: its text, and how many

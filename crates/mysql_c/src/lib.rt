@@ -35,9 +35,9 @@ use std::mem::replace;
 /// The number of the interface, which changes with each of its declarations.
 #[unsafe(no_mangle)]
 pub extern "C" fn mysql_session_abi() -> u32
-    ensures { result ≡ 10 }
+    ensures { result ≡ 11 }
 {
-    10
+    11
 }
 
 /// 1 where the library was proved before it was compiled.

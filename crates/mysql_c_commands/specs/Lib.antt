@@ -1,6 +1,8 @@
 pub mod Adding
+pub mod Counting
 pub mod Digests
 pub mod Executing
+pub mod Known
 pub mod Modes
 pub mod Receivers
 pub mod Recoding

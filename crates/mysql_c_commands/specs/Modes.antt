@@ -26,6 +26,12 @@ flagged flags =
 abbrev pub unknown_mode : ℕ
 unknown_mode = 8
 
+-- The flags of a mode, or 8, byte strings in quotes.
+abbrev pub mode_number : Option Mode → ℕ
+mode_number None = unknown_mode
+mode_number (Some mode) =
+    if mode.no_backslash_escapes then (if mode.ansi_quotes then 3 else 1) else (if mode.ansi_quotes then 2 else 0)
+
 -- What is said in the mode and the spelling that flags tell. Where these tell none the number says
 -- so, and the object stays.
 abbrev pub InMode : ℕ → ℕ → Object → Object → (Mode → Spelling → Type 0) → Type 0

@@ -7,10 +7,12 @@
 //! logging in, and `shown_text` and `putting` are what these share.
 #![tactic(auto)]
 
+mod counting;
 mod digests;
 mod executing;
 mod greeting;
 mod gtids;
+mod known;
 mod login;
 mod modes;
 mod packets;
@@ -25,11 +27,15 @@ mod shown;
 mod shown_text;
 mod texts;
 
+pub use counting::place_count;
 pub use digests::digest_put;
 pub use executing::execution_put;
 pub use greeting::{ShownGreeting, greeting_put, greeting_read};
+pub use known::{
+    ShownSession, session_behind_ok, session_behind_text, shown_is_known, shown_session,
+};
 pub use login::{ShownLogin, login_put, login_read};
-pub use modes::{is_safe_to_quote, mode_flags, mode_of_sql_mode, mode_of_status};
+pub use modes::{is_safe_to_quote, mode_of_sql_mode, mode_of_status};
 pub use packets::{packet_put, packets_feed, packets_new, packets_payload, packets_restart};
 pub use parameter::Parameter;
 pub use receiver::{

@@ -4,7 +4,7 @@ ghost use Rattle.std.specs.Option.{option_map};
 ghost use Rattle.std.specs.Prelude.{◌≡◌, None, Some, false, true};
 ghost use Rattle.mysql_values.specs.Modes.{is_safe_to_quote as is_safe, mode_of_sql_mode as told_by_variable};
 ghost use Rattle.mysql_values.specs.Modes.{mode_of_status as told_by_status};
-ghost use Rattle.mysql_c_commands.specs.Modes.{flagged, unknown_mode};
+ghost use Rattle.mysql_c_commands.specs.Modes.{flagged, mode_number, unknown_mode};
 
 use mysql_session::StatusFlags;
 use mysql_values::{Mode, Spelling};
@@ -35,7 +35,8 @@ pub(crate) fn mode_of(flags: u32) -> Option<(Mode, Spelling)>
 
 /// The flags that tell a mode, byte strings in quotes.
 fn flags_of(mode: Mode) -> u32
-    ensures { flagged result ≡ Some (mode, Spelling.Quoted) }
+    ensures told { flagged result ≡ Some (mode, Spelling.Quoted) }
+    ensures flags { result ≡ mode_number (Some mode) }
 {
     match (mode.no_backslash_escapes, mode.ansi_quotes) {
         (false, false) => 0,
@@ -77,11 +78,9 @@ pub fn mode_of_sql_mode(value: &[u8]) -> u32
 }
 
 /// The flags that tell a mode, and 8 where it isn't known.
-///
-/// Promise: the flags tell exactly the mode (`flagged`).
-pub fn mode_flags(mode: Option<Mode>) -> u32
+pub(crate) fn mode_flags(mode: Option<Mode>) -> u32
     ensures told { flagged result ≡ option_map (λ mode. (mode, Spelling.Quoted)) mode }
-    ensures unknown { mode ≡ None → result ≡ unknown_mode }
+    ensures flags { result ≡ mode_number mode }
 {
     match mode {
         Some(mode) => flags_of(mode),

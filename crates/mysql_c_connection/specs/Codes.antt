@@ -2,6 +2,8 @@
 use Rattle.std.specs.Prelude.{ℕ, ◌==◌, Option, Some, None, if◌then◌else◌}
 use Rattle.mysql_connection_machine.specs.declared.payload_refusal.PayloadRefusal.{PayloadRefusal}
 use Rattle.mysql_connection_machine.specs.declared.payload_refusal.PayloadRefusal.TheVariants as payload
+use Rattle.mysql_connection_machine.specs.declared.sets_refusal.SetsRefusal.{SetsRefusal}
+use Rattle.mysql_connection_machine.specs.declared.sets_refusal.SetsRefusal.TheVariants as sets
 use Rattle.mysql_connection_rules.specs.declared.fault.Fault.{Fault}
 use Rattle.mysql_connection_rules.specs.declared.fault.Fault.TheVariants as fault
 use Rattle.mysql_connection_rules.specs.declared.reason.Reason.{Reason}
@@ -51,6 +53,8 @@ code_number code.NoSuchSide = 8
 code_number code.Closed = 500
 code_number code.Held = 501
 code_number code.NotDue = 520
+code_number code.UnknownStatement = 521
+code_number code.WrongCount = 522
 code_number (code.Fault why) = fault_number why
 
 -- the number of why a payload isn't put: where it would be a fault of what comes, that fault's
@@ -60,6 +64,12 @@ payload_refusal_number payload.TooLarge = fault_number fault.TooLarge
 payload_refusal_number (payload.BadPayload why) = fault_number why
 payload_refusal_number payload.Held = fault_number fault.Held
 payload_refusal_number payload.Memory = code_number code.Memory
+
+-- the number of why sets of a query aren't put
+abbrev pub sets_refusal_number : SetsRefusal → ℕ
+sets_refusal_number sets.UnknownStatement = code_number code.UnknownStatement
+sets_refusal_number (sets.WrongCount count) = code_number code.WrongCount
+sets_refusal_number (sets.Packets refusal) = payload_refusal_number refusal.cause
 
 -- the number of a side
 abbrev pub side_number : Side → ℕ

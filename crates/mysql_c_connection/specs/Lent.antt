@@ -1,10 +1,11 @@
 -- Rows that are lent: what was told last, and what the call says that lends them.
 -- MySQL: Client/Server Protocol, "Text Resultset Row" and "Binary Protocol Resultset Row".
 use Rattle.std.specs.Prelude.{◌≡◌, ◌≢◌, ℕ, List, length, slice_get, Option, Some, None, Result, Ok, Err}
-use Rattle.std.specs.Prelude.{IfSome, option_map}
+use Rattle.std.specs.Prelude.{IfOk, IfSome, option_map}
 use Rattle.mysql_cells.specs.declared.value.Value.{Value}
-use Rattle.mysql_connection_machine.specs.Machines.{AnswersFault, AnswersLent, Machine, TakesBytes}
+use Rattle.mysql_connection_machine.specs.Machines.{AnswersFault, AnswersLent, LentHasUnclear, Machine, TakesBytes}
 use Rattle.mysql_connection_machine.specs.Machines.{failure_in}
+use Rattle.mysql_connection_machine.specs.Modes.{Knows, event_in_lent}
 use Rattle.mysql_connection_machine.specs.declared.fault.ConnectionFault.{ConnectionFault}
 use Rattle.mysql_connection_machine.specs.declared.lent_event.LentEvent.{LentEvent}
 use Rattle.mysql_connection_machine.specs.declared.lent_event.LentEvent.TheVariants as lent
@@ -45,8 +46,10 @@ pub record NextAnswersLent (old : Machine) (answer : Result (Option LentEvent) C
     (new : Machine) : Type 0 where
   pub failed : IfSome old.failure (λ failure. AnswersFault answer failure × (new ≡ old))
   pub answers : old.failure ≡ None → AnswersLent old.world answer (record { world = new.world; row = new.row })
+  pub unclear : IfOk answer (λ found. IfSome found (λ event. LentHasUnclear old.world event))
   pub fault : old.failure ≡ None → new.failure ≡ failure_in answer
   pub fewer : TakesBytes old.world answer new.world
+  pub mode : Knows old (event_in_lent answer) new
 
 -- the event that is held of an answer: none of a row that is lent
 abbrev pub held_of : Result (Option LentEvent) ConnectionFault → Option HeldEvent

@@ -1,10 +1,11 @@
 -- What the calls about a connection say of the object that a handle stands for.
 -- MySQL: Client/Server Protocol, "Connection Lifecycle".
-use Rattle.std.specs.Prelude.{◌≡◌, ℕ, List, Option, Some, None, Result, Ok, Err, IfSome}
+use Rattle.std.specs.Prelude.{◌≡◌, ℕ, List, Option, Some, None, Result, Ok, Err, IfOk, IfSome}
 use Rattle.mysql_connection_machine.specs.Endings.{Ending, ending_of}
 use Rattle.mysql_connection_machine.specs.Endings as ending
-use Rattle.mysql_connection_machine.specs.Machines.{Answers, AnswersFault, Feeds, Machine, TakesBytes, both_ended}
-use Rattle.mysql_connection_machine.specs.Machines.{ended, failure_in, new_machine}
+use Rattle.mysql_connection_machine.specs.Machines.{Answers, AnswersFault, Feeds, Machine, NextHasUnclear}
+use Rattle.mysql_connection_machine.specs.Machines.{TakesBytes, both_ended, ended, failure_in, new_machine}
+use Rattle.mysql_connection_machine.specs.Modes.{Knows, event_in as event_said}
 use Rattle.mysql_connection_machine.specs.declared.fault.ConnectionFault.{ConnectionFault}
 use Rattle.mysql_connection_machine.specs.declared.fault.FeedRefusal.{FeedRefusal}
 use Rattle.mysql_connection_machine.specs.declared.fault.FeedRefusal.TheVariants as refusal
@@ -72,9 +73,11 @@ Closes side number old new =
 pub record NextAnswers (old : Machine) (answer : Result (Option Event) ConnectionFault) (new : Machine) : Type 0 where
   pub failed : IfSome old.failure (λ failure. AnswersFault answer failure × (new ≡ old))
   pub answers : old.failure ≡ None → Answers old.world answer new.world
+  pub unclear : IfOk answer (λ found. IfSome found (λ event. NextHasUnclear old.world event))
   pub row : old.failure ≡ None → new.row ≡ None
   pub fault : old.failure ≡ None → new.failure ≡ failure_in answer
   pub fewer : TakesBytes old.world answer new.world
+  pub mode : Knows old (event_said answer) new
 
 -- the event that an answer is
 abbrev pub event_in : Result (Option Event) ConnectionFault → Option Event

@@ -6,16 +6,20 @@ use Rattle.mysql_c_handles.specs.Codes.{Stays}
 use Rattle.mysql_c_handles.specs.declared.object.Object.{Object as BytesObject}
 use Rattle.mysql_c_handles.specs.declared.object.Object.TheVariants as held
 use Rattle.mysql_connection_machine.specs.Machines.{Machine}
+use Rattle.mysql_connection_machine.specs.Modes.{Knows, event_answered}
 use Rattle.mysql_connection_machine.specs.PuttingPackets.{PutsPackets}
 use Rattle.mysql_connection_machine.specs.PuttingPayloads.{PutsPayloadOn}
+use Rattle.mysql_connection_machine.specs.PuttingSets.{PutsSets}
 use Rattle.mysql_connection_machine.specs.Writing.{IsReadFrom}
 use Rattle.mysql_connection_machine.specs.declared.packets_refusal.PacketsRefusal.{PacketsRefusal}
 use Rattle.mysql_connection_machine.specs.declared.payload_refusal.PayloadRefusal.{PayloadRefusal}
 use Rattle.mysql_connection_machine.specs.declared.payload_refusal.PayloadRefusal.TheVariants as refusals
+use Rattle.mysql_connection_machine.specs.declared.sets_refusal.SetsRefusal.{SetsRefusal}
+use Rattle.mysql_connection_machine.specs.declared.sets_refusal.SetsRefusal.TheVariants as sets
 use Rattle.mysql_connection_rules.specs.declared.side.Side.{Side}
-use Rattle.mysql_connection_state.specs.Views.{event_view}
+use Rattle.mysql_connection_state.specs.Views.{EventHasUnclear, event_view}
 use Rattle.mysql_connection_state.specs.declared.event.Event.{Event}
-use Rattle.mysql_c_connection.specs.Codes.{code_number, payload_refusal_number}
+use Rattle.mysql_c_connection.specs.Codes.{code_number, payload_refusal_number, sets_refusal_number}
 use Rattle.mysql_c_connection.specs.Events.{event_shown}
 use Rattle.mysql_c_connection.specs.Opened.{IsOpen}
 use Rattle.mysql_c_connection.specs.declared.code.ConnectionCode.TheVariants as code
@@ -53,6 +57,8 @@ pub record PayloadAnswers (old : Machine) (side : Side) (payload before : List �
   pub failed : IfSome old.failure (λ failure. (answer ≡ Err refusals.NotDue) × (new ≡ old) × (behind ≡ before))
   pub puts : old.failure ≡ None → PutsPayloadOn old side payload before answer new behind
   pub read : IfOk answer (λ event. IsReadFrom old.world (event_view event) before behind new.world)
+  pub unclear : IfOk answer (λ event. EventHasUnclear old.world.standing payload event)
+  pub mode : Knows old (event_answered answer) new
 
 -- The number of an answer.
 abbrev pub put_number : {X : Type 0} → Result X PayloadRefusal → ℕ
@@ -104,3 +110,32 @@ pub record ArePut (side : Side) (packets : List ℕ) (number : ℕ) (old : OpenC
 abbrev pub ArePutIn : Side → List ℕ → ℕ → Object → BytesObject → (used : ℕ) → OpenConnection → List ℕ → Type 0
 ArePutIn side packets number new out used old before = IsOpen new (λ c. IsBytes out (λ behind.
     ArePut side packets number old before c behind used))
+
+-- SETS OF A QUERY
+
+abbrev pub sets_number : Result ℕ SetsRefusal → ℕ
+sets_number (Ok used) = 0
+sets_number (Err refusal) = sets_refusal_number refusal
+
+-- No packet is taken of sets that are refused for their count.
+abbrev pub used_of_sets : Result ℕ SetsRefusal → ℕ
+used_of_sets (Ok used) = used
+used_of_sets (Err (sets.Packets refusal)) = refusal.used
+used_of_sets (Err refusal) = 0
+
+-- Packets of a query's sets are put as the machine does, where the server counted as many parameters as the query
+-- has places; the event that was told last stays.
+pub record SetsArePut (id places : ℕ) (packets : List ℕ) (number : ℕ) (old : OpenConnection) (before : List ℕ)
+    (new : OpenConnection) (behind : List ℕ) (used : ℕ) : Type 0 where
+  pub answer : Result ℕ SetsRefusal
+  pub puts : PutsSets old.connection id places packets before answer new.connection behind
+  pub number_is : number ≡ sets_number answer
+  pub used_is : used ≡ used_of_sets answer
+  pub event : new.event ≡ old.event
+  pub end : new.end ≡ old.end
+
+-- The same of a connection and bytes that objects are.
+abbrev pub SetsArePutIn : (id places : ℕ) → List ℕ → ℕ → Object → BytesObject → (used : ℕ) → OpenConnection →
+    List ℕ → Type 0
+SetsArePutIn id places packets number new out used old before = IsOpen new (λ c. IsBytes out (λ behind.
+    SetsArePut id places packets number old before c behind used))

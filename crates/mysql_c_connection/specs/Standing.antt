@@ -9,7 +9,8 @@ use Rattle.mysql_connection_state.specs.Views.{plain_phase}
 use Rattle.mysql_connection_state.specs.declared.phase.Phase.{Phase}
 use Rattle.mysql_connection_state.specs.declared.phase.Phase.TheVariants as phase
 use Rattle.mysql_connection_statements.specs.Statements.{Statement}
-use Rattle.mysql_bytes.specs.declared.mode.Mode.{Mode}
+use Rattle.mysql_session_modes.specs.SessionModes.{unknown_mode}
+use Rattle.mysql_session_modes.specs.declared.session_mode.SessionMode.{SessionMode}
 use Rattle.mysql_c_connection.specs.declared.code.ConnectionCode.TheVariants as code
 use Rattle.mysql_c_connection.specs.declared.object.Object.{Object}
 use Rattle.mysql_c_connection.specs.declared.object.Object.TheVariants as object
@@ -60,10 +61,10 @@ abbrev pub StandingIn : Object → ℕ → ShownStanding → Type 0
 StandingIn object.Empty number shown = number ≡ code_number code.EmptyHandle
 StandingIn (object.Open c) number shown = (number ≡ 0) × ShowsStanding c.connection shown
 
--- the mode of the session, where it is known
-abbrev pub mode_in : Object → Option Mode
-mode_in object.Empty = None
-mode_in (object.Open c) = c.connection.world.standing.mode.mode
+-- what is known of the session's mode and character set: of no connection nothing
+abbrev pub session_in : Object → SessionMode
+session_in object.Empty = unknown_mode
+session_in (object.Open c) = c.connection.mode
 
 -- what is shown of a statement: its text's length, and how many parameters it has
 abbrev pub ShowsStatement : Option Statement → (number len params : ℕ) → Type 0

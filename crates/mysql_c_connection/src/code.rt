@@ -28,6 +28,10 @@ pub enum ConnectionCode {
     Held,
     /// It isn't the turn of this side's payload.
     NotDue,
+    /// The statement whose sets are put isn't known.
+    UnknownStatement,
+    /// The server counted another number of parameters than the query has placeholders.
+    WrongCount,
     /// The connection can't be read further, for this; or a payload isn't put.
     Fault(Fault),
 }
@@ -47,6 +51,8 @@ impl ConnectionCode {
             ConnectionCode::Closed => 500,
             ConnectionCode::Held => 501,
             ConnectionCode::NotDue => 520,
+            ConnectionCode::UnknownStatement => 521,
+            ConnectionCode::WrongCount => 522,
             ConnectionCode::Fault(fault) => number_of_fault(fault),
         }
     }

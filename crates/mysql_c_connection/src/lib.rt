@@ -37,9 +37,13 @@ pub use handle::Handle;
 pub use lent::connection_next_lent;
 pub use mysql_connection_lines::{Form, Secrets};
 pub use object::{Object, OpenConnection, WrittenLines};
-pub use putting::{connection_after_login, connection_put, connection_put_packets};
+pub use putting::{
+    connection_after_login, connection_put, connection_put_packets, connection_put_sets,
+};
 pub use shown::{ShownConnectionEnd, ShownStanding};
-pub use standing::{connection_mode, connection_rest, connection_standing, connection_statement};
+pub use standing::{
+    connection_rest, connection_session, connection_standing, connection_statement,
+};
 pub use text::connection_code_text;
 pub use unclear::connection_unclear;
 pub use values::{connection_attribute, connection_value};

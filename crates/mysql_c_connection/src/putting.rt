@@ -1,11 +1,13 @@
 //! Payloads and packets that are put on a connection, behind the bytes that another handle refers
 //! to.
 
-ghost use Rattle.std.specs.Prelude.{◌≡◌, ◌≢◌};
+ghost use Rattle.std.specs.Prelude.{◌≡◌, ◌≢◌, Err};
 ghost use Rattle.mysql_connection_rules.specs.Streams.{from_login};
 ghost use Rattle.mysql_c_connection.specs.Codes.{code_number, payload_refusal_number, side_numbered};
+ghost use Rattle.mysql_c_connection.specs.Codes.{sets_refusal_number};
 ghost use Rattle.mysql_c_connection.specs.Opened.{IsNewFrom, IsOpen};
 ghost use Rattle.mysql_c_connection.specs.Putting.{ArePut, ArePutIn, IsPut, IsPutIn, OfBoth, OfSideAndBytes};
+ghost use Rattle.mysql_c_connection.specs.Putting.{SetsArePut, SetsArePutIn, used_of_sets};
 
 use crate::code::{ConnectionCode, side_of};
 use crate::events::telling_event;
@@ -13,7 +15,7 @@ use crate::handle::Handle;
 use crate::object::{Object, OpenConnection, WrittenLines};
 use mysql_c_connection_events::ShownEvent;
 use mysql_c_handles::{Handle as BytesHandle, Object as BytesObject};
-use mysql_connection_machine::{Connection, PayloadRefusal};
+use mysql_connection_machine::{Connection, PayloadRefusal, SetsRefusal};
 use mysql_connection_rules::{Fault, Limits, Side};
 use mysql_const::Capabilities;
 use std::alloc::Global;
@@ -61,6 +63,27 @@ fn code_of(refusal: PayloadRefusal) -> ConnectionCode
     }
 }
 
+/// The code of why sets aren't put.
+fn code_of_sets(refusal: SetsRefusal) -> ConnectionCode
+    ensures { code_number result ≡ sets_refusal_number refusal }
+{
+    match refusal {
+        SetsRefusal::UnknownStatement => ConnectionCode::UnknownStatement,
+        SetsRefusal::WrongCount(_) => ConnectionCode::WrongCount,
+        SetsRefusal::Packets(refusal) => code_of(refusal.cause),
+    }
+}
+
+/// How many bytes of the packets were taken before a refusal.
+fn used_before(refusal: SetsRefusal) -> usize
+    ensures { result ≡ used_of_sets (Err refusal) }
+{
+    match refusal {
+        SetsRefusal::Packets(refusal) => refusal.used,
+        _ => 0,
+    }
+}
+
 impl OpenConnection {
     /// Puts a payload, and shows the event that it says.
     fn put(
@@ -104,6 +127,30 @@ impl OpenConnection {
             Err(refusal) => {
                 *used = refusal.used;
                 code_of(refusal.cause)
+            }
+        }
+    }
+
+    /// Puts packets of a query's sets, and tells how many bytes of the packets were taken.
+    fn put_sets(
+        &mut self,
+        id: u32,
+        places: usize,
+        packets: &[u8],
+        out: &mut Vec<u8>,
+        used: &mut usize,
+    ) -> ConnectionCode
+        ensures { SetsArePut id places packets.now (code_number result) self.old out.old.items
+            self.new out.new.items used.new }
+    {
+        match self.connection.put_sets(id, places, packets, out) {
+            Ok(taken) => {
+                *used = taken;
+                ConnectionCode::Done
+            }
+            Err(refusal) => {
+                *used = used_before(refusal);
+                code_of_sets(refusal)
             }
         }
     }
@@ -214,6 +261,59 @@ pub fn connection_put_packets(
         return ConnectionCode::EmptyHandle.number();
     };
     let code = put_packets_in(&mut object, side, packets, &mut bytes, used);
+    handle.put(object);
+    out.put(bytes);
+    code.number()
+}
+
+/// Puts packets of a query's sets on the connection that an object is, behind the bytes that another
+/// one is.
+fn put_sets_in(
+    object: &mut Object,
+    id: u32,
+    places: usize,
+    packets: &[u8],
+    out: &mut BytesObject,
+    used: &mut usize,
+) -> ConnectionCode
+    ensures { OfBoth object.old out.old (code_number result) object.new out.new
+        (SetsArePutIn id places packets.now (code_number result) object.new out.new used.new) }
+{
+    let Object::Open(open) = object else {
+        return ConnectionCode::EmptyHandle;
+    };
+    match out {
+        BytesObject::Bytes(bytes) => open.put_sets(id, places, packets, bytes, used),
+        BytesObject::Empty => ConnectionCode::EmptyHandle,
+        _ => ConnectionCode::OtherKind,
+    }
+}
+
+/// Puts packets of a query's sets, if the statement has as many parameters as the query placeholders.
+///
+/// Promise: they are put as the machine puts them, or refused for another count. It is told how
+/// many bytes of the packets were taken, also where one is refused. The event that was told last
+/// stays (`SetsArePut`).
+pub fn connection_put_sets(
+    alloc: Global,
+    handle: &mut Handle,
+    id: u32,
+    places: usize,
+    packets: &[u8],
+    out: &mut BytesHandle,
+    used: &mut usize,
+) -> u32
+    ensures { OfBoth handle.old.object out.old.object result handle.new.object out.new.object
+        (SetsArePutIn id places packets.now result handle.new.object out.new.object used.new) }
+{
+    let Some(mut object) = handle.take(alloc) else {
+        return ConnectionCode::EmptyHandle.number();
+    };
+    let Some(mut bytes) = out.take(alloc) else {
+        handle.put(object);
+        return ConnectionCode::EmptyHandle.number();
+    };
+    let code = put_sets_in(&mut object, id, places, packets, &mut bytes, used);
     handle.put(object);
     out.put(bytes);
     code.number()

@@ -3,17 +3,17 @@
 ghost use Rattle.std.specs.Prelude.{◌≡◌};
 ghost use Rattle.mysql_c_connection.specs.Codes.{code_number, side_numbered};
 ghost use Rattle.mysql_c_connection.specs.Standing.{RestIn, RestOf, ShowsStanding, StandingIn, StatementIn};
-ghost use Rattle.mysql_c_connection.specs.Standing.{mode_in, over_number, phase_number, turn_number};
+ghost use Rattle.mysql_c_connection.specs.Standing.{over_number, phase_number, session_in, turn_number};
 
 use crate::code::{ConnectionCode, number_of_fault, number_of_reason, number_of_side, side_of};
 use crate::handle::Handle;
 use crate::object::Object;
 use crate::shown::ShownStanding;
-use mysql_bytes::Mode;
 use mysql_c_handles::start_of;
 use mysql_connection_machine::Connection;
 use mysql_connection_rules::Side;
 use mysql_connection_state::Phase;
+use mysql_session_modes::SessionMode;
 use std::alloc::Global;
 
 /// The number of whose turn it is: 2 where it is nobody's.
@@ -104,27 +104,27 @@ pub fn connection_standing(alloc: Global, handle: &mut Handle, shown: &mut Shown
     code.number()
 }
 
-/// The mode of the connection that an object is, where it is known.
-fn mode_of(object: &Object) -> Option<Mode>
-    ensures { result ≡ mode_in object.now }
+/// What is known of the session of the connection that an object is.
+fn session_of(object: &Object) -> SessionMode
+    ensures { result ≡ session_in object.now }
 {
     match object {
-        Object::Open(open) => open.connection.session_mode().mode,
-        Object::Empty => None,
+        Object::Open(open) => open.connection.session_mode(),
+        Object::Empty => SessionMode::unknown(),
     }
 }
 
-/// The mode of a connection's session, where it is known.
-pub fn connection_mode(alloc: Global, handle: &mut Handle) -> Option<Mode>
+/// What is known of the mode and the character set of a connection's session.
+pub fn connection_session(alloc: Global, handle: &mut Handle) -> SessionMode
     ensures kept { handle.new.object ≡ handle.old.object }
-    ensures mode { result ≡ mode_in handle.old.object }
+    ensures session { result ≡ session_in handle.old.object }
 {
     let Some(object) = handle.take(alloc) else {
-        return None;
+        return SessionMode::unknown();
     };
-    let mode = mode_of(&object);
+    let session = session_of(&object);
     handle.put(object);
-    mode
+    session
 }
 
 /// Shows the statement of this id of the connection that an object is.

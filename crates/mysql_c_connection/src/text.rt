@@ -37,6 +37,9 @@ fn text_of(number: u32) -> &'static [u8]
         518 => b"connection: the client says more behind a quit\0",
         519 => b"connection: no payload of that side of a reply is due\0",
         520 => b"connection: it is not the turn of this side's payload\0",
+        521 => b"connection: the statement whose sets are put is not known\0",
+        522 =>
+            b"connection: the server counted another number of parameters than the query has placeholders\0",
         _ => b"no such code\0",
     }
 }

@@ -34,7 +34,7 @@ abbrev pub CountsChanges : Reading (List State) → Option ℕ → Type 0
 CountsChanges read None = Unit {0}
 CountsChanges read (Some count) = count ≡ count_read read
 
--- a result that tells nothing, but for where a text of no bytes stands
+-- a result that tells nothing, but for where texts of no bytes stand
 abbrev pub nothing_shown : ShownResult → ShownResult
 nothing_shown shown = record shown {
   kind = 0;
@@ -49,12 +49,13 @@ nothing_shown shown = record shown {
   params = 0;
   states = 0;
   len = 0;
+  changes_len = 0;
   state = 0 ∷ 0 ∷ 0 ∷ 0 ∷ 0 ∷ [];
   state_len = 0;
   ended = true;
 }
 
--- what an OK packet tells beside, its text by its length
+-- what an OK packet tells beside, its text and its changes of the session by their lengths
 abbrev pub packet_shown : OkPacket → ShownResult → ShownResult
 packet_shown ok shown = record shown {
   affected_rows = ok.affected_rows;
@@ -63,6 +64,7 @@ packet_shown ok shown = record shown {
   warnings = ok.warnings;
   len = length (or_empty ok.info);
   states = count_read (all_states_at ok.session_state_info);
+  changes_len = length (or_empty ok.session_state_info);
 }
 
 -- what the packet tells that ended rows, where it came
@@ -107,7 +109,7 @@ outcome_shown (together.FieldsResult fields terminator) shown =
     record (terminator_shown terminator (nothing_shown shown)) { kind = 6; columns = length fields; rows = 0 }
 outcome_shown (together.LineResult bytes) shown = record (nothing_shown shown) { kind = 7; len = length bytes }
 
--- Each field is that of the result, but where its text stands; of an earlier result nothing stays.
+-- Each field is that of the result, but where its texts stand; of an earlier result nothing stays.
 abbrev pub ShowsOutcome : together.Outcome → ShownResult → Type 0
 ShowsOutcome outcome shown = shown ≡ outcome_shown outcome shown
 

@@ -28,7 +28,8 @@ use std::alloc::Global;
 ///
 /// The kinds are 0 OK, 1 rows, 2 a prepared statement, 3 an error, 4 a request for a file. 5 is rows
 /// whose columns aren't known, 6 columns of a table, 7 a line. The text is what an OK packet tells,
-/// an error's message, a file's name or the line. `ended` is false of rows and of columns of a table
+/// an error's message, a file's name or the line. The changes of the session are those that an OK
+/// packet tells, as it has them, `states` of them. `ended` is false of rows and of columns of a table
 /// alone, where the packet that ends them didn't come.
 #[repr(C)]
 #[derive(Clone, Copy)]
@@ -46,6 +47,8 @@ pub struct ShownResult {
     pub states: usize,
     pub text: *const u8,
     pub len: usize,
+    pub changes: *const u8,
+    pub changes_len: usize,
     pub state: [u8; 5],
     pub state_len: usize,
     pub ended: bool,
@@ -136,6 +139,8 @@ fn telling(kind: u32, text: &[u8]) -> ShownResult
         states: 0,
         text: start_of(text),
         len: text.len(),
+        changes: start_of(&[]),
+        changes_len: 0,
         state: [0; 5],
         state_len: 0,
         ended: true,
@@ -161,12 +166,15 @@ fn telling_packet(alloc: Global, kind: u32, ok: &OkPacket<'_>) -> Option<ShownRe
         record (packet_shown (ok_packet_view ok.now) (nothing_shown shown)) { kind = kind }) }
 {
     let states = count_changes(alloc, ok)?;
+    let changes = states_in(ok);
     let mut shown = telling(kind, ok.info_ref().unwrap_or(&[]));
     shown.affected_rows = ok.affected_rows();
     shown.last_insert_id = ok.last_insert_id().unwrap_or(0);
     shown.status = ok.status_flags().0;
     shown.warnings = ok.warnings();
     shown.states = states;
+    shown.changes = start_of(changes);
+    shown.changes_len = changes.len();
     Some(shown)
 }
 

@@ -1,3 +1,4 @@
+pub mod Counts
 pub mod FieldLists
 pub mod GtidDumps
 pub mod Lists

@@ -2,6 +2,7 @@
 use Rattle.std.specs.Prelude.{◌≡◌, ◌≢◌, ◌==◌, ℕ, Bool, true, false, if◌then◌else◌, List, ◌++◌, length, Option, None}
 use Rattle.std.specs.Prelude.{Some}
 use Rattle.std.specs.Prelude.{Result, Ok, Err}
+use Rattle.std.specs.List.{list_all}
 use Rattle.mysql_const.specs.BinlogDumpFlags.{binlog_dump_flags}
 use Rattle.mysql_const.specs.declared.capabilities.Capabilities.{Capabilities}
 use Rattle.mysql_execution_writer.specs.Bulks.{bulk_as_read, can_put_bulk}
@@ -12,6 +13,7 @@ use Rattle.mysql_executions.specs.Bulks.{BulkExecution}
 use Rattle.mysql_executions.specs.Executions.{Execution}
 use Rattle.mysql_executions.specs.InForce.{InForce}
 use Rattle.mysql_executions.specs.Types.{has_query_attributes}
+use Rattle.mysql_executions.specs.declared.bulk.BulkValue.{BulkValue}
 use Rattle.mysql_executions.specs.declared.types.Attribute.{Attribute}
 use Rattle.mysql_field_constants.specs.Flags.{are_named}
 use Rattle.mysql_commands.specs.Commands.{BinlogDump, BinlogDumpGtid, BulkExecute, Command, Execute, FieldList, Other}
@@ -21,11 +23,17 @@ use Rattle.mysql_command_writer.specs.Written.{command_bytes}
 use Rattle.mysql_command_writer.specs.declared.refusal.CommandRefusal.{CommandRefusal}
 use Rattle.mysql_command_writer.specs.declared.refusal.CommandRefusal.TheVariants.{Memory, NamelessFlags, NotAgreed}
 use Rattle.mysql_command_writer.specs.declared.refusal.CommandRefusal.TheVariants.{ReadsAsCommand, ReadsOtherwise}
-use Rattle.mysql_command_writer.specs.declared.refusal.CommandRefusal.TheVariants.{TooLong, UnknownStatement, ZeroByte}
+use Rattle.mysql_command_writer.specs.declared.refusal.CommandRefusal.TheVariants.{TooLong, UnknownStatement}
+use Rattle.mysql_command_writer.specs.declared.refusal.CommandRefusal.TheVariants.{WrongCount, ZeroByte}
+
+-- each row has so many values
+abbrev pub have_count : ℕ → List (List BulkValue) → Bool
+have_count count rows = list_all (λ row. length row == count) rows
 
 -- the cause against a command whose payload reads otherwise: a query has attributes that aren't in force, a table's
 -- name has a zero, a text is longer than its length can say, flags have no name, an execution is of a statement that
--- isn't known, another payload says a command that is known; of others it has no name of its own
+-- isn't known, or has another number of values than that has parameters, another payload says a command that is known;
+-- of others it has no name of its own
 abbrev pub cause_against : Capabilities → Option InForce → Command → CommandRefusal
 cause_against capabilities parameters (Query attributes sql) =
     if has_query_attributes capabilities then ReadsOtherwise else NotAgreed
@@ -34,9 +42,11 @@ cause_against capabilities parameters (BinlogDump request) = NamelessFlags
 cause_against capabilities parameters (TableDump request) = TooLong
 cause_against capabilities parameters (RegisterSlave replica) = TooLong
 cause_against capabilities None (Execute execution) = UnknownStatement
-cause_against capabilities (Some parameters) (Execute execution) = ReadsOtherwise
+cause_against capabilities (Some parameters) (Execute execution) =
+    if length execution.parameters == parameters.count then ReadsOtherwise else WrongCount
 cause_against capabilities None (BulkExecute execution) = UnknownStatement
-cause_against capabilities (Some parameters) (BulkExecute execution) = ReadsOtherwise
+cause_against capabilities (Some parameters) (BulkExecute execution) =
+    if have_count parameters.count execution.rows then ReadsOtherwise else WrongCount
 cause_against capabilities parameters (BinlogDumpGtid request) =
     if are_named binlog_dump_flags request.flags then TooLong else NamelessFlags
 cause_against capabilities parameters (Other payload) = ReadsAsCommand

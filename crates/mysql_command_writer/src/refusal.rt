@@ -28,6 +28,10 @@ pub enum CommandRefusal {
     /// An execution of a statement that isn't known.
     #[error("an execution of a statement that is not known")]
     UnknownStatement,
+    /// An execution, or a row of a bulk one, has another number of values than parameters.
+    /// The server counted these as it prepared the statement.
+    #[error("another number of values than the statement has parameters")]
+    WrongCount,
     /// Bytes that say nothing known, but are laid out as a command.
     #[error("bytes of another command that are laid out as one that is known")]
     ReadsAsCommand,

@@ -1,14 +1,14 @@
 //! Theorems of what is read and put, over the definitions alone: those of the crates below.
 
 pub use mysql_authentication::laws as logins;
-pub use mysql_command_writer::laws::read_commands_are_put;
+pub use mysql_command_writer::laws::{put_values_are_counted, read_commands_are_put};
 pub use mysql_connection_contents::delivery_laws as deliveries;
 pub use mysql_connection_contents::laws::{
     connection_executions_are_received, executions_are_shown, queries_are_shown, texts_are_shown,
 };
 pub use mysql_connection_contents::packet_laws::{
-    clients_go_on, packets_are_commands, packets_are_spoken, put_packets_are_about,
-    sent_sets_are_of_their_statement,
+    clients_go_on, counts_are_checked, packets_are_commands, packets_are_spoken,
+    put_packets_are_about, sent_sets_are_of_their_statement,
 };
 pub use mysql_connection_contents::promise_laws::all_see_the_same;
 pub use mysql_connection_machine::laws::sent_packets_are_put;

@@ -38,7 +38,7 @@ pub use mysql_connection_lines::{
 };
 pub use mysql_connection_machine::{
     Connection, ConnectionFault, End, FeedRefusal, LentEvent, PacketsRefusal, PayloadRefusal,
-    PutRefusal,
+    PutRefusal, SetsRefusal,
 };
 pub use mysql_connection_recoding::{RecodingRefusal, StatementIds};
 pub use mysql_connection_rules::{Fault, Limits, Reason, Side};
@@ -52,4 +52,4 @@ pub use mysql_event_lines::{
 pub use mysql_executions::{Refused, read_bulk_types, read_execution_types};
 pub use mysql_reply_event_writer::{ReplyPutRefusal, put_event};
 pub use mysql_reply_events::{Context, EventReader, ReplyEvent, ReplyFault, ReplyKind, Turn};
-pub use mysql_session_modes::{SessionMode, Tracking, mode_begun, mode_behind_ok};
+pub use mysql_session_modes::{ASK_SESSION_MODE, SessionMode};

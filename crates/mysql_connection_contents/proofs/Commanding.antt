@@ -14,7 +14,6 @@ use Rattle.mysql_connection_contents.proofs.Statements.{both}
 use Rattle.mysql_connection_contents.specs.Contents.{Spoken, is_about, is_due, is_id, payloads_about}
 use Rattle.mysql_connection_contents.specs.PacketLaws.{IsOf, PacketsAreCommands, SentPacketsAreAbout}
 use Rattle.mysql_connection_contents.specs.Records.{HasSpoken}
-use Rattle.mysql_connection_contents.specs.Records.HasSpoken.{puts}
 use Rattle.mysql_connection_machine.specs.Machines.{Machine}
 use Rattle.mysql_connection_machine.specs.PuttingPackets.{PutsAll}
 use Rattle.mysql_connection_rules.specs.Events.{Event, side_of}
@@ -84,8 +83,7 @@ by_phase (phases.Over reason) s payload e mid due h = absurd cc
 step_next : (s : Standing) (payload : List ℕ) (e : Event) (mid : Standing) → is_due s.phase ≡ true →
     step s payload ≡ Ok (e, mid) → IsNext mid
 step_next s payload e mid due h =
-    let its = step_said s payload e mid h in
-    subst IsNext (sym its.stands) (by_phase s.phase s payload e its.leaves due its.says)
+    by_phase s.phase s payload e mid due (step_said s payload e mid h)
 
 -- ---- so where another payload of the client's is put, a command is due
 

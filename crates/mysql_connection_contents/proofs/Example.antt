@@ -15,7 +15,6 @@ use Rattle.mysql_connection_rules.specs.Events.{Event}
 use Rattle.mysql_connection_rules.specs.Laws.{RunIsOne}
 use Rattle.mysql_connection_rules.specs.Puts.{is_of}
 use Rattle.mysql_connection_rules.specs.Runs.{IsRun}
-use Rattle.mysql_connection_rules.specs.SessionModes.{mode_behind}
 use Rattle.mysql_connection_rules.specs.Standing as phases
 use Rattle.mysql_connection_rules.specs.Standing.{About, Phase, Standing, logged_in}
 use Rattle.mysql_connection_rules.specs.Steps.{step}
@@ -37,8 +36,6 @@ use Rattle.mysql_reply_events.specs.Table.{fresh}
 use Rattle.mysql_reply_events.specs.declared.context.ReplyKind.{ReplyKind}
 use Rattle.mysql_reply_events.specs.declared.context.ReplyKind.TheVariants as kinds
 use Rattle.mysql_server_packets.specs.Packets.{prepare_ok_at, prepare_ok_fields_at}
-use Rattle.mysql_session_modes.specs.SessionModes.{has_word, is_word_at, mode_behind_text}
-use Rattle.mysql_session_modes.specs.Told.{mode_behind_ok}
 
 -- ---- payloads
 
@@ -159,50 +156,50 @@ queried number answers = standing (reply kinds.Text phases.Nothing) number answe
 -- ---- payload by payload
 
 pub step_1 : step s0 asking ≡ Ok (asks, asked 0 false)
-unfolding step mode_behind bitflags_on_literals
+unfolding step bitflags_on_literals
 step_1 = refl
 
 pub step_2 : step (asked 1 true) answering ≡ Ok (answers, has_answer 1 true)
-unfolding step mode_behind prepare_ok_at prepare_ok_fields_at first bitflags_on_literals
+unfolding step prepare_ok_at prepare_ok_fields_at first bitflags_on_literals
 step_2 = refl
 
 pub step_3 : step (has_answer 0 false) sending ≡ Ok (sends_data, has_data 0 false)
-unfolding step mode_behind first bitflags_on_literals
+unfolding step first bitflags_on_literals
 step_3 = refl
 
 pub step_4 : step (has_data 0 true) executing ≡ Ok (executes_data, executes 0 true)
-unfolding step mode_behind execution_at readable_head execution_head binding_at each_at types_read
-    type_at execution_types has_nothing cell_at first bitflags_on_literals
+unfolding step execution_at readable_head execution_head binding_at each_at types_read type_at
+    execution_types has_nothing cell_at first bitflags_on_literals
 step_4 = refl
 
 pub step_5 : step (executes 1 true) accepting ≡ Ok (accepts, has_executed 1 true)
-unfolding step mode_behind mode_behind_ok ok_packet_at status_and_info_at info_at first bitflags_on_literals
+unfolding step ok_packet_at status_and_info_at info_at first bitflags_on_literals
 step_5 = refl
 
 pub step_6 : step (has_executed 0 false) executing_all ≡ Ok (executes_bulk, executes_all 0 false)
-unfolding step mode_behind bulk_execution_at bulk_head rows_at bulk_value_at each_at types_read
-    type_at bulk_types has_nothing cell_at first bitflags_on_literals
+unfolding step bulk_execution_at bulk_head rows_at bulk_value_at each_at types_read type_at
+    bulk_types has_nothing cell_at first bitflags_on_literals
 step_6 = refl
 
 pub step_7 : step (executes_all 1 true) accepting ≡ Ok (accepts, has_executed 1 true)
-unfolding step mode_behind mode_behind_ok ok_packet_at status_and_info_at info_at first bitflags_on_literals
+unfolding step ok_packet_at status_and_info_at info_at first bitflags_on_literals
 step_7 = refl
 
 pub step_8 : step (has_executed 0 false) executing_again ≡ Ok (executes_values, executes_again 0 false)
-unfolding step mode_behind execution_at readable_head execution_head binding_at each_at types_read
-    type_at execution_types has_nothing cell_at first bitflags_on_literals
+unfolding step execution_at readable_head execution_head binding_at each_at types_read type_at
+    execution_types has_nothing cell_at first bitflags_on_literals
 step_8 = refl
 
 pub step_9 : step (executes_again 1 true) accepting ≡ Ok (accepts, has_executed 1 true)
-unfolding step mode_behind mode_behind_ok ok_packet_at status_and_info_at info_at first bitflags_on_literals
+unfolding step ok_packet_at status_and_info_at info_at first bitflags_on_literals
 step_9 = refl
 
 pub step_10 : step (has_executed 0 false) querying ≡ Ok (queries, queried 0 false)
-unfolding step mode_behind mode_behind_text has_word is_word_at first bitflags_on_literals
+unfolding step first bitflags_on_literals
 step_10 = refl
 
 pub step_11 : step (queried 1 true) accepting ≡ Ok (accepts, has_executed 1 true)
-unfolding step mode_behind mode_behind_ok ok_packet_at status_and_info_at info_at first bitflags_on_literals
+unfolding step ok_packet_at status_and_info_at info_at first bitflags_on_literals
 step_11 = refl
 
 -- ---- over both streams

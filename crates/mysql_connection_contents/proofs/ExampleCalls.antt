@@ -1,12 +1,13 @@
 -- Calls of three connections by which the example's bytes went.
-use Rattle.std.proofs.Common.{◌≡◌, suc, ◌≤◌, ◌^◌, ◌+◌, inr, ℕ, true, false, List, [], ◌∷◌, ◌++◌, None, Some, Ok, length}
-use Rattle.std.proofs.Common.{map, drop, refl, sym, ap, subst, ◌∙◌, arith}
+use Rattle.std.proofs.Common.{◌≡◌, ◌==◌, suc, ◌≤◌, ◌^◌, ◌+◌, inl, inr, ℕ, Bool, true, false, not, List, [], ◌∷◌, ◌++◌}
+use Rattle.std.proofs.Common.{None}
+use Rattle.std.proofs.Common.{Some, true≢false, Result, Ok, length, map, drop, refl, sym, ap, subst, ◌∙◌, arith}
 use Rattle.std.proofs.Math.Dec.{leb}
 use Rattle.std.proofs.Math.Nat.{le_refl}
 use Rattle.std.proofs.lemmas.Bool.{leb-true}
 use Rattle.std.proofs.lemmas.List.{length-append}
 use Rattle.std.specs.Global.{Box, Vec}
-use Rattle.std.specs.List.{flat_map}
+use Rattle.std.specs.List.{flat_map, list_any}
 use Rattle.std.specs.declared.alloc.Global.{Global}
 use Rattle.std.specs.declared.borrow.CowSlice.TheVariants.{Owned}
 use denote.RawPtr.{null_ptr}
@@ -23,7 +24,7 @@ use Rattle.mysql_connection_contents.proofs.Example.{world}
 use Rattle.mysql_connection_contents.proofs.Speaking.{grow_more, grow_none}
 use Rattle.mysql_connection_contents.specs.Calls.{Calls, Does, Done, Feed, NextEvent, Party, PutExecution, PutPackets}
 use Rattle.mysql_connection_contents.specs.Example.{accepts, answer, answers, asked_text, asks, begun, by_text}
-use Rattle.mysql_connection_contents.specs.Example.{by_values, bytes, sent_data, executes_bulk, executes_data}
+use Rattle.mysql_connection_contents.specs.Example.{by_values, sent_data, executes_bulk, executes_data}
 use Rattle.mysql_connection_contents.specs.Example.{executes_values, in_bulk, of_text, ok, prepare, queries, sends_data}
 use Rattle.mysql_connection_contents.specs.Example.{small, agreed, text, values, with_data}
 use Rattle.mysql_connection_contents.specs.ExampleLaws.{ExampleIsMade}
@@ -31,6 +32,7 @@ use Rattle.mysql_connection_contents.specs.Shown.{behind_login}
 use Rattle.mysql_connection_machine.specs.Machines.{Machine, length_with}
 use Rattle.mysql_connection_machine.specs.PuttingPackets.{StandFirst, StopsAt}
 use Rattle.mysql_connection_machine.specs.Writing.{PutsOn}
+use Rattle.mysql_connection_modes.specs.Modes.{BehindStatement, ModeBehind}
 use Rattle.mysql_connection_rules.specs.Events.{Event, side_of}
 use Rattle.mysql_connection_rules.specs.Puts.{is_due, packets_for, put_on, step_for}
 use Rattle.mysql_connection_rules.specs.Refusals.{Written}
@@ -48,14 +50,28 @@ use Rattle.mysql_connection_writer.specs.Payloads.{payload_of}
 use Rattle.mysql_execution_writer.specs.Cells.{are_parameters, parameters_bytes}
 use Rattle.mysql_execution_writer.specs.Written.{can_be_put, execution_bytes}
 use Rattle.mysql_executions.specs.declared.bulk.BulkValue.TheVariants as bulk
+use Rattle.mysql_queries.specs.Sql.{default_mode}
+use Rattle.mysql_queries.specs.Tokens.{Byte, IsToken}
 use Rattle.mysql_reply_events.specs.declared.event.ReplyEvent.TheVariants as replies
+use Rattle.mysql_session_modes.specs.SessionModes.{BehindText, mode_behind_tokens}
+use Rattle.mysql_session_modes.specs.Texts.{has_word, is_word_at}
+use Rattle.mysql_session_modes.specs.Told.{mode_behind_ok}
+use Rattle.mysql_session_modes.specs.declared.session_mode.SessionMode.{SessionMode}
 use Rattle.mysql_stmt.specs.Executions.{null_bitmap, null_bits}
 use Rattle.mysql_wire.specs.Framing.{chunks, framing}
 
 -- ---- calls
 
+-- Of the session nothing is known, and what is told counts behind the first execution: then types are in force.
+abbrev known_at : Standing → SessionMode
+known_at s = record {
+  mode = None;
+  is_safe_set = None;
+  counts = list_any (λ entry. not (length entry.1.parameters.types == 0)) s.statements.by_id;
+}
+
 abbrev going : World → Machine
-going w = record { world = w; failure = None; row = None }
+going w = record { world = w; failure = None; row = None; mode = known_at w.standing }
 
 abbrev fed : Side → List ℕ → Done
 fed side piece = record { call = Feed side piece (Ok tt); appended = []; took = []; put = [] }
@@ -81,6 +97,13 @@ taking : (old new : World) (event : HeldEvent) → next old ≡ Says (event_view
     Does (going old) (took event) (going new)
 taking old new event h = record { before = []; does = ((tt, λ e. ((h, refl), refl)), refl, refl, refl) }
 
+one_event : (s : Standing) (payload : List ℕ) (one other : Event) (after behind : Standing) →
+    step s payload ≡ Ok (one, after) → step s payload ≡ Ok (other, behind) → one ≡ other
+one_event s payload one other after behind e f = ap (λ (x : Event × Standing). x.0) (ok_is (sym e ∙ f))
+  where
+    ok_is : {X E : Type 0} {x y : X} → (let r : Result X E = Ok x in r) ≡ Ok y → x ≡ y
+    ok_is h = cc
+
 putting : (old new : World) (side : Side) (packet payload : List ℕ) (event : Event)
     (after : Standing) → StandFirst (limit_of side old.limits) packet (payload ∷
     []) (drop (length packet) packet) → side_of event ≡ side → is_due old event ≡ true
@@ -89,8 +112,9 @@ putting : (old new : World) (side : Side) (packet payload : List ℕ) (event : E
     leb (kept after) (room_to_keep old.limits) ≡ true
     → new ≡ put_on old event payload after → packet ≡ packets_for event old.standing payload →
     StopsAt (going new) side (drop (length packet) packet) →
+    ModeBehind new.standing event (known_at old.standing) (known_at new.standing) →
     Does (going old) (put side packet event) (going new)
-putting old new side packet payload event after stand own due says_so says within keeps goes is stops =
+putting old new side packet payload event after stand own due says_so says within keeps goes is stops known =
     let written : Written old event payload new [] packet = record {
       after = after;
       may = record {
@@ -115,6 +139,9 @@ putting old new side packet payload event after stand own due says_so says withi
               going new,
               packet,
               record {
+                knows = λ other behind e.
+                    subst (λ (x : Event). ModeBehind new.standing x (known_at old.standing) (known_at new.standing))
+                    (one_event old.standing payload event other after behind says e) known;
                 going = refl;
                 puts =
                     ((event, record { its_own = own; written = written; says = says }, refl), refl);
@@ -390,6 +417,43 @@ vec_of heap xs few = record {
 abbrev boxed : {X : Type 0} → Global → X → Box X
 boxed heap x = record { ptr = null_ptr; alloc = heap; value = x }
 
+-- ---- what is known behind them
+
+abbrev knowing : Bool → SessionMode
+knowing counts = record { mode = None; is_safe_set = None; counts = counts }
+
+executed_known : (counts : Bool) → BehindStatement (Some text) (knowing counts) (knowing true)
+unfolding mode_behind_tokens has_word is_word_at
+executed_known counts = (
+  λ is. (
+    (0x44 ∷ []) ∷ (0x4f ∷ []) ∷ (0x20 ∷ []) ∷ (0x3f ∷ []) ∷ [],
+    record { joined = refl; each = ((0x44, refl), ((0x4f, refl), ((0x20, refl), (refl, tt)))) },
+    refl,
+  ),
+  λ is. absurd (true≢false is),
+)
+
+its_string : IsToken default_mode (0x27 ∷ 0x66 ∷ 0x27 ∷ []) []
+its_string = record {
+  parts = Byte 0x66 ∷ [];
+  closing = 0x27 ∷ [];
+  inside = ((λ e. omega (arith, e), λ is e. omega (arith, e)), tt);
+  spelled = refl;
+  closes = inl (refl, tt);
+}
+
+queried_known : BehindText asked_text (knowing true) (knowing true)
+unfolding mode_behind_tokens has_word is_word_at
+queried_known = (
+  (0x44 ∷ []) ∷ (0x4f ∷ []) ∷ (0x20 ∷ []) ∷ (0x27 ∷ 0x66 ∷ 0x27 ∷ []) ∷ [],
+  record { joined = refl; each = ((0x44, refl), ((0x4f, refl), ((0x20, refl), (its_string, tt)))) },
+  refl,
+)
+
+accepted_known : (s : Standing) (known : SessionMode) → ModeBehind s accepts known known
+unfolding mode_behind_ok
+accepted_known s known = refl
+
 module _ (heap : Global) where
   abbrev in_command : HeldCommand → HeldEvent
   in_command command = held.Command (boxed heap command)
@@ -470,7 +534,7 @@ module _ (heap : Global) where
   unfolding framing chunks
   said_1 = follows v0 v1 Client prepare asking 1 held_1 (put Client prepare asks) (asked 0 false)
       (putting v0 v1 Client prepare asking asks (asked 0 false) (1, [], refl, refl) refl refl step_1
-      step_1 refl refl refl refl (inr refl)) step_1 refl refl refl refl
+      step_1 refl refl refl refl (inr refl) refl) step_1 refl refl refl refl
 
   said_2 : Follows v1 (by_packet Server answer held_2 v2)
   unfolding framing chunks
@@ -480,7 +544,7 @@ module _ (heap : Global) where
         [],
         refl,
         refl,
-      ) refl refl step_2 step_2 refl refl refl refl (inr refl)) step_2 refl refl refl refl
+      ) refl refl step_2 step_2 refl refl refl refl (inr refl) refl) step_2 refl refl refl refl
 
   said_3 : Follows v2 (by_packet Client sent_data held_3 v3)
   unfolding framing chunks
@@ -490,14 +554,15 @@ module _ (heap : Global) where
         [],
         refl,
         refl,
-      ) refl refl step_3 step_3 refl refl refl refl (inr refl)) step_3 refl refl refl
+      ) refl refl step_3 step_3 refl refl refl refl (inr refl) refl) step_3 refl refl refl
       refl
 
   said_4 : Follows v3 (by_packet Client with_data held_4 v4)
   unfolding framing chunks
   said_4 = follows v3 v4 Client with_data executing 1 held_4 (put Client with_data executes_data)
       (executes 0 true) (putting v3 v4 Client with_data executing executes_data (executes 0 true)
-      (1, [], refl, refl) refl refl step_4 step_4 refl refl refl refl (inr refl)) step_4 refl refl
+      (1, [], refl, refl) refl refl step_4 step_4 refl refl refl refl (inr refl)
+      (executed_known false)) step_4 refl refl
       refl refl
 
   said_5 : Follows v4 (by_packet Server ok held_5 v5)
@@ -508,14 +573,15 @@ module _ (heap : Global) where
         [],
         refl,
         refl,
-      ) refl refl step_5 step_5 refl refl refl refl (inr refl)) step_5 refl refl refl refl
+      ) refl refl step_5 step_5 refl refl refl refl (inr refl)
+      (accepted_known (has_executed 0 false) (knowing true))) step_5 refl refl refl refl
 
   said_6 : Follows v5 (by_packet Client in_bulk held_6 v6)
   unfolding framing chunks
   said_6 = follows v5 v6 Client in_bulk executing_all 1 held_6 (put Client in_bulk executes_bulk)
       (executes_all 0 false) (putting v5 v6 Client in_bulk executing_all executes_bulk
       (executes_all 0 false) (1, [], refl, refl) refl refl step_6 step_6 refl refl refl refl
-      (inr refl)) step_6 refl refl refl refl
+      (inr refl) (executed_known true)) step_6 refl refl refl refl
 
   said_7 : Follows v6 (by_packet Server ok held_5 v7)
   unfolding framing chunks
@@ -525,7 +591,8 @@ module _ (heap : Global) where
         [],
         refl,
         refl,
-      ) refl refl step_7 step_7 refl refl refl refl (inr refl)) step_7 refl refl refl refl
+      ) refl refl step_7 step_7 refl refl refl refl (inr refl)
+      (accepted_known (has_executed 0 false) (knowing true))) step_7 refl refl refl refl
 
   said_8 : Follows v7 (record { side = Client; packet = by_values; event = held_8; puts = put_values; behind = v8 })
   said_8 = follows v7 v8 Client by_values executing_again 1 held_8 put_values
@@ -539,7 +606,8 @@ module _ (heap : Global) where
         [],
         refl,
         refl,
-      ) refl refl step_9 step_9 refl refl refl refl (inr refl)) step_9 refl refl refl refl
+      ) refl refl step_9 step_9 refl refl refl refl (inr refl)
+      (accepted_known (has_executed 0 false) (knowing true))) step_9 refl refl refl refl
 
   said_10 : Follows v9 (by_packet Client by_text held_10 v10)
   unfolding framing chunks
@@ -549,7 +617,7 @@ module _ (heap : Global) where
         [],
         refl,
         refl,
-      ) refl refl step_10 step_10 refl refl refl refl (inr refl)) step_10 refl refl refl
+      ) refl refl step_10 step_10 refl refl refl refl (inr refl) queried_known) step_10 refl refl refl
       refl
 
   said_11 : Follows v10 (by_packet Server ok held_5 v11)
@@ -560,7 +628,8 @@ module _ (heap : Global) where
         [],
         refl,
         refl,
-      ) refl refl step_11 step_11 refl refl refl refl (inr refl)) step_11 refl refl
+      ) refl refl step_11 step_11 refl refl refl refl (inr refl)
+      (accepted_known (has_executed 0 false) (knowing true))) step_11 refl refl
       refl refl
 
   abbrev all_said : List Said

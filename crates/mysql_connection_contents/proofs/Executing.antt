@@ -289,7 +289,7 @@ spoken_shown id [] s last k own knows spoke = refl
 spoken_shown id (x ∷ xs) s last k own knows spoke =
     let mid = spoke.1.0 in
     let said = step_said s x.payload x.event mid spoke.1.1 in
-    let now = phase_shown id s.phase s k x.payload x.event said.leaves knows.texts.1 said.says in
+    let now = phase_shown id s.phase s k x.payload x.event mid knows.texts.1 said in
     let here : (if is_about id x then sets_said x.event else []) ≡ executed_by id k x.event =
     ap (λ (t : Standing). if is_due t.phase &&
     (is_about_parameters x.payload && is_id (id_in_question t.statements x.payload) id) then
@@ -361,7 +361,7 @@ spoken_queries (x ∷ xs) s last spoke = (
   λ text is due none. let said =
       step_said x.standing (0x03 ∷ text) x.event spoke.1.0 (ap (step x.standing) (sym is) ∙
       ap (λ (t : Standing). step t x.payload) spoke.0 ∙ spoke.1.1) in
-      query_shown x.standing.phase x.standing text x.event said.leaves due none said.says,
+      query_shown x.standing.phase x.standing text x.event spoke.1.0 due none said,
   spoken_queries xs (numbered x.side x.number spoke.1.0) last spoke.1.2,
 )
 

@@ -63,4 +63,4 @@ module _ (error : ServerError) where
 
   pub no_last_words : (s : Standing) (payload : List ℕ) (mid : Standing) → step s payload ≡ Ok (last, mid) → ⊥
   no_last_words s payload mid h =
-      let said = step_said s payload last mid h in phase_says s.phase s payload said.leaves said.says
+      phase_says s.phase s payload mid (step_said s payload last mid h)

@@ -224,5 +224,4 @@ phase_ids (phases.Over reason) s payload e mid own h = absurd cc
 pub step_ids : (s : Standing) (payload : List ℕ) (e : Event) (mid : Standing) →
     OwnIds s.statements → step s payload ≡ Ok (e, mid) → OwnIds mid.statements
 step_ids s payload e mid own h =
-    let said = step_said s payload e mid h in
-    subst Own (sym said.stands) (phase_ids s.phase s payload e said.leaves own said.says)
+    phase_ids s.phase s payload e mid own (step_said s payload e mid h)

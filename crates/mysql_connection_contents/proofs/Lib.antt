@@ -23,6 +23,7 @@ mod Agreed
 mod Speaking
 mod Commanding
 mod About
+mod Counting
 mod Going
 mod Numbered
 mod Knowing

@@ -94,15 +94,7 @@ module _ (id count : ℕ) where
   pub prepared_goes : (s : Standing) (payload : List ℕ) (e : Event) (mid : Standing) →
       step s payload ≡ Ok (e, mid) → PreparesIn id count s.phase e → Made s mid
   prepared_goes s payload e mid h prepares =
-      let said = step_said s payload e mid h in
-      let made = phase_made s.phase s payload e said.leaves said.says prepares in
-      subst (Made s) (sym said.stands)
-      (record {
-        stands = made.stands;
-        capabilities = made.capabilities;
-        logged_in =
-            made.logged_in;
-      })
+      phase_made s.phase s payload e mid (step_said s payload e mid h) prepares
 
 pub prepared_statements_stand : PreparedStatementsStand
 prepared_statements_stand s mid payload event id count h prepares =

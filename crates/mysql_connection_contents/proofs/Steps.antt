@@ -176,14 +176,4 @@ module _ (s : Standing) (id : ℕ) (p : InForce) (stands : Stands s.statements i
       LeavesIn id s.phase s.statements payload e → step s payload ≡ Ok (e, mid) →
       Behaves (is_due s.phase && flag payload) payload e mid
   step_behaves payload e mid settled leaves h =
-      let said = step_said s payload e mid h in
-      let behaves = phase_behaves s.phase payload e said.leaves settled.logged_in settled.own_ids leaves said.says in
-      subst (Behaves (is_due s.phase && flag payload) payload e) (sym said.stands) (record {
-        goes = record {
-          stands = behaves.goes.stands;
-          capabilities =
-              behaves.goes.capabilities;
-          logged_in = behaves.goes.logged_in;
-        };
-        says = behaves.says;
-      })
+      phase_behaves s.phase payload e mid settled.logged_in settled.own_ids leaves (step_said s payload e mid h)

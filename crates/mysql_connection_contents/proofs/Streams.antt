@@ -14,7 +14,7 @@ use Rattle.mysql_connection_contents.proofs.Prepared.{ids_begin_own, prepared_go
 use Rattle.mysql_connection_contents.proofs.Runs.{heard_spoken}
 
 -- what was heard from a payload on, where each statement has an id of its own
-heard_from : (before : List Spoken) (answer : Spoken) (xs : List Spoken) (w last : World) →
+pub heard_from : (before : List Spoken) (answer : Spoken) (xs : List Spoken) (w last : World) →
     IdsAreOwn w.standing → Heard w (before ++ answer ∷ xs) last → (v : World) ×
     IdsAreOwn v.standing × Heard v (answer ∷ xs) last
 heard_from [] answer xs w last own h = (w, own, h)

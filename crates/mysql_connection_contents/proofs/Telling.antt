@@ -234,6 +234,4 @@ module _ (s : Standing) (k : Known) (fit : TextsFit s.statements k) (own : IsOrd
 pub step_knows : (s mid : Standing) (payload : List ℕ) (e : Event) (k : Known) →
     IsOrdered s.statements → step s payload ≡ Ok (e, mid) → Knows s k → Knows mid (behind e k)
 step_knows s mid payload e k own h knows =
-    let said = step_said s payload e mid h in
-    let its = phase_knows s k knows.texts own s.phase payload e said.leaves knows.asked said.says in
-    subst (λ (x : Standing). Knows x (behind e k)) (sym said.stands) (record { texts = its.texts; asked = its.asked })
+    phase_knows s k knows.texts own s.phase payload e mid knows.asked (step_said s payload e mid h)

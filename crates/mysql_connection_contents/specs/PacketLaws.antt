@@ -1,18 +1,20 @@
 -- What a machine puts by packets is spoken, payload by payload. Each law is the contract of a function in
 -- src/packet_laws.rt.
 -- MySQL: Client/Server Protocol, "MySQL Packets", "Connection Lifecycle" and "Prepared Statements".
-use Rattle.std.specs.Prelude.{◌≡◌, ◌⊎◌, ◌<◌, ◌≤◌, ◌^◌, ℕ, true, List, ◌++◌, drop, length, map, Ok, Some}
+use Rattle.std.specs.Prelude.{◌≡◌, ◌⊎◌, ◌<◌, ◌≤◌, ◌^◌, ℕ, true, List, ◌∷◌, ◌++◌, drop, length, map, Ok, Some}
 use Rattle.std.specs.List.{AllByRecursion, flat_map, list_all}
 use Rattle.mysql_command_rules.specs.Sent.{AreSent, SentPayload, payloads_of}
 use Rattle.mysql_command_rules.specs.declared.road.Road.{Road}
 use Rattle.mysql_commands.specs.Replies.{statement_of}
 use Rattle.mysql_connection_contents.specs.Calls.{Calls, Done, events_in, is_by, streams_from}
+use Rattle.mysql_connection_contents.specs.Contents.{BeginsWithNone, Leaves, PreparesIn}
 use Rattle.mysql_connection_contents.specs.Contents.{Spoken, events_of, is_due, payloads_about}
 use Rattle.mysql_connection_contents.specs.Deliveries.{IsByStatement}
 use Rattle.mysql_connection_contents.specs.Records.{HasSpoken}
 use Rattle.mysql_connection_machine.specs.Laws.{PutsSent}
 use Rattle.mysql_connection_machine.specs.Machines.{Machine}
 use Rattle.mysql_connection_machine.specs.PuttingPackets.{PutsAll, PutsPackets}
+use Rattle.mysql_connection_machine.specs.PuttingSets.{PutsSets}
 use Rattle.mysql_connection_recoding.specs.Agreement.{is_about_parameters}
 use Rattle.mysql_connection_rules.specs.Standing.Phase.{Over}
 use Rattle.mysql_connection_rules.specs.Streams.{Beginning, Piece, Streams, grow, limit_of}
@@ -111,6 +113,18 @@ PutPacketsAreAbout = (begun : Beginning) (streams : Streams) (xs : List Spoken) 
     AllByRecursion (λ payload. length payload ≤ limit_of Client old.world.limits) payloads →
     PutsPackets old Client (framings payloads EachFromZero) before (Ok used) new behind →
     PutsAbout begun streams xs old payloads before (drop used (framings payloads EachFromZero)) new behind id
+
+-- COUNTS
+
+-- What `put_sets` compares with the number of a query's places is what the server's answer to the prepare has, as
+-- long as the statement stays: where it puts sets, the answer has as many parameters as the query has places.
+abbrev pub CountsAreChecked : Type 0
+CountsAreChecked = (begun : Beginning) (streams : Streams) (before behind : List Spoken) (answer : Spoken)
+    (old new : Machine) (id count places used : ℕ) (packets out appended : List ℕ) →
+    begun.first.number < 256 → BeginsWithNone begun →
+    HasSpoken Client Server begun streams (before ++ answer ∷ behind) old.world →
+    PreparesIn id count answer.standing.phase answer.event → AllByRecursion (Leaves id) behind →
+    id < last_prepared → PutsSets old id places packets out (Ok used) new appended → count ≡ places
 
 -- A CLIENT'S CALLS
 

@@ -2,10 +2,11 @@
 //! theorems.
 
 ghost use Rattle.mysql_connection_contents.specs.PacketLaws.{ClientsGoOn, FurtherSetsAreOf};
-ghost use Rattle.mysql_connection_contents.specs.PacketLaws.{PacketsAreCommands};
+ghost use Rattle.mysql_connection_contents.specs.PacketLaws.{CountsAreChecked, PacketsAreCommands};
 ghost use Rattle.mysql_connection_contents.specs.PacketLaws.{PacketsAreSpoken, PutPacketsAreAbout};
 ghost use Rattle.mysql_connection_contents.specs.PacketLaws.{SentPacketsAreAbout, SentSetsAreOf};
 
+use crate::delivery_laws::machines_hear_what_they_put;
 use mysql_connection_machine::laws::sent_packets_are_put;
 use mysql_connection_rules::agreement_laws::{numbers_are_bytes, puts_are_read};
 use mysql_wire::first_packet_laws::{
@@ -64,6 +65,20 @@ pub fn put_packets_are_about()
     ensures { PutPacketsAreAbout }
 {
     sent_packets_are_put();
+}
+
+/// Where `put_sets` puts sets, the server's answer to the prepare has as many parameters as the query
+/// has placeholders.
+///
+/// That is said of the statement's last answer, while the statement isn't closed or replaced. The
+/// user doesn't change, and the session isn't reset. The id isn't 0xffffffff. So the call checks what
+/// [`delivered_sets_are_said`](crate::delivery_laws::delivered_sets_are_said) asks of the answer.
+///
+/// MySQL: Client/Server Protocol, "COM_STMT_PREPARE Response" (num_params).
+pub fn counts_are_checked()
+    ensures { CountsAreChecked }
+{
+    machines_hear_what_they_put();
 }
 
 /// The record of what a client put and took goes on with its calls.

@@ -1,7 +1,7 @@
 -- Commands that are put by their payloads.
-use Rattle.std.proofs.Common.{◌≡◌, ◌≤◌, ◌+◌, ◌-◌, ℕ, List, ◌++◌, Option, Some, None, Ok, Err, true, length, take, drop}
-use Rattle.std.proofs.Common.{refl, sym, ap, subst, ◌∙◌, arith}
-use Rattle.std.proofs.lemmas.List.{drop-drop, drop_at}
+use Rattle.std.proofs.Common.{◌≡◌, ◌≤◌, ◌+◌, ◌-◌, ℕ, List, ◌++◌, Option, Some, None, Result, Ok, Err, true, length}
+use Rattle.std.proofs.Common.{take, drop, refl, sym, ap, subst, ◌∙◌, arith}
+use Rattle.std.proofs.lemmas.List.{drop-drop, drop-take, drop_at}
 use Rattle.std.specs.Prelude.{slice_index_or}
 use Rattle.mysql_connection_rules.specs.Puts.{is_free, number_for, packets_for}
 use Rattle.mysql_wire.specs.FirstPacket.{first_packet, next_number}
@@ -11,17 +11,19 @@ use Rattle.mysql_connection_state.specs.Peeks.{said_in}
 use Rattle.mysql_connection_rules.specs.Events.{Event}
 use Rattle.mysql_connection_rules.specs.Standing.{Phase, Standing}
 use Rattle.mysql_connection_rules.specs.Standing as phases
-use Rattle.mysql_connection_rules.specs.SessionModes.{mode_behind}
 use Rattle.mysql_connection_rules.specs.StepLaws.{step_says}
+use Rattle.mysql_connection_modes.specs.Modes.{BehindCommand, is_plain}
 use Rattle.mysql_connection_rules.specs.Steps.{after_command, in_turn, step}
 use Rattle.mysql_connection_rules.specs.Streams.{World, limit_of}
 use Rattle.mysql_connection_rules.specs.declared.side.Side.{Side}
 use Rattle.mysql_connection_rules.specs.declared.side.Side.TheVariants.{Client}
 use Rattle.mysql_connection_state.specs.Follows.{after_said, command_said}
+use Rattle.mysql_session_modes.specs.declared.session_mode.SessionMode.{SessionMode}
 use Rattle.mysql_wire.specs.Framing.{framing, number_after}
 use Rattle.mysql_connection_machine.proofs.InPlace.{front_of, gone}
 use Rattle.mysql_connection_machine.proofs.PutPayloads.{appended}
 use Rattle.mysql_connection_machine.specs.Machines.{LendingWorld, Machine, lending_none}
+use Rattle.mysql_connection_machine.specs.Modes.{Knows, KnowsPayload}
 use Rattle.mysql_connection_machine.specs.PuttingCommands.{AwaitsCommandOf, PutsCommandBy, PutsFirstCommand}
 use Rattle.mysql_connection_machine.specs.PuttingCommands.{command_event}
 use Rattle.mysql_connection_machine.specs.PuttingPackets.{PutsCommandOrStays, first_of}
@@ -35,7 +37,6 @@ use Rattle.mysql_connection_machine.specs.declared.put_refusal.PutRefusal.TheVar
 
 pub command_leads : (s : Standing) (payload : List ℕ) → s.phase ≡ phases.Command →
     step s payload ≡ Ok (command_event s payload, after_said s payload)
-unfolding mode_behind
 command_leads s payload phase =
     step_says s payload (command_event s payload) (after_command s payload (command_said s payload))
     (ap (λ (p : Phase). in_turn p s payload) phase)
@@ -51,6 +52,38 @@ command_is_due w payload phase free within = record {
   awaited = rw (phase, free) refl;
   within = within;
 }
+
+-- ---- what is known behind what it says
+
+events_same : (s : Standing) (payload : List ℕ) (one other : Event) (after behind : Standing) →
+    step s payload ≡ Ok (one, after) →
+    step s payload ≡ Ok (other, behind) → one ≡ other
+events_same s payload one other after behind e f = ap (λ (x : Event × Standing). x.0) (ok_is (sym e ∙ f))
+  where
+    ok_is : {X E : Type 0} {x y : X} → (let r : Result X E = Ok x in r) ≡ Ok y → x ≡ y
+    ok_is h = cc
+
+pub payload_known : (old new : Machine) (payload : List ℕ) (event : Event) (after : Standing) →
+    step old.world.standing payload ≡ Ok (event, after) → Knows old (Some event) new → KnowsPayload old payload new
+payload_known old new payload event after says knows = λ other behind e.
+    subst (λ (x : Event). Knows old (Some x) new)
+    (events_same old.world.standing payload event other after behind says e) knows
+
+pub command_known : (old new : Machine) (payload : List ℕ) (held : Standing) (mode : SessionMode) →
+    old.world.standing.phase ≡ phases.Command → mode ≡ old.mode → held ≡ new.world.standing →
+    BehindCommand held (command_said old.world.standing payload) mode new.mode → KnowsPayload old payload new
+command_known old new payload held mode phase is stands behind =
+    let said = command_said old.world.standing payload in
+    payload_known old new payload (command_event old.world.standing payload) (after_said old.world.standing payload)
+    (command_leads old.world.standing payload phase)
+    (subst (λ (m : SessionMode). BehindCommand new.world.standing said m new.mode) is
+    (subst (λ (s : Standing). BehindCommand s said mode new.mode) stands behind))
+
+pub behind_header : (packets : List ℕ) (used : ℕ) → 4 ≤ used → drop 4 (take used packets) ≡
+    take (used - 4) (drop 4 packets)
+behind_header packets used within =
+    let whole : used ≡ 4 + (used - 4) = omega (arith, within) in
+    ap (λ (n : ℕ). drop 4 (take n packets)) whole ∙ drop-take 4 (used - 4) packets
 
 -- ---- its packets
 
@@ -114,48 +147,67 @@ command_put law old new side payload before behind done awaits within puts =
 -- ---- the one that stands first of packets
 
 pub first_command : PayloadsAreInTurn → (old new : LendingWorld) (packets before behind payload : List ℕ)
-    (limit number : ℕ) (done : Unit {0}) → limit ≡ old.world.limits.client → number ≡ slice_index_or packets 3 0 →
+    (limit number : ℕ) (done : Unit {0}) → is_plain old.world.standing payload ≡ true → limit ≡
+    old.world.limits.client →
+    number ≡ slice_index_or packets 3 0 →
     old.world.standing.phase ≡ phases.Command → is_free old.world.unread.client ≡ true → length payload ≤ limit →
     IsOneChunk (first_packet limit number packets) number packets payload →
     PutsPayload old (command_event old.world.standing (drop 4 (take (4 + length payload) packets)))
     (drop 4 (take (4 + length payload) packets)) before (Ok done) new behind →
     PutsCommandBy old packets before (4 + length payload) new behind
-first_command law old new packets before behind payload limit number done its_limit its_number phase
-    free within one puts = record {
+first_command law old new packets before behind payload limit number done plain its_limit its_number
+    phase free within one puts = record {
       payload = payload;
       number = next_number number;
       found = ap (λ (l : ℕ). first_of l packets) (sym its_limit) ∙
           ap (λ (n : ℕ). first_packet limit n packets) (sym its_number) ∙ one.is;
       header = omega arith;
       within = one.within;
+      stands = one.stands;
+      phase = phase;
+      plain = plain;
       puts = client_put law old new payload before behind done phase free
           (subst (λ (l : ℕ). length payload ≤ l) its_limit within)
           (subst (λ (p : List ℕ). PutsPayload old (command_event old.world.standing p) p before
           (Ok done) new behind) (sym one.stands) puts);
     }
 
+-- what a machine knows behind it
+abbrev pub MachineKnows : Machine → List ℕ → Option ℕ → Machine → Type 0
+MachineKnows old packets (Some used) new = (payload : List ℕ) → payload ≡ drop 4 (take used packets) →
+    is_plain old.world.standing payload ≡ true → old.world.standing.phase ≡ phases.Command →
+    KnowsPayload old payload new
+MachineKnows old packets None new = new.mode ≡ old.mode
+
 -- the same of a machine that has found no fault
 pub machine_put : (old new : Machine) (side : Side) (packets before behind : List ℕ) (result : Option ℕ) →
-    side ≡ Client → old.failure ≡ None → new.failure ≡ old.failure →
+    side ≡ Client → old.failure ≡ None → new.failure ≡ old.failure → MachineKnows old packets result new →
     PutsFirstCommand (record { world = old.world; row = old.row }) packets before result
     (record { world = new.world; row = new.row }) behind →
     PutsCommandOrStays old side packets before result new behind
-machine_put old new side packets before behind (Some used) its going stays first =
+machine_put old new side packets before behind (Some used) its going stays knows first =
     subst (λ (x : Side). PutsCommandOrStays old x packets before (Some used) new behind) (sym its) (record {
       payload = first.payload;
       number = first.number;
       found = first.found;
       header = first.header;
       within = first.within;
-      one = record { going = going; puts = (first.puts, stays ∙ going) };
+      one = record {
+        knows = knows first.payload first.stands first.plain first.phase;
+        going =
+            going;
+        puts = (first.puts, stays ∙ going);
+      };
     })
-machine_put old new side packets before behind None its going stays same = (
-  machines_same old new (ap (λ (l : LendingWorld). l.world) same.0) (ap (λ (l : LendingWorld). l.row) same.0) stays,
+machine_put old new side packets before behind None its going stays knows same = (
+  machines_same old new (ap (λ (l : LendingWorld). l.world) same.0)
+      (ap (λ (l : LendingWorld). l.row) same.0) stays knows,
   same.1,
 ) where
   machines_same : (old new : Machine) → old.world ≡ new.world → old.row ≡ new.row → new.failure ≡
-      old.failure → old ≡ new
-  machines_same old new w r f =
-      ap (λ (x : World). record { world = x; failure = old.failure; row = old.row }) w
-      ∙ ap (λ x. record { world = new.world; failure = old.failure; row = x }) r
-      ∙ ap (λ x. record { world = new.world; failure = x; row = new.row }) (sym f)
+      old.failure → new.mode ≡ old.mode → old ≡ new
+  machines_same old new w r f m =
+      ap (λ (x : World). record { world = x; failure = old.failure; row = old.row; mode = old.mode }) w
+      ∙ ap (λ x. record { world = new.world; failure = old.failure; row = x; mode = old.mode }) r
+      ∙ ap (λ x. record { world = new.world; failure = x; row = new.row; mode = old.mode }) (sym f)
+      ∙ ap (λ x. record { world = new.world; failure = new.failure; row = new.row; mode = x }) (sym m)

@@ -1,5 +1,6 @@
 pub mod Coming
 pub mod Lending
+pub mod Knowing
 pub mod Limits
 pub mod Phases
 pub mod PutEvents

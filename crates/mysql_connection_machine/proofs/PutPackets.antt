@@ -11,6 +11,7 @@ use Rattle.mysql_connection_rules.specs.Streams.{Failure, Stream, World, limit_o
 use Rattle.mysql_connection_rules.specs.declared.limits.Limits.{Limits}
 use Rattle.mysql_connection_rules.specs.declared.side.Side.{Side}
 use Rattle.mysql_connection_machine.specs.Machines.{Machine, stream_in, turn_by}
+use Rattle.mysql_connection_machine.specs.Modes.{KnowsPayload}
 use Rattle.mysql_connection_machine.specs.PuttingPackets.{PutsAll, PutsFirstBy, PutsOne, PutsUpTo, StandFirst, first_of}
 use Rattle.mysql_connection_machine.specs.PuttingPayloads.{PutsWithoutEventOn, is_due_of}
 
@@ -113,15 +114,16 @@ due_unfailed m side due = none_failed m.failure side (stream_in side m) m.world.
 pub put_first_by : PacketsTakeBytes → (old new : Machine) (side : Side) (packets before behind payload : List ℕ)
     (limit number used next : ℕ) → limit ≡ limit_of side old.world.limits →
     number ≡ slice_index_or packets 3 0 → first_packet limit number packets ≡ Whole payload next (drop used packets) →
-    used ≤ length packets → old.failure ≡ None → PutsWithoutEventOn old side payload before (Ok tt) new behind →
+    used ≤ length packets → old.failure ≡ None → KnowsPayload old payload new →
+    PutsWithoutEventOn old side payload before (Ok tt) new behind →
     PutsFirstBy old side packets before used new behind
 put_first_by law old new side packets before behind payload limit number used next its_limit
-    its_number found within going puts = record {
+    its_number found within going knows puts = record {
       payload = payload;
       number = next;
       found = ap (λ (l : ℕ). first_of l packets) (sym its_limit) ∙
           ap (λ (n : ℕ). first_packet limit n packets) (sym its_number) ∙ found;
       header = took_four law limit number used next packets payload found;
       within = within;
-      one = record { going = going; puts = puts };
+      one = record { knows = knows; going = going; puts = puts };
     }

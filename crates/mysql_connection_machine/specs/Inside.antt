@@ -54,4 +54,5 @@ machine_inside c = record {
   world = c.reader.world;
   failure = option_map failure_view c.fault;
   row = c.reader.row;
+  mode = c.mode;
 }

@@ -2,6 +2,7 @@ pub mod Buffers
 pub mod Inside
 pub mod Laws
 pub mod Machines
+pub mod Modes
 pub mod Takes
 pub mod Endings
 pub mod Writing
@@ -11,3 +12,4 @@ pub mod PuttingCommands
 pub mod PuttingExecutions
 pub mod PuttingPackets
 pub mod PuttingRows
+pub mod PuttingSets

@@ -23,6 +23,8 @@ use Rattle.mysql_connection_statements.specs.Statements.{Statement, Statements, 
 use Rattle.mysql_connection_state.specs.declared.event.Event.{Event}
 use Rattle.mysql_reply_events.specs.Events.Event.{RowEvent}
 use Rattle.mysql_rows.specs.Rows.{Row}
+use Rattle.mysql_session_modes.specs.SessionModes.{unknown_mode}
+use Rattle.mysql_session_modes.specs.declared.session_mode.SessionMode.{SessionMode}
 use Rattle.mysql_connection_machine.specs.declared.fault.ConnectionFault.{ConnectionFault}
 use Rattle.mysql_connection_machine.specs.declared.fault.FeedRefusal.{FeedRefusal}
 use Rattle.mysql_connection_machine.specs.declared.fault.FeedRefusal.TheVariants.{Closed, Held}
@@ -42,15 +44,17 @@ pub record LendingWorld : Type 0 where
 abbrev pub lending_none : World → LendingWorld
 lending_none w = record { world = w; row = None }
 
--- The world of the connection, the fault that was found, and the row that was lent last.
+-- The world of the connection, the fault that was found, the row that was lent last, and what is known of the
+-- session's mode and character set.
 pub record Machine : Type 0 where
   pub world : World
   pub failure : Option Failure
   pub row : Option Row
+  pub mode : SessionMode
 
 -- A machine to which no byte came.
 abbrev pub new_machine : Beginning → Machine
-new_machine begun = record { world = start begun no_bytes; failure = None; row = None }
+new_machine begun = record { world = start begun no_bytes; failure = None; row = None; mode = unknown_mode }
 
 abbrev pub stream_in : Side → Machine → Stream
 stream_in side m = stream_of side m.world.unread
@@ -61,6 +65,7 @@ come_to side coming m = record {
   world = come side coming m.world;
   failure = m.failure;
   row = None;
+  mode = m.mode;
 }
 
 -- No more comes of a side's stream.

@@ -8,6 +8,7 @@ use Rattle.mysql_connection_rules.specs.Streams.{limit_of}
 use Rattle.mysql_connection_rules.specs.declared.fault.Fault.TheVariants as faults
 use Rattle.mysql_connection_rules.specs.declared.side.Side.{Side}
 use Rattle.mysql_connection_machine.specs.Machines.{Machine}
+use Rattle.mysql_connection_machine.specs.Modes.{KnowsPayload}
 use Rattle.mysql_connection_machine.specs.PuttingPayloads.{PutsWithoutEventOn, RefusesPayload, is_due_of}
 use Rattle.mysql_connection_machine.specs.declared.packets_refusal.PacketsRefusal.{PacketsRefusal}
 use Rattle.mysql_connection_machine.specs.declared.payload_refusal.PayloadRefusal.{PayloadRefusal}
@@ -26,6 +27,7 @@ StandFirst limit packets (payload ∷ payloads) rest = (number : ℕ) × (behind
 -- A payload of the side was put on a machine that has found no fault, as the event that it says.
 pub record PutsOne (old : Machine) (side : Side) (payload before : List ℕ) (new : Machine)
     (behind : List ℕ) : Type 0 where
+  pub knows : KnowsPayload old payload new
   pub going : old.failure ≡ None
   pub puts : PutsWithoutEventOn old side payload before (Ok tt) new behind
 

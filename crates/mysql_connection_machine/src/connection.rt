@@ -1,12 +1,14 @@
 //! A connection, read and put: bytes of both sides in, events out, and back.
 
-ghost use Rattle.std.specs.Prelude.{◌≡◌, Err, IfOk, IfSome, None, OnOk, min, option_copied, option_map};
+ghost use Rattle.std.specs.Prelude.{◌≡◌, Err, IfOk, IfSome, None, OnErr, OnOk, min, option_copied, option_map};
 ghost use Rattle.mysql_connection_machine.specs.Endings.{end_view, ending_of};
 ghost use Rattle.mysql_connection_machine.specs.Machines.{Answers, AnswersFault, AnswersLent, Feeds};
 ghost use Rattle.mysql_connection_machine.specs.Machines.{HoldsAtMost, TakesBytes, both_ended};
 ghost use Rattle.mysql_connection_machine.specs.Machines.{LentHasUnclear, NextHasUnclear, ended};
 ghost use Rattle.mysql_connection_machine.specs.Machines.{failure_in, failure_view, new_machine};
 ghost use Rattle.mysql_connection_machine.specs.Machines.{room_left, statement_meant, stream_in, turn_in};
+ghost use Rattle.mysql_connection_machine.specs.Modes.{Knows, KnowsPayload, ModeTaken, event_answered};
+ghost use Rattle.mysql_connection_machine.specs.Modes.{event_in, event_in_lent, event_lent, event_put};
 ghost use Rattle.mysql_connection_machine.specs.PuttingPayloads.{PutsPayloadOn, PutsWithoutEventOn, is_due_of};
 ghost use Rattle.mysql_connection_machine.specs.PuttingPackets.{PutsCommandOrStays};
 ghost use Rattle.mysql_connection_machine.specs.PuttingExecutions.{PutsExecutionOn};
@@ -29,6 +31,7 @@ use crate::payload_refusal::PayloadRefusal;
 use crate::put_refusal::PutRefusal;
 use crate::room::{limit_of, room};
 use mysql_cells::Value;
+use mysql_connection_modes::{mode_behind, mode_behind_payload, mode_executed};
 use mysql_connection_rules::agreement_laws::puts_are_read;
 use mysql_connection_rules::laws::{events_take_bytes, held_stays};
 use mysql_connection_rules::{Limits, Side};
@@ -57,12 +60,13 @@ use std::marker::Model;
 ///     }
 ///
 /// Contracts see it as a `Machine`: the limits, the state, and what is unread of both streams. It
-/// also has the fault that was found, and the row that was lent last.
+/// also has the fault that was found, the row that was lent last, and what is known of the session.
 ///
 /// MySQL: Client/Server Protocol, "Connection Lifecycle".
 pub struct Connection {
     reader: BothStreams,
     fault: Option<ConnectionFault>,
+    mode: SessionMode,
 }
 
 impl Model for Connection {
@@ -83,6 +87,7 @@ impl Drop for Connection {
         let Connection {
             reader: _reader,
             fault: _,
+            mode: _,
         } = self;
     }
 }
@@ -100,6 +105,7 @@ impl Connection {
         Connection {
             reader: BothStreams::new(alloc, limits, State::new(alloc)),
             fault: None,
+            mode: SessionMode::unknown(),
         }
     }
 
@@ -115,6 +121,7 @@ impl Connection {
         Connection {
             reader: BothStreams::new(alloc, limits, State::after_login(alloc, capabilities)),
             fault: None,
+            mode: SessionMode::unknown(),
         }
     }
 
@@ -183,6 +190,7 @@ impl Connection {
         ensures row { self.old.failure ≡ None → self.new.row ≡ None }
         ensures fault { self.old.failure ≡ None → self.new.failure ≡ failure_in result }
         ensures fewer { TakesBytes self.old.world result self.new.world }
+        ensures mode { Knows self.old (event_in result) self.new }
     {
         events_take_bytes();
         held_stays();
@@ -190,7 +198,10 @@ impl Connection {
             return Err(fault);
         }
         match self.reader.next_event() {
-            Ok(event) => Ok(event),
+            Ok(event) => {
+                self.mode = mode_taken(self.mode, self.reader.state(), &event);
+                Ok(event)
+            }
             Err(fault) => {
                 self.fault = Some(fault);
                 Err(fault)
@@ -229,6 +240,7 @@ impl Connection {
             LentHasUnclear self.old.world event)) }
         ensures fault { self.old.failure ≡ None → self.new.failure ≡ failure_in result }
         ensures fewer { TakesBytes self.old.world result self.new.world }
+        ensures mode { Knows self.old (event_in_lent result) self.new }
     {
         events_take_bytes();
         held_stays();
@@ -236,7 +248,10 @@ impl Connection {
             return Err(fault);
         }
         match self.reader.next_event_lent() {
-            Ok(event) => Ok(event),
+            Ok(event) => {
+                self.mode = mode_lent(self.mode, self.reader.state(), &event);
+                Ok(event)
+            }
             Err(fault) => {
                 self.fault = Some(fault);
                 Err(fault)
@@ -286,6 +301,7 @@ impl Connection {
             out.old.items result self.new out.new.items }
         ensures read { OnOk result (IsReadFrom self.old.world (event_view event.now)
             out.old.items out.new.items self.new.world) }
+        ensures mode { Knows self.old (event_put (event_view event.now) result) self.new }
     {
         puts_are_read();
         held_stays();
@@ -295,9 +311,16 @@ impl Connection {
         // For the proof alone: the number is a byte.
         let _number = self.reader.state().number();
         if self.reader.put_among_rows(event, out) {
+            self.mode = mode_behind(self.mode, self.reader.state(), event);
             return Ok(());
         }
-        self.reader.put(event, out)
+        match self.reader.put(event, out) {
+            Ok(()) => {
+                self.mode = mode_behind(self.mode, self.reader.state(), event);
+                Ok(())
+            }
+            Err(refusal) => Err(refusal),
+        }
     }
 
     /// Puts a row under the columns of the reply that goes on; the row's own columns don't matter.
@@ -325,6 +348,8 @@ impl Connection {
         ensures read { OnOk result (IsReadFrom self.old.world
             (row_said self.old.world.standing (row_view row.now)) out.old.items out.new.items
             self.new.world) }
+        ensures mode { Knows self.old
+            (event_put (row_said self.old.world.standing (row_view row.now)) result) self.new }
     {
         puts_are_read();
         held_stays();
@@ -371,6 +396,8 @@ impl Connection {
         ensures read { OnOk result (IsReadFrom self.old.world
             (execution_said self.old.world.standing id values.now) out.old.items out.new.items
             self.new.world) }
+        ensures mode { Knows self.old
+            (event_put (execution_said self.old.world.standing id values.now) result) self.new }
     {
         puts_are_read();
         held_stays();
@@ -379,7 +406,13 @@ impl Connection {
         }
         // For the proof alone: the number is a byte.
         let _number = self.reader.state().number();
-        self.reader.put_execution(id, values, out)
+        match self.reader.put_execution(id, values, out) {
+            Ok(()) => {
+                self.mode = mode_executed(self.mode, self.reader.state());
+                Ok(())
+            }
+            Err(refusal) => Err(refusal),
+        }
     }
 
     /// Whether a payload of a side can be put now.
@@ -439,6 +472,7 @@ impl Connection {
             out.old.items out.new.items self.new.world) }
         ensures unclear { IfOk result (λ event.
             EventHasUnclear self.old.world.standing payload.now event) }
+        ensures mode { Knows self.old (event_answered result) self.new }
     {
         puts_are_read();
         held_stays();
@@ -447,7 +481,13 @@ impl Connection {
         }
         // For the proof alone: the number is a byte.
         let _number = self.reader.state().number();
-        self.reader.put_due_payload(side, payload, out)
+        match self.reader.put_due_payload(side, payload, out) {
+            Ok(event) => {
+                self.mode = mode_behind(self.mode, self.reader.state(), &event);
+                Ok(event)
+            }
+            Err(refusal) => Err(refusal),
+        }
     }
 
     // Puts the command that stands first of a side's packets, where its packet can go as it stands, and
@@ -464,7 +504,11 @@ impl Connection {
     {
         held_stays();
         match (self.fault, side) {
-            (None, Side::Client) => self.reader.put_first_command(packets, out),
+            (None, Side::Client) => {
+                let used = self.reader.put_first_command(packets, out)?;
+                self.mode = mode_behind_payload(self.mode, self.reader.state(), &packets[4..used]);
+                Some(used)
+            }
             _ => None,
         }
     }
@@ -477,11 +521,20 @@ impl Connection {
         out: &mut Vec<u8>,
     ) -> Result<(), PayloadRefusal>
         requires { self.old.failure ≡ None }
-        ensures { PutsWithoutEventOn self.old side payload.now out.old.items result self.new
+        ensures puts { PutsWithoutEventOn self.old side payload.now out.old.items result self.new
             out.new.items }
+        ensures mode { OnOk result (KnowsPayload self.old payload.now self.new) }
+        ensures stays { OnErr result (self.new.mode ≡ self.old.mode) }
     {
         held_stays();
-        self.reader.put_without_event(side, payload, out)
+        if !self.reader.awaits_plain_command(side, payload) {
+            let event = self.reader.put_due_payload(side, payload, out)?;
+            self.mode = mode_behind(self.mode, self.reader.state(), &event);
+            return Ok(());
+        }
+        self.reader.put_without_event(side, payload, out)?;
+        self.mode = mode_behind_payload(self.mode, self.reader.state(), payload);
+        Ok(())
     }
 
     // The longest payload of a side.
@@ -562,17 +615,19 @@ impl Connection {
         self.reader.state().capabilities()
     }
 
-    /// What is known of the session's SQL mode, by what came of the server so far.
+    /// What is known of the session's SQL mode and character set, by what was said so far.
     ///
-    /// A login, a change of user and a reset of the connection tell it. Behind a statement it is known
-    /// only where the server tells each change: `SET session_track_system_variables = 'sql_mode'`.
-    /// After an error it is what was known before the payload that has the fault.
+    /// Behind a login, a change of user and a reset nothing is: ask by the text `ASK_SESSION_MODE`. After
+    /// an error it is what was known before the payload that has the fault.
+    ///
+    /// Promise: it begins unknown, and each event that is read or put leaves what follows of it (`Knows`,
+    /// `ModeBehind`).
     ///
     /// MySQL Reference Manual, "Server SQL Modes", "Server Tracking of Client Session State".
     pub fn session_mode(&self) -> SessionMode
-        ensures { result ≡ self.now.world.standing.mode }
+        ensures { result ≡ self.now.mode }
     {
-        self.reader.state().session_mode()
+        self.mode
     }
 
     /// The prepared statement that this id of a command refers to: 0xffffffff for that which was
@@ -626,5 +681,27 @@ impl Connection {
         } else {
             End::Unread
         }
+    }
+}
+
+// Behind an event, where one came.
+#[inline(always)]
+fn mode_taken(session: SessionMode, state: &State, event: &Option<Event>) -> SessionMode
+    ensures { ModeTaken state.now.standing (option_map event_view event.now) session result }
+{
+    match event {
+        Some(event) => mode_behind(session, state, event),
+        None => session,
+    }
+}
+
+// Behind an event that was told, where it is no row that is lent.
+#[inline(always)]
+fn mode_lent(session: SessionMode, state: &State, told: &Option<LentEvent>) -> SessionMode
+    ensures { ModeTaken state.now.standing (event_lent told.now) session result }
+{
+    match told {
+        Some(LentEvent::Event(event)) => mode_behind(session, state, event),
+        _ => session,
     }
 }

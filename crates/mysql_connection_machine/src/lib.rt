@@ -32,8 +32,10 @@ mod putting_executions;
 mod putting_packets;
 mod putting_payloads;
 mod putting_rows;
+mod putting_sets;
 mod room;
 mod saying;
+pub mod sets_refusal;
 mod stream_buffer;
 mod taking;
 
@@ -44,3 +46,4 @@ pub use lent_event::LentEvent;
 pub use packets_refusal::PacketsRefusal;
 pub use payload_refusal::PayloadRefusal;
 pub use put_refusal::PutRefusal;
+pub use sets_refusal::SetsRefusal;

@@ -1,7 +1,7 @@
 //! Commands that are put by their payloads: they are gone on behind, and no event is made of them.
 
 ghost use Rattle.std.specs.Prelude.{◌≡◌, ◌≤◌, IsTrue, drop, length};
-ghost use Rattle.mysql_connection_machine.specs.PuttingCommands.{AwaitsCommandOf, PutsFirstCommand};
+ghost use Rattle.mysql_connection_machine.specs.PuttingCommands.{AwaitsCommandOf, IsPlainCommand, PutsFirstCommand};
 ghost use Rattle.mysql_connection_machine.specs.PuttingCommands.{command_event};
 ghost use Rattle.mysql_connection_machine.specs.PuttingPayloads.{PutsWithoutEvent};
 ghost use Rattle.mysql_connection_machine.specs.Writing.{GoesOnBehind, PutsPayload, StandsBehind};
@@ -13,6 +13,7 @@ use crate::payload_refusal::PayloadRefusal;
 use crate::put_refusal::PutRefusal;
 use crate::putting::behind;
 use crate::room::{limit_of, room_to_keep};
+use mysql_connection_modes::is_plain;
 use mysql_connection_rules::Side;
 use mysql_connection_state::FollowRefusal;
 use mysql_connection_state::laws::payloads_are_in_turn;
@@ -27,6 +28,13 @@ impl BothStreams {
             Side::Client => self.awaits_command(),
             Side::Server => false,
         }
+    }
+
+    /// A command is due, this side says it, and the payload holds no query that may have attributes.
+    pub fn awaits_plain_command(&self, side: Side, payload: &[u8]) -> bool
+        ensures { IsTrue result → IsPlainCommand self.now.world side payload.now }
+    {
+        self.awaits_command_of(side) && is_plain(&self.state, payload)
     }
 
     // Stands behind a command, by its payload, where what is kept then has room.
@@ -123,6 +131,9 @@ impl BothStreams {
         let payload = one_chunk(limit, number_of(packets), packets)?;
         let used = 4 + payload.len();
         if payload.len() > limit {
+            return None;
+        }
+        if !is_plain(&self.state, payload) {
             return None;
         }
         match self.put_packet(&packets[..used], out) {

@@ -10,8 +10,7 @@ use Rattle.mysql_connection_rules.specs.Events.Event.{Asked}
 use Rattle.mysql_connection_rules.specs.Standing.{Phase, Standing, kept}
 use Rattle.mysql_connection_rules.specs.Standing.About.{Nothing}
 use Rattle.mysql_connection_rules.specs.Standing.Phase.{Command}
-use Rattle.mysql_connection_rules.specs.SessionModes.{mode_behind}
-use Rattle.mysql_connection_rules.specs.Steps.{in_turn, reply_due, step, turn, with_mode}
+use Rattle.mysql_connection_rules.specs.Steps.{in_turn, reply_due, step, turn}
 use Rattle.mysql_connection_rules.specs.Streams.{room_to_keep}
 use Rattle.mysql_connection_rules.specs.Examples.{PingIsPut}
 use Rattle.mysql_connection_rules.specs.PuttingMachines.{Puts}
@@ -20,8 +19,8 @@ use Rattle.mysql_connection_rules.proofs.Putting.{puts_are_read}
 
 says_ping : (s : Standing) → s.phase ≡ Command → step s (14 ∷ []) ≡
     Ok (Asked Ping, reply_due kinds.Plain None Nothing s)
-unfolding step mode_behind
-says_ping s e = ap (λ (p : Phase). with_mode s (in_turn p s (14 ∷ []))) e
+unfolding step
+says_ping s e = ap (λ (p : Phase). in_turn p s (14 ∷ [])) e
 
 framed : framing (14 ∷ []) 0 ≡ 1 ∷ 0 ∷ 0 ∷ 0 ∷ 14 ∷ []
 unfolding framing chunks

@@ -20,7 +20,7 @@ use Rattle.mysql_connection_rules.specs.Standing as phases
 use Rattle.mysql_connection_rules.specs.Steps.{Step, after_authentication, after_event, after_greeting, after_response}
 use Rattle.mysql_connection_rules.specs.Steps.{by_turn, context_of}
 use Rattle.mysql_connection_rules.specs.Steps.{greets_anew, in_phase, in_turn, of_login, of_reply, says, step, turn}
-use Rattle.mysql_connection_rules.specs.Steps.{turn_in_reply, with_mode}
+use Rattle.mysql_connection_rules.specs.Steps.{turn_in_reply}
 
 abbrev pub SaidWell : Step → Type 0
 SaidWell (Ok said) = (error : ServerError) → said.0 ≡ events.Farewell error → ⊥
@@ -94,11 +94,6 @@ by_phase phases.Command s payload own e = λ error e. cc e
 by_phase (phases.Reply r) s payload own e = reply_well (turn_in_reply r.so_far.awaited) r s payload
 by_phase (phases.Over reason) s payload own e = absurd (cc e)
 
--- with its mode it says the same
-mode_well : (s : Standing) (step : Step) → SaidWell step → SaidWell (with_mode s step)
-mode_well s (Ok said) h = h
-mode_well s (Err fault) h = h
-
 pub step_well : (s : Standing) (payload : List ℕ) (own : Side) → turn s.phase ≡ Some own → SaidWell (step s payload)
 unfolding step
-step_well s payload own e = mode_well s (in_turn s.phase s payload) (by_phase s.phase s payload own e)
+step_well s payload own e = by_phase s.phase s payload own e

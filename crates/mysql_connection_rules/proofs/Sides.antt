@@ -14,7 +14,7 @@ use Rattle.mysql_connection_rules.specs.Standing.{InReply, Phase, Standing}
 use Rattle.mysql_connection_rules.specs.Standing as phases
 use Rattle.mysql_connection_rules.specs.Steps.{Step, after_authentication, after_event, after_greeting, after_response}
 use Rattle.mysql_connection_rules.specs.Steps.{by_turn, context_of, greets_anew, in_phase, in_turn}
-use Rattle.mysql_connection_rules.specs.Steps.{of_login, of_reply, says, step, turn, turn_in_reply, with_mode}
+use Rattle.mysql_connection_rules.specs.Steps.{of_login, of_reply, says, step, turn, turn_in_reply}
 
 abbrev pub SaidBy : Side → Result (Event × Standing) Fault → Type 0
 SaidBy own (Ok said) = own ≡ side_of said.0
@@ -65,11 +65,6 @@ by_phase (phases.Reply r) s payload own e =
     (its (turn_in_reply r.so_far.awaited) own e)
 by_phase (phases.Over reason) s payload own e = tt
 
--- with its mode it is of the same side
-mode_side : (s : Standing) (own : Side) (step : Step) → SaidBy own step → SaidBy own (with_mode s step)
-mode_side s own (Ok said) h = h
-mode_side s own (Err fault) h = h
-
 pub step_side : (s : Standing) (payload : List ℕ) (own : Side) → turn s.phase ≡ Some own → SaidBy own (step s payload)
 unfolding step
-step_side s payload own e = mode_side s own (in_turn s.phase s payload) (by_phase s.phase s payload own e)
+step_side s payload own e = by_phase s.phase s payload own e

@@ -1,8 +1,6 @@
 pub mod Events
 pub mod Standing
-pub mod SessionModes
 pub mod Steps
-pub mod ModeLaws
 pub mod StepLaws
 pub mod Streams
 pub mod Runs

@@ -1,13 +1,13 @@
 -- What stands of a connection between two payloads: what is due, and what is known of it.
 -- MySQL: Client/Server Protocol, "Connection Phase", "Prepared Statements" and "Sequence ID".
-use Rattle.std.specs.Prelude.{ℕ, ◌+◌, Bool, false, List, Option, None}
+use Rattle.std.specs.Prelude.{ℕ, ◌+◌, Bool, false, List, Option, None, Some}
+use Rattle.std.specs.Option.{option_and_then}
 use Rattle.mysql_auth.specs.Plugins.{Plugin}
-use Rattle.mysql_connection_statements.specs.Statements.{Statements, no_statements, pending_size}
+use Rattle.mysql_connection_statements.specs.Statements.{Statement, Statements, no_statements, pending_size}
+use Rattle.mysql_connection_statements.specs.Statements.{statement_at}
 use Rattle.mysql_connection_statements.specs.declared.pending.Pending.{Pending}
 use Rattle.mysql_const.specs.declared.capabilities.Capabilities.{Capabilities}
 use Rattle.mysql_handshake.specs.Capabilities.{both_words}
-use Rattle.mysql_session_modes.specs.SessionModes.{unknown_mode}
-use Rattle.mysql_session_modes.specs.declared.session_mode.SessionMode.{SessionMode}
 use Rattle.mysql_reply_events.specs.Events.{ReplySoFar}
 use Rattle.mysql_reply_events.specs.declared.context.ReplyKind.{ReplyKind}
 use Rattle.mysql_connection_rules.specs.declared.reason.Reason.{Reason}
@@ -61,7 +61,7 @@ pub data Phase : Type 0 where
 
 -- The phase; the number that is due of the next packet; whether the payload that came last is the
 -- client's; the capabilities that the server offers, and those in force; the plugin in force; the
--- prepared statements; what is known of the session's SQL mode.
+-- prepared statements.
 pub record Standing : Type 0 where
   pub phase : Phase
   pub number : ℕ
@@ -70,7 +70,6 @@ pub record Standing : Type 0 where
   pub capabilities : Capabilities
   pub plugin : Option Plugin
   pub statements : Statements
-  pub mode : SessionMode
 
 abbrev pub no_capabilities : Capabilities
 no_capabilities = both_words 0 0
@@ -85,7 +84,6 @@ at_first = record {
   capabilities = no_capabilities;
   plugin = None;
   statements = no_statements;
-  mode = unknown_mode;
 }
 
 -- Behind a login by which these capabilities are in force a command is due, and no statement is
@@ -99,8 +97,22 @@ logged_in capabilities = record {
   capabilities = capabilities;
   plugin = None;
   statements = no_statements;
-  mode = unknown_mode;
 }
+
+-- THE STATEMENT OF A REPLY
+
+abbrev pub id_about : About → Option ℕ
+id_about (OfStatement id) = Some id
+id_about (Executing pending) = Some pending.id
+id_about about = None
+
+abbrev pub id_due : Phase → Option ℕ
+id_due (Reply r) = id_about r.about
+id_due phase = None
+
+-- The statement that the reply is about that is due, where it is known.
+abbrev pub statement_due : Standing → Option Statement
+statement_due s = option_and_then (statement_at s.statements) (id_due s.phase)
 
 -- WHAT IS KEPT
 

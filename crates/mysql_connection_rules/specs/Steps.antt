@@ -58,10 +58,8 @@ use Rattle.mysql_connection_rules.specs.declared.reason.Reason.{Reason}
 use Rattle.mysql_connection_rules.specs.declared.reason.Reason.TheVariants as reasons
 use Rattle.mysql_connection_rules.specs.declared.side.Side.{Side}
 use Rattle.mysql_connection_rules.specs.declared.side.Side.TheVariants.{Client, Server}
-use Rattle.mysql_session_modes.specs.declared.session_mode.SessionMode.{SessionMode}
 use Rattle.mysql_connection_rules.specs.Events.{Event}
 use Rattle.mysql_connection_rules.specs.Events as events
-use Rattle.mysql_connection_rules.specs.SessionModes.{mode_behind}
 use Rattle.mysql_connection_rules.specs.Standing.{About, InReply, Phase, Standing}
 use Rattle.mysql_connection_statements.specs.Statements.{Statement, Statements, after_close}
 use Rattle.mysql_connection_statements.specs.Statements.{after_prepared}
@@ -470,14 +468,6 @@ in_turn phases.Command s payload = command_step s payload
 in_turn (phases.Reply r) s payload = by_turn (turn_in_reply r.so_far.awaited) r s payload
 in_turn (phases.Over reason) s payload = Err faults.Unasked
 
--- What is known of the session's mode is told by the event.
-abbrev pub in_mode : SessionMode → Standing → Standing
-in_mode mode s = record s { mode = mode }
-
-abbrev pub with_mode : Standing → Step → Step
-with_mode s (Ok said) = Ok (said.0, in_mode (mode_behind s said.0) said.1)
-with_mode s (Err fault) = Err fault
-
 -- What the payload that is due says, and what stands behind it.
 unfoldable pub step : Standing → List ℕ → Step
-step s payload = with_mode s (in_turn s.phase s payload)
+step s payload = in_turn s.phase s payload

@@ -12,7 +12,7 @@ use Rattle.mysql_connection_rules.specs.Standing.{InReply, Phase, Standing}
 use Rattle.mysql_connection_rules.specs.Standing as phases
 use Rattle.mysql_connection_rules.specs.Steps.{after_authentication, after_command, after_event, after_greeting}
 use Rattle.mysql_connection_rules.specs.Steps.{after_response, by_turn, context_of, greets_anew, in_phase, in_turn}
-use Rattle.mysql_connection_rules.specs.Steps.{of_login, of_reply, says, turn_in_reply}
+use Rattle.mysql_connection_rules.specs.Steps.{of_login, of_reply, says, step, turn_in_reply}
 use Rattle.mysql_connection_rules.specs.declared.exchange.Exchange.{Exchange}
 use Rattle.mysql_connection_rules.specs.declared.fault.Fault.{Fault}
 use Rattle.mysql_connection_rules.specs.declared.fault.Fault.TheVariants as faults
@@ -116,5 +116,6 @@ by_phase (phases.Reply r) s payload said after due h =
 by_phase (phases.Over reason) s payload said after due h = absurd cc
 
 pub step_leads : (s : Standing) (payload : List ℕ) (said : Event) (after : Standing) →
-    in_turn s.phase s payload ≡ Ok (said, after) → Leads s payload said after
+    step s payload ≡ Ok (said, after) → Leads s payload said after
+unfolding step
 step_leads s payload said after h = by_phase s.phase s payload said after refl h

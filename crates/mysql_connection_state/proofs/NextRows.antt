@@ -22,7 +22,7 @@ use Rattle.mysql_connection_rules.specs.Standing.About.{Executing, Nothing, OfSt
 use Rattle.mysql_connection_rules.specs.Standing.About.{Resetting, Streaming}
 use Rattle.mysql_connection_rules.specs.Standing.Phase.{Reply}
 use Rattle.mysql_connection_rules.specs.Steps.{about_after, by_turn, context_of, in_phase, in_turn, reply_after}
-use Rattle.mysql_connection_rules.specs.StepLaws.{step_fails}
+use Rattle.mysql_connection_rules.specs.StepLaws.{step_fails, step_says}
 use Rattle.mysql_connection_rules.specs.Steps.{reply_step, turn, turn_in_reply}
 use Rattle.mysql_connection_rules.specs.declared.fault.Fault.TheVariants.{BadReply}
 use Rattle.mysql_connection_rules.specs.declared.side.Side.{Side}
@@ -32,7 +32,6 @@ use Rattle.mysql_connection_state.specs.NextRows.{TakesRowOfReply, awaits_next_r
 use Rattle.mysql_connection_state.specs.Reads.{SaysRow}
 use Rattle.mysql_connection_state.specs.Views.{ConnectionState, ReadsBy, in_reply_view}
 use Rattle.mysql_connection_state.specs.declared.due.InReply.{InReply as HeldReply}
-use Rattle.mysql_connection_state.proofs.InModes.{reads_row}
 use Rattle.mysql_connection_state.proofs.Parts.{row_said}
 
 -- behind a row no more is kept of what the reply is about
@@ -108,7 +107,8 @@ row_taken old new reply after payload phase same stands lends server says =
       turn = ap turn phase ∙ ap (λ (side : Side). Some side) server;
       row = said.read.row;
       lies = subst (λ (rows : Option RowReader). RowAt rows payload said.read.row) (sym lends) said.read.lies;
-      step = reads_row s payload said.read.row new.standing (server_turn s r payload phase server ∙ stepped ∙
+      step = step_says s payload (Replied (RowEvent said.read.row)) new.standing
+          (server_turn s r payload phase server ∙ stepped ∙
           ap (λ (w : Standing). Ok (Replied (RowEvent said.read.row), w)) (sym stands));
       kept = subst (λ (w : Standing). kept w ≤ kept s)
           (ap (λ (r : InReply). in_phase (Reply r) s) (sym said.reply) ∙ sym stands)

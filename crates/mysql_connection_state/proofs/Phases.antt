@@ -16,7 +16,7 @@ use Rattle.mysql_connection_rules.specs.Standing as phases
 use Rattle.mysql_connection_rules.specs.Steps.{Step, after_authentication, after_event, after_greeting, after_response}
 use Rattle.mysql_connection_rules.specs.Steps.{authentication_step, by_turn}
 use Rattle.mysql_connection_rules.specs.Steps.{context_of, greets_anew, in_phase, in_turn, of_login, of_reply, over}
-use Rattle.mysql_connection_rules.specs.Steps.{parameters_in_question, says, step, with_mode, turn_in_reply}
+use Rattle.mysql_connection_rules.specs.Steps.{parameters_in_question, says, step, turn_in_reply}
 use Rattle.mysql_connection_rules.specs.Streams.{begins_error}
 use Rattle.mysql_connection_state.specs.Follows.{ReadsReply, exchange_due}
 use Rattle.mysql_connection_state.specs.Reads.{Gives}
@@ -97,38 +97,33 @@ at_over phases.Command s payload reason h e = absurd (cc e)
 at_over (phases.Reply r) s payload reason h e = absurd (h.reply tt)
 at_over (phases.Over its) s payload reason h e = refl
 
--- with its mode a step says the same
-mode_said : (s : Standing) (step : Step) → said_in (with_mode s step) ≡ said_in step
-mode_said s (Ok said) = refl
-mode_said s (Err fault) = refl
-
 pub greeting_said : (s : Standing) (payload : List ℕ) → IsPlain s.phase → plain_phase s.phase ≡ plain.Greeting
     → said_in (step s payload) ≡ saying events.Greeting (of_login (greeting_at payload))
 unfolding step
-greeting_said s payload h e = mode_said s (in_turn s.phase s payload) ∙ at_greeting s.phase s payload h e
+greeting_said s payload h e = at_greeting s.phase s payload h e
 
 pub response_said : (s : Standing) (payload : List ℕ) → IsPlain s.phase → plain_phase s.phase ≡ plain.Response
     → said_in (step s payload) ≡ saying events.Response (of_login (response_at s.offered.protocol.0 payload))
 unfolding step
-response_said s payload h e = mode_said s (in_turn s.phase s payload) ∙ at_response s.phase s payload h e
+response_said s payload h e = at_response s.phase s payload h e
 
 pub answer_said : (s : Standing) (payload : List ℕ) → IsPlain s.phase → plain_phase s.phase ≡ plain.Answer
     → said_in (step s payload) ≡ Ok (events.Answer payload)
 unfolding step
-answer_said s payload h e = mode_said s (in_turn s.phase s payload) ∙ at_answer s.phase s payload h e
+answer_said s payload h e = at_answer s.phase s payload h e
 
 pub command_said : (s : Standing) (payload : List ℕ) → IsPlain s.phase → plain_phase s.phase ≡ plain.Command
     → said_in (step s payload) ≡
     Ok (events.Asked (command_at s.capabilities (parameters_in_question s.statements payload)
     payload))
 unfolding step
-command_said s payload h e = mode_said s (in_turn s.phase s payload) ∙ at_command s.phase s payload h e
+command_said s payload h e = at_command s.phase s payload h e
 
 pub nothing_said : (s : Standing) (payload : List ℕ) (reason : Reason) → IsPlain s.phase →
     plain_phase s.phase ≡ plain.Over reason
     → said_in (step s payload) ≡ Err faults.Unasked
 unfolding step
-nothing_said s payload reason h e = mode_said s (in_turn s.phase s payload) ∙ at_over s.phase s payload reason h e
+nothing_said s payload reason h e = at_over s.phase s payload reason h e
 
 -- ---- an exchange
 
@@ -162,7 +157,7 @@ at_exchange (phases.Over reason) s payload exchange e = absurd (cc e)
 pub exchange_said : (s : Standing) (payload : List ℕ) (exchange : Exchange) → exchange_due s.phase ≡ Some exchange
     → said_in (step s payload) ≡ said_in_exchange exchange s.capabilities.protocol.0 payload
 unfolding step
-exchange_said s payload exchange e = mode_said s (in_turn s.phase s payload) ∙ at_exchange s.phase s payload exchange e
+exchange_said s payload exchange e = at_exchange s.phase s payload exchange e
 
 -- ---- a reply
 
@@ -225,8 +220,7 @@ at_reply phase r s reader payload e context so_far =
 pub reply_said : (s : Standing) (payload : List ℕ) (r : InReply) (reader : ReaderState) → ReadsReply s r reader
     → said_in (step s payload) ≡ said_in_reply (turn_of reader.so_far.awaited) reader payload
 unfolding step
-reply_said s payload r reader reads = mode_said s (in_turn s.phase s payload) ∙
-    at_reply s.phase r s reader payload reads.phase reads.context reads.so_far
+reply_said s payload r reader reads = at_reply s.phase r s reader payload reads.phase reads.context reads.so_far
 
 -- ---- last words
 

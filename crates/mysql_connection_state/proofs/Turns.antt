@@ -13,7 +13,7 @@ use Rattle.mysql_connection_rules.specs.Standing.{InReply, Phase, Standing}
 use Rattle.mysql_connection_rules.specs.Standing as phases
 use Rattle.mysql_connection_rules.specs.Steps.{Step, after_authentication, after_event, after_greeting, after_response}
 use Rattle.mysql_connection_rules.specs.Steps.{by_turn, context_of, greets_anew, in_phase, in_turn}
-use Rattle.mysql_connection_rules.specs.Steps.{of_login, of_reply, says, step, with_mode, turn, turn_in_reply}
+use Rattle.mysql_connection_rules.specs.Steps.{of_login, of_reply, says, step, turn, turn_in_reply}
 use Rattle.mysql_connection_rules.specs.Streams.{World}
 use Rattle.mysql_connection_statements.specs.Statements.{counted}
 use Rattle.mysql_reply_events.specs.Table.{event_at, file_data_at}
@@ -97,19 +97,12 @@ same_self : (side : Side) → same_side side side ≡ true
 same_self Client = refl
 same_self Server = refl
 
--- with its mode it is of the same side
-mode_of_turn : (s : Standing) (its : Option Side) (step : Step) → IsOfTurn its step → IsOfTurn its (with_mode s step)
-mode_of_turn s its (Ok said) h = h
-mode_of_turn s its (Err fault) h = h
-
 of_turn : (w : World) (payload : List ℕ) (event : Event) (after : Standing) →
     step w.standing payload ≡ Ok (event, after)
     → (turn w.standing.phase ≡ Some (side_of event)) × IsOrdinary event
 unfolding step
 of_turn w payload event after e =
-    subst (IsOfTurn (turn w.standing.phase)) e
-    (mode_of_turn w.standing (turn w.standing.phase) (in_turn w.standing.phase w.standing payload)
-    (by_phase w.standing.phase w.standing payload))
+    subst (IsOfTurn (turn w.standing.phase)) e (by_phase w.standing.phase w.standing payload)
 
 pub payloads_are_in_turn : PayloadsAreInTurn
 payloads_are_in_turn w payload event after e =

@@ -7,20 +7,17 @@ use Rattle.mysql_commands.specs.Commands.{Command, command_at}
 use Rattle.mysql_reply_events.specs.Behind.{behind}
 use Rattle.mysql_reply_events.specs.Events.{Event as ReplySaid, ReplySoFar}
 use Rattle.mysql_reply_events.specs.Reader.{GoesOn, ReaderState}
-use Rattle.mysql_connection_rules.specs.Puts.{step_for, words_step}
+use Rattle.mysql_connection_rules.specs.Puts.{step_for}
 use Rattle.mysql_connection_rules.specs.Events.{Event}
-use Rattle.mysql_connection_rules.specs.Events.Event.{Farewell}
-use Rattle.mysql_connection_rules.specs.SessionModes.{mode_asked}
 use Rattle.mysql_connection_rules.specs.Standing.{About, InReply, Phase, Standing, about_size, kept}
 use Rattle.mysql_connection_rules.specs.Standing.{phase_size}
 use Rattle.mysql_connection_rules.specs.Standing.About.{OfStatement}
 use Rattle.mysql_connection_rules.specs.Standing as phases
-use Rattle.mysql_connection_rules.specs.Steps.{Step, about_after, after_command, changed_by, context_of}
-use Rattle.mysql_connection_rules.specs.Steps.{in_mode, in_turn, is_whole, parameters_in_question, reply_due}
+use Rattle.mysql_connection_rules.specs.Steps.{about_after, after_command, changed_by, context_of}
+use Rattle.mysql_connection_rules.specs.Steps.{is_whole, parameters_in_question, reply_due}
 use Rattle.mysql_connection_rules.specs.Steps.{reply_after, with_columns}
 use Rattle.mysql_connection_rules.specs.declared.exchange.Exchange.{Exchange}
 use Rattle.mysql_connection_statements.specs.Statements.{Statements}
-use Rattle.mysql_session_modes.specs.SessionModes.{mode_behind_statement}
 use Rattle.mysql_reply_events.specs.declared.context.ReplyKind.TheVariants as kinds
 use Rattle.mysql_connection_state.specs.Reads.{IsInReply, kept_columns}
 use Rattle.mysql_connection_state.specs.Views.{ConnectionState, about_view, in_reply_view}
@@ -45,24 +42,6 @@ FollowsEvent old event payload room (Err Held) new =
     ((after : Standing) → LeadsTo old.standing event payload after → room < kept after)
 FollowsEvent old event payload room (Err Memory) new = new ≡ old
 
--- The same of all but the mode, which stays: what the payload says by the phase.
-abbrev pub by_phase_for : Event → Standing → List ℕ → Step
-by_phase_for (Farewell error) s payload = words_step s payload
-by_phase_for event s payload = in_turn s.phase s payload
-
-abbrev pub LeadsByPhase : Standing → Event → List ℕ → Standing → Type 0
-LeadsByPhase s event payload after = by_phase_for event s payload ≡ Ok (event, after)
-
-abbrev pub FollowsByPhase : ConnectionState → Event → List ℕ → (room : ℕ) → Result (Unit {0}) FollowRefusal →
-    ConnectionState → Type 0
-FollowsByPhase old event payload room (Ok done) new =
-    (after : Standing) → LeadsByPhase old.standing event payload after →
-    (new.standing ≡ after) × (kept after ≤ room)
-FollowsByPhase old event payload room (Err Held) new =
-    (new ≡ old) ×
-    ((after : Standing) → LeadsByPhase old.standing event payload after → room < kept after)
-FollowsByPhase old event payload room (Err Memory) new = new ≡ old
-
 -- The same, where what stands behind the event is known.
 abbrev pub Goes : ConnectionState → (after : Standing) → (room : ℕ) → Result (Unit {0}) FollowRefusal →
     ConnectionState → Type 0
@@ -76,13 +55,12 @@ command_said s payload =
     command_at s.capabilities (parameters_in_question s.statements payload) payload
 
 abbrev pub after_said : Standing → List ℕ → Standing
-after_said s payload =
-    in_mode (mode_asked (command_said s payload) s.mode) (after_command s payload (command_said s payload))
+after_said s payload = after_command s payload (command_said s payload)
 
 -- Behind an execution of this statement that leaves all else as it is, its reply is due.
 abbrev pub after_settled : (id : ℕ) → Option (List ColumnDefinition) → Standing → Standing
 after_settled id columns s =
-    in_mode (mode_behind_statement s.mode) (reply_due kinds.Binary columns (OfStatement id) s)
+    reply_due kinds.Binary columns (OfStatement id) s
 
 -- So much is within the room, or it is not.
 abbrev pub HasRoom : (size room : ℕ) → Result (Unit {0}) FollowRefusal → Type 0

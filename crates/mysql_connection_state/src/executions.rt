@@ -4,6 +4,7 @@ ghost use Rattle.std.specs.Prelude.{◌≡◌, IfOk, OnErr, OnOk, Some, option_m
 ghost use Rattle.std.specs.Option.{option_and_then, option_copied};
 ghost use Rattle.mysql_executions.specs.Bulks.{bulk_head};
 ghost use Rattle.mysql_rows.specs.Views.{shared_columns};
+ghost use Rattle.mysql_connection_rules.specs.Standing.{id_about, id_due, statement_due};
 ghost use Rattle.mysql_connection_rules.specs.Steps.{about_execution, after_executing};
 ghost use Rattle.mysql_connection_rules.specs.Steps.{carried_types};
 ghost use Rattle.mysql_connection_rules.specs.Steps.{id_in_question, is_unagreed_bulk, refused_as};
@@ -11,7 +12,7 @@ ghost use Rattle.mysql_connection_statements.specs.Statements.{statement_at};
 ghost use Rattle.mysql_connection_state.specs.Follows.{after_settled};
 ghost use Rattle.mysql_connection_state.specs.Views.{about_view};
 
-use crate::due::About;
+use crate::due::{About, Due};
 use crate::state::State;
 use mysql_buf::ParseBuf;
 use mysql_columns::Column;
@@ -126,7 +127,38 @@ fn about_execution(id: u32, pending: Option<Pending>) -> About
     }
 }
 
+// The statement that a reply is about.
+fn id_about(about: &About) -> Option<u32>
+    ensures { result ≡ id_about (about_view about.now) }
+{
+    match about {
+        About::OfStatement(id) => Some(*id),
+        About::Executing(pending) => Some(pending.id),
+        _ => None,
+    }
+}
+
 impl State {
+    // The statement that the reply is about that is due.
+    fn id_due(&self) -> Option<u32>
+        ensures { result ≡ id_due self.now.standing.phase }
+    {
+        match &self.due {
+            Due::Reply(reply) => id_about(&reply.about),
+            _ => None,
+        }
+    }
+
+    /// The statement that the reply is about that is due, where it is known.
+    ///
+    /// MySQL: Client/Server Protocol, "COM_STMT_EXECUTE Response".
+    pub fn statement_due(&self) -> Option<&Statement>
+        ensures { option_copied result ≡ statement_due self.now.standing }
+    {
+        let id = self.id_due()?;
+        self.statements.get(id)
+    }
+
     /// An execution of the statement of this id came, which is known and last had these columns.
     pub(crate) fn executing(
         &mut self,
@@ -148,8 +180,7 @@ impl State {
 
     /// An execution was put that leaves all as it is.
     ///
-    /// It is of the statement of this id, which last had these columns. Only its reply is due, and
-    /// the mode is known where it is tracked.
+    /// It is of the statement of this id, which last had these columns. Only its reply is due.
     ///
     /// MySQL: Client/Server Protocol, "COM_STMT_EXECUTE".
     pub fn execute_settled(&mut self, id: u32, columns: Option<RcSlice<Column>>)
@@ -157,6 +188,5 @@ impl State {
             after_settled id (option_map shared_columns columns) self.old.standing }
     {
         self.await_reply(ReplyKind::Binary, columns, About::OfStatement(id));
-        self.run_statement();
     }
 }

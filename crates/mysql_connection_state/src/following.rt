@@ -8,7 +8,7 @@ ghost use Rattle.mysql_connection_rules.specs.Standing.{phase_size};
 ghost use Rattle.mysql_connection_rules.specs.Steps.{after_authentication, after_greeting};
 ghost use Rattle.mysql_connection_rules.specs.Steps.{after_response, in_phase};
 ghost use Rattle.mysql_connection_rules.specs.declared.exchange.Exchange.{Exchange as ExchangeOf};
-ghost use Rattle.mysql_connection_state.specs.Follows.{FollowsByPhase, FollowsEvent, Goes, HasRoom};
+ghost use Rattle.mysql_connection_state.specs.Follows.{FollowsEvent, Goes, HasRoom};
 ghost use Rattle.mysql_connection_state.specs.Follows.{exchange_due};
 ghost use Rattle.mysql_connection_state.specs.Views.{Fits, event_view, phase_view};
 ghost use Rattle.mysql_connection_state.specs.declared.following.FollowRefusal.TheVariants.{Memory};
@@ -100,30 +100,6 @@ impl State {
         Ok(())
     }
 
-    // Goes on behind the event that this payload says; the mode stays.
-    fn follow_by_phase(
-        &mut self,
-        event: &Event,
-        payload: &[u8],
-        room: u128,
-    ) -> Result<(), FollowRefusal>
-        ensures { FollowsByPhase self.old (event_view event.now) payload.now room result self.new }
-    {
-        match event {
-            Event::Greeting(said) => self.pass_greeting(said, room),
-            Event::Response(said) => self.pass_response(said, room),
-            Event::Authentication(said) => match self.exchange() {
-                Some(exchange) => self.pass_authentication(exchange, said, room),
-                None => Ok(()),
-            },
-            Event::Answer(_) => self.pass_answer(room),
-            Event::Command(command) => self.pass_command(command, payload, room),
-            Event::Reply(said) => self.pass_reply(said, payload, room),
-            Event::FileData(_) => self.pass_file_data(payload, room),
-            Event::Farewell(_) => self.pass_to(Due::Over(Reason::Farewell), room),
-        }
-    }
-
     /// Goes on behind the event that this payload says, read or put.
     ///
     /// So much room there is for what is kept.
@@ -145,13 +121,18 @@ impl State {
     pub fn follow(&mut self, event: &Event, payload: &[u8], room: u128) -> Result<(), FollowRefusal>
         ensures { FollowsEvent self.old (event_view event.now) payload.now room result self.new }
     {
-        let mode = self.mode_behind(event);
-        match self.follow_by_phase(event, payload, room) {
-            Ok(()) => {
-                self.set_mode(mode);
-                Ok(())
-            }
-            Err(refusal) => Err(refusal),
+        match event {
+            Event::Greeting(said) => self.pass_greeting(said, room),
+            Event::Response(said) => self.pass_response(said, room),
+            Event::Authentication(said) => match self.exchange() {
+                Some(exchange) => self.pass_authentication(exchange, said, room),
+                None => Ok(()),
+            },
+            Event::Answer(_) => self.pass_answer(room),
+            Event::Command(command) => self.pass_command(command, payload, room),
+            Event::Reply(said) => self.pass_reply(said, payload, room),
+            Event::FileData(_) => self.pass_file_data(payload, room),
+            Event::Farewell(_) => self.pass_to(Due::Over(Reason::Farewell), room),
         }
     }
 

@@ -8,7 +8,6 @@ ghost use Rattle.mysql_connection_rules.specs.Standing.{Standing, kept};
 ghost use Rattle.mysql_connection_rules.specs.Steps as steps;
 ghost use Rattle.mysql_connection_statements.specs.Statements.{Statement, is_reset};
 ghost use Rattle.mysql_connection_statements.specs.Statements.{statement_at};
-ghost use Rattle.mysql_session_modes.specs.SessionModes.{mode_behind_statement, mode_behind_text};
 ghost use Rattle.mysql_rows.specs.Views.{shared_columns};
 ghost use Rattle.mysql_connection_state.specs.Follows.{Goes, after_said};
 ghost use Rattle.mysql_connection_state.specs.Views.{ConnectionState};
@@ -19,15 +18,12 @@ use crate::executions::{
     carried_types, id_in_question, is_unagreed_bulk, refused_as, shared_columns_of,
 };
 use crate::following::{FollowRefusal, fit};
-use crate::modes::mode_asked;
 use crate::sizes::counted_size;
 use crate::state::State;
 use mysql_columns::Column;
 use mysql_commands::Command;
-use mysql_executions::execution_reading::has_query_attributes;
 use mysql_executions::{BoundType, Refused};
 use mysql_reply_events::ReplyKind;
-use mysql_session_modes::SessionMode;
 use std::rc::RcSlice;
 
 impl State {
@@ -206,47 +202,22 @@ impl State {
         }
     }
 
-    // Where a command was passed, this is known of the mode.
-    fn pass_in_mode(
-        &mut self,
-        passed: Result<(), FollowRefusal>,
-        mode: SessionMode,
-    ) -> Result<(), FollowRefusal>
-        ensures { (old : ConnectionState) (after : Standing) (room : ℕ) →
-            Goes old after room passed self.old →
-            Goes old (steps.in_mode mode after) room result self.new }
-    {
-        match passed {
-            Ok(()) => {
-                self.set_mode(mode);
-                Ok(())
-            }
-            Err(refusal) => Err(refusal),
-        }
-    }
-
-    // A query without attributes: only its reply is due.
-    fn pass_text(&mut self, text: &[u8], room: u128) -> Result<(), FollowRefusal>
-        ensures { Goes self.old (steps.in_mode (mode_behind_text text.now self.old.standing.mode)
-            (steps.reply_due kinds.Text None standing.Nothing self.old.standing)) room result
-            self.new }
+    // A query, whatever it says: only its reply is due.
+    fn pass_text(&mut self, room: u128) -> Result<(), FollowRefusal>
+        ensures { Goes self.old (steps.reply_due kinds.Text None standing.Nothing
+            self.old.standing) room result self.new }
     {
         fit(self.statements.stored() as u128, room)?;
         self.await_reply(ReplyKind::Text, None, About::Nothing);
-        self.run_text(text);
         Ok(())
     }
 
-    // A query, which is read where it may have attributes.
+    // A query.
     fn pass_query(&mut self, text: &[u8], payload: &[u8], room: u128) -> Result<(), FollowRefusal>
         ensures { payload.now ≡ 0x03 ∷ text.now →
             Goes self.old (after_said self.old.standing payload.now) room result self.new }
     {
-        if has_query_attributes(self.capabilities) {
-            self.pass_read(payload, room)
-        } else {
-            self.pass_text(text, room)
-        }
+        self.pass_text(room)
     }
 
     // An execution, by its number: what it says beside the fields in front changes nothing, so that its
@@ -258,16 +229,13 @@ impl State {
         payload: &[u8],
         room: u128,
     ) -> Result<(), FollowRefusal>
-        ensures { Goes self.old (steps.in_mode (mode_behind_statement self.old.standing.mode)
-            (steps.execution_of number body.now
+        ensures { Goes self.old (steps.execution_of number body.now
             (steps.id_in_question self.old.standing.statements payload.now)
             (steps.statement_in_question self.old.standing.statements payload.now)
-            self.old.standing)) room result self.new }
+            self.old.standing) room result self.new }
     {
-        let mode = self.session_mode().behind_statement();
         let id = id_in_question(&self.statements, payload);
-        let passed = self.pass_execution(number, body, id, room);
-        self.pass_in_mode(passed, mode)
+        self.pass_execution(number, body, id, room)
     }
 
     // An execution.
@@ -293,9 +261,7 @@ impl State {
     {
         let command = self.boxed_command(payload)?;
         let said: &Command = &command;
-        let mode = mode_asked(self.session_mode(), said);
-        let passed = self.pass_command(said, payload, room);
-        self.pass_in_mode(passed, mode)
+        self.pass_command(said, payload, room)
     }
 
     /// Goes on behind a command of this payload, whatever it says.

@@ -22,7 +22,6 @@ mod following_commands;
 mod following_replies;
 mod following_sizes;
 mod login;
-mod modes;
 mod next_rows;
 pub mod phase;
 mod replies;

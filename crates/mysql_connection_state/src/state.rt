@@ -17,15 +17,13 @@ use mysql_connection_rules::Side;
 use mysql_connection_statements::Statements;
 use mysql_const::{Capabilities, CapabilityFlags, MariadbCapabilities};
 use mysql_executions::StatementParameters;
-use mysql_session_modes::SessionMode;
 use std::alloc::Global;
 use std::marker::Model;
 
 /// What stands of a connection between two payloads.
 ///
 /// That is what is due, the number that is due, and the prepared statements. With them stand the
-/// capabilities that the server offers, those in force, the plugin in force, and what is known of the
-/// session's SQL mode.
+/// capabilities that the server offers, those in force, and the plugin in force.
 ///
 /// Contracts see it as a `ConnectionState`: a `Standing`, and what reads rows where they lie.
 ///
@@ -39,7 +37,6 @@ pub struct State {
     pub(crate) capabilities: Capabilities,
     pub(crate) plugin: Option<AuthPlugin<'static>>,
     pub(crate) statements: Statements,
-    pub(crate) mode: SessionMode,
 }
 
 impl Model for State {
@@ -60,7 +57,6 @@ impl Model for State {
         capabilities = s.capabilities;
         plugin = option_map plugin_view s.plugin;
         statements = s.statements;
-        mode = s.mode;
       };
       rows = rows_of s.due;
     } };
@@ -80,7 +76,6 @@ impl Drop for State {
             capabilities: _,
             plugin: _plugin,
             statements: _statements,
-            mode: _,
         } = self;
     }
 }
@@ -140,7 +135,6 @@ impl State {
             capabilities: no_capabilities(),
             plugin: None,
             statements: Statements::new(alloc),
-            mode: SessionMode::unknown(),
         }
     }
 
@@ -158,7 +152,6 @@ impl State {
             capabilities,
             plugin: None,
             statements: Statements::new(alloc),
-            mode: SessionMode::unknown(),
         }
     }
 

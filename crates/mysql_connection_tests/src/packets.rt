@@ -4,7 +4,7 @@
 use crate::connection::{Asserting, CONNECTION, begin};
 use mysql_connection::{
     BadEvent, Capabilities, CapabilityFlags, CommandRefusal, Connection, MariadbCapabilities,
-    PayloadRefusal, PutRefusal, Side,
+    PayloadRefusal, PutRefusal, SetsRefusal, Side,
 };
 use mysql_session::Value;
 use std::alloc::Global;
@@ -168,7 +168,7 @@ const STEPS: [Step; 24] = [
     ),
     (
         Call::Execution(1, &[Given::Int(1)]),
-        Some(PutRefusal::BadEvent(BadEvent::Command(CommandRefusal::ReadsOtherwise))),
+        Some(PutRefusal::BadEvent(BadEvent::Command(CommandRefusal::WrongCount))),
         b"",
     ),
     (Call::Packets(Side::Client, PING), None, PING),
@@ -196,4 +196,83 @@ fn executions(rt: HostRuntime) {
         assert.holds(found == *refused);
         assert_bytes(&assert, out.as_slice(), bytes);
     }
+}
+
+// Puts sets of a statement, for want of memory once more.
+fn put_sets(
+    connection: &mut Connection,
+    id: u32,
+    places: usize,
+    packets: &[u8],
+    out: &mut Vec<u8>,
+) -> Result<usize, SetsRefusal> {
+    match connection.put_sets(id, places, packets, out) {
+        Err(SetsRefusal::Packets(refusal)) if refusal.cause == PayloadRefusal::Memory => {
+            connection.put_sets(id, places, packets, out)
+        }
+        answer => answer,
+    }
+}
+
+// Two executions of 7 and ab.
+const BOTH: &[u8] =
+    b"\x1b\0\0\0\x17\x01\0\0\0\0\x01\0\0\0\0\x01\x08\0\xfd\0\x07\0\0\0\0\0\0\0\x02ab\
+    \x1b\0\0\0\x17\x01\0\0\0\0\x01\0\0\0\0\x01\x08\0\xfd\0\x07\0\0\0\0\0\0\0\x02ab";
+
+// An execution of a text of 12 bytes, which two parameters read to its end as abcde and a date.
+const ONE_OR_TWO: &[u8] =
+    b"\x1b\0\0\0\x17\x01\0\0\0\0\x01\0\0\0\0\x01\xfd\0\x0c\0\x05abcde\x04\xe8\x07\x02\x1d";
+
+const CLOSE: &[u8] = b"\x05\0\0\0\x19\x01\0\0\0";
+
+// The packets of a side that come before, the placeholders of the query whose sets are put, their
+// packets, and what the call answers.
+type SetsStep = (
+    Option<(Side, &'static [u8])>,
+    usize,
+    &'static [u8],
+    Result<usize, SetsRefusal>,
+);
+
+const SETS: [SetsStep; 9] = [
+    (None, 2, FIRST, Err(SetsRefusal::UnknownStatement)),
+    (
+        Some((Side::Client, PREPARE)),
+        2,
+        FIRST,
+        Err(SetsRefusal::UnknownStatement),
+    ),
+    (
+        Some((Side::Server, PREPARED)),
+        1,
+        ONE_OR_TWO,
+        Err(SetsRefusal::WrongCount(2)),
+    ),
+    (None, 3, FIRST, Err(SetsRefusal::WrongCount(2))),
+    // The second waits for the answer to the first.
+    (None, 2, BOTH, Ok(31)),
+    (None, 2, FIRST, Ok(0)),
+    (None, 1, FIRST, Err(SetsRefusal::WrongCount(2))),
+    (Some((Side::Server, OK)), 2, BULK, Ok(19)),
+    (Some((Side::Server, OK)), 2, b"", Ok(0)),
+];
+
+#[test]
+fn sets(rt: HostRuntime) {
+    let assert = Asserting(&rt);
+    let mut connection = begin(rt.alloc(), Some(IN_FORCE));
+    let mut out = Vec::new(rt.alloc());
+    for (before, places, packets, wanted) in &SETS {
+        if let Some((side, packets)) = before {
+            assert.holds(put_packets(&mut connection, *side, packets, &mut out));
+        }
+        out.clear();
+        let found = put_sets(&mut connection, 1, *places, packets, &mut out);
+        assert.holds(found == *wanted);
+        let taken = wanted.unwrap_or(0);
+        assert_bytes(&assert, out.as_slice(), &packets[..taken]);
+    }
+    assert.holds(put_packets(&mut connection, Side::Client, CLOSE, &mut out));
+    let closed = put_sets(&mut connection, 1, 2, FIRST, &mut out);
+    assert.holds(closed == Err(SetsRefusal::UnknownStatement));
 }

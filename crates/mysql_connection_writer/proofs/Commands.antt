@@ -1,17 +1,21 @@
 -- Commands that are read as they are.
-use Rattle.std.proofs.Common.{◌≡◌, ◌==◌, ℕ, Bool, true, false, List, [], ◌∷◌, length, Option, Some, None, Result, Ok}
-use Rattle.std.proofs.Common.{Err, refl, sym, ap, ◌∙◌, subst, arith}
+use Rattle.std.proofs.Common.{◌≡◌, ◌==◌, ℕ, Bool, true, false, List, [], ◌∷◌, length, map, Option, Some, None, Result}
+use Rattle.std.proofs.Common.{Ok, Err, refl, sym, ap, ◌∙◌, subst, arith}
 use Rattle.std.proofs.lemmas.Bool.{eqb-true, false≢true}
+use Rattle.std.proofs.lemmas.List.{length-map}
 use Rattle.mysql_buf.specs.Bytes.{AreBytes}
 use Rattle.mysql_const.specs.declared.capabilities.Capabilities.{Capabilities}
+use Rattle.mysql_execution_writer.specs.Bulks.{bulk_value_as_read}
+use Rattle.mysql_execution_writer.specs.Cells.{as_read as value_as_read}
 use Rattle.mysql_execution_writer.specs.Written.{attributes_as_read}
+use Rattle.mysql_executions.specs.declared.bulk.BulkValue.{BulkValue}
 use Rattle.mysql_executions.specs.InForce.{InForce}
 use Rattle.mysql_executions.specs.Types.{has_query_attributes}
 use Rattle.mysql_executions.specs.declared.types.Attribute.{Attribute}
 use Rattle.mysql_commands.specs.Commands.{BulkExecute, Command, Execute, Query, command_at}
-use Rattle.mysql_command_writer.specs.Laws.{IsPut, ReadCommandsArePut}
+use Rattle.mysql_command_writer.specs.Laws.{IsPut, PutValuesAreCounted, ReadCommandsArePut}
 use Rattle.mysql_command_writer.specs.Refusals.{DoesNotRead, Puts, Reads, ReadsBack, as_read}
-use Rattle.mysql_command_writer.specs.Refusals.{can_have_attributes, cause_against}
+use Rattle.mysql_command_writer.specs.Refusals.{can_have_attributes, cause_against, have_count}
 use Rattle.mysql_command_writer.specs.Written.{command_bytes}
 use Rattle.mysql_command_writer.specs.declared.refusal.CommandRefusal.{CommandRefusal}
 use Rattle.mysql_command_writer.specs.declared.refusal.CommandRefusal.TheVariants as command
@@ -21,7 +25,7 @@ use Rattle.mysql_connection_rules.specs.Standing.{Phase, Standing}
 use Rattle.mysql_connection_rules.specs.Standing as phases
 use Rattle.mysql_connection_rules.specs.Steps.{after_command, parameters_in_question}
 use Rattle.mysql_connection_writer.proofs.Lifting.{lifted, ok_same, some_same, unwritten}
-use Rattle.mysql_connection_writer.proofs.InLogin.{SaysIn, WritesIn, with_its_mode}
+use Rattle.mysql_connection_writer.proofs.InLogin.{SaysIn, WritesIn, by_the_table}
 use Rattle.mysql_connection_writer.proofs.Named.{is_bytes, named}
 use Rattle.mysql_connection_writer.proofs.OwnValues.{command_own, own_command}
 use Rattle.mysql_connection_writer.specs.Commands.{command_payload, is_own_command, parameters_named, parameters_of}
@@ -86,7 +90,7 @@ pub command_written : (s : Standing) (capabilities : Capabilities) (parameters :
     (bad.Command (cause_against capabilities parameters c)) old new result →
     WritesEvent s (events.Asked c) old new result
 command_written s capabilities parameters c old new result h fits in_force same w =
-    with_its_mode s (events.Asked c) old new result
+    by_the_table s (events.Asked c) old new result
     (command_in s.phase s c old new result h fits
     (subst (λ (its : Option InForce). Writes (λ p. command_at s.capabilities its p ≡ c)
     (command_payload s.capabilities its c) (bad.Command (cause_against s.capabilities its c)) old new result) same
@@ -101,7 +105,7 @@ no_command_in phase s c old h = unwritten (SaysIn phase s (events.Asked c)) None
 pub no_command : (s : Standing) (c : Command) (old : List ℕ) → awaits_command s.phase ≡ false →
     WritesEvent s (events.Asked c) old old (Err (refusals.BadEvent bad.ReadsOtherwise))
 no_command s c old h =
-    with_its_mode s (events.Asked c) old old (Err (refusals.BadEvent bad.ReadsOtherwise))
+    by_the_table s (events.Asked c) old old (Err (refusals.BadEvent bad.ReadsOtherwise))
     (no_command_in s.phase s c old h)
 
 -- WHAT A COMMAND'S WRITER PUTS
@@ -163,24 +167,38 @@ query_cause capabilities parameters attributes sql true asks can own = rw asks r
 query_cause capabilities parameters attributes sql false asks can own =
     absurd (false≢true (sym own ∙ no_attributes attributes (rw asks at can)))
 
-otherwise : (capabilities : Capabilities) (parameters : Option InForce) (c : Command) →
+row_count : (count : ℕ) (rows : List (List BulkValue)) →
+    have_count count (map (λ row. map bulk_value_as_read row) rows) ≡ have_count count rows
+row_count count [] = refl
+row_count count (row ∷ rows) = rw (length-map row bulk_value_as_read, row_count count rows) refl
+
+otherwise : PutValuesAreCounted → (capabilities : Capabilities) (parameters : Option InForce) (c : Command) →
     IsPut capabilities parameters (as_read c) → is_own_command c ≡ false →
     cause_against capabilities parameters c ≡ command.ReadsOtherwise
-otherwise capabilities parameters (Query attributes sql) can own =
+otherwise law capabilities parameters (Query attributes sql) can own =
     query_cause capabilities parameters attributes sql (has_query_attributes capabilities) refl can own
-otherwise capabilities None (Execute e) can own = absurd cc
-otherwise capabilities (Some s) (Execute e) can own = refl
-otherwise capabilities None (BulkExecute e) can own = absurd cc
-otherwise capabilities (Some s) (BulkExecute e) can own = refl
-otherwise capabilities parameters c can own = absurd cc
+otherwise law capabilities None (Execute e) can own = absurd cc
+otherwise law capabilities (Some s) (Execute e) can own =
+    let counted : (length (map value_as_read e.parameters) == s.count) ≡ true =
+    law capabilities s (as_read (Execute e)) can in
+    let same : (length e.parameters == s.count) ≡ true =
+    ap (λ (n : ℕ). n == s.count) (sym (length-map e.parameters value_as_read)) ∙ counted in
+    rw same refl
+otherwise law capabilities None (BulkExecute e) can own = absurd cc
+otherwise law capabilities (Some s) (BulkExecute e) can own =
+    let counted : have_count s.count (map (λ row. map bulk_value_as_read row) e.rows) ≡ true =
+    law capabilities s (as_read (BulkExecute e)) can in
+    rw (sym (row_count s.count e.rows) ∙ counted) refl
+otherwise law capabilities parameters c can own = absurd cc
 
-pub not_own : ReadCommandsArePut → (capabilities : Capabilities) (parameters : Option InForce) (c : Command)
+pub not_own : ReadCommandsArePut → PutValuesAreCounted →
+    (capabilities : Capabilities) (parameters : Option InForce) (c : Command)
     (old new : List ℕ) → ValuesFit c → AreBytes (command_bytes capabilities parameters c) →
     Puts capabilities parameters c old new (Ok tt) → is_own_command c ≡ false →
     Writes (λ p. command_at capabilities parameters p ≡ c) (command_payload capabilities parameters c)
     (bad.Command (cause_against capabilities parameters c)) old old
     (Err (refusals.BadEvent (bad.Command command.ReadsOtherwise)))
-not_own law capabilities parameters c old new fits are puts own =
+not_own law counted capabilities parameters c old new fits are puts own =
     let back = reads_back capabilities parameters c fits puts.1 in
     let can = can_put law capabilities parameters c are back in (
       refl,
@@ -189,7 +207,7 @@ not_own law capabilities parameters c old new fits are puts own =
           subst (λ (q : List ℕ). command_at capabilities parameters q ≡
           c) (is_bytes capabilities parameters c p is) r in
           false≢true (sym own ∙ own_command c (sym back ∙ read)),
-      ap (λ (x : CommandRefusal). bad.Command x) (sym (otherwise capabilities parameters c can own)),
+      ap (λ (x : CommandRefusal). bad.Command x) (sym (otherwise counted capabilities parameters c can own)),
     )
 
 -- A REFUSAL OF THE COMMAND'S WRITER

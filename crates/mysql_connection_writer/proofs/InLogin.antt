@@ -11,9 +11,8 @@ use Rattle.mysql_connection_rules.specs.Standing.{Phase, Standing}
 use Rattle.mysql_connection_rules.specs.Standing as phases
 use Rattle.mysql_connection_rules.specs.Steps.{after_authentication, after_greeting, after_response}
 use Rattle.mysql_connection_rules.specs.Steps.{authentication_step}
-use Rattle.mysql_connection_rules.specs.SessionModes.{mode_behind}
 use Rattle.mysql_connection_rules.specs.StepLaws.{step_said, step_says}
-use Rattle.mysql_connection_rules.specs.Steps.{greets_anew, in_mode, in_turn, of_login, says, step}
+use Rattle.mysql_connection_rules.specs.Steps.{greets_anew, in_turn, of_login, says, step}
 use Rattle.mysql_connection_rules.specs.declared.exchange.Exchange.{Exchange}
 use Rattle.mysql_connection_state.specs.Follows.{exchange_due}
 use Rattle.mysql_connection_writer.proofs.Lifting.{lifted, of_login_ok, said_of, some_same, unwritten}
@@ -34,20 +33,20 @@ abbrev pub WritesIn : Phase → Standing → Event → List ℕ → List ℕ →
 WritesIn phase s event old new result =
     Writes (SaysIn phase s event) (payload_in event s phase) (cause_in event s phase) old new result
 
--- with its mode a payload says the same
+-- a payload that says it in the phase says it by the table
 says_in : (s : Standing) (event : Event) (p : Payload) → SaysIn s.phase s event p →
     (after : Standing) × (step s p ≡ Ok (event, after))
-says_in s event p h = (in_mode (mode_behind s event) h.0, step_says s p event h.0 h.1)
+says_in s event p h = (h.0, step_says s p event h.0 h.1)
 
 in_says : (s : Standing) (event : Event) (p : Payload) → (after : Standing) × (step s p ≡ Ok (event, after)) →
     SaysIn s.phase s event p
-in_says s event p h = let said = step_said s p event h.0 h.1 in (said.leaves, said.says)
+in_says s event p h = (h.0, step_said s p event h.0 h.1)
 
-pub with_its_mode : (s : Standing) (event : Event) (old new : List ℕ) (result : Result (Unit {0}) EventRefusal) →
+pub by_the_table : (s : Standing) (event : Event) (old new : List ℕ) (result : Result (Unit {0}) EventRefusal) →
     WritesIn s.phase s event old new result →
     Writes (λ p. (after : Standing) × (step s p ≡ Ok (event, after))) (payload_in event s s.phase)
     (cause_in event s s.phase) old new result
-with_its_mode s event old new result w =
+by_the_table s event old new result w =
     lifted (SaysIn s.phase s event) (λ p. (after : Standing) × (step s p ≡ Ok (event, after)))
     (payload_in event s s.phase) (cause_in event s s.phase) old new result (λ p is. says_in s event p)
     (λ p is. in_says s event p) w
@@ -84,7 +83,7 @@ pub greeting_written : (s : Standing) (said : Greeting) (old new : List ℕ)
     (login_cause (greeting_cause said)) old new result →
     WritesEvent s (events.Greeting said) old new result
 greeting_written s said old new result h w =
-    with_its_mode s (events.Greeting said) old new result
+    by_the_table s (events.Greeting said) old new result
     (greeting_in s.phase s said old new result h w)
 
 no_greeting_in : (phase : Phase) (s : Standing) (said : Greeting) (old : List ℕ) →
@@ -96,7 +95,7 @@ no_greeting_in phase s said old h = unwritten (SaysIn phase s (events.Greeting s
 pub no_greeting : (s : Standing) (said : Greeting) (old : List ℕ) → awaits_greeting s.phase ≡ false →
     WritesEvent s (events.Greeting said) old old (Err (refusals.BadEvent ReadsOtherwise))
 no_greeting s said old h =
-    with_its_mode s (events.Greeting said) old old (Err (refusals.BadEvent ReadsOtherwise))
+    by_the_table s (events.Greeting said) old old (Err (refusals.BadEvent ReadsOtherwise))
     (no_greeting_in s.phase s said old h)
 
 -- RESPONSES
@@ -139,7 +138,7 @@ pub response_written : (s : Standing) (offered : Capabilities) (said : Response)
     (login_cause (response_cause offered.protocol.0 said)) old new result →
     WritesEvent s (events.Response said) old new result
 response_written s offered said old new result h same w =
-    with_its_mode s (events.Response said) old new result
+    by_the_table s (events.Response said) old new result
     (response_in s.phase s said old new result h
     (subst (λ (c : Capabilities). Writes (λ p. response_at c.protocol.0 p ≡ Ok said)
     (unless_cause (response_cause c.protocol.0 said) (response_bytes c.protocol.0 said))
@@ -154,7 +153,7 @@ no_response_in phase s said old h = unwritten (SaysIn phase s (events.Response s
 pub no_response : (s : Standing) (said : Response) (old : List ℕ) → awaits_response s.phase ≡ false →
     WritesEvent s (events.Response said) old old (Err (refusals.BadEvent ReadsOtherwise))
 no_response s said old h =
-    with_its_mode s (events.Response said) old old (Err (refusals.BadEvent ReadsOtherwise))
+    by_the_table s (events.Response said) old old (Err (refusals.BadEvent ReadsOtherwise))
     (no_response_in s.phase s said old h)
 
 -- AUTHENTICATIONS
@@ -213,7 +212,7 @@ pub authentication_written : (exchange : Exchange) (s : Standing) (capabilities 
     (login_cause (authentication_cause capabilities.protocol.0 said)) old new result →
     WritesEvent s (events.Authentication said) old new result
 authentication_written exchange s capabilities said old new result h same w =
-    with_its_mode s (events.Authentication said) old new result
+    by_the_table s (events.Authentication said) old new result
     (authentication_in s.phase exchange s said old new result h
     (subst (λ (c : Capabilities). Writes (ReadsInExchange exchange c.protocol.0 said)
     (unless_cause (authentication_cause c.protocol.0 said) (authentication_bytes c.protocol.0 said))
@@ -229,5 +228,5 @@ no_authentication_in phase s said old h =
 pub no_authentication : (s : Standing) (said : Authentication) (old : List ℕ) → exchange_due s.phase ≡ None →
     WritesEvent s (events.Authentication said) old old (Err (refusals.BadEvent ReadsOtherwise))
 no_authentication s said old h =
-    with_its_mode s (events.Authentication said) old old (Err (refusals.BadEvent ReadsOtherwise))
+    by_the_table s (events.Authentication said) old old (Err (refusals.BadEvent ReadsOtherwise))
     (no_authentication_in s.phase s said old h)

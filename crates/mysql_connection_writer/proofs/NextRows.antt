@@ -14,7 +14,6 @@ use Rattle.mysql_connection_rules.specs.Events as events
 use Rattle.mysql_connection_rules.specs.Standing.{About, Executing, InReply, OfStatement, Phase, Preparing, Resetting}
 use Rattle.mysql_connection_rules.specs.Standing.{Standing, Streaming}
 use Rattle.mysql_connection_rules.specs.Standing as phases
-use Rattle.mysql_connection_rules.specs.SessionModes.{mode_behind}
 use Rattle.mysql_connection_rules.specs.StepLaws.{step_said, step_says}
 use Rattle.mysql_connection_rules.specs.Steps.{about_after, after_authentication, after_command, after_event}
 use Rattle.mysql_connection_rules.specs.Steps.{after_greeting, after_part}
@@ -91,7 +90,6 @@ row_step : (s : Standing) (r : InReply) (row : Row) (p : Payload) → s.phase �
     r.so_far.awaited ≡ Rows true →
     IsAnswered r.about → event_at (context_of s r) r.so_far p ≡ Ok (RowEvent row, r.so_far) →
     step s p ≡ Ok (events.Replied (RowEvent row), s)
-unfolding mode_behind
 row_step s r row p phase awaited about reads =
     let in_reply : reply_step r s p ≡
     Ok (events.Replied (RowEvent row), after_event r (counted p) (RowEvent row) r.so_far s) =
@@ -200,5 +198,4 @@ replied_in law (phases.Over reason) s after row p is h = absurd cc
 
 pub rows_lead : EventsLeadOn → RowsLeadToRows
 rows_lead law s after row p h =
-    let said = step_said s p (events.Replied (RowEvent row)) after h in
-    subst IsAmongRows (sym said.stands) (replied_in law s.phase s said.leaves row p refl said.says)
+    replied_in law s.phase s after row p refl (step_said s p (events.Replied (RowEvent row)) after h)

@@ -20,7 +20,7 @@ use Rattle.mysql_connection_writer.specs.Writes.{Writes, WritesEvent}
 use Rattle.mysql_connection_writer.specs.declared.refusal.EventRefusal.{EventRefusal}
 use Rattle.mysql_connection_writer.specs.declared.refusal.BadEvent.TheVariants.{ReadsOtherwise}
 use Rattle.mysql_connection_writer.specs.declared.refusal.EventRefusal.TheVariants as refusals
-use Rattle.mysql_connection_writer.proofs.InLogin.{SaysIn, WritesIn, with_its_mode}
+use Rattle.mysql_connection_writer.proofs.InLogin.{SaysIn, WritesIn, by_the_table}
 
 -- ANSWERS
 
@@ -44,7 +44,7 @@ pub answer_written : (s : Standing) (bytes old new : List ℕ) (result : Result 
     awaits_answer s.phase ≡ true → Writes (λ p. p ≡ bytes) (Some bytes) ReadsOtherwise old new result →
     WritesEvent s (events.Answer bytes) old new result
 answer_written s bytes old new result h w =
-    with_its_mode s (events.Answer bytes) old new result
+    by_the_table s (events.Answer bytes) old new result
     (answer_in s.phase s bytes old new result h w)
 
 no_answer_in : (phase : Phase) (s : Standing) (bytes old : List ℕ) → awaits_answer phase ≡ false →
@@ -55,7 +55,7 @@ no_answer_in phase s bytes old h = unwritten (SaysIn phase s (events.Answer byte
 pub no_answer : (s : Standing) (bytes old : List ℕ) → awaits_answer s.phase ≡ false →
     WritesEvent s (events.Answer bytes) old old (Err (refusals.BadEvent ReadsOtherwise))
 no_answer s bytes old h =
-    with_its_mode s (events.Answer bytes) old old (Err (refusals.BadEvent ReadsOtherwise))
+    by_the_table s (events.Answer bytes) old old (Err (refusals.BadEvent ReadsOtherwise))
     (no_answer_in s.phase s bytes old h)
 
 -- THE CLIENT'S FILE
@@ -105,7 +105,7 @@ pub file_written : (s : Standing) (bytes old new : List ℕ) (result : Result (U
     awaits_file s.phase ≡ true → Writes (λ p. p ≡ bytes) (Some bytes) ReadsOtherwise old new result →
     WritesEvent s (events.FileData bytes) old new result
 file_written s bytes old new result h w =
-    with_its_mode s (events.FileData bytes) old new result
+    by_the_table s (events.FileData bytes) old new result
     (file_in s.phase s bytes old new result h w)
 
 -- a server's payload says none
@@ -126,5 +126,5 @@ no_file_in phase s bytes old h = unwritten (SaysIn phase s (events.FileData byte
 pub no_file_data : (s : Standing) (bytes old : List ℕ) → awaits_file s.phase ≡ false →
     WritesEvent s (events.FileData bytes) old old (Err (refusals.BadEvent ReadsOtherwise))
 no_file_data s bytes old h =
-    with_its_mode s (events.FileData bytes) old old (Err (refusals.BadEvent ReadsOtherwise))
+    by_the_table s (events.FileData bytes) old old (Err (refusals.BadEvent ReadsOtherwise))
     (no_file_in s.phase s bytes old h)

@@ -19,7 +19,7 @@ use Rattle.mysql_connection_statements.specs.Statements.{counted}
 use Rattle.mysql_connection_state.specs.Follows.{IsReplyReader, ReadsReply}
 use Rattle.mysql_connection_state.specs.Reads.{IsInReply}
 use Rattle.mysql_connection_writer.proofs.Lifting.{led_to, ok_same, said_of, unwritten}
-use Rattle.mysql_connection_writer.proofs.InLogin.{SaysIn, WritesIn, with_its_mode}
+use Rattle.mysql_connection_writer.proofs.InLogin.{SaysIn, WritesIn, by_the_table}
 use Rattle.mysql_connection_writer.proofs.PlainBytes.{by_client, by_server}
 use Rattle.mysql_connection_writer.specs.Phases.{is_file}
 use Rattle.mysql_connection_writer.specs.Payloads.{Payload}
@@ -157,7 +157,7 @@ pub reply_written : (s : Standing) (reader : ReaderState) (event : ReplySaid) (o
     (result : Result (Unit {0}) EventRefusal) → IsReplyReader s (Some reader) →
     PutsReply reader event old new result → WritesEvent s (events.Replied event) old new result
 reply_written s reader event old new result its w =
-    with_its_mode s (events.Replied event) old new result
+    by_the_table s (events.Replied event) old new result
     (subst (λ (phase : Phase). WritesIn phase s (events.Replied event) old new result) (sym its.1.phase)
     (reply_in s its.0 reader event old new result its.1 w))
 
@@ -175,5 +175,5 @@ no_reply_in phase s event old h =
 pub no_reply_due : (s : Standing) (event : ReplySaid) (old : List ℕ) → (IsInReply s.phase → ⊥) →
     WritesEvent s (events.Replied event) old old (Err (refusals.BadEvent bad.ReadsOtherwise))
 no_reply_due s event old h =
-    with_its_mode s (events.Replied event) old old (Err (refusals.BadEvent bad.ReadsOtherwise))
+    by_the_table s (events.Replied event) old old (Err (refusals.BadEvent bad.ReadsOtherwise))
     (no_reply_in s.phase s event old h)

@@ -24,7 +24,6 @@ use Rattle.mysql_connection_rules.specs.Events.Event.{Asked}
 use Rattle.mysql_connection_rules.specs.Standing.{Phase, Standing}
 use Rattle.mysql_connection_rules.specs.Standing.About.{OfStatement}
 use Rattle.mysql_connection_rules.specs.Standing as phases
-use Rattle.mysql_connection_rules.specs.SessionModes.{mode_behind}
 use Rattle.mysql_connection_rules.specs.StepLaws.{step_says}
 use Rattle.mysql_connection_rules.specs.Steps.{about_execution, after_command, after_executing, execution_of}
 use Rattle.mysql_connection_rules.specs.Steps.{id_in_question, in_turn, parameters_in_question, reply_due}
@@ -115,7 +114,6 @@ module _ (s : Standing) (id : ℕ) (statement : Statement) (values : List Value)
             (with_statements x s)) settled.3
 
         steps : step s (0x17 ∷ body) ≡ Ok (Asked (Execute e), after_settled id statement.columns s)
-        unfolding mode_behind
         steps =
             step_says s (0x17 ∷ body) (Asked (Execute e)) (reply_due kinds.Binary statement.columns (OfStatement id) s)
             (ap (λ (x : Phase). in_turn x s (0x17 ∷ body)) phase

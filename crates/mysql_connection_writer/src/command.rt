@@ -18,7 +18,7 @@ use crate::own::{id_of, id_of_bulk, is_own_command, values_fit};
 use crate::phases::awaits_command;
 use crate::refusal::{BadEvent, EventRefusal};
 use mysql_buf::laws::are_bytes;
-use mysql_command_writer::laws::read_commands_are_put;
+use mysql_command_writer::laws::{put_values_are_counted, read_commands_are_put};
 use mysql_command_writer::{CommandRefusal, put_command};
 use mysql_commands::Command;
 use mysql_connection_state::State;
@@ -83,6 +83,7 @@ fn put_own(
         out.old.items out.new.items result }
 {
     read_commands_are_put();
+    put_values_are_counted();
     values_fit(command)?;
     let len = out.len();
     if let Err(refusal) = put_bytes(capabilities, parameters, command, out) {

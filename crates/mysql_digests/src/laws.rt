@@ -31,8 +31,7 @@ pub fn texts_over_one_query_have_one_digest()
     one_reading();
 }
 
-/// A digest tells nothing of what is inside a string or a comment, nor of what follows where servers
-/// begin to disagree.
+/// A digest tells nothing inside a string or a comment, nor what follows where servers disagree.
 pub fn digests_have_no_inside()
     ensures insides { InsidesAreNotTold }
     ensures rest { RestIsNotTold }

@@ -1,9 +1,9 @@
 -- A query that is kept, for calls that each send or read sets of it. MySQL Reference Manual,
 -- "PREPARE Statement" (parameter markers); MySQL: Client/Server Protocol, "COM_STMT_PREPARE" (the
 -- statement's id), "COM_STMT_EXECUTE".
-use Rattle.std.specs.Prelude.{◌≡◌, ◌⊎◌, ◌<◌, ◌≤◌, ℕ, List, length, false, true}
+use Rattle.std.specs.Prelude.{◌≡◌, ◌≢◌, ◌⊎◌, ◌<◌, ◌≤◌, ℕ, List, length, false, true, Result, Ok, Err}
 use Rattle.mysql_values.specs.Place.{Place}
-use Rattle.mysql_values.specs.Queries.{HasMixed, places_of}
+use Rattle.mysql_values.specs.Queries.{HasMixed, HasPlaces, places_of}
 use Rattle.mysql_values.specs.Sql.{Sql}
 use Rattle.mysql_values.specs.Tokens.{HasTokens}
 use Rattle.mysql_values.specs.Value.{Value}
@@ -14,6 +14,7 @@ use Rattle.mysql_command_rules.specs.declared.road.Road.{Road}
 use Rattle.mysql_command_rules.specs.declared.refusal.Refusal.{Refusal}
 use Rattle.mysql_command_rules.specs.declared.refusal.Refusal.TheVariants.{Memory, Mixed, TooManyPlaces}
 use Rattle.mysql_send.specs.Executions.{AppendsMore, RefusesMore, limits_of}
+use Rattle.mysql_session.specs.declared.wrong_count.WrongCount.{WrongCount}
 
 -- its text for a server in a mode, with the spelling of byte strings by text, and the id of its statement
 pub record KeptQuery : Type 0 where
@@ -31,6 +32,12 @@ pub record IsNotKept (sql : Sql) (id : ℕ) (refusal : Refusal) : Type 0 where
   pub mixed : (refusal ≡ Memory) ⊎ ((refusal ≡ Mixed) × HasMixed sql true)
   pub refused : (road : Road) (sets : List (List ℕ) → List Given) (limit : ℕ) →
       RefusesGiven road sql sets id limit refusal
+
+-- the server counted as many parameters as the query has placeholders; or another number, and both are told
+abbrev pub ChecksCount : Sql → (parameters : ℕ) → Result (Unit {0}) WrongCount → Type 0
+ChecksCount query parameters (Ok done) = (places : List Place) × HasPlaces query places × (length places ≡ parameters)
+ChecksCount query parameters (Err wrong) = (places : List Place) × HasPlaces query places ×
+    (length places ≢ parameters) × (wrong ≡ record { places = length places; parameters = parameters })
 
 -- further executions are appended, of which the first has this number: the statement can be
 -- prepared, nothing speaks against any set, and the framings of its execution follow those of the

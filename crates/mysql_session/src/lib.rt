@@ -23,6 +23,7 @@ pub mod laws;
 mod objects;
 mod query;
 mod sender;
+mod wrong_count;
 
 pub use bitflags::Flags;
 pub use mysql_command_rules::{Refusal, Road, SendToError};
@@ -51,7 +52,7 @@ pub use mysql_row_refs::{
     ValueRef,
 };
 pub use mysql_rows::{ColumnIndex, Row};
-pub use mysql_session_modes::{SessionMode, Tracking, mode_begun, mode_behind_ok};
+pub use mysql_session_modes::{ASK_SESSION_MODE, SessionMode};
 pub use mysql_values::{
     BindError, ByteString, Content, MissingNamedParameterError, Mode, Params, ParamsConfusionError,
     ParamsError, SetError, Spelling, Value, is_safe_to_quote,
@@ -60,3 +61,4 @@ pub use mysql_wire::{ChunkHeader, PacketCodecError, PacketReader, packet_to_chun
 pub use objects::send_values;
 pub use query::Query;
 pub use sender::send;
+pub use wrong_count::WrongCount;

@@ -10,7 +10,7 @@ ghost use Rattle.mysql_values.specs.Sql.{read_by, read_by_default};
 ghost use Rattle.mysql_receive.specs.Making.{IsFresh};
 ghost use Rattle.mysql_values.specs.declared.bind.BindError.TheVariants as bind_error;
 ghost use Rattle.mysql_session.specs.Delivery.{Delivers};
-ghost use Rattle.mysql_session.specs.Kept.{AppendsFurther, IsNotKept, KeepsQuery, RefusesFurther};
+ghost use Rattle.mysql_session.specs.Kept.{AppendsFurther, ChecksCount, IsNotKept, KeepsQuery, RefusesFurther};
 ghost use Rattle.mysql_session.specs.WritingTo.{DeliversTo, StopsSending};
 ghost use Rattle.mysql_command_rules.specs.Writing.{Writes};
 ghost use Rattle.mysql_command_rules.specs.declared.road.Road.TheVariants as roads;
@@ -19,6 +19,7 @@ ghost use Rattle.mysql_command_rules.specs.Sets.{Given, all_given, all_given_in_
 ghost use Rattle.mysql_command_rules.specs.declared.refusal.Refusal.TheVariants as refusals;
 
 use crate::laws::{further_sets_are_delivered, readable_sets_are_delivered};
+use crate::wrong_count::WrongCount;
 use mysql_buf::laws::are_bytes;
 use mysql_command_rules::{Refusal, Road, SendToError, flush};
 use mysql_receive::Receiver;
@@ -145,6 +146,33 @@ impl<'q> Query<'q> {
         ensures { (places : List PlaceOf) × HasPlaces self.now.sql places × (result ≡ length places) }
     {
         self.statement.query().places().len()
+    }
+
+    /// Checks that the server counted as many parameters as the text has placeholders.
+    ///
+    /// `parameters` is what its answer to the prepare has (`StmtPacket::num_params`). A server runs
+    /// an execution with another number of values too, with other values than were meant. So ask
+    /// before you send what [`Query::send_more`] appends, or what [`Query::send`] appends behind its
+    /// prepare. `Connection::put_sets` asks by itself.
+    ///
+    ///     query.check_count(answer.num_params())?;
+    ///
+    /// Promise: exactly where the two numbers are the same, it has nothing against them
+    /// (`ChecksCount`).
+    ///
+    /// # Errors
+    /// - `WrongCount` with both numbers.
+    ///
+    /// (MySQL: Client/Server Protocol, "COM_STMT_PREPARE Response" (num_params).)
+    pub fn check_count(&self, parameters: u16) -> Result<(), WrongCount>
+        ensures { ChecksCount self.now.sql parameters result }
+    {
+        let places = self.place_count();
+        if places == parameters as usize {
+            Ok(())
+        } else {
+            Err(WrongCount { places, parameters })
+        }
     }
 
     /// Appends to `out` what [`send`](crate::send) appends of sets of this text and id.

@@ -1,3 +1,4 @@
 pub mod Walking
 pub mod TextSteps
+pub mod TextWalks
 pub mod Skipping

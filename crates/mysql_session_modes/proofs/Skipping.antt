@@ -1,11 +1,12 @@
 -- What a search for a word passes over.
 use Rattle.std.proofs.Common.{◌≡◌, ◌==◌, ◌&&◌, Bool, true, false, cond, ℕ, zero, suc, ◌+◌, ◌-◌, ◌<◌, ◌≤◌, ◌%◌, nat_le}
 use Rattle.std.proofs.Common.{nat_lt, List, [], ◌∷◌, length, drop, slice_index, refl, sym, ap, ◌∙◌, arith, drop-drop}
-use Rattle.std.proofs.Common.{get_or-drop, eqb-true, leb-true, true≢false, take, take_all, length-drop, le_of_eq}
+use Rattle.std.proofs.Common.{get_or-drop, eqb-true, leb-true, le-leb, true≢false, take, take_all, length-drop}
+use Rattle.std.proofs.Common.{le_of_eq}
 use Rattle.std.proofs.Math.Nat.{add-mod_right}
 use Rattle.std.proofs.lemmas.Bool.{false_from_ne_true}
 use Rattle.std.specs.Char.{to_ascii_lowercase}
-use Rattle.mysql_session_modes.specs.SessionModes.{has_word, is_word_at}
+use Rattle.mysql_session_modes.specs.Texts.{has_word, is_word_at}
 use Rattle.mysql_session_modes.specs.Steps.{are_short, are_within}
 use Rattle.mysql_session_modes.proofs.TextSteps.{not_here, nowhere}
 
@@ -123,3 +124,20 @@ pub at_rest : (word text : List ℕ) (at : ℕ) →
     is_word_at word (drop at text) ≡ is_word_at word (take (length text - at) (drop at text))
 at_rest word text at =
     ap (λ t. is_word_at word t) (sym (take_all (length text - at) (drop at text) (le_of_eq (length-drop at text))))
+
+-- where each byte is looked at, no step goes too far
+abbrev pub no_steps : List ℕ
+no_steps =
+    0 ∷ 0 ∷ 0 ∷ 0 ∷ 0 ∷ 0 ∷ 0 ∷ 0 ∷ 0 ∷ 0 ∷ 0 ∷ 0 ∷ 0 ∷ 0 ∷ 0 ∷ 0 ∷
+    0 ∷ 0 ∷ 0 ∷ 0 ∷ 0 ∷ 0 ∷ 0 ∷ 0 ∷ 0 ∷ 0 ∷ 0 ∷ 0 ∷ 0 ∷ 0 ∷ 0 ∷ 0 ∷ []
+
+both : (a b : Bool) → a ≡ true → b ≡ true → (a && b) ≡ true
+both true b e f = f
+both false b e f = absurd (true≢false (sym e))
+
+pub no_steps_short : (word : List ℕ) → are_short no_steps word ≡ true
+no_steps_short [] = refl
+no_steps_short (letter ∷ word) =
+    let none : slice_index no_steps (letter % 32) ≤ 0 = within_at no_steps [] (letter % 32) refl in
+    both (nat_le (slice_index no_steps (letter % 32)) (length word)) (are_short no_steps word)
+    (le-leb (slice_index no_steps (letter % 32)) (length word) (omega (arith, none))) (no_steps_short word)

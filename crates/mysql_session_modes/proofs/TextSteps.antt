@@ -2,7 +2,7 @@
 use Rattle.std.proofs.Common.{◌≡◌, ◌≢◌, ◌==◌, ◌&&◌, Bool, true, false, ℕ, List, [], ◌∷◌, length, refl, sym, ap, ◌∙◌}
 use Rattle.std.proofs.lemmas.Bool.{eq-eqb, ne_eqb}
 use Rattle.std.specs.Char.{to_ascii_lowercase}
-use Rattle.mysql_session_modes.specs.SessionModes.{has_word, is_word_at}
+use Rattle.mysql_session_modes.specs.Texts.{has_word, is_word_at}
 
 pub no_word : (word text : List ℕ) → length word ≡ 0 → is_word_at word text ≡ true
 unfolding is_word_at

@@ -1,4 +1,5 @@
 pub mod SessionModes
 pub mod Steps
+pub mod Texts
 pub mod Told
 pub mod Views

@@ -1,70 +1,166 @@
--- What a client knows of its session's SQL mode, by what was said so far.
--- MySQL Reference Manual, "Server SQL Modes", "Server Tracking of Client Session State", "Stored Objects"
--- (the mode in which a routine was made is in force while it runs); MySQL: Client/Server Protocol,
--- "OK_Packet" (SESSION_TRACK_SYSTEM_VARIABLES); MariaDB Server Documentation, "SET STATEMENT".
-use Rattle.std.specs.Prelude.{ℕ, Bool, true, false, not, ◌==◌, ◌&&◌, ◌||◌, if◌then◌else◌}
-use Rattle.std.specs.Prelude.{List, [], ◌∷◌, codes, Option, Some, None}
-use Rattle.std.specs.Char.{to_ascii_lowercase}
-use Rattle.mysql_const.specs.FlagSets.{contains}
-use Rattle.mysql_bytes.specs.Modes.{ansi_quotes_bit, mode_of_sql_mode, mode_of_status}
+-- What a client knows of its session's SQL mode and character set, by what was said so far. Nothing is
+-- concluded from a status, a login or silence.
+-- MySQL Reference Manual, "Server SQL Modes", "Connection Character Sets and Collations", "Server
+-- Tracking of Client Session State", "Stored Objects" (what a routine changes is undone at its end);
+-- MariaDB Server Documentation, "SET STATEMENT", "Supported Character Sets and Collations".
+use Rattle.std.specs.Prelude.{◌≡◌, ℕ, Bool, false, not, ◌&&◌, ◌||◌, nat_lt, if◌then◌else◌}
+use Rattle.std.specs.Prelude.{List, [], ◌∷◌, codes, Option, Some, None, is_some, unwrap_or}
+use Rattle.std.specs.List.{list_all}
+use Rattle.mysql_bytes.specs.Modes.{is_one_of}
 use Rattle.mysql_bytes.specs.declared.mode.Mode.{Mode}
+use Rattle.mysql_bytes.specs.declared.spelling.Spelling.{Spelling}
+use Rattle.mysql_bytes.specs.declared.spelling.Spelling.TheVariants.{Hexadecimal, Quoted}
+use Rattle.mysql_queries.specs.Sql.{default_mode}
+use Rattle.mysql_queries.specs.Tokens.{HasTokens}
+use Rattle.mysql_session_modes.specs.Texts.{ends_at_semicolon, first_word, has_word, is_one_statement}
 use Rattle.mysql_session_modes.specs.declared.session_mode.SessionMode.{SessionMode}
-use Rattle.mysql_session_modes.specs.declared.session_mode.Tracking.{Tracking}
-use Rattle.mysql_session_modes.specs.declared.session_mode.Tracking.TheVariants.{Doubted, Tracked, Untracked}
+
+-- WHAT IS KNOWN
 
 abbrev pub unknown_mode : SessionMode
-unknown_mode = record { mode = None; tracking = Untracked }
+unknown_mode = record { mode = None; is_safe_set = None; counts = false }
 
--- Behind the OK of a login, a change of user or a reset, whose status is this: no statement ran. MariaDB sets
--- the bit of ANSI_QUOTES in MSSQL too, in which brackets quote names.
-abbrev pub fresh_mode : ℕ → SessionMode
-fresh_mode status =
-    if contains status ansi_quotes_bit then unknown_mode
-    else record { mode = Some (mode_of_status status); tracking = Untracked }
+-- The character sets in which quotes and backslashes are themselves: UTF-8, and each of one byte a
+-- character that has ASCII's bytes for ASCII. All others aren't, known or not.
+abbrev pub safe_sets : List (List ℕ)
+safe_sets =
+    codes "utf8mb4"
+    ∷ codes "utf8mb3"
+    ∷ codes "utf8"
+    ∷ codes "ascii"
+    ∷ codes "binary"
+    ∷ codes "latin1"
+    ∷ codes "latin2"
+    ∷ codes "latin5"
+    ∷ codes "latin7"
+    ∷ codes "armscii8"
+    ∷ codes "cp1250"
+    ∷ codes "cp1251"
+    ∷ codes "cp1256"
+    ∷ codes "cp1257"
+    ∷ codes "cp850"
+    ∷ codes "cp852"
+    ∷ codes "cp866"
+    ∷ codes "dec8"
+    ∷ codes "geostd8"
+    ∷ codes "greek"
+    ∷ codes "hebrew"
+    ∷ codes "hp8"
+    ∷ codes "keybcs2"
+    ∷ codes "koi8r"
+    ∷ codes "koi8u"
+    ∷ codes "macce"
+    ∷ codes "macroman"
+    ∷ codes "tis620"
+    ∷ []
 
--- behind an OK that tells this value of the variable `sql_mode`
-abbrev pub tracked_mode : List ℕ → SessionMode
-tracked_mode value = record { mode = mode_of_sql_mode value; tracking = Tracked }
+abbrev pub is_safe_set : List ℕ → Bool
+is_safe_set name = is_one_of safe_sets name
 
--- what the reply to a statement tells of the mode doesn't count
-abbrev pub doubted_mode : SessionMode
-doubted_mode = record { mode = None; tracking = Doubted }
+abbrev pub is_true : Option Bool → Bool
+is_true None = false
+is_true (Some b) = b
 
-abbrev pub by_tracking : Tracking → SessionMode → SessionMode
-by_tracking Tracked s = s
-by_tracking tracking s = unknown_mode
+-- Both are known, and quotes are safe.
+abbrev pub is_safe : SessionMode → Bool
+is_safe s = is_some s.mode && is_true s.is_safe_set
 
--- Behind a statement that is run: it may change the mode, or call a routine behind which the status tells
--- another mode than the session's. Where the variable is tracked the server tells each change.
-abbrev pub mode_behind_statement : SessionMode → SessionMode
-mode_behind_statement s = by_tracking s.tracking s
+-- How texts are to be spelled.
+abbrev pub spelling_in : SessionMode → Spelling
+spelling_in s = if is_safe s then Quoted else Hexadecimal
 
--- A text goes on with a word, its letters in any case; the word is given in small ones.
-unfoldable pub is_word_at : List ℕ → List ℕ → Bool
-is_word_at [] text = true
-is_word_at (letter ∷ word) [] = false
-is_word_at (letter ∷ word) (byte ∷ text) = (to_ascii_lowercase byte == letter) && is_word_at word text
+-- BEHIND A TEXT
 
--- A word stands in a text, wherever that is.
-unfoldable pub has_word : List ℕ → List ℕ → Bool
-has_word word [] = false
-has_word word (byte ∷ text) = is_word_at word (byte ∷ text) || has_word word text
+-- First words of statements that change neither. What a routine, a trigger or a function that they call
+-- changes is undone at its end.
+abbrev pub keeping_words : List (List ℕ)
+keeping_words =
+    codes "SELECT"
+    ∷ codes "INSERT"
+    ∷ codes "UPDATE"
+    ∷ codes "DELETE"
+    ∷ codes "COMMIT"
+    ∷ codes "ROLLBACK"
+    ∷ codes "START"
+    ∷ codes "REPLACE"
+    ∷ codes "WITH"
+    ∷ codes "CALL"
+    ∷ codes "SHOW"
+    ∷ codes "USE"
+    ∷ codes "DO"
+    ∷ codes "SAVEPOINT"
+    ∷ codes "RELEASE"
+    ∷ codes "EXPLAIN"
+    ∷ codes "DESCRIBE"
+    ∷ codes "DESC"
+    ∷ codes "CREATE"
+    ∷ codes "ALTER"
+    ∷ codes "DROP"
+    ∷ codes "TRUNCATE"
+    ∷ codes "RENAME"
+    ∷ codes "LOCK"
+    ∷ codes "UNLOCK"
+    ∷ codes "GRANT"
+    ∷ codes "REVOKE"
+    ∷ codes "ANALYZE"
+    ∷ codes "OPTIMIZE"
+    ∷ codes "CHECK"
+    ∷ codes "VALUES"
+    ∷ codes "TABLE"
+    ∷ codes "KILL"
+    ∷ codes "FLUSH"
+    ∷ []
 
--- Behind a statement that is sent as a text. MariaDB's `SET STATEMENT sql_mode = .. FOR ..` tells the mode in
--- which that one statement runs, and not that it ends. A text that sets what is tracked may end the tracking.
-unfoldable pub mode_behind_text : List ℕ → SessionMode → SessionMode
-mode_behind_text text s =
-    if has_word (codes "statement") text then doubted_mode
-    else if has_word (codes "session_track_system_variables") text then unknown_mode
-    else mode_behind_statement s
+-- MariaDB's BEGIN NOT ATOMIC runs statements of any kind.
+abbrev pub is_keeping : (word text : List ℕ) → Bool
+is_keeping word text =
+    is_one_of keeping_words word ||
+    (is_one_of (codes "BEGIN" ∷ []) word && not (has_word (codes "not") text))
 
--- A status agrees with a mode: by the bit of NO_BACKSLASH_ESCAPES, and by that of ANSI_QUOTES where it is set,
--- since MySQL has none.
-abbrev pub has_bits : (status_mode mode : Mode) → Bool
-has_bits status_mode mode =
-    (if status_mode.no_backslash_escapes then mode.no_backslash_escapes else not mode.no_backslash_escapes) &&
-    (not status_mode.ansi_quotes || mode.ansi_quotes)
+abbrev pub is_ascii : List ℕ → Bool
+is_ascii text = list_all (λ b. nat_lt b 0x80) text
 
-abbrev pub agrees : ℕ → Option Mode → Bool
-agrees status None = true
-agrees status (Some mode) = has_bits (mode_of_status status) mode
+-- A SET whose words are all there as ASCII: of others a server may take a letter for one of ASCII's.
+-- MariaDB's `SET STATEMENT` sets for one statement alone.
+abbrev pub is_plain_set : (word text : List ℕ) → Bool
+is_plain_set word text =
+    is_one_of (codes "SET" ∷ []) word && (is_ascii text && not (has_word (codes "statement") text))
+
+-- Behind it what it may set isn't known: servers run its first assignment where they refuse its second.
+abbrev pub kept_by_set : List ℕ → SessionMode → SessionMode
+kept_by_set text s = record s {
+  mode = if has_word (codes "sql_mode") text then None else s.mode;
+  is_safe_set =
+      if has_word (codes "character") text || (has_word (codes "charset") text || has_word (codes "names") text)
+      then None else s.is_safe_set;
+}
+
+-- Behind one statement with this first word.
+abbrev pub kept_by : (word text : List ℕ) → SessionMode → SessionMode
+kept_by word text s =
+    if is_keeping word text then s
+    else if is_plain_set word text then kept_by_set text s
+    else unknown_mode
+
+-- A text is one statement by its bytes alone, or by its tokens, where it is known how they are read.
+abbrev pub is_one : List (List ℕ) → List ℕ → SessionMode → Bool
+is_one tokens text s = ends_at_semicolon text || (is_safe s && is_one_statement tokens)
+
+abbrev pub kept_behind : List (List ℕ) → List ℕ → SessionMode → SessionMode
+kept_behind tokens text s =
+    if is_one tokens text s then kept_by (first_word tokens) text s else unknown_mode
+
+-- Behind a text of these tokens, whether it is answered or refused. What its reply tells counts, but
+-- behind the word STATEMENT: MariaDB tells what a `SET STATEMENT` sets, and not that it ends.
+unfoldable pub mode_behind_tokens : List (List ℕ) → List ℕ → SessionMode → SessionMode
+mode_behind_tokens tokens text s =
+    record (kept_behind tokens text s) { counts = not (has_word (codes "statement") text) }
+
+-- The mode by which a text is read: the default one where none is known.
+abbrev pub mode_read : SessionMode → Mode
+mode_read s = unwrap_or s.mode default_mode
+
+-- Behind a statement that is sent as this text.
+abbrev pub BehindText : List ℕ → SessionMode → SessionMode → Type 0
+BehindText text old new = (tokens : List (List ℕ)) × HasTokens (mode_read old) text tokens ×
+    (new ≡ mode_behind_tokens tokens text old)

@@ -1,22 +1,22 @@
-//! What is known of a session's SQL mode, and what OK packets tell of it.
+//! What is known of a session's SQL mode and character set, behind texts and OK packets.
 //!
-//! `mysql_connection_state` calls it behind each OK packet and each query. A user names its items
-//! by `mysql_session` or `mysql_connection`.
+//! A connection keeps it. A user names its items by `mysql_session` or `mysql_connection`.
 //!
-//! | a server | what is known |
+//! | behind | what is known |
 //! |---|---|
-//! | whose session tracks `sql_mode` | the mode, behind each reply |
-//! | any other | the mode by the status of the login's OK packet, until the first statement |
+//! | a login, a change of user, a reset | nothing: ask by [`ASK_SESSION_MODE`] |
+//! | a text of one statement that changes neither | what was |
+//! | an OK packet that tells one of them | that one |
 //!
-//!     let mut mode = mode_begun(&login);        // of the OK packet that ends the login
-//!     mode = mode.behind_text(text);            // of a query: what it may change is unknown
-//!     mode = mode_behind_ok(mode, &reply);      // of the OK packet that answers it
+//!     let mut session = SessionMode::unknown();
+//!     session = session.behind_text(ASK_SESSION_MODE);   // of each text, before its reply
+//!     session = session.behind_ok(&reply);               // of each OK packet of the reply
 #![tactic(auto)]
 
 pub mod session_mode;
+mod texts;
 mod told;
 mod words;
 
 pub use mysql_bytes::Mode;
-pub use session_mode::{SessionMode, Tracking};
-pub use told::{mode_begun, mode_behind_ok};
+pub use session_mode::{ASK_SESSION_MODE, SessionMode};

@@ -1,184 +1,241 @@
-//! The SQL mode of a session, as far as its server told it.
+//! The SQL mode and the character set of a session, as far as its server told them.
 //!
-//! The status of an OK packet tells the mode behind a login. It isn't right for long: a routine that
-//! sets `sql_mode` leaves its mode in the status of MariaDB, though the server takes the mode back.
-//! So a status counts until the first statement alone. Session tracking of `sql_mode` tells it right,
-//! and tells each change.
+//! No status, no login and no silence tells either. A procedure's mode stays in the status of
+//! MariaDB, MySQL's has no bit of ANSI_QUOTES, and `init_connect` changes both behind a login.
 //!
-//!     let mut session = mode_begun(&login);
-//!     session = session.behind_text(b"SET sql_mode = @@sql_mode");
-//!     session = mode_behind_ok(session, &reply);
+//!     let mut session = SessionMode::unknown();
+//!     session = session.behind_text(ASK_SESSION_MODE);
+//!     session = session.behind_ok(&reply);
+//!     let query = Query::new_in(alloc, text, id, mode, session.spelling())?;
 
-ghost use Rattle.mysql_bytes.specs.declared.spelling.Spelling.TheVariants.{Hexadecimal, Quoted};
-ghost use Rattle.mysql_session_modes.specs.SessionModes.{agrees, fresh_mode, has_bits, has_word};
-ghost use Rattle.mysql_session_modes.specs.SessionModes.{mode_behind_statement, mode_behind_text};
-ghost use Rattle.mysql_session_modes.specs.SessionModes.{tracked_mode, unknown_mode};
-ghost use Rattle.std.specs.Prelude.{◌≡◌, codes, if◌then◌else◌, is_some};
+ghost use Rattle.std.specs.Prelude.{◌≡◌, ◌||◌, List, codes, not, ℕ};
+ghost use Rattle.mysql_session_modes.specs.SessionModes.{BehindText, is_ascii, is_keeping, is_one};
+ghost use Rattle.mysql_session_modes.specs.SessionModes.{is_plain_set, is_safe, kept_behind, kept_by};
+ghost use Rattle.mysql_session_modes.specs.SessionModes.{kept_by_set, mode_read, spelling_in, unknown_mode};
+ghost use Rattle.mysql_session_modes.specs.Texts.{has_word};
+ghost use Rattle.mysql_queries.specs.Tokens.{HasTokens};
 
-use crate::words::{has_statement, has_tracked_variables};
+use crate::texts::{ends_at_semicolon, first_word, is_one_statement};
+use crate::words::{has_rare_word, has_statement, is_listed};
 use mysql_bytes::{Mode, Spelling};
-use mysql_const::StatusFlags;
+use mysql_queries::laws::tokens_of_a_text;
 
-/// Whether session tracking tells the mode of a session.
+/// The text that asks a server for the mode and the character set of its session.
+///
+/// It may be sent any number of times, at each server. It keeps all that was tracked. Without the
+/// capability CLIENT_SESSION_TRACK its OK tells nothing, and texts stay in hexadecimal.
 ///
 /// MySQL Reference Manual, "Server Tracking of Client Session State".
-#[derive(Clone, Copy, Debug, Default, PartialEq, Eq, Hash)]
-pub enum Tracking {
-    /// It told no value of the variable `sql_mode`.
-    #[default]
-    Untracked,
-    /// It told one, and so tells each change.
-    Tracked,
-    /// What it tells in the reply that is due doesn't count.
-    Doubted,
-}
+pub const ASK_SESSION_MODE: &[u8] =
+    b"SET session_track_system_variables = '*', sql_mode = @@sql_mode, character_set_client = @@character_set_client";
 
-/// What is known of a session's mode. The default is that nothing was told.
+/// What is known of a session's mode and character set. The default is that nothing is.
 ///
-/// MySQL Reference Manual, "Server SQL Modes", "Server Tracking of Client Session State".
+/// MySQL Reference Manual, "Server SQL Modes", "Connection Character Sets and Collations", "Server
+/// Tracking of Client Session State".
 #[derive(Clone, Copy, Debug, Default, PartialEq, Eq, Hash)]
 pub struct SessionMode {
-    /// The mode, where it is known.
+    /// The mode, where it is known. None too where still other quotes are in force.
     pub mode: Option<Mode>,
-    /// Whether session tracking tells it.
-    pub tracking: Tracking,
+    /// Whether quotes and backslashes are themselves in `character_set_client`, where it is known.
+    pub is_safe_set: Option<bool>,
+    /// What the reply to the last text tells counts.
+    pub counts: bool,
+}
+
+// First words of statements that change neither the mode nor the set.
+const KEEPING_WORDS: [&[u8]; 34] = [
+    b"SELECT",
+    b"INSERT",
+    b"UPDATE",
+    b"DELETE",
+    b"COMMIT",
+    b"ROLLBACK",
+    b"START",
+    b"REPLACE",
+    b"WITH",
+    b"CALL",
+    b"SHOW",
+    b"USE",
+    b"DO",
+    b"SAVEPOINT",
+    b"RELEASE",
+    b"EXPLAIN",
+    b"DESCRIBE",
+    b"DESC",
+    b"CREATE",
+    b"ALTER",
+    b"DROP",
+    b"TRUNCATE",
+    b"RENAME",
+    b"LOCK",
+    b"UNLOCK",
+    b"GRANT",
+    b"REVOKE",
+    b"ANALYZE",
+    b"OPTIMIZE",
+    b"CHECK",
+    b"VALUES",
+    b"TABLE",
+    b"KILL",
+    b"FLUSH",
+];
+
+const BEGIN: [&[u8]; 1] = [b"BEGIN"];
+
+const SET: [&[u8]; 1] = [b"SET"];
+
+// A statement with this first word changes neither.
+fn is_keeping(word: &[u8], text: &[u8]) -> bool
+    ensures { result ≡ is_keeping word.now text.now }
+{
+    is_listed(word, &KEEPING_WORDS) || (is_listed(word, &BEGIN) && !has_rare_word(b"not", text))
+}
+
+// All of its bytes are ASCII's.
+fn is_ascii(text: &[u8]) -> bool
+    ensures { result ≡ is_ascii text.now }
+{
+    text.iter().all(|b| *b < 0x80)
+}
+
+// A SET whose words are all there as ASCII, behind which what is told counts.
+fn is_plain_set(word: &[u8], text: &[u8], counts: bool) -> bool
+    requires { counts ≡ not (has_word (codes "statement") text.now) }
+    ensures { result ≡ is_plain_set word.now text.now }
+{
+    is_listed(word, &SET) && is_ascii(text) && counts
+}
+
+// A text may set `character_set_client`.
+fn may_set_characters(text: &[u8]) -> bool
+    ensures { result ≡ (has_word (codes "character") text.now || (has_word (codes "charset") text.now
+        || has_word (codes "names") text.now)) }
+{
+    has_rare_word(b"character", text)
+        || has_rare_word(b"charset", text)
+        || has_rare_word(b"names", text)
 }
 
 impl SessionMode {
-    /// Of a session of which nothing was told.
+    /// Of a session of which nothing is known: behind a login, a change of user, or a reset.
     pub fn unknown() -> SessionMode
         ensures { result ≡ unknown_mode }
     {
         SessionMode {
             mode: None,
-            tracking: Tracking::Untracked,
+            is_safe_set: None,
+            counts: false,
         }
     }
 
-    /// Of a session behind the OK of a login, a change of user or a reset, with that OK's status.
-    ///
-    /// Promise: the mode is the one that the status tells, and isn't tracked. It isn't known where
-    /// the status has MariaDB's bit of ANSI_QUOTES, which MSSQL sets too (`fresh_mode`).
-    ///
-    /// MySQL: Client/Server Protocol, "Status Flags"; MariaDB Server Documentation, "OK_Packet".
-    pub fn by_status(status: StatusFlags) -> SessionMode
-        ensures { result ≡ fresh_mode status.0 }
+    // Both are known, and quotes are safe.
+    fn is_safe(self) -> bool
+        ensures { result ≡ is_safe self }
     {
-        let mode = Mode::of(status);
-        if mode.ansi_quotes {
+        self.mode.is_some() && self.is_safe_set == Some(true)
+    }
+
+    // Behind a SET that is one statement.
+    fn kept_by_set(self, text: &[u8]) -> SessionMode
+        ensures { result ≡ kept_by_set text.now self }
+    {
+        SessionMode {
+            mode: if has_rare_word(b"sql_mode", text) {
+                None
+            } else {
+                self.mode
+            },
+            is_safe_set: if may_set_characters(text) {
+                None
+            } else {
+                self.is_safe_set
+            },
+            counts: self.counts,
+        }
+    }
+
+    // Behind one statement with this first word.
+    fn kept_by(self, word: &[u8], text: &[u8], counts: bool) -> SessionMode
+        requires { counts ≡ not (has_word (codes "statement") text.now) }
+        ensures { result ≡ kept_by word.now text.now self }
+    {
+        if is_keeping(word, text) {
+            self
+        } else if is_plain_set(word, text, counts) {
+            self.kept_by_set(text)
+        } else {
+            SessionMode::unknown()
+        }
+    }
+
+    // The mode by which a text is read.
+    fn mode_read(self) -> Mode
+        ensures { result ≡ mode_read self }
+    {
+        match self.mode {
+            Some(mode) => mode,
+            None => Mode::default(),
+        }
+    }
+
+    // A text is one statement.
+    fn is_one(self, text: &[u8]) -> bool
+        ensures { (tokens : List (List ℕ)) → HasTokens (mode_read self) text.now tokens →
+            result ≡ is_one tokens text.now self }
+    {
+        ends_at_semicolon(text) || (self.is_safe() && is_one_statement(text, self.mode_read()))
+    }
+
+    // Behind a text, but for what its reply tells.
+    fn kept_behind(self, text: &[u8], counts: bool) -> SessionMode
+        requires { counts ≡ not (has_word (codes "statement") text.now) }
+        ensures { (tokens : List (List ℕ)) → HasTokens (mode_read self) text.now tokens →
+            result ≡ kept_behind tokens text.now self }
+    {
+        if !self.is_one(text) {
             return SessionMode::unknown();
         }
-        SessionMode {
-            mode: Some(mode),
-            tracking: Tracking::Untracked,
-        }
+        self.kept_by(first_word(text, self.mode_read()), text, counts)
     }
 
-    /// Of a session whose OK told this value of the variable `sql_mode`.
+    /// Behind a statement that is sent as this text, or executed as it was prepared of it.
     ///
-    /// Promise: the mode is the one that the value tells, none where one of its names isn't known,
-    /// and is tracked (`tracked_mode`).
+    /// Call it for each, before its reply is looked at, whether it is answered or refused. Behind a
+    /// prepare, a close, a ping and the like what is known stays.
     ///
-    /// MySQL Reference Manual, "Server SQL Modes", "Server Tracking of Client Session State".
-    pub fn by_variable(value: &[u8]) -> SessionMode
-        ensures { result ≡ tracked_mode value.now }
-    {
-        SessionMode {
-            mode: Mode::of_sql_mode(value),
-            tracking: Tracking::Tracked,
-        }
-    }
-
-    /// Behind a statement that was sent as an execution or in bulk.
+    /// Promise: both stay behind one statement that begins with a word that changes neither. Behind a
+    /// SET the one that it may set isn't known. Behind all else neither is (`BehindText`).
     ///
-    /// Call it for each, before its reply is looked at.
-    ///
-    /// Promise: a mode that is tracked stays, another isn't known any more (`mode_behind_statement`).
-    ///
-    /// MySQL Reference Manual, "Server Tracking of Client Session State".
-    pub fn behind_statement(self) -> SessionMode
-        ensures { result ≡ mode_behind_statement self }
-    {
-        match self.tracking {
-            Tracking::Tracked => self,
-            _ => SessionMode::unknown(),
-        }
-    }
-
-    /// Behind a statement that was sent as this text.
-    ///
-    /// Call it for each, before its reply is looked at. MariaDB's `SET STATEMENT sql_mode = .. FOR ..`
-    /// tells the mode in which that one statement runs, and not that it ends. A text that sets what
-    /// is tracked may end the tracking.
-    ///
-    /// Promise: behind a text with the word `STATEMENT` the mode isn't known, and its reply tells
-    /// none. Behind one with `session_track_system_variables` it isn't known before the server tells
-    /// it. Else it is as behind an execution (`mode_behind_text`).
-    ///
-    /// MariaDB Server Documentation, "SET STATEMENT"; MySQL Reference Manual, "Server System
-    /// Variables" (`session_track_system_variables`).
-    #[tactic(auto, unfolding(crate::specs::SessionModes::mode_behind_text))]
+    /// MySQL Reference Manual, "Stored Objects", "SET Syntax for Variable Assignment"; MariaDB
+    /// Server Documentation, "SET STATEMENT".
+    #[tactic(auto, unfolding(crate::specs::SessionModes::mode_behind_tokens))]
     pub fn behind_text(self, text: &[u8]) -> SessionMode
-        ensures { result ≡ mode_behind_text text.now self }
+        ensures { BehindText text.now self result }
     {
-        if has_statement(text) {
-            return SessionMode {
-                mode: None,
-                tracking: Tracking::Doubted,
-            };
-        }
-        match self.tracking {
-            Tracking::Tracked => self.behind_tracked(text),
-            _ => SessionMode::unknown(),
+        tokens_of_a_text();
+        let counts = !has_statement(text);
+        let kept = self.kept_behind(text, counts);
+        SessionMode {
+            mode: kept.mode,
+            is_safe_set: kept.is_safe_set,
+            counts,
         }
     }
 
-    // Of a session whose mode is tracked, behind a text without the word `STATEMENT`.
-    fn behind_tracked(self, text: &[u8]) -> SessionMode
-        ensures { result ≡ (if has_word (codes "session_track_system_variables") text.now
-            then unknown_mode else self) }
-    {
-        if has_tracked_variables(text) {
-            SessionMode::unknown()
-        } else {
-            self
-        }
-    }
-
-    /// How texts are to be spelled: in hexadecimal where the mode isn't known.
+    /// How texts are to be spelled: in quotes where both are known and safe, else in hexadecimal.
     ///
     /// Text in hexadecimal is safe of a query that has the same tokens in all modes, as one without
     /// backslashes has. An execution is safe of each query.
     ///
     /// MySQL Reference Manual, "Hexadecimal Literals".
     pub fn spelling(self) -> Spelling
-        ensures { result ≡ (if is_some self.mode then Quoted else Hexadecimal) }
+        ensures { result ≡ spelling_in self }
     {
-        match self.mode {
-            Some(_) => Spelling::Quoted,
-            None => Spelling::Hexadecimal,
+        if self.is_safe() {
+            Spelling::Quoted
+        } else {
+            Spelling::Hexadecimal
         }
-    }
-}
-
-// A mode has the bits of a status.
-fn has_bits(status_mode: Mode, mode: Mode) -> bool
-    ensures { result ≡ has_bits status_mode mode }
-{
-    let escapes = if status_mode.no_backslash_escapes {
-        mode.no_backslash_escapes
-    } else {
-        !mode.no_backslash_escapes
-    };
-    escapes && (!status_mode.ansi_quotes || mode.ansi_quotes)
-}
-
-/// A status agrees with a mode, if that is known.
-pub(crate) fn agrees(status: StatusFlags, mode: Option<Mode>) -> bool
-    ensures { result ≡ agrees status.0 mode }
-{
-    match mode {
-        None => true,
-        Some(mode) => has_bits(Mode::of(status), mode),
     }
 }

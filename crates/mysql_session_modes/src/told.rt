@@ -1,22 +1,26 @@
-//! The variable `sql_mode` in what an OK packet tells of its session.
+//! The variables `sql_mode` and `character_set_client` in what an OK packet tells of its session.
 
-ghost use Rattle.std.specs.Prelude.{◌≡◌};
+ghost use Rattle.std.specs.Prelude.{◌≡◌, ◌&&◌, Some, not};
+ghost use Rattle.mysql_const.specs.FlagSets.{contains};
+ghost use Rattle.mysql_bytes.specs.Modes.{mode_of_sql_mode};
 ghost use Rattle.mysql_const.specs.SessionStates.{session_state_named};
 ghost use Rattle.mysql_field_constants.specs.Constants.{named_at};
 ghost use Rattle.mysql_fields.specs.Forms.{fixed_number_at};
 ghost use Rattle.mysql_fields.specs.Wire.{Tells};
 ghost use Rattle.mysql_ok_packets.specs.Views.{ok_packet_view};
 ghost use Rattle.mysql_ok_packets.specs.SessionStates.{state_at, states_at, variable_at};
-ghost use Rattle.mysql_session_modes.specs.Told.{mode_begun as begun, mode_behind_ok as behind};
-ghost use Rattle.mysql_session_modes.specs.Told.{mode_told, mode_untold};
+ghost use Rattle.mysql_session_modes.specs.SessionModes.{is_safe_set};
+ghost use Rattle.mysql_session_modes.specs.Told.{known_behind, mode_behind_ok, more_results_bit};
 ghost use Rattle.mysql_session_modes.specs.Told.Told.{Nothing, Unreadable};
 ghost use Rattle.mysql_session_modes.specs.Told.{told_by_state, told_by_variable};
 ghost use Rattle.mysql_session_modes.specs.Told.{told_by, told_by_variables, walked};
 ghost use Rattle.mysql_session_modes.specs.Views.{told_view};
 
-use crate::session_mode::{SessionMode, Tracking, agrees};
+use crate::session_mode::SessionMode;
+use crate::words::is_listed;
 use bitflags::Flags;
 use mysql_buf::ParseBuf;
+use mysql_bytes::Mode;
 use mysql_const::{SessionStateType, StatusFlags};
 use mysql_fields::{WireError, read_lenenc_text};
 use mysql_ok_packets::OkPacket;
@@ -77,7 +81,7 @@ fn read_state<'a>(buf: &mut ParseBuf<'a>) -> Result<State<'a>, WireError>
     Ok(State { data_type, content })
 }
 
-/// What is told of `sql_mode`.
+/// What is told of a variable.
 #[derive(Clone, Copy)]
 pub enum Told<'a> {
     /// Nothing.
@@ -89,11 +93,11 @@ pub enum Told<'a> {
 }
 
 // Behind a variable: of several values the last one counts.
-fn by_variable<'a>(told: Told<'a>, variable: Variable<'a>) -> Told<'a>
-    ensures { told_view result ≡ told_by_variable (told_view told.entry)
+fn by_variable<'a>(wanted: &[u8], told: Told<'a>, variable: Variable<'a>) -> Told<'a>
+    ensures { told_view result ≡ told_by_variable wanted.now (told_view told.entry)
         (record { name = variable.entry.name.now; value = variable.entry.value.now }) }
 {
-    if variable.name == b"sql_mode".as_slice() {
+    if variable.name == wanted {
         Told::Value(variable.value)
     } else {
         told
@@ -101,8 +105,8 @@ fn by_variable<'a>(told: Told<'a>, variable: Variable<'a>) -> Told<'a>
 }
 
 // Behind all variables of a state.
-fn by_variables<'a>(before: Told<'a>, content: &'a [u8]) -> Told<'a>
-    ensures { told_view result ≡ told_by_variables (told_view before.entry) content.now }
+fn by_variables<'a>(wanted: &[u8], before: Told<'a>, content: &'a [u8]) -> Told<'a>
+    ensures { told_view result ≡ told_by_variables wanted.now (told_view before.entry) content.now }
 {
     let mut told = before;
     let mut rest = ParseBuf(content);
@@ -110,25 +114,27 @@ fn by_variables<'a>(before: Told<'a>, content: &'a [u8]) -> Told<'a>
         let Ok(variable) = read_variable(&mut rest) else {
             return Told::Unreadable;
         };
-        told = by_variable(told, variable);
+        told = by_variable(wanted, told, variable);
     }
     told
 }
 
 // Behind a state.
-fn by_state<'a>(told: Told<'a>, state: State<'a>) -> Told<'a>
-    ensures { told_view result ≡ told_by_state (told_view told.entry)
+fn by_state<'a>(wanted: &[u8], told: Told<'a>, state: State<'a>) -> Told<'a>
+    ensures { told_view result ≡ told_by_state wanted.now (told_view told.entry)
         (record { data_type = state.entry.data_type; content = state.entry.content.now }) }
 {
     match state.data_type {
-        SessionStateType::SESSION_TRACK_SYSTEM_VARIABLES => by_variables(told, state.content),
+        SessionStateType::SESSION_TRACK_SYSTEM_VARIABLES => {
+            by_variables(wanted, told, state.content)
+        }
         _ => told,
     }
 }
 
 // What these states tell.
-fn by_states(bytes: &[u8]) -> Told<'_>
-    ensures { told_view result ≡ walked told_by_state Unreadable Nothing (states_at bytes.now) }
+fn by_states<'a>(wanted: &[u8], bytes: &'a [u8]) -> Told<'a>
+    ensures { told_view result ≡ walked (told_by_state wanted.now) Unreadable Nothing (states_at bytes.now) }
 {
     let mut told = Told::Nothing;
     let mut rest = ParseBuf(bytes);
@@ -136,88 +142,119 @@ fn by_states(bytes: &[u8]) -> Told<'_>
         let Ok(state) = read_state(&mut rest) else {
             return Told::Unreadable;
         };
-        told = by_state(told, state);
+        told = by_state(wanted, told, state);
     }
     told
 }
 
-// What a packet tells.
-fn by_packet<'a>(ok: &'a OkPacket<'_>) -> Told<'a>
-    ensures { told_view result ≡ told_by (ok_packet_view ok.now) }
+// What a packet tells of a variable.
+fn by_packet<'a>(wanted: &[u8], ok: &'a OkPacket<'_>) -> Told<'a>
+    ensures { told_view result ≡ told_by wanted.now (ok_packet_view ok.now) }
 {
     match ok.session_state_info_ref() {
-        Some(bytes) => by_states(bytes),
+        Some(bytes) => by_states(wanted, bytes),
         None => Told::Nothing,
     }
 }
 
-// Where a packet with this status tells nothing of the mode.
-fn untold(mode: SessionMode, status: StatusFlags) -> SessionMode
-    ensures { result ≡ mode_untold mode.tracking status.0 mode }
+// The character sets in which quotes and backslashes are themselves.
+//
+// MySQL Reference Manual, "Supported Character Sets and Collations"; MariaDB Server Documentation,
+// "Supported Character Sets and Collations".
+const SAFE_SETS: [&[u8]; 28] = [
+    b"utf8mb4",
+    b"utf8mb3",
+    b"utf8",
+    b"ascii",
+    b"binary",
+    b"latin1",
+    b"latin2",
+    b"latin5",
+    b"latin7",
+    b"armscii8",
+    b"cp1250",
+    b"cp1251",
+    b"cp1256",
+    b"cp1257",
+    b"cp850",
+    b"cp852",
+    b"cp866",
+    b"dec8",
+    b"geostd8",
+    b"greek",
+    b"hebrew",
+    b"hp8",
+    b"keybcs2",
+    b"koi8r",
+    b"koi8u",
+    b"macce",
+    b"macroman",
+    b"tis620",
+];
+
+// What an OK packet with this status tells counts.
+fn counted(session: SessionMode, status: StatusFlags) -> bool
+    ensures { result ≡ (session.counts && not (contains status.0 more_results_bit)) }
 {
-    match mode.tracking {
-        Tracking::Tracked => {
-            if agrees(status, mode.mode) {
-                mode
-            } else {
-                SessionMode::unknown()
-            }
-        }
-        _ => mode,
-    }
+    session.counts && !status.contains(StatusFlags::SERVER_MORE_RESULTS_EXISTS)
 }
 
-// Behind what a packet with this status tells.
-fn behind_told(mode: SessionMode, status: StatusFlags, told: Told<'_>) -> SessionMode
-    ensures { result ≡ mode_told (told_view told.entry) status.0 mode }
+// The mode behind what is told of it.
+fn mode_behind(counts: bool, told: Told<'_>, known: Option<Mode>) -> Option<Mode>
+    ensures { result ≡ known_behind counts mode_of_sql_mode (told_view told.entry) known }
 {
     match told {
-        Told::Nothing => untold(mode, status),
+        Told::Nothing => known,
         Told::Value(value) => {
-            if status.contains(StatusFlags::SERVER_MORE_RESULTS_EXISTS) {
-                SessionMode::unknown()
+            if counts {
+                Mode::of_sql_mode(value)
             } else {
-                SessionMode::by_variable(value)
+                None
             }
         }
-        Told::Unreadable => SessionMode::unknown(),
+        Told::Unreadable => None,
     }
 }
 
-/// What is known of a session's mode behind the OK packet of a reply. It asks for no memory.
-///
-/// The packet's status tells no mode. A routine that sets `sql_mode` leaves its own mode there,
-/// which the session isn't in. A status that contradicts a tracked mode shows that the tracking has
-/// ended.
-///
-/// Promise: the mode is that of the value of `sql_mode` that the packet tells last, and tracked. It
-/// isn't known where further results follow that packet, where what is told can't be read, or the
-/// status contradicts it. Else the mode stays, and so it does where what the reply tells doesn't
-/// count (`mode_behind_ok`).
-///
-/// MySQL: Client/Server Protocol, "OK_Packet", 'Session State Information'; MySQL Reference Manual,
-/// "Server Tracking of Client Session State".
-#[tactic(auto, unfolding(crate::specs::Told::mode_behind_ok))]
-pub fn mode_behind_ok(mode: SessionMode, ok: &OkPacket) -> SessionMode
-    ensures { result ≡ behind mode (ok_packet_view ok.now) }
+// Whether the set is safe, behind what is told of it.
+fn set_behind(counts: bool, told: Told<'_>, known: Option<bool>) -> Option<bool>
+    ensures { result ≡ known_behind counts (λ name. Some (is_safe_set name)) (told_view told.entry) known }
 {
-    match mode.tracking {
-        Tracking::Doubted => mode,
-        _ => behind_told(mode, ok.status_flags(), by_packet(ok)),
+    match told {
+        Told::Nothing => known,
+        Told::Value(name) => {
+            if counts {
+                Some(is_listed(name, &SAFE_SETS))
+            } else {
+                None
+            }
+        }
+        Told::Unreadable => None,
     }
 }
 
-/// What is known of a session's mode behind the OK packet by which it begins.
-///
-/// That is the OK of a login, of a change of user, or of a reset of the connection. It asks for no
-/// memory.
-///
-/// Promise: the mode is that of the value of `sql_mode` that the packet tells last, and tracked. Else
-/// it is the one that its status tells, but where what is told can't be read (`mode_begun`).
-///
-/// MySQL: Client/Server Protocol, "OK_Packet", "COM_RESET_CONNECTION", "COM_CHANGE_USER".
-pub fn mode_begun(ok: &OkPacket) -> SessionMode
-    ensures { result ≡ begun (ok_packet_view ok.now) }
-{
-    mode_behind_ok(SessionMode::by_status(ok.status_flags()), ok)
+impl SessionMode {
+    /// Behind an OK packet of the reply. It asks for no memory.
+    ///
+    /// Promise: what the packet tells last of `sql_mode` and of `character_set_client` is known. It isn't
+    /// where further results follow, the text has the word STATEMENT, or it can't be read. What isn't
+    /// told stays, whatever the status is (`mode_behind_ok`).
+    ///
+    /// MySQL: Client/Server Protocol, "OK_Packet", 'Session State Information'; MySQL Reference Manual,
+    /// "Server Tracking of Client Session State".
+    #[tactic(auto, unfolding(crate::specs::Told::mode_behind_ok))]
+    pub fn behind_ok(self, ok: &OkPacket) -> SessionMode
+        ensures { result ≡ mode_behind_ok self (ok_packet_view ok.now) }
+    {
+        let counts = counted(self, ok.status_flags());
+        SessionMode {
+            mode: mode_behind(counts, by_packet(b"sql_mode", ok), self.mode),
+            is_safe_set: set_behind(
+                counts,
+                by_packet(b"character_set_client", ok),
+                self.is_safe_set,
+            ),
+            counts: self.counts,
+        }
+    }
 }

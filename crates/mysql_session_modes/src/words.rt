@@ -3,8 +3,10 @@
 //! Each search looks at one byte of the text, goes on by a step, and looks at the next one. Of a
 //! long word it looks at few bytes.
 
-ghost use Rattle.std.specs.Prelude.{◌≡◌, ◌<◌, codes, length, true};
-ghost use Rattle.mysql_session_modes.specs.SessionModes as texts;
+ghost use Rattle.std.specs.Prelude.{◌≡◌, ◌<◌, codes, length, map, true};
+ghost use Rattle.std.specs.Str.{str_eq_ignore_ascii_case};
+ghost use Rattle.mysql_bytes.specs.Modes.{is_one_of};
+ghost use Rattle.mysql_session_modes.specs.Texts as texts;
 ghost use Rattle.mysql_session_modes.specs.Steps.{are_short, are_within};
 
 // Steps of the word `statement`: by a byte's low five bits, which are those of a letter in each
@@ -14,11 +16,8 @@ static TO_STATEMENT: [u8; 32] = [
     9, 9, 9, 8, 0, 9, 9, 9, 9, 9, 9, 9, 9, 9, 9, 9,
 ];
 
-// The same of `session_track_system_variables`.
-static TO_TRACKED_VARIABLES: [u8; 32] = [
-    30, 4, 3, 18, 30, 1, 30, 30, 30, 5, 30, 17, 2, 10, 23, 24, //
-    30, 30, 6, 0, 12, 30, 8, 30, 30, 14, 30, 30, 30, 30, 30, 9,
-];
+// Of words that are looked for in few texts: each byte is looked at.
+static TO_EACH: [u8; 32] = [0; 32];
 
 /// The word `STATEMENT` stands somewhere in the text.
 pub fn has_statement(text: &[u8]) -> bool
@@ -27,15 +26,25 @@ pub fn has_statement(text: &[u8]) -> bool
     has_word(b"statement", &TO_STATEMENT, text)
 }
 
-/// The word `session_track_system_variables` stands somewhere in the text.
-pub fn has_tracked_variables(text: &[u8]) -> bool
-    ensures { result ≡ texts.has_word (codes "session_track_system_variables") text.now }
+/// A word stands somewhere in the text, which is given in small letters.
+pub fn has_rare_word(word: &[u8], text: &[u8]) -> bool
+    requires { 0 < length word.now }
+    ensures { result ≡ texts.has_word word.now text.now }
 {
-    has_word(
-        b"session_track_system_variables",
-        &TO_TRACKED_VARIABLES,
-        text,
-    )
+    has_word(word, &TO_EACH, text)
+}
+
+fn same_word(word: &[u8], other: &[u8]) -> bool
+    ensures { result ≡ str_eq_ignore_ascii_case word.now other.now }
+{
+    word.eq_ignore_ascii_case(other)
+}
+
+/// A word is one of some, with its letters in any case.
+pub fn is_listed(word: &[u8], words: &[&[u8]]) -> bool
+    ensures { result ≡ is_one_of (map (λ listed. listed.now) words.now) word.now }
+{
+    words.iter().any(|listed| same_word(word, listed))
 }
 
 // The word stands somewhere in the text. It is given in small letters.
@@ -63,9 +72,9 @@ fn has_word(word: &[u8], steps: &[u8; 32], text: &[u8]) -> bool
     false
 }
 
-// The text goes on with the word, which is given in small letters.
+/// The text goes on with the word, which is given in small letters.
 #[inline(always)]
-fn is_word_at(word: &[u8], text: &[u8]) -> bool
+pub fn is_word_at(word: &[u8], text: &[u8]) -> bool
     ensures { result ≡ texts.is_word_at word.now text.now }
 {
     let mut letters = word;

@@ -12,7 +12,7 @@ use Rattle.mysql_connection_rules.specs.Events.Event.{Replied}
 use Rattle.mysql_connection_rules.specs.Standing as phases
 use Rattle.mysql_connection_rules.specs.Standing.{InReply, Phase, Standing, kept}
 use Rattle.mysql_connection_rules.specs.Standing.About.{Nothing}
-use Rattle.mysql_connection_rules.specs.Steps.{Step, after_event, context_of, in_turn, of_reply, says, step, with_mode}
+use Rattle.mysql_connection_rules.specs.Steps.{Step, after_event, context_of, in_turn, of_reply, says, step}
 use Rattle.mysql_connection_rules.specs.Streams.{World, room_to_keep}
 use Rattle.mysql_connection_rules.specs.declared.fault.Fault.{Fault}
 use Rattle.mysql_connection_rules.specs.declared.side.Side.{Side}
@@ -142,7 +142,7 @@ reply_is_due = refl
 
 -- of which each payload is the server's
 by_server : {X : Type 0} (s : Standing) (said : X → ReplySaid) (behind : X → Standing) (read : Result X Fault) →
-    side_said (with_mode s (says (λ x. Replied (said x)) behind read)) ≡ Server
+    side_said (says (λ x. Replied (said x)) behind read) ≡ Server
 unfolding side_said
 by_server s said behind (Ok x) = refl
 by_server s said behind (Err fault) = refl
@@ -154,7 +154,7 @@ server_replies s payload e =
     let r = ping_reply in
     let said : ReplySaid × ReplySoFar → ReplySaid = λ x. x.0 in
     let behind : ReplySaid × ReplySoFar → Standing = λ x. after_event r (counted payload) x.0 x.1 s in
-    subst (λ (phase : Phase). side_said (with_mode s (in_turn phase s payload)) ≡ Server) (sym e)
+    subst (λ (phase : Phase). side_said (in_turn phase s payload) ≡ Server) (sym e)
     (by_server s said behind (of_reply (event_at (context_of s r) r.so_far payload)))
 
 -- the payloads of both pings can't have been put

@@ -19,3 +19,4 @@ pub mod AboutConnections
 pub mod AboutShown
 pub mod AboutCReplies
 pub mod AboutWrongBodies
+pub mod AboutCounts

@@ -19,3 +19,4 @@ pub mod Connections
 pub mod Shown
 pub mod CReplies
 pub mod WrongBodies
+pub mod Counts

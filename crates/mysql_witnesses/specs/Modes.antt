@@ -1,20 +1,24 @@
--- What is excluded of the mode that a connection knows.
+-- What is excluded of the mode and the character set that a connection knows.
 -- MySQL Reference Manual, "Server SQL Modes", "Server Tracking of Client Session State", "Stored Objects";
 -- MySQL: Client/Server Protocol, "Status Flags", "OK_Packet", "COM_RESET_CONNECTION".
-use Rattle.std.specs.Prelude.{◌≡◌, ℕ, true, false, List, [], codes, Option, None}
-use Rattle.mysql_authentication.specs.Events.Authentication.{Accepted}
-use Rattle.mysql_commands.specs.Commands.{Execute, Ping, Query}
-use Rattle.mysql_executions.specs.Executions.{Execution}
+use Rattle.std.specs.Prelude.{◌≡◌, ℕ, true, false, List, [], ◌∷◌, codes, Option, Some, None}
+use Rattle.mysql_bytes.specs.Modes.{mode_of_sql_mode}
+use Rattle.mysql_bytes.specs.declared.mode.Mode.{Mode}
+use Rattle.mysql_commands.specs.Commands.{ChangeUser, Ping, ResetConnection}
+use Rattle.mysql_login.specs.ChangedUsers.{ChangeUserFields}
+use Rattle.mysql_authentication.specs.Events.{Authentication as AuthenticationSaid}
 use Rattle.mysql_ok_packets.specs.OkPackets.{OkPacket}
-use Rattle.mysql_reply_events.specs.Events.Event.{OkEvent}
-use Rattle.mysql_session_modes.specs.SessionModes.{doubted_mode, fresh_mode, tracked_mode, unknown_mode}
-use Rattle.mysql_session_modes.specs.Told.{mode_told}
-use Rattle.mysql_session_modes.specs.Told.Told.{Unreadable, Value}
+use Rattle.mysql_queries.specs.Tokens.{HasTokens}
+use Rattle.mysql_reply_events.specs.Events.Event.{ErrorEvent}
+use Rattle.mysql_server_packets.specs.Packets.{ServerError}
+use Rattle.mysql_session_modes.specs.SessionModes.{BehindText, is_safe, is_safe_set, mode_behind_tokens, unknown_mode}
+use Rattle.mysql_session_modes.specs.Texts.{is_one_statement}
+use Rattle.mysql_session_modes.specs.Told.{does_count, known_behind, mode_behind_ok}
+use Rattle.mysql_session_modes.specs.Told.Told.{Nothing, Unreadable, Value}
 use Rattle.mysql_session_modes.specs.declared.session_mode.SessionMode.{SessionMode}
+use Rattle.mysql_connection_modes.specs.Modes.{ModeBehind}
 use Rattle.mysql_connection_rules.specs.Events.Event.{Asked, Authentication, Replied}
-use Rattle.mysql_connection_rules.specs.SessionModes.{is_resetting, mode_behind}
 use Rattle.mysql_connection_rules.specs.Standing.{Standing}
-use Rattle.mysql_connection_rules.specs.Steps.{in_mode}
 
 -- an OK packet with this status and these changes of the session's state
 abbrev pub ok_with : (status : ℕ) → (state : Option (List ℕ)) → OkPacket
@@ -27,65 +31,76 @@ ok_with status state = record {
   session_state_info = state;
 }
 
--- The OK of a call whose routine left NO_BACKSLASH_ESCAPES in the status tells nothing of the mode. Excluded: a
--- mode in which no backslash escapes, so that a value behind it ends its literal.
+-- The status of an OK tells nothing, whatever it is. Excluded: a mode that is told by a status, and one that a
+-- status takes away.
 abbrev pub StatusesTellNothing : Type 0
-StatusesTellNothing = (s : Standing) → is_resetting s.phase ≡ false →
-    mode_behind (in_mode unknown_mode s) (Replied (OkEvent (ok_with 0x202 None))) ≡ unknown_mode
+StatusesTellNothing = (s : SessionMode) (status : ℕ) → mode_behind_ok s (ok_with status None) ≡ s
 
--- Where a status contradicts a tracked mode the tracking was ended. Excluded: a mode that stays.
-abbrev pub StatusesContradict : Type 0
-StatusesContradict = (s : Standing) → is_resetting s.phase ≡ false →
-    mode_behind (in_mode (tracked_mode []) s) (Replied (OkEvent (ok_with 0x202 None))) ≡ unknown_mode
+-- A login tells nothing, and a change of user and a reset leave nothing known. Excluded: a mode by a login's status,
+-- and one that stays behind a reset.
+pub record BeginningsTellNothing : Type 0 where
+  pub login : (at : Standing) (said : AuthenticationSaid) (old new : SessionMode) →
+      ModeBehind at (Authentication said) old new → new ≡ old
+  pub change : (at : Standing) (login : ChangeUserFields) (old new : SessionMode) →
+      ModeBehind at (Asked (ChangeUser login)) old new → new ≡ unknown_mode
+  pub reset : (at : Standing) (old new : SessionMode) →
+      ModeBehind at (Asked ResetConnection) old new → new ≡ unknown_mode
 
--- Behind a query, and behind an execution, a mode that isn't tracked isn't known. Excluded: one that stays as the
--- login told it.
-abbrev pub QueriesForgetTheMode : Type 0
-QueriesForgetTheMode = (s : Standing) →
-    mode_behind (in_mode (fresh_mode 2) s) (Asked (Query [] (codes "CALL p()"))) ≡ unknown_mode
+-- A SET that names the variable leaves it unknown, whether it is told, as MariaDB doesn't tell `SET @@sql_mode`, or
+-- refused. Excluded: a mode kept behind either.
+pub record SetsForget : Type 0 where
+  pub mode : (old new : SessionMode) → BehindText (codes "SET @@sql_mode=''") old new → new.mode ≡ None
+  pub set : (old new : SessionMode) → BehindText (codes "SET NAMES gbk") old new → new.is_safe_set ≡ None
+  pub refused : (at : Standing) (error : ServerError) (old new : SessionMode) →
+      ModeBehind at (Replied (ErrorEvent error)) old new → new ≡ old
 
-abbrev pub ExecutionsForgetTheMode : Type 0
-ExecutionsForgetTheMode = (s : Standing) (execution : Execution) →
-    mode_behind (in_mode (fresh_mode 2) s) (Asked (Execute execution)) ≡ unknown_mode
+-- What a `SET STATEMENT` tells doesn't count. MariaDB Server Documentation, "SET STATEMENT". Excluded: a mode told so.
+abbrev pub SetStatementsCountForNothing : Type 0
+SetStatementsCountForNothing = (s : SessionMode) (tokens : List (List ℕ)) →
+    (mode_behind_tokens tokens (codes "Set Statement a=1 FOR DO 1") s).counts ≡ false
 
--- A mode that is tracked stays. Excluded: one that each statement takes away.
-abbrev pub TrackedModesStay : Type 0
-TrackedModesStay = (s : Standing) (value : List ℕ) →
-    mode_behind (in_mode (tracked_mode value) s) (Asked (Query [] (codes "CALL p()"))) ≡ tracked_mode value
+-- What is told where it doesn't count, before further results too, and what can't be read, isn't known. Excluded: a
+-- mode of either.
+pub record ToldInVain : Type 0 where
+  pub uncounted : (value : List ℕ) (known : Option Mode) →
+      known_behind false mode_of_sql_mode (Value value) known ≡ None
+  pub unreadable : (known : Option Mode) → known_behind true mode_of_sql_mode Unreadable known ≡ None
+  pub further : (s : SessionMode) (state : Option (List ℕ)) → does_count s (ok_with 0x0a state) ≡ false
+  pub silent : (known : Option Mode) → known_behind true mode_of_sql_mode Nothing known ≡ known
 
--- MariaDB tells the mode of a `SET STATEMENT`, and not that it ends. Excluded: a mode that is told so. MariaDB Server
--- Documentation, "SET STATEMENT".
-abbrev pub SetStatementsAreDoubted : Type 0
-SetStatementsAreDoubted = (s : Standing) (value : List ℕ) →
-    mode_behind (in_mode (tracked_mode value) s) (Asked (Query [] (codes "Set Statement a=1 FOR DO 1"))) ≡ doubted_mode
+-- Two statements are two, also where a `;` stands in a comment that a server runs, behind a dollar quote, or, by our
+-- tokens, in a string that begins in a comment that servers skip. Excluded: a mode kept behind them.
+pub record TwoAreTwo : Type 0 where
+  pub behind : (rest : List (List ℕ)) → is_one_statement (codes ";" ∷ codes "S" ∷ rest) ≡ false
+  pub version : (rest : List (List ℕ)) → is_one_statement (codes "/*!50000 ; SET @@sql_mode=ansi */" ∷ rest) ≡ false
+  pub mariadb : (rest : List (List ℕ)) → is_one_statement (codes "/*M! ; SET @@sql_mode=ansi */" ∷ rest) ≡ false
+  pub opening : (rest : List (List ℕ)) → is_one_statement (codes "/*!" ∷ rest) ≡ false
+  pub dollar : (rest : List (List ℕ)) → is_one_statement (codes "$" ∷ rest) ≡ false
+  pub hidden : (old new : SessionMode) → BehindText (codes "DO/*!9'*/;SET @@sql_mode=ansi -- '") old new →
+      new.mode ≡ None
+  pub left_out : is_one_statement (codes ";" ∷ codes " " ∷ codes "-- a" ∷ []) ≡ true
 
-abbrev pub DoubtedModesStay : Type 0
-DoubtedModesStay = (s : Standing) (status : ℕ) (told : Option (List ℕ)) → is_resetting s.phase ≡ false →
-    mode_behind (in_mode doubted_mode s) (Replied (OkEvent (ok_with status told))) ≡ doubted_mode
+-- In NO_BACKSLASH_ESCAPES a backslash hides no quote: `'\';S` is a string and a second statement. Excluded: one string
+-- to the end.
+abbrev pub BackslashesHideNothing : Type 0
+BackslashesHideNothing = HasTokens (record { no_backslash_escapes = true; ansi_quotes = false })
+    (0x27 ∷ 0x5c ∷ 0x27 ∷ 0x3b ∷ 0x53 ∷ []) ((0x27 ∷ 0x5c ∷ 0x27 ∷ []) ∷ (0x3b ∷ []) ∷ (0x53 ∷ []) ∷ [])
 
--- A text that sets what is tracked may end the tracking. Excluded: a mode that stays tracked.
-abbrev pub TrackingMayEnd : Type 0
-TrackingMayEnd = (s : Standing) (value : List ℕ) →
-    mode_behind (in_mode (tracked_mode value) s)
-    (Asked (Query [] (codes "SET session_track_system_variables=''"))) ≡ unknown_mode
+-- Character sets in which a quote may be the second byte of a character aren't safe, nor is one that isn't listed.
+-- Excluded: quotes in them.
+pub record UnsafeSets : Type 0 where
+  pub gbk : is_safe_set (codes "gbk") ≡ false
+  pub unknown : is_safe_set (codes "utf99") ≡ false
+  pub swe7 : is_safe_set (codes "swe7") ≡ false
+  pub any_case : is_safe_set (codes "UTF8MB4") ≡ true
+  pub mode : (mode : Mode) → is_safe (record { mode = Some mode; is_safe_set = Some false; counts = true }) ≡ false
+  pub set : is_safe (record { mode = None; is_safe_set = Some true; counts = true }) ≡ false
 
--- A mode that is told before further results is a routine's, and what can't be read tells none. Excluded: a mode of
--- either.
-pub record RoutinesTellNone : Type 0 where
-  pub further : (value : List ℕ) (mode : SessionMode) → mode_told (Value value) 0x0a mode ≡ unknown_mode
-  pub last : (value : List ℕ) (mode : SessionMode) → mode_told (Value value) 2 mode ≡ tracked_mode value
-  pub unreadable : (mode : SessionMode) → mode_told Unreadable 2 mode ≡ unknown_mode
+-- A ping leaves both. Excluded: a mode that no command leaves.
+abbrev pub PingsLeaveBoth : Type 0
+PingsLeaveBoth = (at : Standing) (old new : SessionMode) → ModeBehind at (Asked Ping) old new → new ≡ old
 
--- A ping leaves the mode. Excluded: a mode that no command leaves.
-abbrev pub PingsLeaveTheMode : Type 0
-PingsLeaveTheMode = (s : Standing) → mode_behind s (Asked Ping) ≡ s.mode
-
--- A login tells the mode by its status. Excluded: a mode that is never told.
-abbrev pub LoginsTellTheMode : Type 0
-LoginsTellTheMode = (s : Standing) →
-    mode_behind s (Authentication (Accepted (ok_with 0x202 None))) ≡ fresh_mode 0x202
-
--- The OK of a reset tells it anew, and it isn't tracked any more. Excluded: a mode that stays tracked.
-abbrev pub ResetsTellTheMode : Type 0
-ResetsTellTheMode = (s : Standing) → is_resetting s.phase ≡ true →
-    mode_behind s (Replied (OkEvent (ok_with 2 None))) ≡ fresh_mode 2
+-- An ordinary text leaves both. Excluded: a mode that each text takes away.
+pub record TextsKeep : Type 0 where
+  pub mode : (old new : SessionMode) → BehindText (codes "SELECT 1") old new → new.mode ≡ old.mode
+  pub set : (old new : SessionMode) → BehindText (codes "SELECT 1") old new → new.is_safe_set ≡ old.is_safe_set

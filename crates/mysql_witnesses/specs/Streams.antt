@@ -5,6 +5,7 @@ use Rattle.std.specs.Prelude.{◌≡◌, ◌+◌, ◌≤◌, ℕ, true, false, L
 use Rattle.mysql_commands.specs.Commands.{Ping}
 use Rattle.mysql_connection_machine.specs.Endings.{ending_of}
 use Rattle.mysql_connection_machine.specs.Endings.Ending.{Unread}
+use Rattle.mysql_session_modes.specs.SessionModes.{unknown_mode}
 use Rattle.mysql_connection_machine.specs.Machines.{Feeds, Machine, both_ended, failure_in, failure_view}
 use Rattle.mysql_connection_machine.specs.Machines.{length_with, turn_in}
 use Rattle.mysql_connection_machine.specs.declared.fault.ConnectionFault.{ConnectionFault}
@@ -129,4 +130,5 @@ WhatComesNextIsUnread = ending_of (both_ended (record {
   world = with_server (1 ∷ 0 ∷ 0 ∷ 1 ∷ 0x61 ∷ []) (world_with 0 line_due nothing_came);
   failure = None;
   row = None;
+  mode = unknown_mode;
 })) ≡ Unread

@@ -10,6 +10,7 @@
 pub mod c_replies;
 pub mod commands;
 pub mod connections;
+pub mod counts;
 pub mod executions;
 pub mod logins;
 pub mod modes;

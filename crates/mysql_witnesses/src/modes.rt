@@ -1,54 +1,54 @@
-//! The mode that a connection knows of its session.
+//! The mode and the character set that a connection knows of its session.
 
-ghost use Rattle.mysql_witnesses.specs.Modes.{DoubtedModesStay, ExecutionsForgetTheMode};
-ghost use Rattle.mysql_witnesses.specs.Modes.{LoginsTellTheMode, PingsLeaveTheMode};
-ghost use Rattle.mysql_witnesses.specs.Modes.{QueriesForgetTheMode, ResetsTellTheMode};
-ghost use Rattle.mysql_witnesses.specs.Modes.{RoutinesTellNone, SetStatementsAreDoubted};
-ghost use Rattle.mysql_witnesses.specs.Modes.{StatusesContradict, StatusesTellNothing};
-ghost use Rattle.mysql_witnesses.specs.Modes.{TrackedModesStay, TrackingMayEnd};
+ghost use Rattle.mysql_witnesses.specs.Modes.{BackslashesHideNothing, BeginningsTellNothing};
+ghost use Rattle.mysql_witnesses.specs.Modes.{PingsLeaveBoth, SetStatementsCountForNothing};
+ghost use Rattle.mysql_witnesses.specs.Modes.{SetsForget, StatusesTellNothing, TextsKeep, ToldInVain};
+ghost use Rattle.mysql_witnesses.specs.Modes.{TwoAreTwo, UnsafeSets};
 
-/// The status of a reply's OK tells nothing of the mode, but that a tracking was ended.
-#[tactic(auto, using(crate::proofs::AboutModes::statuses_tell_nothing, crate::proofs::AboutModes::statuses_contradict))]
+/// Neither a status nor a login tells the mode, and a reset leaves none.
+#[tactic(auto, using(crate::proofs::AboutModes::statuses_tell_nothing, crate::proofs::AboutModes::beginnings_tell_nothing))]
 pub fn statuses_tell_nothing()
     ensures nothing { StatusesTellNothing }
-    ensures contradict { StatusesContradict }
+    ensures beginnings { BeginningsTellNothing }
 {}
 
-/// Behind a statement a mode that isn't tracked isn't known.
+/// A SET leaves unknown what it names, whether it is told or refused.
+#[tactic(auto, using(crate::proofs::AboutModes::sets_forget))]
+pub fn sets_forget()
+    ensures { SetsForget }
+{}
+
+/// What is told in vain isn't known: of a `SET STATEMENT`, before further results, or unreadable.
+#[tactic(auto, using(crate::proofs::AboutModes::set_statements_count_for_nothing, crate::proofs::AboutModes::told_in_vain))]
+pub fn told_in_vain()
+    ensures statements { SetStatementsCountForNothing }
+    ensures told { ToldInVain }
+{}
+
+/// Two statements are two.
 ///
-/// Excluded: one that stays as the login told it.
-#[tactic(auto, using(crate::proofs::AboutModes::queries_forget_the_mode, crate::proofs::AboutModes::executions_forget_the_mode))]
-pub fn statements_forget_the_mode()
-    ensures queries { QueriesForgetTheMode }
-    ensures executions { ExecutionsForgetTheMode }
+/// Excluded: a `;` that is overlooked in a comment that a server runs, or behind a backslash. So is one
+/// in a string whose quote stands in a comment that servers skip.
+#[tactic(auto, using(crate::proofs::AboutModes::two_are_two, crate::proofs::AboutModes::backslashes_hide_nothing))]
+pub fn two_are_two()
+    ensures two { TwoAreTwo }
+    ensures backslashes { BackslashesHideNothing }
 {}
 
-/// A mode that is tracked stays behind a statement.
-#[tactic(auto, using(crate::proofs::AboutModes::tracked_modes_stay))]
-pub fn tracked_modes_stay()
-    ensures { TrackedModesStay }
+/// Quotes are safe in the listed character sets alone.
+#[tactic(auto, using(crate::proofs::AboutModes::unsafe_sets))]
+pub fn unsafe_sets()
+    ensures { UnsafeSets }
 {}
 
-/// A mode that is told for one statement, or within a routine, isn't the session's.
-///
-/// Excluded: a mode that is told so, and one that stays where the tracking may have ended.
-#[tactic(auto, using(crate::proofs::AboutModes::set_statements_are_doubted, crate::proofs::AboutModes::doubted_modes_stay, crate::proofs::AboutModes::tracking_may_end, crate::proofs::AboutModes::routines_tell_none))]
-pub fn told_modes_may_end()
-    ensures statements { SetStatementsAreDoubted }
-    ensures doubted { DoubtedModesStay }
-    ensures tracking { TrackingMayEnd }
-    ensures routines { RoutinesTellNone }
+/// A command that runs no statement leaves both.
+#[tactic(auto, using(crate::proofs::AboutModes::pings_leave_both))]
+pub fn pings_leave_both()
+    ensures { PingsLeaveBoth }
 {}
 
-/// A command that runs no statement leaves the mode.
-#[tactic(auto, using(crate::proofs::AboutModes::pings_leave_the_mode))]
-pub fn pings_leave_the_mode()
-    ensures { PingsLeaveTheMode }
-{}
-
-/// A session that begins tells its mode by the status.
-#[tactic(auto, using(crate::proofs::AboutModes::logins_tell_the_mode, crate::proofs::AboutModes::resets_tell_the_mode))]
-pub fn beginnings_tell_the_mode()
-    ensures logins { LoginsTellTheMode }
-    ensures resets { ResetsTellTheMode }
+/// An ordinary text leaves both.
+#[tactic(auto, using(crate::proofs::AboutModes::texts_keep))]
+pub fn texts_keep()
+    ensures { TextsKeep }
 {}

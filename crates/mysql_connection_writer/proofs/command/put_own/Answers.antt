@@ -20,7 +20,8 @@ returns-then-is_own_command c =
 
 pub returns : goal.returns
 returns c =
-    let told = not_own c.read_commands_are_put.ensures c.args.capabilities (option_copied c.args.parameters)
+    let told = not_own c.read_commands_are_put.ensures c.put_values_are_counted.ensures
+    c.args.capabilities (option_copied c.args.parameters)
     (command_view c.args.command.now) c.args.out.now.items c.put_bytes.new.out.items
     c.in_ok-values_fit.ensures c.in_default.ensures.bytes c.in_default.ensures.puts
     (sym c.is_own_command.ensures ∙ c.if-is_own_command.false) in

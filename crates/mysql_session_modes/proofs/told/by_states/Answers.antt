@@ -14,7 +14,8 @@ loop-rest-init c = refl
 pub returns-in_default : goal.returns-in_default
 returns-in_default c =
     let some = some_bytes (length c.loop-rest.rest.0.now) c.is_empty.result c.is_empty.ensures c.loop-rest-test.true in
-    sym (gives_up told_by_state state_at state_at-eats Unreadable (told_view c.loop-rest.told) c.loop-rest.rest.0.now
+    sym (gives_up (told_by_state c.args.wanted.now) state_at state_at-eats Unreadable
+    (told_view c.loop-rest.told) c.loop-rest.rest.0.now
     c.in_default.field-0 some c.in_default.ensures.0)
     ∙ c.loop-rest.invariant
 
@@ -28,9 +29,10 @@ loop-rest-smaller c =
 pub loop-rest-preserved : goal.loop-rest-preserved
 loop-rest-preserved c =
     let some = some_bytes (length c.loop-rest.rest.0.now) c.is_empty.result c.is_empty.ensures c.loop-rest-test.true in
-    ap (λ told. walked told_by_state Unreadable told
+    ap (λ told. walked (told_by_state c.args.wanted.now) Unreadable told
     (to_end_at state_at c.read_state.new.buf.0.now)) c.by_state-told.ensures
-    ∙ sym (goes_on told_by_state state_at state_at-eats Unreadable (told_view c.loop-rest.told) c.loop-rest.rest.0.now
+    ∙ sym (goes_on (told_by_state c.args.wanted.now) state_at state_at-eats Unreadable
+    (told_view c.loop-rest.told) c.loop-rest.rest.0.now
     (record { data_type = c.in-Ok.state.data_type; content = c.in-Ok.state.content.now })
     c.read_state.new.buf.0.now some c.in-Ok.ensures)
     ∙ c.loop-rest.invariant
@@ -38,6 +40,6 @@ loop-rest-preserved c =
 pub returns : goal.returns
 returns c =
     let none = no_bytes (length c.loop-rest.rest.0.now) c.is_empty.result c.is_empty.ensures c.loop-rest-test.false in
-    sym (is_done told_by_state state_at state_at-eats Unreadable (told_view c.loop-rest.told)
-    c.loop-rest.rest.0.now none)
+    sym (is_done (told_by_state c.args.wanted.now) state_at state_at-eats Unreadable
+    (told_view c.loop-rest.told) c.loop-rest.rest.0.now none)
     ∙ c.loop-rest.invariant

@@ -8,8 +8,8 @@ use Rattle.mysql_session_modes.proofs.told.by_states.Given as goal
 
 abbrev pub invariant-loop-rest : goal.invariant-loop-rest
 invariant-loop-rest l =
-    walked told_by_state Unreadable (told_view l.told) (to_end_at state_at l.rest.0.now)
-    ≡ walked told_by_state Unreadable Nothing (to_end_at state_at l.fn.bytes)
+    walked (told_by_state l.fn.wanted) Unreadable (told_view l.told) (to_end_at state_at l.rest.0.now)
+    ≡ walked (told_by_state l.fn.wanted) Unreadable Nothing (to_end_at state_at l.fn.bytes)
 
 abbrev pub decreases-loop-rest : goal.decreases-loop-rest
 decreases-loop-rest l = length l.rest.0.now

@@ -14,7 +14,7 @@ loop-rest-init c = refl
 pub returns-in_default : goal.returns-in_default
 returns-in_default c =
     let some = some_bytes (length c.loop-rest.rest.0.now) c.is_empty.result c.is_empty.ensures c.loop-rest-test.true in
-    sym (gives_up told_by_variable variable_at variable_at-eats Unreadable
+    sym (gives_up (told_by_variable c.args.wanted.now) variable_at variable_at-eats Unreadable
     (told_view c.loop-rest.told) c.loop-rest.rest.0.now
     c.in_default.field-0 some c.in_default.ensures.0)
     ∙ c.loop-rest.invariant
@@ -29,9 +29,9 @@ loop-rest-smaller c =
 pub loop-rest-preserved : goal.loop-rest-preserved
 loop-rest-preserved c =
     let some = some_bytes (length c.loop-rest.rest.0.now) c.is_empty.result c.is_empty.ensures c.loop-rest-test.true in
-    ap (λ told. walked told_by_variable Unreadable told
+    ap (λ told. walked (told_by_variable c.args.wanted.now) Unreadable told
     (to_end_at variable_at c.read_variable.new.buf.0.now)) c.by_variable-told.ensures
-    ∙ sym (goes_on told_by_variable variable_at variable_at-eats Unreadable
+    ∙ sym (goes_on (told_by_variable c.args.wanted.now) variable_at variable_at-eats Unreadable
     (told_view c.loop-rest.told) c.loop-rest.rest.0.now
     (record { name = c.in-Ok.variable.name.now; value = c.in-Ok.variable.value.now })
     c.read_variable.new.buf.0.now some c.in-Ok.ensures)
@@ -40,6 +40,6 @@ loop-rest-preserved c =
 pub returns : goal.returns
 returns c =
     let none = no_bytes (length c.loop-rest.rest.0.now) c.is_empty.result c.is_empty.ensures c.loop-rest-test.false in
-    sym (is_done told_by_variable variable_at variable_at-eats Unreadable
+    sym (is_done (told_by_variable c.args.wanted.now) variable_at variable_at-eats Unreadable
     (told_view c.loop-rest.told) c.loop-rest.rest.0.now none)
     ∙ c.loop-rest.invariant

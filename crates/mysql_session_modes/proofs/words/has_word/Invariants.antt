@@ -1,5 +1,5 @@
 use Rattle.std.proofs.Common.{◌≡◌, ◌≤◌, ◌-◌, drop, length}
-use Rattle.mysql_session_modes.specs.SessionModes as texts
+use Rattle.mysql_session_modes.specs.Texts as texts
 use Rattle.mysql_session_modes.proofs.words.has_word.Given as goal
 
 abbrev pub invariant-loop-at : goal.invariant-loop-at

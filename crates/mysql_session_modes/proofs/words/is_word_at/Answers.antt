@@ -1,5 +1,5 @@
 use Rattle.std.proofs.Common.{◌∙◌, ap, sym, false, true, ◌∷◌}
-use Rattle.mysql_session_modes.specs.SessionModes.{is_word_at}
+use Rattle.mysql_session_modes.specs.Texts.{is_word_at}
 use Rattle.mysql_session_modes.proofs.TextSteps.{no_text, no_word, other_letter, same_letter}
 use Rattle.mysql_session_modes.proofs.words.is_word_at.Goals as goal
 

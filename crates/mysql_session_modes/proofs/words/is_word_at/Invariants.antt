@@ -1,5 +1,5 @@
 use Rattle.std.proofs.Common.{◌≡◌, length}
-use Rattle.mysql_session_modes.specs.SessionModes as texts
+use Rattle.mysql_session_modes.specs.Texts as texts
 use Rattle.mysql_session_modes.proofs.words.is_word_at.Given as goal
 
 abbrev pub invariant-loop-letter : goal.invariant-loop-letter

@@ -17,4 +17,4 @@ returns-in_ok-put_without_event-in-Whole c =
     c.in-Whole.used c.in-Whole.next c.limit_of-limit.ensures c.number_of.ensures
     (found ∙ ap (λ (p : List ℕ). Whole p c.in-Whole.next (drop c.in-Whole.used c.args.packets.now))
     (sym c.as_slice.ensures.value))
-    within going c.in_ok-put_without_event-in-Whole.ensures
+    within going c.in_ok-put_without_event-in-Whole.ensures.mode c.in_ok-put_without_event-in-Whole.ensures.puts

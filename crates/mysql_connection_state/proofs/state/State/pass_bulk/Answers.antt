@@ -3,7 +3,6 @@ use Rattle.mysql_connection_rules.specs.Standing.{Standing}
 use Rattle.mysql_connection_rules.specs.Steps.{execution_of, id_in_question, statement_in_question}
 use Rattle.mysql_connection_state.specs.Follows.{Goes, after_said}
 use Rattle.mysql_connection_state.specs.Views.{ConnectionState}
-use Rattle.mysql_connection_state.proofs.InModes.{behind_statement, bulk_said}
 use Rattle.mysql_connection_state.proofs.state.State.pass_bulk.Goals as goal
 
 pub returns : goal.returns
@@ -12,8 +11,5 @@ returns c = λ is.
     let goes : Standing → Type 0 = λ after. Goes old after c.args.room c.pass_unread.result c.pass_unread.new.self in
     let body = c.args.body.now in
     subst (λ (p : List ℕ). goes (after_said old.standing p)) (sym is)
-    (subst goes (bulk_said old.standing body)
-    (subst (λ (p : List ℕ). goes
-    (behind_statement old.standing
-    (execution_of 0xfa body (id_in_question old.standing.statements p)
-    (statement_in_question old.standing.statements p) old.standing))) is c.pass_unread.ensures))
+    (subst (λ (p : List ℕ). goes (execution_of 0xfa body (id_in_question old.standing.statements p)
+    (statement_in_question old.standing.statements p) old.standing)) is c.pass_unread.ensures)
