@@ -51,7 +51,7 @@ extern "C" {
 /* The number of this interface. mysql_session_abi() answers the library's: compare them before
  * any other call. It changes with each change of what the library exports and of a struct. The
  * shared object's name ends in it (libmysql_session.so. and the number). */
-#define MYSQL_SESSION_ABI 10
+#define MYSQL_SESSION_ABI 11
 
 uint32_t mysql_session_abi(void);
 
@@ -177,7 +177,11 @@ enum mysql_session_code {
     MYSQL_SESSION_CONNECTION_NOT_DUE = 519,      /* that side of a reply has no payload now */
 
     /* Why a payload isn't put on a connection; or one of the faults above. */
-    MYSQL_SESSION_CONNECTION_NOT_ITS_TURN = 520  /* it isn't the turn of this side's payload */
+    MYSQL_SESSION_CONNECTION_NOT_ITS_TURN = 520, /* it isn't the turn of this side's payload */
+
+    /* Why sets of a query aren't put on a connection; or one of those above. */
+    MYSQL_SESSION_CONNECTION_UNKNOWN_STATEMENT = 521,
+    MYSQL_SESSION_CONNECTION_WRONG_COUNT = 522 /* the server counted other parameters */
 };
 
 /* The text of a code in English, and its length without the NUL byte behind it. It is
@@ -204,14 +208,14 @@ enum mysql_session_flag {
      * where it wants a number. Calls that read a stream read such literals too. No mode: dates and
      * durations stay in quotes. */
     MYSQL_SESSION_HEXADECIMAL = 4,
-    /* In place of a mode that isn't known. No call takes it: each answers NO_SUCH_MODE. */
+    /* The mode isn't known. No call takes it: each answers NO_SUCH_MODE. */
     MYSQL_SESSION_UNKNOWN_MODE = 8
 };
 
 /* The flags of the mode that a server's status tells, as its greeting and each of its OK packets
  * have it; no code. MySQL doesn't tell ANSI_QUOTES in it, MariaDB does. Behind a procedure that
  * changed the mode a status may tell another one than the server is in. Better go by
- * mysql_session_connection_mode. */
+ * mysql_session_known. */
 uint32_t mysql_session_mode_of_status(uint16_t status);
 
 /* The flags of the mode that the value of the variable sql_mode tells; no code. Names are between
@@ -225,6 +229,44 @@ uint32_t mysql_session_mode_of_sql_mode(const uint8_t *value, size_t len);
  * and gb18030, and for gb2312_bin. In these a quote or a backslash can be the second byte of a
  * character. There take MYSQL_SESSION_HEXADECIMAL, or send by execute. */
 uint32_t mysql_session_is_safe_to_quote(uint16_t collation);
+
+/* The text that asks a server for the mode and the character set of its session, any number of
+ * times. Its OK packet tells both where both sides have CLIENT_SESSION_TRACK. Ask behind a login, a
+ * change of user and a reset, and where the mode or the set isn't known. */
+#define MYSQL_SESSION_ASK_MODE \
+    "SET session_track_system_variables = '*', sql_mode = @@sql_mode, " \
+    "character_set_client = @@character_set_client"
+
+/* What is known of a session's mode and character set. A mysql_session_connection keeps it. For a
+ * program that has none it begins as MYSQL_SESSION_NOTHING_KNOWN, and is that again behind a login, a
+ * change of user and a reset.
+ *
+ * A text for the session is written by `flags` (of mysql_session_flag). HEXADECIMAL is among them
+ * unless quotes are known to be safe in its character set. UNKNOWN_MODE is where the mode isn't
+ * known. There send by execute. Or write by HEXADECIMAL alone, if the query has no backslash. */
+typedef struct mysql_session_known {
+    uint32_t flags;
+    bool set_known; /* the character set is known: quotes are safe in it where HEXADECIMAL isn't set */
+    bool counts;    /* what the next OK packet tells counts */
+} mysql_session_known;
+
+#define MYSQL_SESSION_NOTHING_KNOWN \
+    { MYSQL_SESSION_UNKNOWN_MODE | MYSQL_SESSION_HEXADECIMAL, false, false }
+
+/* Goes on with what is known behind a statement that is sent as this text, or that is executed as it
+ * was prepared of it. Call it for each, before its reply is looked at, whether it is answered or
+ * refused. What was known stays behind one statement that begins with a word as SELECT, INSERT,
+ * COMMIT or CALL. Behind a SET the mode or the character set that it names isn't known, and behind
+ * all else neither is. A prepare, a close, a ping and the like change nothing. */
+void mysql_session_known_behind_text(mysql_session_known *known, const uint8_t *text, size_t len);
+
+/* Goes on with what is known behind an OK packet of the reply to that statement. It is told by its
+ * status and its changes of the session, as it has them. A result has these as `changes`.
+ * What the packet tells of `sql_mode` and `character_set_client` is known then. It isn't where
+ * further results follow, where the text has the word STATEMENT, or where it can't be read. Nothing
+ * is concluded from the status alone. */
+void mysql_session_known_behind_ok(mysql_session_known *known, uint16_t status,
+                                   const uint8_t *changes, size_t len);
 
 /* ---- Receivers: a stream of commands about one query, read back ------------------------------ */
 
@@ -388,6 +430,13 @@ typedef struct mysql_session_place {
     size_t place;
 } mysql_session_place;
 
+/* Tells how many placeholders a query has, for a server in the mode that the flags tell. In its
+ * answer to the prepare a server says how many parameters it counted. It runs an execution of
+ * another number of values too, with other values than were meant. So compare the two numbers
+ * before you send what follows the prepare; mysql_session_connection_put_sets compares them.
+ * Answers OK, or NO_SUCH_MODE, MIXED, MEMORY, when `count` stays as it was. */
+uint32_t mysql_session_place_count(const uint8_t *query, size_t len, uint32_t flags, size_t *count);
+
 /* Appends to the bytes of `out` the commands that carry the sets of `sets`, as framed packets. A
  * receiver of the same query, id, limit and mode reads the sets back, to the end of what was
  * appended.
@@ -396,6 +445,8 @@ typedef struct mysql_session_place {
  * `limit - 4` bytes. The two handles are different ones.
  * The commands are laid out for a connection on which CLIENT_QUERY_ATTRIBUTES isn't in force, bulk
  * executions for one on which MARIADB_CLIENT_STMT_BULK_OPERATIONS is.
+ * By execute and bulk the server's answer to the prepare isn't known here. Before what follows it
+ * is sent, compare the server's number of parameters with mysql_session_place_count.
  * By MYSQL_SESSION_TEXT it is safe for a server in the mode that the flags (of mysql_session_flag)
  * tell. The connection's collation is safe to quote, as UTF-8's are. Or take
  * MYSQL_SESSION_HEXADECIMAL, in any character set in which bytes below 80 that follow one another
@@ -409,9 +460,10 @@ uint32_t mysql_session_send(mysql_session_handle *sets, const uint8_t *query, si
                             mysql_session_handle *out, mysql_session_place *place);
 
 /* Appends to the bytes of `out` the payload of an execution of a statement. Its values are those of
- * one set, by its number from 0. mysql_session_connection_put takes such a payload. Each value has
- * its own type: BIGINT, FLOAT, DOUBLE, VAR_STRING, DATETIME, TIME or NULL. Floats are among them,
- * which mysql_session_send refuses. It is laid out for a connection on which
+ * one set, by its number from 0. Framed by mysql_session_packet_put it goes by
+ * mysql_session_connection_put_sets, whose `places` is the number of the set's values. Each value
+ * has its own type: BIGINT, FLOAT, DOUBLE, VAR_STRING, DATETIME, TIME or NULL. Floats are among
+ * them, which mysql_session_send refuses. It is laid out for a connection on which
  * CLIENT_QUERY_ATTRIBUTES isn't in force.
  * Answers OK, or why nothing is appended. The first that holds is the answer: EMPTY_HANDLE,
  * OTHER_KIND or OUT_OF_RANGE (no such set) of `sets`. Then come EMPTY_HANDLE and OTHER_KIND of
@@ -677,6 +729,8 @@ typedef struct mysql_session_result {
     size_t states;       /* changes of the session's state that an OK packet tells */
     const uint8_t *text; /* the message of an error, the name of a file, what an OK packet tells */
     size_t len;
+    const uint8_t *changes; /* these changes, as the packet has them */
+    size_t changes_len;
     uint8_t state[5];    /* the SQL state of an error */
     size_t state_len;    /* 5, or 0 where it has none */
     bool ended;          /* of rows: the packet that ends them came; else true */
@@ -703,7 +757,7 @@ uint32_t mysql_session_reply_take(mysql_session_handle *handle);
 uint32_t mysql_session_reply_results(mysql_session_handle *handle, size_t *count);
 
 /* The result of this number, in place of all that the struct held. What its kind doesn't have is 0,
- * and `text` points to no bytes there. Its text is good until the next call on the handle other
+ * and `text` points to no bytes there. Its texts are good until the next call on the handle other
  * than mysql_session_reply_results, _result, _state, _cell, _column and _param. `states` is 0 also
  * where not all changes can be read; mysql_session_reply_state shows those before the first bad
  * one. Answers OK, OUT_OF_RANGE, MEMORY, .. */
@@ -1153,10 +1207,10 @@ typedef struct mysql_session_event {
 } mysql_session_event;
 
 /* Takes the next event, and shows it. What is shown of an event, here and by the calls below, is
- * good until another call on the connection. That is _next, _put, _put_packets, _finish, _new,
- * _after_login or _free. What is shown of a statement or of a stream's rest is good until the next
- * of these, of _feed or of _close. Answers OK, the fault of the packet that is first, MEMORY (a
- * fault too), EMPTY_HANDLE. Each further call answers the fault too; the events before it stay.
+ * good until another call on the connection. That is _next, _put, _put_packets, _put_sets, _finish,
+ * _new, _after_login or _free. What is shown of a statement or of a stream's rest is good until the
+ * next of these, of _feed or of _close. Answers OK, the fault of the packet that is first, MEMORY
+ * (a fault too), EMPTY_HANDLE. Each further call answers the fault too; the events before it stay.
  * Nothing else changes: the calls below answer the state before the payload that has the fault. */
 uint32_t mysql_session_connection_next(mysql_session_connection *connection,
                                        mysql_session_event *event);
@@ -1207,6 +1261,21 @@ uint32_t mysql_session_connection_put(mysql_session_connection *connection, uint
 uint32_t mysql_session_connection_put_packets(mysql_session_connection *connection,
                                               uint32_t side, const uint8_t *packets, size_t len,
                                               mysql_session_handle *out, size_t *used);
+
+/* Puts packets of a query's sets for the statement of this id, if the server counted as many
+ * parameters as the query has placeholders. `packets` are what mysql_session_send appends behind
+ * its prepare, by execute or in bulk; `places` is what mysql_session_place_count tells. The bytes
+ * of an execution don't tell how many values it has. A server that counted another number runs it
+ * with other values than were meant. So sets are put by this call, and not by _put_packets. The
+ * packets are put as that call puts them: one after another, as long as it is the client's turn.
+ * Answers OK, or CONNECTION_UNKNOWN_STATEMENT (the answer to its prepare hasn't come, or it is
+ * closed), CONNECTION_WRONG_COUNT. Then `used` is 0, and nothing has changed: neither the
+ * connection nor `out`. Behind these come the answers of _put_packets, with its `used`. Before any
+ * other EMPTY_HANDLE, OTHER_KIND, when `used` stays as it was. */
+uint32_t mysql_session_connection_put_sets(mysql_session_connection *connection,
+                                           uint32_t statement, size_t places,
+                                           const uint8_t *packets, size_t len,
+                                           mysql_session_handle *out, size_t *used);
 
 /* Kinds of values of bulk executions: those of mysql_session_value_kind, and these. */
 enum mysql_session_bulk_kind {
@@ -1318,14 +1387,12 @@ typedef struct mysql_session_standing {
 uint32_t mysql_session_connection_standing(mysql_session_connection *connection,
                                            mysql_session_standing *standing);
 
-/* The flags of the session's mode, as mysql_session_mode_of_sql_mode answers them; no code. A login,
- * a change of user and a reset of the connection tell it. Behind a statement it is known only where
- * the server tells each change. Have it do so, where it has CLIENT_SESSION_TRACK, by
- * SET session_track_system_variables = 'sql_mode', sql_mode = @@sql_mode
- * whose answer tells the mode. (SECURITY.md, "The mode of a session", keeps the other variables.)
- * MYSQL_SESSION_UNKNOWN_MODE where it isn't known, and for an empty handle: then take
- * MYSQL_SESSION_HEXADECIMAL, or execute. */
-uint32_t mysql_session_connection_mode(mysql_session_connection *connection);
+/* What is known of the session's mode and character set, by all that was said so far; no code. Of an
+ * empty handle that is nothing. Behind a login, a change of user and a reset of the connection it is
+ * nothing too: ask by MYSQL_SESSION_ASK_MODE. SECURITY.md, "The mode of a session", says what both
+ * are known behind. */
+void mysql_session_connection_known(mysql_session_connection *connection,
+                                    mysql_session_known *known);
 
 /* The prepared statement that this id of a command means: its text, and how many parameters it has.
  * 0xffffffff is the statement that was prepared last. Answers OK, OUT_OF_RANGE,

@@ -89,12 +89,15 @@ import os
 import re
 import sys
 import typing
-from typing import (Any, Callable, Dict, Iterable, Iterator, List, Mapping, NamedTuple, Optional,
-                    Sequence, Tuple, Type, TypeVar, Union)
+from typing import (TYPE_CHECKING, Any, Callable, Dict, Iterable, Iterator, List, Mapping,
+                    NamedTuple, Optional, Sequence, Tuple, Type, TypeVar, Union)
+
+if TYPE_CHECKING:
+    import uuid  # which takes longer to import than all else here
 
 __all__ = [
-    "ABI", "AcceptedEvent", "AnswerEvent", "AuthMoreEvent", "AuthSwitchEvent", "AUTOCOMMIT",
-    "bind_text", "binlog_dump", "binlog_dump_gtid", "Bound", "BulkExecuteEvent", "BulkKind",
+    "ABI", "AcceptedEvent", "AnswerEvent", "ASK_SESSION_MODE", "AuthMoreEvent", "AuthSwitchEvent",
+    "AUTOCOMMIT", "bind_text", "binlog_dump", "binlog_dump_gtid", "Bound", "BulkExecuteEvent", "BulkKind",
     "Capability", "Cell", "ChangeUserEvent", "CloseEvent", "Code", "code_text", "Collation",
     "Column", "ColumnCountEvent", "ColumnEvent", "ColumnFlag", "ColumnsEndEvent", "ColumnType",
     "ColumnValues", "Command", "CommandEvent", "Connection", "ConnectionEnd", "ConnectionEndKind",
@@ -105,20 +108,21 @@ __all__ = [
     "library_version", "LineEvent", "literal", "Login", "LoginEvent", "LongDataEvent",
     "MariadbCapability", "Mode", "MORE_RESULTS", "MySQLSessionError", "Named", "names_of",
     "NextFactorEvent", "Ok", "OkEvent", "OldAuthSwitchEvent", "OtherEvent", "PacketReader",
-    "Parameter", "ParameterSets", "Params", "Phase", "PluginDataEvent", "positional", "Prepared",
+    "Parameter", "ParameterSets", "Params", "Phase", "place_count", "PluginDataEvent", "positional",
+    "Prepared",
     "PreparedEvent", "PrepareEvent", "ProgressEvent", "Put", "put_greeting", "put_login",
     "put_packet", "QueryEvent", "QuitEvent", "RawRowEvent", "RawRows", "read_greeting",
     "read_login", "read_reply", "Reason", "Receiver", "recode", "Recoder", "register_replica",
     "RejectedEvent", "ReplyKind", "ReplyReader", "ReplyWriter", "ResetStatementEvent", "Result", "Road", "RowError",
     "RowEvent", "Rows", "rows_as", "rows_as_dicts", "rows_as_tuples", "RowsEndEvent",
-    "SecureRequestEvent", "send", "ServerError", "Side", "Spelling", "State", "Statement",
-    "StateType", "Status", "Table", "Text", "TimeFields", "ValueRows", "Values",
+    "SecureRequestEvent", "send", "ServerError", "SessionMode", "Side", "Spelling", "State",
+    "Statement", "StateType", "Status", "Table", "Text", "TimeFields", "ValueRows", "Values",
 ]
 
 __version__ = "0.1.0"
 
 # The number of the interface that this module calls.
-ABI = 10
+ABI = 11
 
 # The max_allowed_packet that most servers have.
 DEFAULT_LIMIT = 1 << 24
@@ -225,6 +229,8 @@ class Code(_Numbers):
     CONNECTION_AFTER_QUIT = 518
     CONNECTION_NOT_DUE = 519
     CONNECTION_NOT_ITS_TURN = 520
+    CONNECTION_UNKNOWN_STATEMENT = 521
+    CONNECTION_WRONG_COUNT = 522
 
 
 class Road(_Numbers):
@@ -450,8 +456,8 @@ class Mode:
 
     Two modes change where a string ends. What is made for a server in one of them may be something
     else in another. A value may end its literal there, and what follows the quote is read as SQL.
-    So take the mode that the server tells, at the login and whenever it tells another (MySQL
-    Reference Manual, "Server SQL Modes").
+    So take the session's mode, by `Connection.mode` or `SessionMode` (MySQL Reference Manual, "Server
+    SQL Modes").
     """
 
     no_backslash_escapes: bool = False
@@ -484,8 +490,12 @@ class Mode:
         None where a name is in neither manual, or is MSSQL, in which [ and ] quote names: the mode
         isn't known. Take `Spelling.HEXADECIMAL`, or an execution.
         """
-        flags = _native.mode_of_sql_mode(value)
-        return None if flags == _UNKNOWN_MODE else cls._told(flags)
+        return cls._known(_native.mode_of_sql_mode(value))
+
+    @classmethod
+    def _known(cls, flags: int) -> Optional[Mode]:
+        """The mode that the library's flags tell, where it is known."""
+        return None if flags & _UNKNOWN_MODE else cls._told(flags)
 
     @classmethod
     def _told(cls, flags: int) -> Mode:
@@ -497,6 +507,93 @@ def _flags(mode: Mode, spelling: Spelling = Spelling.QUOTED) -> int:
     """The library's flags of a mode and a spelling."""
     return (_NO_BACKSLASH_ESCAPES * bool(mode.no_backslash_escapes)
             | _ANSI_QUOTES * bool(mode.ansi_quotes) | Spelling(spelling))
+
+
+ASK_SESSION_MODE = (b"SET session_track_system_variables = '*', sql_mode = @@sql_mode, "
+                    b"character_set_client = @@character_set_client")
+"""The text that asks a server for the mode and the character set of its session, any number of
+times. Its OK packet tells both where both sides have `Capability.SESSION_TRACK`."""
+
+
+@dataclasses.dataclass(frozen=True)
+class SessionMode:
+    """What is known of a session's SQL mode and character set, by what was said so far.
+
+    A `Connection` keeps it. A program that has none goes on with it by itself, behind each statement
+    and each OK packet. Of a new one nothing is known. Take it behind a login, a change of user and a
+    reset, and ask by `ASK_SESSION_MODE`.
+
+    Nothing is concluded from a status, a login or silence. A procedure's mode remains in the status
+    of MariaDB. MySQL's has no bit of ANSI_QUOTES. And `init_connect` changes both behind a login. See
+    MySQL: Reference Manual, "Server SQL Modes", "Server Tracking of Client Session State".
+    """
+
+    mode: Optional[Mode] = None
+    """The mode, where it is known. Where it isn't, a query with a backslash may have other
+    placeholders than it seems: take an execution for it."""
+    is_safe_set: Optional[bool] = None
+    """Whether quotes are safe in the session's character set, where it is known."""
+    counts: bool = False
+    """Whether what the next OK packet tells counts."""
+
+    @property
+    def spelling(self) -> Spelling:
+        """How byte strings are spelled in a text for the session. They are in quotes only where the
+        mode is known, and quotes are known to be safe in its character set."""
+        is_safe = self.mode is not None and self.is_safe_set is True
+        return Spelling.QUOTED if is_safe else Spelling.HEXADECIMAL
+
+    def behind_text(self, text: Text) -> SessionMode:
+        """Behind a statement that is sent as this text, or that is executed as it was prepared of it.
+        Call it for each, before its reply is looked at, whether it is answered or refused.
+
+        What was known stays behind one statement that begins with a word as SELECT, INSERT, COMMIT or
+        CALL. Behind a SET the mode or the character set that it names isn't known, and behind all else
+        neither is. A prepare, a close, a ping and the like change nothing.
+        """
+        return self._of(*_native.known_behind_text(*self._fields(), text))
+
+    def behind_ok(self, ok: Union[_OkBase, Ok, Rows, ValueRows, Table, RawRows]) -> SessionMode:
+        """Behind an OK packet of the reply to that statement: a result that is one, or whose rows one
+        ended, or an event.
+
+        What it tells of `sql_mode` and `character_set_client` is known then. It isn't where further
+        results follow, where the text has the word STATEMENT, or where it can't be read.
+        """
+        changes = ok.state_changes if isinstance(ok, _OkBase) else _changes_of(ok)
+        return self._of(*_native.known_behind_ok(*self._fields(), ok.status, changes))
+
+    @classmethod
+    def _of(cls, flags: int, set_known: bool, counts: bool) -> SessionMode:
+        """What the library's fields tell."""
+        is_safe_set = not flags & Spelling.HEXADECIMAL if set_known else None
+        return cls(Mode._known(flags), is_safe_set, counts)
+
+    def _fields(self) -> Tuple[int, bool, bool]:
+        """The library's fields."""
+        flags = _UNKNOWN_MODE if self.mode is None else _flags(self.mode)
+        if self.is_safe_set is not True:
+            flags |= Spelling.HEXADECIMAL
+        return flags, self.is_safe_set is not None, self.counts
+
+
+def _changes_of(result: Union[Ok, Rows, ValueRows, Table, RawRows]) -> bytes:
+    """The changes of the session's state that a result's packet tells, as the packet has them. Where
+    it tells some that can't be read, bytes that can't."""
+    states = () if isinstance(result, RawRows) else result.states
+    if not states and result.status & Status.SESSION_STATE_CHANGED:
+        return b"\xff"
+    return b"".join(bytes([it.type]) + _with_length(it.data) for it in states)
+
+
+def _with_length(data: bytes) -> bytes:
+    """Bytes behind their length (MySQL: Client/Server Protocol, "Length-Encoded Integer Type")."""
+    count = len(data)
+    if count < 0xfb:
+        return bytes([count]) + data
+    size, first = (2, b"\xfc") if count < 1 << 16 else (3, b"\xfd") if count < 1 << 24 else (
+        8, b"\xfe")
+    return first + count.to_bytes(size, "little") + data
 
 
 def is_safe_to_quote(collation: int) -> bool:
@@ -547,10 +644,15 @@ class TimeFields(NamedTuple):
 Text = Union[str, bytes]
 """A text that goes in: str goes as UTF-8."""
 
-Parameter = Union[None, bool, int, float, str, bytes, bytearray, memoryview, datetime.datetime,
-                  datetime.date, datetime.timedelta, DateFields, TimeFields]
+Parameter = Union[None, bool, int, float, decimal.Decimal, str, bytes, bytearray, memoryview,
+                  "uuid.UUID", datetime.datetime, datetime.date, datetime.time, datetime.timedelta,
+                  DateFields, TimeFields]
 """A value of a set. `Command.execute` and `ReplyWriter.row` take a float; what sends sets, and what
-writes texts, refuses it by REFUSED_FLOAT. There give its text, as repr has it."""
+writes texts, refuses it by REFUSED_FLOAT. There give its text, as repr has it.
+
+A Decimal and a UUID go as the text that `str` makes of them. A server stores that text in a column of
+DECIMAL or UUID whole. It compares a text with a number as floats: where more than 15 digits count,
+write `CAST(? AS DECIMAL(20, 2))`. A time of day goes as a TIME, and so does a timedelta."""
 
 Content = Union[None, int, bytes]
 """A value that a stream carries: dates, durations and texts are the bytes of their text."""
@@ -639,7 +741,9 @@ _WHERE: Dict[int, Tuple[str, ...]] = {
 
 # What a code means here, where the library's text is about more languages.
 _MEANING: Dict[int, str] = {Code.EMPTY_HANDLE: "it is closed: ",
-                            Code.CONNECTION_HELD: "`room` says how many bytes are taken: "}
+                            Code.CONNECTION_HELD: "`room` says how many bytes are taken: ",
+                            Code.CONNECTION_NOT_ITS_TURN: "take the events that are left by "
+                            "`next_event`, until `turn` is that side, or close the connection: "}
 
 
 def is_proved() -> bool:
@@ -827,8 +931,8 @@ class ParameterSets(_Object):
 
     A set is a sequence with a value for each placeholder, in their order: see `Parameter`. A bool
     is 0 or 1. An int below 2**63 is signed, and one of 2**63 and more has no sign: `Road.BULK`
-    refuses the two for one placeholder. A float has 64 bits. A str is its UTF-8. A datetime has to
-    be naive.
+    refuses the two for one placeholder. A float has 64 bits. A str is its UTF-8. A datetime and a
+    time have to be naive, and a Decimal has to be finite: else ValueError.
     """
 
     def __init__(self, sets: Iterable[Sequence[Parameter]] = ()) -> None:
@@ -921,6 +1025,20 @@ def send(query: Text, sets: Union[ParameterSets, Iterable[Params]], road: Road,
     stream: bytes = _native.send(sets._native, query, road, statement, limit,
                                  _flags(mode, spelling))
     return stream
+
+
+def place_count(query: Text, *, mode: Mode = Mode()) -> int:
+    """How many placeholders a query has at a server in this mode.
+
+    `Connection.put_sets` compares it with the server's number of parameters. Who sends sets without
+    a Connection compares it with the number in the reply to the prepare, before the executions are
+    sent. A server runs an execution of another number of values too, with other values than were
+    meant.
+
+    Raises MySQLSessionError: MIXED.
+    """
+    count: int = _native.place_count(query, _flags(mode))
+    return count
 
 
 def positional(query: Text, *, mode: Mode = Mode()) -> bytes:
@@ -2314,6 +2432,10 @@ class Connection(_Object):
         """The rows that come next, up to the next other event: with cells as a `RowEvent` has them,
         or with values as `ReplyReader.take_values` gives them. None where the next event is no row.
 
+        What ended the rows is told by `next_event`. It is a RowsEndEvent with the status and the
+        warnings, or the ErrorEvent of a result that breaks off. Until it is told `turn` is the
+        server's, and `put` is refused by CONNECTION_NOT_ITS_TURN.
+
         Raises ConnectionFault where that comes first. Raises RowError, with a row counted from those
         of this call, and what a converter raises. The rows before it come by the next call, and that
         row behind them, or by `next_event`. Behind a further `feed` it comes by `next_event` alone.
@@ -2328,8 +2450,9 @@ class Connection(_Object):
         return rows
 
     def take_table(self, values: Optional[Values] = None) -> Optional[Table]:
-        """The rows that come next as a table, as `ReplyReader.take_tables` gives them: `ended` is
-        false, and what ends them is the next event. None where the next event is no row.
+        """The rows that come next as a table, as `ReplyReader.take_tables` gives them. None where
+        the next event is no row. `ended` is false: what ended them is the next event, as that of
+        `take_rows`.
 
         Raises as `take_rows`. The rows before one that is refused come by the next call.
         """
@@ -2355,7 +2478,8 @@ class Connection(_Object):
         an error.
 
         Raises MySQLSessionError, and nothing changes. CONNECTION_NOT_ITS_TURN: it isn't the side's
-        turn, its stream has ended, bytes of it wait unread or the connection has failed.
+        turn, or an event isn't told yet. Or the side's stream has ended, bytes of it wait unread or
+        the connection has failed.
         CONNECTION_TOO_LARGE: it is past the side's limit. The fault that the payload would be.
         CONNECTION_KEPT: more would be kept than the limit leaves. Or MEMORY.
 
@@ -2375,13 +2499,13 @@ class Connection(_Object):
         """Puts the payloads of packets one after another, while it is the side's turn. Gives
         their packets as they are sent, and how many bytes of `packets` were taken.
 
-        The packets are such as `send`, `executions` and `ReplyWriter` make. Of several executions
-        the first is taken, with the long data before it. The next one comes behind its reply, and
-        is put by another call with what is left. A packet that is cut off at the end is left.
+        The packets are such as `send` and `ReplyWriter` make. Of several commands the first is
+        taken. The next one comes behind its reply, and is put by another call with what is left.
+        A packet that is cut off at the end is left.
 
         Nothing tells of a command that is laid out as none, whose event `put` gives. Such are
         executions of a statement that `statement` doesn't know, or for other capabilities than are
-        in force.
+        in force. No count is compared: executions of a query's sets go by `put_sets`.
 
         Raises MySQLSessionError as `put` does where nothing is taken for it. A refusal behind a
         payload that was put comes at the call with what is left. Where MemoryError or
@@ -2393,6 +2517,44 @@ class Connection(_Object):
         except BaseException:
             self._native.ungive()
             raise
+        return put
+
+    def put_sets(self, statement: int, places: int,
+                 packets: Union[bytes, bytearray, memoryview]) -> Tuple[bytes, int]:
+        """Puts packets that `executions` made of a query's sets for this statement. The server has to
+        have counted as many parameters as the query has placeholders, which `place_count` tells.
+        Gives their packets as they are sent, and how many bytes of `packets` were taken. Of several
+        executions that is the first, with the long data before it. The next comes behind its reply.
+
+        The bytes of an execution don't tell how many values it has. A server that counted another
+        number runs it with other values than were meant. So sets go by this call, and not by
+        `put_packets`.
+
+        Raises MySQLSessionError, and nothing changes: CONNECTION_UNKNOWN_STATEMENT where the answer
+        to its prepare hasn't come or it is closed, or CONNECTION_WRONG_COUNT. Else it raises as
+        `put_packets` does.
+        """
+        try:
+            put: Tuple[bytes, int] = self._native.put_sets(statement, places, packets)
+        except BaseException:
+            self._native.ungive()
+            raise
+        return put
+
+    def put_execution(self, statement: int, values: Sequence[Parameter] = ()) -> bytes:
+        """Puts the execution of a statement with these values, in the order of its placeholders, if
+        the server counted as many parameters. Gives its packets, to be sent. Floats are among the
+        values, which `send` refuses.
+
+        It is for a connection without QUERY_ATTRIBUTES. Raises MySQLSessionError by
+        REFUSED_TOO_MANY_PLACES, and as `put_sets` does; by CONNECTION_NOT_ITS_TURN where no command
+        comes next.
+        """
+        payload = Command.execute(statement, values)
+        packets = put_packet(payload, limit=len(payload))[0]
+        put, used = self.put_sets(statement, len(values), packets)
+        if not used:
+            raise MySQLSessionError(Code.CONNECTION_NOT_ITS_TURN)
         return put
 
     def unsent(self, side: Side) -> bytes:
@@ -2455,7 +2617,8 @@ class Connection(_Object):
 
     @property
     def turn(self) -> Optional[Side]:
-        """Whose turn it is: nobody's where the connection is over, or has failed."""
+        """Whose turn it is: nobody's where the connection is over, or has failed. An event that
+        `take_rows` or an interrupted call left is still its side's turn."""
         turn = self._standing().turn
         return None if turn > Side.SERVER else Side(turn)
 
@@ -2482,19 +2645,25 @@ class Connection(_Object):
 
     @property
     def mode(self) -> Optional[Mode]:
-        """The session's SQL mode, by what came of the server so far: None where it isn't known.
+        """The session's SQL mode, where it is known: that of `session_mode`."""
+        return self.session_mode.mode
 
-        A login, a change of user and a reset of the connection tell it. Behind a statement it is
-        known only where the server tells each change. Have it do so, if it has
-        `Capability.SESSION_TRACK`, by `SET session_track_system_variables = 'sql_mode', sql_mode =
-        @@sql_mode`, whose answer tells the mode. Where it is None take `Spelling.HEXADECIMAL`, or
-        execute (MySQL Reference Manual, "Server Tracking of Client Session State").
+    @property
+    def spelling(self) -> Spelling:
+        """How byte strings are spelled in a text for the session: that of `session_mode`."""
+        return self.session_mode.spelling
+
+    @property
+    def session_mode(self) -> SessionMode:
+        """What is known of the session's SQL mode and character set, by all that was said so far.
+
+        Behind a login, a change of user and a reset of the connection that is nothing: ask by
+        `ASK_SESSION_MODE`. See MySQL: Reference Manual, "Server Tracking of Client Session State".
         """
-        flags = self._native.mode()
-        if flags == _UNKNOWN_MODE:
+        session = SessionMode._of(*self._native.known())
+        if session.mode is None:
             self._standing()  # which a closed connection hasn't
-            return None
-        return Mode._told(flags)
+        return session
 
     @property
     def fault(self) -> Optional[ConnectionFault]:
@@ -2649,31 +2818,47 @@ def read_login(payload: Union[bytes, bytearray, memoryview], offered: int = 2**3
 
 def put_login(user: Text, capabilities: int, response: bytes = b"", database: Text = b"",
               plugin: Text = b"mysql_native_password", mariadb_capabilities: int = 0,
-              max_packet_size: int = DEFAULT_LIMIT) -> bytes:
+              max_packet_size: int = DEFAULT_LIMIT, *,
+              collation: int = Collation.UTF8MB4_GENERAL_CI,
+              attributes: Optional[Mapping[str, Text]] = None) -> bytes:
     """The payload of a client's answer to a greeting.
 
-    CONNECT_WITH_DB and PLUGIN_AUTH are set as the database and the plugin are given or not. The
-    response is what the plugin makes of the password and the scramble, never the password's own
-    text. Of an empty password it is none. docs/LOGGING_IN.md says how it is made. Raises
-    MySQLSessionError by BAD_PACKET where a text can't be written whole. Such is one with a zero
-    byte, or a response of more than 255 bytes without PLUGIN_AUTH_LENENC_CLIENT_DATA.
+    CONNECT_WITH_DB, PLUGIN_AUTH and CONNECT_ATTRS are set as the database, the plugin and the
+    attributes are given or not. Attributes tell the server what program logs in, as `program_name`.
+    The collation is that of the session's texts: this field takes those up to 255.
+
+    The response is what the plugin makes of the password and the scramble, never the password's own
+    text. Of an empty password it is none. docs/LOGGING_IN.md says how it is made.
+
+    Raises MySQLSessionError by BAD_PACKET where a text can't be written whole. Such is one with a
+    zero byte, or a response of more than 255 bytes without PLUGIN_AUTH_LENENC_CLIENT_DATA. Raises
+    ValueError for attributes where the capabilities have no CONNECT_ATTRS: leave them out then.
     """
     payload: bytes = _native.login_put(capabilities, mariadb_capabilities, max_packet_size, user,
                                        response, database, plugin)
-    return payload
+    sent, named = int.from_bytes(payload[:4], "little"), b""
+    if attributes:
+        named = _connect_attributes(attributes, capabilities)
+        sent |= Capability.CONNECT_ATTRS
+    # The capabilities, the packet's size, the collation; attributes come last.
+    return _number(sent, 4) + payload[4:8] + _number(collation, 1) + payload[9:] + named
 
 
 # ---- Commands -----------------------------------------------------------------------------------
 
 
+def _length(count: int) -> bytes:
+    """A length-encoded number."""
+    for first, size, most in ((b"", 1, 250), (b"\xfc", 2, 0xFFFF), (b"\xfd", 3, 0xFFFFFF)):
+        if count <= most:
+            return first + count.to_bytes(size, "little")
+    return b"\xfe" + count.to_bytes(8, "little")
+
+
 def _counted(text: Text) -> bytes:
     """A text behind its length, as a length-encoded string has it."""
     data = _as_bytes(text)
-    count = len(data)
-    for first, size, most in ((b"", 1, 250), (b"\xfc", 2, 0xFFFF), (b"\xfd", 3, 0xFFFFFF)):
-        if count <= most:
-            return first + count.to_bytes(size, "little") + data
-    return b"\xfe" + count.to_bytes(8, "little") + data
+    return _length(len(data)) + data
 
 
 def _ended(text: Text) -> bytes:
@@ -2687,6 +2872,29 @@ def _ended(text: Text) -> bytes:
 def _number(number: int, size: int) -> bytes:
     """A number of so many bytes."""
     return _fitting(number, 8 * size).to_bytes(size, "little")
+
+
+def _connect_attributes(attributes: Mapping[str, Text], capabilities: int) -> bytes:
+    """The attributes of a login: the length of all, then each name and each text behind theirs."""
+    if not capabilities & Capability.CONNECT_ATTRS:
+        raise ValueError("the capabilities have no CONNECT_ATTRS, so no attributes are sent")
+    return _counted(b"".join(_counted(name) + _counted(text) for name, text in attributes.items()))
+
+
+def _parameters(statement: int, values: Sequence[Parameter],
+                attributes: Mapping[str, Parameter]) -> Tuple[bytes, bytes]:
+    """The head of an execution, and its parameters behind their number: which are NULL, their types
+    with their names, and their values. A parameter of the statement has no name, an attribute has
+    one (MySQL: Client/Server Protocol, "COM_STMT_EXECUTE")."""
+    of = [*values, *attributes.values()]
+    with ParameterSets([of]) as sets:
+        payload: bytes = _native.execution_put(sets._native, statement)
+    types = 10 + (len(of) + 7) // 8 + 1
+    behind = types + 2 * len(of)
+    names = [b""] * len(values) + [_as_bytes(name) for name in attributes]
+    named = b"".join(payload[types + 2 * it:types + 2 * it + 2] + _counted(name)
+                     for it, name in enumerate(names))
+    return payload[:10], _length(len(of)) + payload[10:types] + named + payload[behind:]
 
 
 class Command:
@@ -2704,11 +2912,27 @@ class Command:
         return b"\x02" + _as_bytes(schema)
 
     @staticmethod
-    def query(text: Text, capabilities: int = 0) -> bytes:
-        """A query. Where QUERY_ATTRIBUTES is in force, which the connection's `capabilities` say,
-        it is one without attributes."""
-        without = b"\0\x01" if capabilities & Capability.QUERY_ATTRIBUTES else b""
-        return b"\x03" + without + _as_bytes(text)
+    def query(text: Text, capabilities: int = 0,
+              attributes: Optional[Mapping[str, Parameter]] = None) -> bytes:
+        """A query, and its attributes by their names. They need QUERY_ATTRIBUTES in the connection's
+        `capabilities`. Where that is in force these have to be given, also without attributes.
+
+        Raises ValueError for attributes where it isn't.
+        """
+        if not capabilities & Capability.QUERY_ATTRIBUTES:
+            return b"\x03" + Command._without(attributes) + _as_bytes(text)
+        if not attributes:
+            return b"\x03\0\x01" + _as_bytes(text)
+        _, named = _parameters(0, (), attributes)
+        count = _length(len(attributes))
+        return b"\x03" + count + b"\x01" + named[len(count):] + _as_bytes(text)
+
+    @staticmethod
+    def _without(attributes: Optional[Mapping[str, Parameter]]) -> bytes:
+        """What a command has in the place of attributes where there can be none."""
+        if attributes:
+            raise ValueError("the capabilities have no QUERY_ATTRIBUTES, so no attributes are sent")
+        return b""
 
     @staticmethod
     def statistics() -> bytes:
@@ -2727,20 +2951,25 @@ class Command:
 
     @staticmethod
     def change_user(user: Text, capabilities: int, response: bytes = b"", database: Text = b"",
-                    plugin: Text = b"mysql_native_password", collation: int = 45) -> bytes:
-        """Logs another user in, by the connection's capabilities.
+                    plugin: Text = b"mysql_native_password", collation: int = 45,
+                    attributes: Optional[Mapping[str, Text]] = None) -> bytes:
+        """Logs another user in, by the connection's capabilities. The attributes are as those of
+        `put_login`.
 
         The response is what the plugin makes of the password and the scramble, never the password's
-        own text. Raises ValueError for a text with a zero byte, OverflowError for a response of more
-        than 255 bytes.
+        own text. Raises ValueError for a text with a zero byte, and for attributes where the
+        capabilities have no CONNECT_ATTRS. Raises OverflowError for a response of more than 255
+        bytes.
         """
         response = _received(response)
         length = bool(capabilities & Capability.SECURE_CONNECTION)
         answer = _number(len(response), 1) + response if length else _ended(response)
         named = _ended(plugin) if capabilities & Capability.PLUGIN_AUTH else b""
-        attributes = b"\0" if capabilities & Capability.CONNECT_ATTRS else b""
+        sent = b""
+        if attributes or capabilities & Capability.CONNECT_ATTRS:
+            sent = _connect_attributes(attributes or {}, capabilities)
         return (b"\x11" + _ended(user) + answer + _ended(database) + _number(collation, 2) + named
-                + attributes)
+                + sent)
 
     @staticmethod
     def prepare(text: Text) -> bytes:
@@ -2748,16 +2977,30 @@ class Command:
         return b"\x16" + _as_bytes(text)
 
     @staticmethod
-    def execute(statement: int, values: Sequence[Parameter] = ()) -> bytes:
+    def execute(statement: int, values: Sequence[Parameter] = (), *,
+                cursor: Cursor = Cursor.NO_CURSOR, capabilities: int = 0,
+                attributes: Optional[Mapping[str, Parameter]] = None) -> bytes:
         """Executes a prepared statement with values in the order of its placeholders, floats among
-        them. Each value has its own type: BIGINT, DOUBLE, VAR_STRING, DATETIME, TIME or NULL.
+        them. Each value has its own type: BIGINT, DOUBLE, VAR_STRING, DATETIME, TIME or NULL. The
+        payload doesn't tell how many values it has: `Connection.put_execution` compares that with
+        the server's number of parameters.
 
-        It is for a connection without QUERY_ATTRIBUTES. Raises MySQLSessionError by
-        REFUSED_TOO_MANY_PLACES.
+        With `Cursor.READ_ONLY` a server that opens a cursor keeps the rows, and `fetch` asks for
+        them. Attributes need QUERY_ATTRIBUTES in the connection's `capabilities`. Where that is
+        in force these have to be given, also without attributes.
+
+        Raises MySQLSessionError by REFUSED_TOO_MANY_PLACES, and ValueError for attributes where
+        QUERY_ATTRIBUTES isn't in force.
         """
-        with ParameterSets([values]) as sets:
-            payload: bytes = _native.execution_put(sets._native, statement)
-            return payload
+        if capabilities & Capability.QUERY_ATTRIBUTES:
+            head, parameters = _parameters(statement, values, attributes or {})
+        else:
+            with ParameterSets([values]) as sets:
+                payload: bytes = _native.execution_put(sets._native, statement)
+            head, parameters = payload[:10] + Command._without(attributes), payload[10:]
+        # Bit 3 of the flags says that the number of parameters is told.
+        flags = Cursor(cursor) | (8 if capabilities & Capability.QUERY_ATTRIBUTES else 0)
+        return head[:5] + _number(flags, 1) + head[6:] + parameters
 
     @staticmethod
     def long_data(statement: int, place: int, data: bytes) -> bytes:
@@ -2794,9 +3037,9 @@ class Command:
 def executions(query: Text, sets: Union[ParameterSets, Iterable[Params]],
                statement: int, road: Road = Road.EXECUTE, limit: int = DEFAULT_LIMIT, *,
                mode: Mode = Mode()) -> bytes:
-    """The packets that execute a prepared statement with these sets, as `Connection.put_packets`
-    takes them: those of `send` behind its prepare. The statement is the id of the server's reply to
-    that.
+    """The packets that execute a prepared statement with these sets, as `Connection.put_sets` takes
+    them: those of `send` behind its prepare. The statement is the id of the server's reply to that.
+    Who has no Connection compares its number of parameters with `place_count` first.
 
     They are laid out for a connection without QUERY_ATTRIBUTES, those of `Road.BULK` for one with
     `MariadbCapability.STMT_BULK_OPERATIONS`. Raises MySQLSessionError as `send` does, and
@@ -2835,13 +3078,56 @@ def binlog_dump(server: int, file: Text, position: int = 4, flags: int = 0) -> b
 def binlog_dump_gtid(server: int, gtids: Text, file: Text = b"", position: int = 4,
                      flags: int = 0) -> bytes:
     """The payload of a COM_BINLOG_DUMP_GTID: the binary log but for these transactions of MySQL's
-    global identifiers, as 3e11fa47-71ca-11e1-9e33-c80aa9429562:1-5; several sets have commas
-    between them. BINLOG_THROUGH_GTID is set in the flags where there are any, else cleared.
+    global identifiers, as 3e11fa47-71ca-11e1-9e33-c80aa9429562:1-5:tag:1-3. BINLOG_THROUGH_GTID is
+    set in the flags where there are any, else cleared.
 
+    They are told as a server prints them in `@@gtid_executed`. What it takes besides is taken too:
+    blanks, empty parts, tags in capitals, intervals in any order (MySQL Reference Manual, "GTID
+    Sets").
     Raises MySQLSessionError by BAD_PACKET where they are no such text.
     """
-    payload: bytes = _native.binlog_dump_gtid_put(server, position, flags, file, gtids)
+    payload: bytes = _native.binlog_dump_gtid_put(server, position, flags, file, _gtid_sets(gtids))
     return payload
+
+
+_SOURCE = re.compile(rb"([0-9a-f]{8})-?([0-9a-f]{4})-?([0-9a-f]{4})-?([0-9a-f]{4})-?([0-9a-f]{12})\Z")
+_INTERVAL = re.compile(rb"([0-9]+)(?:[ \t-\r]*-[ \t-\r]*([0-9]+))?\Z")
+_TAG = re.compile(rb"[a-z_][a-z0-9_]{0,31}\Z")
+
+
+def _gtid_sets(gtids: Text) -> bytes:
+    """Sets of identifiers, each with one tag or none, and with its intervals in order, as the library
+    takes them. A text that is none is given back as it is: the library refuses it."""
+    text = _as_bytes(gtids)
+    sets: Dict[Tuple[bytes, bytes], List[Tuple[int, int]]] = {}
+    for part in text.split(b","):
+        name, *fields = (it.strip().lower() for it in part.split(b":"))
+        found = _SOURCE.match(name)
+        if not found and (name or fields):
+            return text
+        source, tag = b"-".join(found.groups()) if found else b"", b""
+        for field in fields:
+            interval = _INTERVAL.match(field)
+            if interval:
+                first, last = int(interval[1]), int(interval[2] or interval[1])
+                sets.setdefault((source, tag), []).append((first, last))
+            elif _TAG.match(field):
+                tag = field + b":"
+            else:
+                return text
+    return b",".join(source + b":" + tag + b":".join(b"%d-%d" % it for it in _merged(intervals))
+                     for (source, tag), intervals in sorted(sets.items()))
+
+
+def _merged(intervals: List[Tuple[int, int]]) -> List[Tuple[int, int]]:
+    """Intervals in order, of which none touches another."""
+    merged: List[Tuple[int, int]] = []
+    for first, last in sorted(intervals):
+        if merged and first <= merged[-1][1] + 1:
+            merged[-1] = merged[-1][0], max(last, merged[-1][1])
+        else:
+            merged.append((first, last))
+    return merged
 
 
 # ---- What the extension makes -------------------------------------------------------------------

@@ -460,7 +460,8 @@ class Recordings(unittest.TestCase):
         for end, name in ends.items():
             with self.subTest(end=end, name=name):
                 packets = conversation(self.sent(name, 40000), random.Random(14))
-                is_read = end in ("end Whole", "end Over Quit", "end Over Denied", "end Over Rejected")
+                is_read = end in ("end Whole", "end Over Quit", "end Over Denied",
+                                  "end Over Farewell", "end Over Rejected")
                 self.assertEqual(self.read(written(packets)).returncode, int(not is_read))
         packets = conversation(self.sent("pipelined", 40000), random.Random(15))
         ran = self.read(written([it for it in packets if it.source != SERVER]))

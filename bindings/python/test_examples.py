@@ -86,12 +86,12 @@ class Examples(unittest.TestCase):
                        ["answer 0: 1 rows", error, "the recorded stream ends: whole"], 1)
 
     def test_recorded_mode(self) -> None:
-        """What was recorded at a server in another mode is read by it. The test server is in the
-        default mode, so that the text is another one."""
+        """What was recorded at a server in another mode is read by it. The test server tells no mode, so
+        that the text is another one."""
         mode = ms.Mode(no_backslash_escapes=True)
         stream = ms.send("SELECT ?", [("\\",)], ms.Road.TEXT, mode=mode)
         self.assertEqual(stream[4:], b"\x03SELECT '\\'")
-        error = r"answer 0: error 1064 (42000): no answer to this query is known: select '\\'"
+        error = "answer 0: error 1064 (42000): no answer to this query is known: select _utf8mb4 0x5c"
         with server(2) as port:
             self.check(port, stream, "SELECT ?", ["--recorded-mode", "NO_BACKSLASH_ESCAPES"],
                        [error, "the recorded stream ends: whole"], 1)
@@ -225,13 +225,9 @@ def connected(answers: Mapping[str, test_server.Given]) -> Iterator[client.Clien
 
 class TestMode(unittest.TestCase):
     def test_texts(self) -> None:
-        """Behind a statement the mode isn't known of a server that doesn't track it."""
+        """Of a server that tells neither the mode nor the character set, neither is known."""
         query, value = "SELECT id FROM goods WHERE name = ?", ["\\' OR 1=1 -- "]
         with connected({}) as it:
-            self.assertEqual(it.mode, ms.Mode())
-            self.assertEqual(it.text(query, value), query.replace("?", "").encode()
-                             + rb"'\\\' OR 1=1 -- '")
-            it.query("SET @a = 1")
             self.assertIsNone(it.mode)
             self.assertEqual(it.text(query, value), query.replace("?", "").encode()
                              + b"_utf8mb4 0x5C27204F5220313D31202D2D20")
@@ -370,10 +366,7 @@ class TestServer(unittest.TestCase):
             with mock.patch.object(ms, "executions", wraps=ms.executions) as made, \
                     mock.patch.object(it, "track_mode") as asked:
                 list(it.execute(TIMES_BY_ID, statement, [(1,)]))
-                self.assertEqual((made.call_args[1]["mode"], asked.call_count), (ms.Mode(), 0))
-                it.query("SET @a = 1")
-                list(it.execute(TIMES_BY_ID, statement, [(1,)]))
-                self.assertEqual(asked.call_count, 1)
+                self.assertEqual((made.call_args[1]["mode"], asked.call_count), (ms.Mode(), 1))
                 quoting = ms.Mode(ansi_quotes=True)
                 with mock.patch.object(client.Client, "mode", quoting):
                     list(it.execute(TIMES_BY_ID, statement, [(1,)]))
@@ -589,6 +582,22 @@ def recorded() -> Recorder:
     return it
 
 
+def recorded_of_two(text: str) -> Recorder:
+    """A connection to a server that counts two parameters of a text, and an execution of it."""
+    it = Recorder()
+    it.say(Side.SERVER, ms.put_greeting(7, "8.0.0", int(test_server.CAPABILITIES), b"12345678",
+                                        b"123456789012"))
+    it.say(Side.CLIENT, ms.put_login("ann", int(client.CAPABILITIES)))
+    it.reply(("ok",))
+    it.say(Side.CLIENT, Command.prepare(text))
+    it.reply(("prepared", 500, [test_server.column("?", "int")] * 2, []),
+             kind=ms.ReplyKind.PREPARE)
+    it.say(Side.CLIENT, Command.execute(500, (5, 7)))
+    it.reply(("ok", 1), kind=ms.ReplyKind.EXECUTE)
+    it.say(Side.CLIENT, Command.quit())
+    return it
+
+
 class ReplayOfAConnection(unittest.TestCase):
     LINES = ["0 Query SELECT * FROM times: 2 rows",
              f"1 Prepare {TIMES_BY_ID}: a statement of 1 parameters and 7 columns; recorded was "
@@ -615,6 +624,14 @@ class ReplayOfAConnection(unittest.TestCase):
         self.assertEqual(done.stderr, "")
         self.assertIn("client 1: anyone", out.getvalue())
         return done.returncode, done.stdout.splitlines()
+
+    def test_counts(self) -> None:
+        """An execution isn't said to a server that counts another number of parameters."""
+        status, lines = self.replay(recorded_of_two(TIMES_BY_ID).streams)
+        self.assertEqual(status, 1)
+        self.assertEqual(lines[1:], [
+            f"1 Execute {TIMES_BY_ID}: left out, this server counted another number of parameters",
+            "3 commands, 1 answers differ"])
 
     def test_answers(self) -> None:
         self.assertEqual(self.replay(recorded().streams), (1, self.LINES))

@@ -7,6 +7,7 @@ memory, and a minute.
 
 from __future__ import annotations
 
+import array
 import contextlib
 import datetime
 import dis
@@ -22,6 +23,8 @@ import sys
 import threading
 import time
 import unittest
+import uuid
+from decimal import Decimal
 from random import Random
 from typing import (Any, Callable, Dict, Generator, Iterable, Iterator, List, Optional, Sequence,
                     Set, Tuple, Type)
@@ -258,6 +261,10 @@ VALUES: List[Tuple[ms.Parameter, ms.Content]] = [
     (-datetime.timedelta(days=1, seconds=1), b"-024:00:01"),
     (ms.DateFields(0, 0, 0), b"0000-00-00"), (ms.DateFields(2024, 0, 31), b"2024-00-31"),
     (ms.TimeFields(True, 0, 0, 0, 1), b"-000:00:01"),
+    (datetime.time(23, 59, 58, 7), b"023:59:58.000007"), (datetime.time(), b"000:00:00"),
+    (Decimal("-2.50"), b"-2.50"), (Decimal("0E-7"), b"0E-7"), (Decimal("1E+3"), b"1E+3"),
+    (uuid.UUID("3e11fa47-71ca-11e1-9e33-c80aa9429562"), b"3e11fa47-71ca-11e1-9e33-c80aa9429562"),
+    (memoryview(array.array("h", [1, -1])), b"\1\0\xff\xff"),
 ]
 
 
@@ -352,8 +359,12 @@ class Sets(Case):
                 sets.add((ms.DateFields(65536, 1, 1),))
             with self.assertRaises(OverflowError):
                 sets.add((ms.TimeFields(False, 2**32),))
-            with self.assertRaises(ValueError):
-                sets.add((datetime.datetime.now(datetime.timezone.utc),))
+            for strange in (datetime.datetime.now(datetime.timezone.utc),
+                            datetime.time(1, tzinfo=datetime.timezone.utc), Decimal("NaN"),
+                            Decimal("sNaN"), Decimal("-Infinity")):
+                with self.assertRaises(ValueError):
+                    sets.add((strange,))
+            self.assertEqual(len(sets), 2)
             stream = ms.send("SELECT ?, ?", sets, Road.TEXT)
             self.assertEqual(received("SELECT ?, ?", [stream])[0], [(1, b"a"), (None, b"")])
             sets.clear()
@@ -458,12 +469,15 @@ class Modes(Case):
                     self.assertEqual(ms.positional(named, mode=mode), named.encode(), mode)
 
     def test_digests(self) -> None:
-        rows = [("", b""), ("SELECT a FROM t WHERE id=5 -- why", b"select a from t where id = ?"),
-                (b"SELECT a FROM t WHERE id IN (1, 'x',NULL)", b"select a from t where id in (...)"),
-                ("INSERT INTO t VALUES (1,'a'),(2,'b')", b"insert into t values (...) /* , ... */")]
-        for text, wanted in rows:
-            for mode in MODES:
-                self.assertEqual(ms.digest(text, mode=mode), wanted, mode)
+        """Digests are as their rows say, which tests in Rust read as well."""
+        rows, count = BINDINGS / "testing" / "rows" / "digests.txt", 0
+        for number, line in enumerate(rows.read_text(encoding="utf-8").splitlines(), 1):
+            if line and not line.startswith("#"):
+                mode, text, wanted = (it.replace("<LF>", "\n") for it in line.split(" | "))
+                found = ms.digest(text, mode=Mode(**{it: True for it in [mode] if it != "-"}))
+                self.assertEqual(found, wanted.encode(), f"row {number}")
+                count += 1
+        self.assertGreater(count, 25)
         text = r""" "a" '\' b"""
         self.assertEqual([ms.digest(text, mode=mode) for mode in MODES],
                          [b"? ?", b"? ? b", b'"a" ?', b'"a" ? b'])
@@ -542,6 +556,29 @@ class Modes(Case):
         for value, mode in rows.items():
             self.assertEqual(Mode.of_sql_mode(value), mode, value)
             self.assertEqual(Mode.of_sql_mode(value.encode()), mode, value)
+
+    def test_session(self) -> None:
+        """Behind a result that tells both, by what ReplyReader reads of it, and where it can't."""
+        told = b"\0\x27\x08sql_mode\0\x14character_set_client\x07utf8mb4"
+        asked = ms.SessionMode().behind_text(ms.ASK_SESSION_MODE)
+        self.assertEqual((asked.mode, asked.spelling), (None, Spelling.HEXADECIMAL))
+        capabilities = int(ms.Capability.PROTOCOL_41 | ms.Capability.SESSION_TRACK)
+        wanted: Dict[bytes, Tuple[Optional[Mode], Optional[bool]]] = {
+            told: (DEFAULT, True), told[:9]: (None, None), told + b"\7": (None, None)}
+        for states, known in wanted.items():
+            payload = b"\0\0\0\2\x40\0\0\0" + bytes([len(states)]) + states
+            [result], end = ms.read_reply(
+                ms.ReplyKind.QUERY, capabilities,
+                len(payload).to_bytes(3, "little") + b"\1" + payload)
+            self.assertEqual(end.kind, ms.EndKind.WHOLE)
+            assert isinstance(result, ms.Ok)
+            session = asked.behind_ok(result)
+            self.assertEqual((session.mode, session.is_safe_set), known, states)
+        long = ms.State(ms.StateType.SYSTEM_VARIABLES, b"\x08sql_mode\xfd\0\0\1" + b"," * 65536)
+        ok = ms.Ok(0, 0, int(ms.Status.SESSION_STATE_CHANGED), 0, b"", (long,))
+        self.assertEqual(asked.behind_ok(ok).mode, DEFAULT)
+        with self.assertRaises(TypeError):
+            asked.behind_text(1)  # type: ignore[arg-type]
 
     def test_collations(self) -> None:
         hide = {1, 13, 28, 84, 86, 87, 88, 95, 96, 248, 249, 250}
@@ -1045,6 +1082,28 @@ class Replication(Case):
         self.refuses(Code.BAD_PACKET, lambda: ms.register_replica(2, "h" * 256))
         self.refuses(Code.BAD_PACKET, lambda: ms.binlog_dump_gtid(2, "no such text"))
 
+    def test_gtids(self) -> None:
+        """Sets as MySQL 9.7 prints them, and in the forms that its GTID_SUBTRACT takes; what that
+        refuses is refused."""
+        one, other = "3e11fa47-71ca-11e1-9e33-c80aa9429562", "4e11fa47-71ca-11e1-9e33-c80aa9429562"
+        rows = [("", ""), (" ", ""), (",", ""), ("@", ""), ("@:mytag", ""), ("@:1-5,", "@:1-5"),
+                (",@:1", "@:1-1"), ("@:1,,@:3", "@:1-1:3-3"), (" @ : 1 - 5 ", "@:1-5"),
+                ("@:TAG:1", "@:tag:1-1"), ("@: tag :1", "@:tag:1-1"), ("@:1:mytag", "@:1-1"),
+                ("@:1-22069:mytag:1-3", "@:1-22069,@:mytag:1-3"),
+                ("@:mytag:1-3:5:other:7", "@:mytag:1-3:5-5,@:other:7-7"),
+                ("@:tag:1:tag:5", "@:tag:1-1:5-5"), ("@:tag:tag2:1", "@:tag2:1-1"),
+                ("@:3:1:1-2", "@:1-3"), ("%:1,@:2,%:2", "@:2-2,%:1-2"), ("@:1,\n%:2-3:t:1\n",
+                "@:1-1,%:2-3,%:t:1-1"), ("@:01", "@:1-1"), (f"@:{'a' * 32}:1", f"@:{'a' * 32}:1-1")]
+        for text, wanted in rows:
+            for source in (one, one.upper(), one.replace("-", "")):
+                found, plain = ("".join({"@": of, "%": other}.get(it, it) for it in text)
+                                for of, text in ((source, text), (one, wanted)))
+                self.assertEqual(ms.binlog_dump_gtid(2, found), ms.binlog_dump_gtid(2, plain), text)
+        for wrong in ("@:", "@::1", "@:1:", "@:tag:", "@:tag::1", "@:t ag:1", "@:1a:1", "@:+1", "@:0",
+                      "@:1 2", "@:1;%:1", f"@:{'a' * 33}:1", ":1", "x:1", "@:tag:0-1"):
+            text = "".join({"@": one, "%": other}.get(it, it) for it in wrong)
+            self.refuses(Code.BAD_PACKET, lambda: ms.binlog_dump_gtid(2, text))
+
 
 # ---- Objects ------------------------------------------------------------------------------------
 
@@ -1477,10 +1536,13 @@ CALLS: Dict[Type[ms._Object], Dict[str, Callable[[Any], object]]] = {
         "turn": lambda it: it.turn, "phase": lambda it: it.phase, "reason": lambda it: it.reason,
         "capabilities": lambda it: it.capabilities, "fault": lambda it: it.fault,
         "mariadb_capabilities": lambda it: it.mariadb_capabilities,
-        "mode": lambda it: it.mode,
+        "mode": lambda it: it.mode, "spelling": lambda it: it.spelling,
+        "session_mode": lambda it: it.session_mode,
         "close_side": lambda it: it.close_side(ms.Side.SERVER), "finish": ms.Connection.finish,
         "put": lambda it: it.put(ms.Side.CLIENT, b"\x0e"),
         "put_packets": lambda it: it.put_packets(ms.Side.CLIENT, b"\x01\0\0\0\x0e"),
+        "put_sets": lambda it: it.put_sets(1, 0, b""),
+        "put_execution": lambda it: it.put_execution(1, []),
         "unsent": lambda it: it.unsent(ms.Side.CLIENT)},
 }
 for given in CALLS.values():

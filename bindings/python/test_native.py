@@ -416,14 +416,29 @@ class Tables(Case):
         self.assertEqual(found, [(it,) if it % 3 < 2 else (b"%d" % it,) for it in range(9)])
 
     def test_rows_of_recordings(self) -> None:
-        """Rows that are taken as rows have the cells of their events, in all recordings."""
+        """Rows that are taken as rows have the cells of their events, in all recordings. Until the
+        event that ends them is told, turn and phase are those before it."""
+        before: List[Any] = []
+
         def by_events(connection: ms.Connection) -> List[ms.Event]:
-            return list(iter(connection.next_event, None))
+            found: List[ms.Event] = []
+            before.clear()
+            while True:
+                turn = connection.turn, connection.phase, connection.reason
+                event = connection.next_event()
+                if event is None:
+                    return found
+                found.append(event)
+                # The reason of last words is told at once.
+                before.append(None if isinstance(event, (ms.FarewellEvent, ms.RowEvent)) else turn)
 
         def by_rows(connection: ms.Connection) -> List[ms.Event]:
             found: List[ms.Event] = []
             while True:
                 found += [ms.RowEvent(it) for it in connection.take_rows()]
+                if len(found) < len(before) and before[len(found)]:
+                    self.assertEqual((connection.turn, connection.phase, connection.reason),
+                                     before[len(found)])
                 event = connection.next_event()
                 if event is None:
                     return found
@@ -464,6 +479,71 @@ class Tables(Case):
                 self.assertEqual(connection.take_rows(Values()), [])
                 self.assertEqual(connection.next_event(), ms.RowEvent((b"x",)))
                 self.assertEqual(connection.take_rows(Values()), [(3,)])
+
+
+class Ends(Case):
+    """What ended the rows is told before anything is put."""
+
+    def taken(self, end: bytes, take: Any) -> Tuple[ms.Connection, ms.Event]:
+        """A connection whose rows, 7 alone, a payload ends, and the event of that."""
+        column = Column(b"a", ColumnType.LONG, 0, 63)
+        packets = cut_packets(cells(column, ["7"]))
+        connection = at_rows(b"".join(packets[:4]) + ms.put_packet(end, len(packets[:4]) + 1)[0])
+        rows = take(connection)
+        self.assertIn(rows.tuples() if isinstance(rows, ms.Table) else rows, ([(7,)], [(b"7",)]))
+        self.assertEqual((connection.turn, connection.phase), (Side.SERVER, ms.Phase.REPLY))
+        for side, payload in (Side.CLIENT, b"\x0e"), (Side.SERVER, b"\0\0\0\2\0\0\0"):
+            self.refuses(ms.Code.CONNECTION_NOT_ITS_TURN, lambda: connection.put(side, payload))
+            self.assertEqual(connection.put_packets(side, ms.put_packet(payload)[0]), (b"", 0))
+        with self.assertRaisesRegex(ms.MySQLSessionError, "`next_event`"):
+            connection.put(Side.CLIENT, b"\x0e")
+        event = connection.next_event()
+        assert event is not None
+        return connection, event
+
+    TAKES: Sequence[Any] = (lambda it: it.take_rows(), lambda it: it.take_rows(Values()),
+                            lambda it: it.take_table())
+
+    def test_an_error(self) -> None:
+        """A result that breaks off: error 3024, as a server sends it between rows."""
+        for take in self.TAKES:
+            connection, event = self.taken(b"\xff\xd0\x0b#HY000Query execution was interrupted", take)
+            self.assertEqual(event, ms.ErrorEvent(3024, b"HY000", b"Query execution was interrupted"))
+            self.assertEqual((connection.turn, connection.phase), (Side.CLIENT, ms.Phase.COMMAND))
+            self.assertEqual(connection.put(Side.CLIENT, ms.Command.ping()).packets, b"\1\0\0\0\x0e")
+            connection.close()
+
+    def test_the_end(self) -> None:
+        """Two warnings, and a status: that of a transaction, and that more results follow."""
+        for take in self.TAKES:
+            for status, turn in (3, Side.CLIENT), (11, Side.SERVER):
+                connection, event = self.taken(b"\xfe\2\0" + bytes([status, 0]), take)
+                assert isinstance(event, ms.RowsEndEvent)
+                self.assertEqual((event.warnings, event.status), (2, status))
+                self.assertEqual(connection.turn, turn)
+                connection.close()
+
+    def test_behind_rows_that_failed(self) -> None:
+        """Rows that a failed call had read count as untold too, and `finish` says so."""
+        column = Column(b"a", ColumnType.LONG, 0, 63)
+        for take in self.TAKES[1:]:
+            with at_rows(cells(column, ["7", "x"])) as connection:
+                with self.assertRaises(ms.RowError):
+                    take(connection)
+                told = []
+                for _ in range(3):
+                    self.assertEqual((connection.turn, connection.phase),
+                                     (Side.SERVER, ms.Phase.REPLY))
+                    self.refuses(ms.Code.CONNECTION_NOT_ITS_TURN,
+                                 lambda: connection.put(Side.CLIENT, ms.Command.ping()))
+                    told.append(connection.next_event())
+                self.assertEqual([type(it) for it in told], [ms.RowEvent, ms.RowEvent, ms.RowsEndEvent])
+                self.assertEqual(connection.turn, Side.CLIENT)
+            with at_rows(cells(column, ["7"])) as connection:
+                take(connection)
+                self.assertEqual(connection.finish().kind, ms.ConnectionEndKind.UNREAD)
+                self.assertIsInstance(connection.next_event(), ms.RowsEndEvent)
+                self.assertEqual(connection.finish().kind, ms.ConnectionEndKind.WHOLE)
 
 
 def cut_packets(stream: bytes) -> List[bytes]:

@@ -7,7 +7,7 @@ import contextlib
 import datetime
 import itertools
 from fractions import Fraction
-from typing import Callable, Iterator, List, Tuple
+from typing import Callable, Dict, Iterator, List, Tuple
 
 import mysql_session as ms
 from mysql_session import Capability, Code, Column, ColumnType, Command, ReplyKind, Road, Side
@@ -143,6 +143,79 @@ class Putting(Case):
             payload = Command.query("SELECT 1", it.capabilities)
             self.assertEqual(payload, b"\x03\0\x01SELECT 1")
             self.assertEqual(it.put(Side.CLIENT, payload).event, ms.QueryEvent(b"SELECT 1", ()))
+
+    def test_attributes(self) -> None:
+        """Attributes of a query and of an execution, laid out as MySQL's pages of COM_QUERY and
+        COM_STMT_EXECUTE have it."""
+        given: Dict[str, ms.Parameter] = {"trace": "a1", "level": 2, "none": None}
+        wanted = ((b"trace", b"a1"), (b"level", 2), (b"none", None))
+        types = b"\xfd\0\5trace\x08\0\5level\x06\0\4none"
+        capabilities = CAPABILITIES | Capability.QUERY_ATTRIBUTES
+        query = Command.query("SELECT 1", capabilities, given)
+        self.assertEqual(query, b"\x03\3\1\4\1" + types + b"\2a1" + b"\2" + bytes(7) + b"SELECT 1")
+        with Talk(self, behind_login(capabilities)) as talk:
+            self.assertEqual(talk.say(Side.CLIENT, query), ms.QueryEvent(b"SELECT 1", wanted))
+        for values, cursor in ((), 0), ((7, "x"), 1), (tuple(range(300)), 0):
+            with Talk(self, behind_login(capabilities)) as talk:
+                self.prepared(talk, "DO " + ", ".join("?" * len(values)), len(values))
+                for attributes in {}, given:
+                    event = talk.say(Side.CLIENT, Command.execute(
+                        5, values, cursor=ms.Cursor(cursor), capabilities=capabilities,
+                        attributes=attributes))
+                    assert isinstance(event, ms.ExecuteEvent)
+                    found = tuple(it.encode() if isinstance(it, str) else it for it in values)
+                    self.assertEqual((event.values, event.attributes, event.cursor),
+                                     (found, wanted if attributes else (), cursor))
+                    talk.say(Side.SERVER, OK)
+        execution = Command.execute(5, [7], capabilities=capabilities, attributes={"a": "b"})
+        self.assertEqual(execution, b"\x17\5\0\0\0\x08\1\0\0\0\2\0\1\x08\0\0\xfd\0\1a\7"
+                         + bytes(7) + b"\1b")
+        for call in (lambda: Command.query("SELECT 1", CAPABILITIES, given),
+                     lambda: Command.execute(5, attributes=given)):
+            with self.assertRaises(ValueError):
+                call()
+
+    def test_cursor(self) -> None:
+        """An execution asks for a cursor by its flags; without one they are 0."""
+        self.assertEqual(Command.execute(5)[5], 0)
+        self.assertEqual(Command.execute(5, [1], cursor=ms.Cursor.READ_ONLY)[5], 1)
+        with Talk(self, behind_login()) as talk:
+            self.prepared(talk)
+            event = talk.say(Side.CLIENT, Command.execute(5, [1, 2], cursor=ms.Cursor.READ_ONLY))
+            assert isinstance(event, ms.ExecuteEvent)
+            self.assertEqual((event.values, event.cursor), ((1, 2), ms.Cursor.READ_ONLY))
+        with self.assertRaises((ValueError, OverflowError)):
+            Command.execute(5, cursor=256)  # type: ignore[arg-type]
+
+    def test_login(self) -> None:
+        """A login with a collation, and with attributes of the program."""
+        capabilities = CAPABILITIES | Capability.CONNECT_ATTRS
+        given: Dict[str, ms.Text] = {"_client_name": "own", "program_name": "x" * 300}
+        wanted = ((b"_client_name", b"own"), (b"program_name", b"x" * 300))
+        with Talk(self) as talk:
+            talk.say(Side.SERVER, ms.put_greeting(7, "8.0.0", capabilities, b"12345678",
+                                                  b"123456789012"))
+            login = talk.say(Side.CLIENT, ms.put_login(
+                "ann", capabilities, b"answer", "shop", collation=ms.Collation.UTF8MB4_BIN,
+                attributes=given))
+            assert isinstance(login, ms.LoginEvent)
+            self.assertEqual((login.collation, login.attributes, login.database, login.response),
+                             (46, wanted, b"shop", b"answer"))
+            talk.say(Side.SERVER, OK)
+            event = talk.say(Side.CLIENT, Command.change_user("ben", capabilities, collation=255,
+                                                              attributes=given))
+            assert isinstance(event, ms.ChangeUserEvent)
+            self.assertEqual((event.user, event.collation, event.attributes), (b"ben", 255, wanted))
+        plain = ms.put_login("ann", capabilities, b"answer")
+        self.assertEqual((plain[8], plain[2] & 0x10), (45, 0))
+        self.assertEqual(ms.put_login("ann", capabilities, b"answer", attributes={"a": "b"})[-5:],
+                         b"\4\1a\1b")
+        for call in (lambda: ms.put_login("ann", CAPABILITIES, attributes=given),
+                     lambda: Command.change_user("ann", CAPABILITIES, attributes=given)):
+            with self.assertRaises(ValueError):
+                call()
+        with self.assertRaises(OverflowError):
+            ms.put_login("ann", CAPABILITIES, collation=309)
 
     def test_change_user(self) -> None:
         for other in (0, Capability.CONNECT_ATTRS, Capability.SECURE_CONNECTION,
@@ -303,6 +376,31 @@ class Refusals(Case):
             self.refuses(Code.CONNECTION_NOT_ITS_TURN,
                          lambda: it.put(Side.CLIENT, Command.ping()))
 
+    def test_counts(self) -> None:
+        """Executions of another number of values than the server counted parameters."""
+        skipped = "DELETE FROM t WHERE id = ? /*!80000 AND k = ? */"
+        self.assertEqual(ms.place_count("SELECT ?, '?', ? /* ? */"), 2)
+        self.assertEqual(ms.place_count("SELECT :a, :b, :a"), 3)
+        self.refuses(Code.MIXED, lambda: ms.place_count("SELECT ?, :a"))
+        packets = ms.executions("SELECT ?, ?", [(5, 7)], 9)
+        with ms.Connection.after_login(CAPABILITIES) as it:
+            it.put(Side.CLIENT, Command.prepare(skipped))
+            with self.unchanged(it):
+                self.refuses(Code.CONNECTION_UNKNOWN_STATEMENT, lambda: it.put_sets(9, 2, packets))
+            # As a MariaDB counts them.
+            with ms.ReplyWriter(ReplyKind.PREPARE, CAPABILITIES) as writer:
+                it.put_packets(Side.SERVER,
+                               writer.prepared(9, [Column(b"?", ColumnType.VAR_STRING)], []))
+            with self.unchanged(it):
+                self.refuses(Code.CONNECTION_WRONG_COUNT, lambda: it.put_sets(9, 2, packets))
+                self.refuses(Code.CONNECTION_WRONG_COUNT, lambda: it.put_execution(9, (5, 7)))
+            one = framed(Command.execute(9, (1.5,)))
+            self.assertEqual(it.put_execution(9, (1.5,)), one)
+            with self.unchanged(it):
+                self.assertEqual(it.put_sets(9, 1, one), (b"", 0))
+                self.refuses(Code.CONNECTION_NOT_ITS_TURN, lambda: it.put_execution(9, (1.5,)))
+                self.refuses(Code.CONNECTION_WRONG_COUNT, lambda: it.put_sets(9, 2, packets))
+
     def test_ended(self) -> None:
         """Behind the end of a side's stream, of the connection, and behind a fault."""
         with ms.Connection.after_login(CAPABILITIES) as it:
@@ -420,25 +518,24 @@ class Kept(Case):
                 if failing.is_last():
                     break
 
-    def test_event_behind_a_put(self) -> None:
-        """An event that couldn't be given is given, though others were put since."""
+    def test_event_before_a_put(self) -> None:
+        """Nothing is put before an event that couldn't be given."""
         text = b"x" * 10000
         query = ms.QueryEvent(text, ())
-        for way, number, by_packets in itertools.product(Failing.WAYS, range(8), (False, True)):
+        for way, number in itertools.product(Failing.WAYS, range(8)):
             with ms.Connection.after_login(CAPABILITIES) as it:
                 it.feed(Side.CLIENT, framed(b"\x03" + text))
                 failing = Failing(way, number)
                 given = failing.run(it.next_event)
-                if by_packets:
-                    it.put_packets(Side.SERVER, framed(OK))
-                elif it.turn == Side.SERVER:
-                    it.put(Side.SERVER, OK)
-                if it.turn == Side.CLIENT and it.room(Side.CLIENT) and (given or failing.failed):
-                    with contextlib.suppress(ms.MySQLSessionError):
-                        it.put(Side.CLIENT, Command.query(b"y" * 10000))
                 if given is None:
+                    self.assertEqual((it.turn, it.phase), (Side.CLIENT, ms.Phase.COMMAND))
+                    for side, payload in (Side.SERVER, OK), (Side.CLIENT, Command.ping()):
+                        self.refuses(Code.CONNECTION_NOT_ITS_TURN, lambda: it.put(side, payload))
+                        self.assertEqual(it.put_packets(side, framed(payload)), (b"", 0))
                     given = it.next_event()
                 self.assertEqual(given, query)
+                self.assertEqual((it.turn, it.phase), (Side.SERVER, ms.Phase.REPLY))
+                it.put(Side.SERVER, OK)
                 self.assertIsNone(it.next_event())
 
     def test_event_behind_the_end(self) -> None:

@@ -486,13 +486,15 @@ static void put_requests(load *to)
     check(code, what);
 }
 
-/* Sends packets up to the first that has a reply, and returns how many of their bytes went. */
-static size_t send_some(session *to, const uint8_t *packets, size_t len)
+/* Sends requests up to the first that has a reply, and returns how many of their bytes went. It
+ * stops where the server counted another number of parameters than the statement has: it would load
+ * other values. */
+static size_t send_some(load *of, const uint8_t *packets, size_t len)
 {
     size_t used = 0;
-    check(mysql_session_connection_put_packets(&to->connection, MYSQL_SESSION_CLIENT, packets, len,
-                                               &to->out, &used), "a request");
-    write_out(to);
+    check(mysql_session_connection_put_sets(&of->to.connection, of->statement, of->columns, packets,
+                                            len, &of->to.out, &used), "a request");
+    write_out(&of->to);
     return used;
 }
 
@@ -500,9 +502,13 @@ static size_t send_some(session *to, const uint8_t *packets, size_t len)
 static void prepare(load *of)
 {
     const uint8_t *data = NULL;
+    size_t used = 0;
     put_requests(of);
     check(mysql_session_bytes_data(&of->out, &data, &of->prepare_len), "the statement");
-    send_some(&of->to, data, of->prepare_len);
+    check(mysql_session_connection_put_packets(&of->to.connection, MYSQL_SESSION_CLIENT, data,
+                                               of->prepare_len, &of->to.out, &used),
+          "the statement");
+    write_out(&of->to);
     of->statement = read_reply(&of->to).statement;
     check(mysql_session_bytes_clear(&of->out), "the statement");
 }
@@ -518,7 +524,7 @@ static void send_rows(load *of)
     put_requests(of);
     check(mysql_session_bytes_data(&of->out, &data, &len), "a request");
     while (at < len) {
-        at += send_some(&of->to, data + at, len - at);
+        at += send_some(of, data + at, len - at);
         of->loaded += read_reply(&of->to).affected_rows;
     }
     if (of->loaded - before != of->rows)

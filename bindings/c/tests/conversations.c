@@ -204,12 +204,19 @@ static void check_end_of(size_t due)
 static void check_standing(const row *of)
 {
     mysql_session_standing standing;
+    mysql_session_known known = MYSQL_SESSION_NOTHING_KNOWN;
     memset(&standing, 0, sizeof standing);
     CHECK_DONE(mysql_session_connection_standing(&made, &standing));
+    mysql_session_connection_known(&made, &known);
     if (strcmp(of->kind, "held") == 0)
         CHECK_NUMBER(standing.held, of->number);
     if (strcmp(of->kind, "mode") == 0)
-        CHECK_NUMBER(mysql_session_connection_mode(&made), of->number);
+        CHECK_NUMBER(known.flags & ~(uint32_t)MYSQL_SESSION_HEXADECIMAL, of->number);
+    if (strcmp(of->kind, "spelling") == 0)
+        CHECK_NUMBER(known.flags & MYSQL_SESSION_UNKNOWN_MODE
+                         ? (uint32_t)MYSQL_SESSION_HEXADECIMAL
+                         : known.flags & (uint32_t)MYSQL_SESSION_HEXADECIMAL,
+                     of->number);
     if (strcmp(of->kind, "turn") == 0)
         CHECK_NUMBER(standing.turn,
                      of->side == ANY_SIDE ? (uint32_t)MYSQL_SESSION_NOBODY : of->side);

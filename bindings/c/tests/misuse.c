@@ -412,6 +412,8 @@ static void second_handles(void)
         CHECK_CODE(mysql_session_connection_put(&connection, 0, some, LEN, out, &event), wanted);
         CHECK_CODE(mysql_session_connection_put_packets(&connection, 0, some, LEN, out, &used),
                    wanted);
+        CHECK_CODE(mysql_session_connection_put_sets(&connection, 1, 1, some, LEN, out, &used),
+                   wanted);
         if (kind != SETS) {
             CHECK_CODE(mysql_session_bind_text(&handles[SETS], 0, some, LEN, 0, out, &place),
                        wanted);
@@ -483,7 +485,7 @@ static const uint32_t ranges[][2] = {
     { MYSQL_SESSION_REPLY_TOO_LARGE, MYSQL_SESSION_REPLY_AFTER_END },
     { MYSQL_SESSION_WRITE_NO_RESULTS, MYSQL_SESSION_WRITE_PACKET_TOO_LARGE },
     { MYSQL_SESSION_CONNECTION_CLOSED, MYSQL_SESSION_CONNECTION_HELD },
-    { MYSQL_SESSION_CONNECTION_TOO_LARGE, MYSQL_SESSION_CONNECTION_NOT_ITS_TURN },
+    { MYSQL_SESSION_CONNECTION_TOO_LARGE, MYSQL_SESSION_CONNECTION_WRONG_COUNT },
 };
 #define RANGES (sizeof ranges / sizeof ranges[0])
 

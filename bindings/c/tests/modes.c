@@ -242,6 +242,52 @@ static void told_by_servers(void)
     CHECK_NUMBER(mysql_session_is_safe_to_quote(1024 + 45), 1);
 }
 
+/* What is known of a session behind this text, of which the reply is an OK packet with this status
+ * and these changes, or an error where there are none. */
+static void known(mysql_session_known *of, const char *said, uint16_t status, const char *changes,
+                  uint32_t flags, bool set_known)
+{
+    check_note(said, flags);
+    mysql_session_known_behind_text(of, bytes_of(said), strlen(said));
+    if (changes != NULL) {
+        const stream told = stream_of(changes);
+        mysql_session_known_behind_ok(of, status, told.bytes, told.len);
+    }
+    CHECK_NUMBER(of->flags, flags);
+    CHECK_NUMBER(of->set_known, set_known);
+    check_note("", 0);
+}
+
+/* The flags are those by which a text is safe: calls take them, or answer NO_SUCH_MODE. */
+static void sessions(void)
+{
+    static const char both[] = "00 27 08 |sql_mode| 00 14 |character_set_client| 07 |utf8mb4|";
+    static const char gbk[] = "00 19 14 |character_set_client| 03 |gbk|";
+    static const char escapeless[] = "00 1e 08 |sql_mode| 14 |NO_BACKSLASH_ESCAPES|";
+    mysql_session_known of = MYSQL_SESSION_NOTHING_KNOWN;
+    CHECK_NUMBER(of.flags, MYSQL_SESSION_UNKNOWN_MODE | HEX);
+    bind(of.flags, "SELECT ?", "'", MYSQL_SESSION_NO_SUCH_MODE, "");
+    /* The OK packet of a login doesn't count: nothing was said before. */
+    mysql_session_known_behind_ok(&of, 0x4002, stream_of(both).bytes, stream_of(both).len);
+    CHECK_NUMBER(of.flags, MYSQL_SESSION_UNKNOWN_MODE | HEX);
+    known(&of, MYSQL_SESSION_ASK_MODE, 0x4002, both, 0, true);
+    bind(of.flags, "SELECT ?", "'", MYSQL_SESSION_OK, "SELECT '\\''");
+    known(&of, "SELECT 1", 0, NULL, 0, true);
+    known(&of, "SET NAMES gbk", 0x4002, gbk, HEX, true);
+    bind(of.flags, "SELECT ?", "'", MYSQL_SESSION_OK, "SELECT _utf8mb4 0x27");
+    known(&of, "SET @@character_set_client = utf8mb4", 2, "", HEX, false);
+    known(&of, MYSQL_SESSION_ASK_MODE, 0x4002, both, 0, true);
+    known(&of, "SET @@sql_mode = 'ANSI_QUOTES'", 2, "", MYSQL_SESSION_UNKNOWN_MODE, true);
+    bind(of.flags, "SELECT ?", "'", MYSQL_SESSION_NO_SUCH_MODE, "");
+    known(&of, "SET sql_mode = 'NO_BACKSLASH_ESCAPES'", 0x4202, escapeless, ESCAPELESS, true);
+    bind(of.flags, "SELECT ?", "'", MYSQL_SESSION_OK, "SELECT ''''");
+    known(&of, "CALL p()", 0x420a, escapeless, MYSQL_SESSION_UNKNOWN_MODE, true);
+    known(&of, MYSQL_SESSION_ASK_MODE, 0, NULL, MYSQL_SESSION_UNKNOWN_MODE | HEX, false);
+    known(&of, MYSQL_SESSION_ASK_MODE, 0x4002, both, 0, true);
+    known(&of, "DO 1; DO 2", 0, NULL, MYSQL_SESSION_UNKNOWN_MODE | HEX, false);
+    known(&of, "DO 1", 0x4002, "00 27 08", MYSQL_SESSION_UNKNOWN_MODE | HEX, false);
+}
+
 int main(void)
 {
     uint32_t bit;
@@ -255,5 +301,6 @@ int main(void)
         no_such_mode(bit | ALL);
     }
     told_by_servers();
+    sessions();
     return check_end("modes");
 }

@@ -232,6 +232,67 @@ static void packets(void)
     mysql_session_free(&out);
 }
 
+static uint32_t put_sets(size_t places, const char *packets, size_t *used)
+{
+    stream bytes = stream_of(packets);
+    return mysql_session_connection_put_sets(&client, 1, places, bytes.bytes, bytes.len, &out,
+                                             used);
+}
+
+/* Executions of another number of values than the server counted parameters are refused. */
+static void sets_of_a_query(void)
+{
+    /* One text of 12 bytes, which two parameters read to its end, as a text and a date. */
+    static const char execution[] =
+        "1b 00 00 00 17 01 00 00 00 00 01 00 00 00 00 01 fd 00 0c 00 05 |abcde| 04 e8 07 02 1d";
+    static const char query[] = "DELETE FROM t WHERE id = ? AND s = '?' /* ? */";
+    static const char column[] = "03 |def| 00 00 00 01 |?| 00 0c 3f 00 00 00 00 00 fd 80 00 00 00 00";
+    mysql_session_connection none = MYSQL_SESSION_NOTHING;
+    mysql_session_handle nothing = MYSQL_SESSION_NOTHING;
+    stream one = stream_of(execution);
+    size_t used = 99, places = 99;
+    CHECK_DONE(mysql_session_place_count((const uint8_t *)query, sizeof query - 1, 0, &places));
+    CHECK_NUMBER(places, 1);
+    CHECK_CODE(mysql_session_place_count((const uint8_t *)"? :a", 4, 0, &places),
+               MYSQL_SESSION_MIXED);
+    CHECK_CODE(mysql_session_place_count((const uint8_t *)"?", 1, 8, &places),
+               MYSQL_SESSION_NO_SUCH_MODE);
+    CHECK_NUMBER(places, 1);
+    CHECK_DONE(mysql_session_connection_after_login(&client, 0x200, 0, 1000, 1000, 4000));
+    CHECK_DONE(mysql_session_bytes_new(&out));
+    CHECK_CODE(mysql_session_connection_put_sets(&none, 1, 1, one.bytes, one.len, &out, &used),
+               MYSQL_SESSION_EMPTY_HANDLE);
+    CHECK_CODE(mysql_session_connection_put_sets(&client, 1, 1, one.bytes, one.len, &nothing,
+                                                 &used),
+               MYSQL_SESSION_EMPTY_HANDLE);
+    CHECK_NUMBER(used, 99);
+    CHECK_CODE(put_sets(1, execution, &used), MYSQL_SESSION_CONNECTION_UNKNOWN_STATEMENT);
+    CHECK_NUMBER(used, 0);
+    CHECK_DONE(put(&client, MYSQL_SESSION_CLIENT, "16 |?, ?|"));
+    CHECK_CODE(put_sets(2, execution, &used), MYSQL_SESSION_CONNECTION_UNKNOWN_STATEMENT);
+    CHECK_DONE(put(&client, MYSQL_SESSION_SERVER, "00 01 00 00 00 00 00 02 00 00 00 00"));
+    CHECK_DONE(put(&client, MYSQL_SESSION_SERVER, column));
+    CHECK_DONE(put(&client, MYSQL_SESSION_SERVER, column));
+    CHECK_DONE(put(&client, MYSQL_SESSION_SERVER, "fe 00 00 02 00"));
+    CHECK_DONE(mysql_session_bytes_clear(&out));
+    CHECK_CODE(put_sets(1, execution, &used), MYSQL_SESSION_CONNECTION_WRONG_COUNT);
+    CHECK_CODE(put_sets(3, execution, &used), MYSQL_SESSION_CONNECTION_WRONG_COUNT);
+    CHECK_NUMBER(used, 0);
+    CHECK_STREAM(&out, "");
+    /* The second execution waits for the reply to the first. */
+    CHECK_DONE(put_sets(2,
+                        "0c 00 00 00 17 01 00 00 00 00 01 00 00 00 03 00 "
+                        "0c 00 00 00 17 01 00 00 00 00 01 00 00 00 03 00",
+                        &used));
+    CHECK_NUMBER(used, 16);
+    CHECK_STREAM(&out, "0c 00 00 00 17 01 00 00 00 00 01 00 00 00 03 00");
+    CHECK_DONE(put_sets(2, execution, &used));
+    CHECK_NUMBER(used, 0);
+    CHECK_CODE(put_sets(1, execution, &used), MYSQL_SESSION_CONNECTION_WRONG_COUNT);
+    mysql_session_connection_free(&client);
+    mysql_session_free(&out);
+}
+
 /* Where memory is refused nothing has changed, so that the same call then puts the payload. */
 static void memory(void)
 {
@@ -269,6 +330,7 @@ int main(void)
     three_agree();
     refusals();
     packets();
+    sets_of_a_query();
     memory();
     return check_end("put");
 }

@@ -160,6 +160,12 @@ static void digests(void)
     digest_row("\"a\" '\\' b", MYSQL_SESSION_NO_BACKSLASH_ESCAPES, "? ? b");
     digest_row("\"a\" '\\' b", MYSQL_SESSION_ANSI_QUOTES, "\"a\" ?");
     digest_row("SELECT 1", MYSQL_SESSION_HEXADECIMAL, "select ?");
+    /* Where servers disagree a mark is for the rest. */
+    digest_row("SELECT a AS $$, 'b $$ secret '", 0, "select a as /* ... */");
+    digest_row("SELECT a /*M! it's */ , 'secret'", 0, "select a /* ... */");
+    digest_row("SELECT a /*!99999 it's */ , 'secret'", 0, "select a /* ... */");
+    digest_row("SELECT a [it's] , 'secret'", 0, "select a /* ... */");
+    digest_row("SELECT /*+ it's */ a, 'secret'", 0, "select a , ?");
     CHECK_DONE(digest("a = 1", 0));
     CHECK_DONE(digest(" ; b", 0));
     check_out("a = ?; b");

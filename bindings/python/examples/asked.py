@@ -27,6 +27,10 @@ VARIABLES: Dict[str, Value] = {
     "tx_isolation": "REPEATABLE-READ", "tx_read_only": 0, "version_comment": "canned answers",
     "wait_timeout": 28800}
 
+# By which the `mysql` client of 8.0.32 and later asks whether `$$` begins a string: an error says no.
+DOLLARS = "select $$"
+NO_DOLLARS = {"error": 1064, "state": "42000", "message": "You have an error in your SQL syntax"}
+
 _COMMENTS = re.compile(r"(?:\s*/\*(?![!+]|M!).*?\*/)*\s*", re.S)
 # What a list has: a variable, a function without arguments, Django's question for time zones.
 _ITEM = re.compile(r"\s*(?:@@(?:(?:session|local|global)\.)?(?P<variable>\w+)|(?P<call>\w+)\s*\(\s*\)"
@@ -96,5 +100,7 @@ def answer(query: str, told: Mapping[str, Value]) -> Optional[Dict[str, Any]]:
         return _shown(shown, told)
     if text.lower() == "show warnings":
         return _WARNINGS
+    if text.lower() == DOLLARS:
+        return NO_DOLLARS
     listed = re.match(r"select\s+", text, re.I)
     return None if listed is None else _selected(text[listed.end():], told)

@@ -1,8 +1,8 @@
 """A client that waits for what it asks: a socket, and `mysql_session.Connection` alone.
 
-A text with values in it has to be written for the session's SQL mode, which any statement may
-change. So behind its login a client asks the server to tell each change of it, and goes by what the
-connection tells. That needs a server with CLIENT_SESSION_TRACK. A status isn't enough: behind a
+A text with values in it has to be written for the session's SQL mode and character set, which any
+statement may change. So behind its login a client asks the server for both, and goes by what the
+connection knows. That needs a server with CLIENT_SESSION_TRACK. A status isn't enough: behind a
 procedure that set the mode a MariaDB tells by it a mode that it isn't in.
 """
 
@@ -11,13 +11,18 @@ from __future__ import annotations
 import os
 import socket
 import sys
-from hashlib import sha1, sha256
 from typing import Iterable, Iterator, List, Optional, Sequence, Tuple, Union
 
 sys.path.insert(0, os.path.join(os.path.dirname(os.path.abspath(__file__)), os.pardir))
 
+from logging_in import (Login, Protection, Refused, counted_back, secure_request,  # noqa: E402
+                        secured)
+from passwords import caching, native  # noqa: E402
+
 import mysql_session as ms  # noqa: E402  (found by the line above)
 from mysql_session import Capability, Side  # noqa: E402
+
+__all__ = ["Client", "Gone", "Protection", "Refused", "Result", "Results", "caching", "native"]
 
 PIECE = 1 << 16
 
@@ -30,50 +35,13 @@ CAPABILITIES = int(
     | Capability.PLUGIN_AUTH | Capability.DEPRECATE_EOF | Capability.CONNECT_WITH_DB
     | Capability.SESSION_TRACK)
 
-# What is tracked already, and the mode with it. The answer tells the mode, which is set to itself.
-# It is the same in each mode.
-TRACK_MODE = ("SET session_track_system_variables = CONCAT_WS(',', 'sql_mode', "
-              "NULLIF(@@session_track_system_variables, '')), sql_mode = @@sql_mode")
-
-# What is answered first where the server names a plugin that isn't known here.
-NATIVE = b"mysql_native_password"
-
-# What a server of caching_sha2_password says where it wants the password itself.
-FULL = b"\x04"
-
 Result = Union[ms.Ok, ms.Rows, ms.Prepared, ms.ServerError]
 
 OkEvents = (ms.OkEvent, ms.AcceptedEvent)
 
 
-class Refused(Exception):
-    """The server refuses a login or a command, by this error."""
-
-    def __init__(self, error: ms.ServerError) -> None:
-        message = error.message.decode(errors="replace")
-        super().__init__(f"error {error.code} ({error.state.decode()}): {message}")
-        self.error = error
-
-
 class Gone(Exception):
     """The server has closed the connection, or said its last words."""
-
-
-def native(password: bytes, scramble: bytes) -> bytes:
-    """What proves a password by mysql_native_password."""
-    once = sha1(password).digest()
-    mask = sha1(scramble + sha1(once).digest()).digest()
-    return bytes(one ^ other for one, other in zip(once, mask))
-
-
-def caching(password: bytes, scramble: bytes) -> bytes:
-    """The same by caching_sha2_password."""
-    once = sha256(password).digest()
-    mask = sha256(sha256(once).digest() + scramble).digest()
-    return bytes(one ^ other for one, other in zip(once, mask))
-
-
-PLUGINS = {NATIVE: native, b"caching_sha2_password": caching}
 
 
 class Results:
@@ -124,6 +92,8 @@ class Client:
             stream.setsockopt(socket.IPPROTO_TCP, socket.TCP_NODELAY, 1)
         self._stream = stream
         self._limit = limit
+        # Whether the login's packets count the request for TLS too.
+        self._counts_request = False
         self.connection = ms.Connection(client=limit, server=limit, held=4 * limit)
 
     def __enter__(self) -> Client:
@@ -144,37 +114,44 @@ class Client:
 
     def log_in(self, user: str, password: str = "", database: str = "",
                capabilities: int = CAPABILITIES,
-               mariadb_capabilities: int = MARIADB_BULK) -> ms.GreetingEvent:
+               mariadb_capabilities: int = MARIADB_BULK,
+               by: Protection = Protection()) -> ms.GreetingEvent:
         """Logs in by mysql_native_password or caching_sha2_password, with those of the capabilities
-        that the server has, and asks to be told the mode. Returns the server's greeting.
+        that the server has, and asks for the session's mode. Returns the server's greeting.
 
-        Raises Refused where the server refuses. Raises PermissionError where there is a password
-        and the server asks for another plugin. It is raised too where it asks for the password
-        itself, which needs TLS or its key.
+        Raises Refused where the server refuses. Raises PermissionError where the server asks for
+        another plugin, or has no TLS where `by` wants it. It is raised too where the server wants
+        the password itself, and `by` has no way for that. Raises ssl.SSLError where the server
+        isn't verified.
         """
+        login = Login(user, password, database, by,
+                      is_local=self._stream.family == socket.AF_UNIX)
         greeting = self._greeted()
-        plugin = greeting.plugin if greeting.plugin in PLUGINS else NATIVE
-        # A server of MySQL has none of MariaDB's own.
-        self._put(ms.put_login(
-            user, capabilities & greeting.capabilities,
-            self._response(plugin, password, greeting.scramble), database, plugin,
-            mariadb_capabilities & greeting.mariadb_capabilities, self._limit))
+        payload = login.payload(greeting, capabilities, mariadb_capabilities, self._limit)
+        if by.tls is not None:
+            self._begin_tls(greeting, payload, by)
+        self._put(payload)
         while self.connection.phase not in (ms.Phase.COMMAND, ms.Phase.OVER):
-            event = self._next()
-            if isinstance(event, ms.AuthSwitchEvent):
-                self._put(self._response(event.plugin, password, event.data))
-            elif isinstance(event, ms.AuthMoreEvent) and event.data == FULL:
-                raise PermissionError("the server wants the password itself, over TLS or by its key")
-            elif isinstance(event, ms.DeniedEvent):
-                raise Refused(ms.ServerError(event.code, event.state, event.message))
+            said = login.answer(self._next())
+            if said is not None:
+                self._put(said)
+        self._counts_request = False
         self.track_mode()
         return greeting
 
+    def _begin_tls(self, greeting: ms.GreetingEvent, login: bytes, by: Protection) -> None:
+        """Asks for TLS, and goes on by it."""
+        if by.tls is None or not greeting.capabilities & Capability.SSL:
+            raise PermissionError("the server has no TLS")
+        self._stream.sendall(secure_request(login))
+        self._stream = by.tls.wrap_socket(self._stream, server_hostname=by.host)
+        self._counts_request = True
+
     def track_mode(self) -> None:
-        """Asks the server for its SQL mode, and to tell each change of it, if it can. A reset of the
-        connection and a change of the user end that."""
+        """Asks the server for the session's SQL mode and character set, if it can tell them. Ask behind
+        a login, a reset of the connection and a change of the user."""
         if self.connection.capabilities & Capability.SESSION_TRACK:
-            self.query(TRACK_MODE)
+            self.query(ms.ASK_SESSION_MODE)
 
     @property
     def mode(self) -> Optional[ms.Mode]:
@@ -182,31 +159,22 @@ class Client:
         return self.connection.mode
 
     def text(self, query: ms.Text, values: ms.Params) -> bytes:
-        """A query with values in it, written for the session's mode, for which the server is asked if
-        it isn't known. If the server doesn't tell, values are in hexadecimal, which each mode reads
-        alike.
+        """A query with values in it, written for the session's mode and character set, for which the
+        server is asked where either isn't known. If the server doesn't tell them, or quotes aren't
+        safe in the set, values are in hexadecimal, which each mode and set reads alike.
 
         Raises ValueError of a query with a backslash if the mode isn't known. A backslash may end a
         string or not, by the mode: `prepare` and `execute` are for such a query.
         """
-        if self.mode is None:
+        session = self.connection.session_mode
+        if session.mode is None or session.is_safe_set is None:
             self.track_mode()
-        mode = self.mode
-        if mode is not None:
-            return ms.bind_text(query, values, mode=mode)
-        if b"\\" in (query.encode() if isinstance(query, str) else bytes(query)):
+            session = self.connection.session_mode
+        if session.mode is None and b"\\" in (
+                query.encode() if isinstance(query, str) else bytes(query)):
             raise ValueError("the session's mode isn't known, and the query has a backslash")
-        return ms.bind_text(query, values, spelling=ms.Spelling.HEXADECIMAL)
-
-    @staticmethod
-    def _response(plugin: bytes, password: str, scramble: bytes) -> bytes:
-        """What proves a password by a plugin; of no password no bytes."""
-        if not password:
-            return b""
-        if plugin not in PLUGINS:
-            raise PermissionError(f"the server asks for {plugin.decode()}")
-        # A zero may stand behind the 20 bytes.
-        return PLUGINS[plugin](password.encode(), scramble[:20])
+        return ms.bind_text(query, values, mode=session.mode or ms.Mode(),
+                            spelling=session.spelling)
 
     def ask(self, payload: bytes) -> Iterator[ms.Event]:
         """Sends a command; the events of its reply as they come, to its end."""
@@ -241,22 +209,29 @@ class Client:
                 mode: Optional[ms.Mode] = None) -> Iterator[List[Result]]:
         """Executes a statement with sets of values, one after another or in bulk; the results of
         each execution. The mode tells only which placeholders the text has. It is the session's by
-        default, for which the server is asked if it isn't known."""
+        default, for which the server is asked if it isn't known.
+
+        Raises MySQLSessionError by CONNECTION_WRONG_COUNT where the server counted another number of
+        parameters than the text has placeholders: it would run the execution with other values.
+        """
         if mode is None and self.mode is None:
             self.track_mode()
-        packets = ms.executions(text, sets, statement, road, self._limit,
-                                mode=mode or self.mode or ms.Mode())
-        for reply in self.ask_packets(packets):
+        mode = mode or self.mode or ms.Mode()
+        places = ms.place_count(text, mode=mode)
+        packets = ms.executions(text, sets, statement, road, self._limit, mode=mode)
+        for reply in self.ask_sets(statement, places, packets):
             results = Results()
             for event in reply:
                 results.take(event)
             yield results.whole()
 
-    def ask_packets(self, packets: bytes) -> Iterator[Iterator[ms.Event]]:
-        """Sends what `executions` makes, each execution behind the reply to the one before. Gives
-        the events of each reply, which are taken before the next one is asked for."""
+    def ask_sets(self, statement: int, places: int,
+                 packets: bytes) -> Iterator[Iterator[ms.Event]]:
+        """Sends what `executions` makes of a text with so many placeholders, each execution behind
+        the reply to the one before. Gives the events of each reply, which are taken before the next
+        one is asked for."""
         while packets:
-            put, used = self.connection.put_packets(Side.CLIENT, packets)
+            put, used = self.connection.put_sets(statement, places, packets)
             if not used:
                 raise Gone("no command is due: the connection is over, or a reply wasn't taken")
             self._stream.sendall(put)
@@ -279,11 +254,26 @@ class Client:
 
     def _put(self, payload: bytes) -> None:
         """Sends a payload."""
-        self._stream.sendall(self.connection.put(Side.CLIENT, payload).packets)
+        packets = self.connection.put(Side.CLIENT, payload).packets
+        self._stream.sendall(secured(packets) if self._counts_request else packets)
 
     def _received(self) -> bytes:
-        """The next bytes of the server."""
-        piece = self._stream.recv(min(PIECE, self.connection.room(Side.SERVER)))
+        """The next bytes of the server: of a login by TLS its next packet."""
+        if self._counts_request:
+            head = self._exactly(4)
+            return counted_back(head + self._exactly(int.from_bytes(head[:3], "little")))
+        return self._some(min(PIECE, self.connection.room(Side.SERVER)))
+
+    def _exactly(self, size: int) -> bytes:
+        """So many bytes of the server."""
+        data = b""
+        while len(data) < size:
+            data += self._some(size - len(data))
+        return data
+
+    def _some(self, most: int) -> bytes:
+        """At least one byte of the server, and at most so many."""
+        piece = self._stream.recv(most)
         if not piece:
             raise Gone("the server has closed the connection")
         return piece

@@ -12,7 +12,8 @@ isn't known they are in hexadecimal, which each mode reads alike; a query with a
 sent so. The connection is in UTF-8. If the server that the stream was recorded at had
 NO_BACKSLASH_ESCAPES or ANSI_QUOTES in its SQL mode, --recorded-mode says so: texts are read by it.
 
-The password is that of the environment variable MYSQL_PASSWORD, if there is one.
+The password is that of the environment variable MYSQL_PASSWORD, if there is one. A server of MySQL
+that doesn't know it yet wants it by TLS, or encrypted: the options say how.
 
 The status is 0 where the stream is whole and the server answered no error, 1 where not, and 2 where
 the replay itself failed.
@@ -26,7 +27,7 @@ import socket
 import sys
 from typing import Iterator, List, Sequence, Tuple
 
-from client import MARIADB_BULK, Client, Gone, Refused, Result
+from client import MARIADB_BULK, Client, Gone, Protection, Refused, Result
 
 import mysql_session as ms
 
@@ -115,6 +116,7 @@ def options() -> argparse.Namespace:
     parser.add_argument("--road", choices=ROADS, default="text", help="how sets are sent (text)")
     parser.add_argument("--limit", type=int, default=ms.DEFAULT_LIMIT,
                         help="the server's max_allowed_packet (16777216)")
+    Protection.add_options(parser)
     return parser.parse_args()
 
 
@@ -125,7 +127,8 @@ def run(given: argparse.Namespace) -> int:
         raise ValueError("the recorded mode isn't known")
     host, _, port = given.server.rpartition(":")
     with Client(socket.create_connection((host, int(port))), given.limit) as client:
-        greeting = client.log_in(given.user, os.environ.get("MYSQL_PASSWORD", ""), given.database)
+        greeting = client.log_in(given.user, os.environ.get("MYSQL_PASSWORD", ""), given.database,
+                                 by=Protection.of_options(given, host))
         print(f"server {greeting.version.decode()}")
         if given.road == "bulk" and not client.connection.mariadb_capabilities & MARIADB_BULK:
             raise ValueError("the server takes no bulk executions")
@@ -142,7 +145,7 @@ def run(given: argparse.Namespace) -> int:
 def main() -> int:
     try:
         return run(options())
-    except (OSError, ValueError, Gone, Refused, ms.MySQLSessionError) as error:
+    except (OSError, ValueError, ImportError, Gone, Refused, ms.MySQLSessionError) as error:
         print(f"replay: {error}", file=sys.stderr)
         return 2
 

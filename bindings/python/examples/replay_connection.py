@@ -16,7 +16,8 @@ servers say among themselves. All of it is told as left out.
 
 The status is 0 where all answers are alike, and 1 where not, or where the recording can't be read
 to its end. It is 2 where the replay itself failed. The password is in the environment variable
-MYSQL_PASSWORD, if there is one.
+MYSQL_PASSWORD, if there is one. A server of MySQL that doesn't know it yet wants it by TLS, or
+encrypted: the options say how.
 """
 
 from __future__ import annotations
@@ -29,7 +30,7 @@ import socket
 import sys
 from typing import Dict, Iterable, Iterator, List, NamedTuple, Optional
 
-from client import Client, Gone, Refused
+from client import Client, Gone, Protection, Refused
 
 import mysql_session as ms
 from mysql_session import Capability, Command, Side
@@ -213,6 +214,7 @@ class Replay:
         if named_in(it.payload) is None:
             return it.payload
         name = self._id(it)
+        self._compare(name, it.event)
         if number == CLOSE:
             self._ids.pop(it.statement or 0, None)
         return it.payload[:1] + name.to_bytes(4, "little") + it.payload[5:]
@@ -223,6 +225,15 @@ class Replay:
             raise LeftOut("its statement isn't prepared here")
         return self._ids[it.statement]
 
+    def _compare(self, name: int, event: ms.Event) -> None:
+        """Raises LeftOut of an execution with another number of values than this server counted
+        parameters: it would run it with other values."""
+        statement = self._client.connection.statement(name)
+        rows = ([event.values] if isinstance(event, ms.ExecuteEvent)
+                else event.rows if isinstance(event, ms.BulkExecuteEvent) else ())
+        if statement and any(len(row) != statement.parameters for row in rows):
+            raise LeftOut("this server counted another number of parameters")
+
     def _said_anew(self, event: ms.Event) -> Iterator[ms.Event]:
         """Says a query or an execution by the layout that is in force here, without attributes;
         gives its reply."""
@@ -231,8 +242,10 @@ class Replay:
         if not isinstance(event, ms.ExecuteEvent) or event.statement not in self._ids:
             raise LeftOut("it is laid out by capabilities that this server hasn't")
         values = [repr(it) if isinstance(it, float) else it for it in event.values]
-        packets = ms.executions(event.text, [values], self._ids[event.statement], limit=LIMIT)
-        return next(self._client.ask_packets(packets))
+        name = self._ids[event.statement]
+        self._compare(name, event)
+        packets = ms.executions(event.text, [values], name, limit=LIMIT)
+        return next(self._client.ask_sets(name, len(values), packets))
 
     def _answers(self, it: Recorded, reply: Iterator[ms.Event]) -> Answers:
         """What a reply says. A file that it asks for is the recorded one."""
@@ -281,6 +294,7 @@ def options() -> argparse.Namespace:
     parser.add_argument("to", metavar="HOST:PORT")
     parser.add_argument("--user", required=True)
     parser.add_argument("--database", default="", help="the schema to begin with")
+    Protection.add_options(parser)
     return parser.parse_args()
 
 
@@ -297,7 +311,7 @@ def run(given: argparse.Namespace) -> int:
     with Client(socket.create_connection((host, int(port))), LIMIT) as client:
         client.log_in(given.user, os.environ.get("MYSQL_PASSWORD", ""), given.database,
                       recording.capabilities & ~int(WITHOUT) | int(NEEDED),
-                      recording.mariadb_capabilities)
+                      recording.mariadb_capabilities, Protection.of_options(given, host))
         different = replay(commands, Replay(client, recording.capabilities))
     print(f"{len(commands)} commands, {different} answers differ")
     if fault is not None:
@@ -308,7 +322,7 @@ def run(given: argparse.Namespace) -> int:
 def main() -> int:
     try:
         return run(options())
-    except (OSError, Gone, Refused, ms.MySQLSessionError) as error:
+    except (OSError, ValueError, ImportError, Gone, Refused, ms.MySQLSessionError) as error:
         print(f"replay_connection: {error}", file=sys.stderr)
         return 2
 

@@ -27,9 +27,21 @@ decimal and bit. All but the last may be unsigned, and a bit is a number below 2
 are of char, varchar, text, enum, set and json, and those of bytes of binary, varbinary and blob.
 Those of times are of date, datetime, timestamp and time.
 
-Every login is let in. SET, USE, transactions, pings and the like are answered by OK. What drivers ask
-by themselves is answered by `asked.py`, but where the table has it. Any other query is error 1064, and
-is printed on standard error.
+Several results of one query, as of a CALL, are in a list: {"results": [.., ..]}. An answer may have a fault too, as
+`faults.py` has it: a delay, a cut, an error between rows, last words.
+
+    {"SELECT * FROM slow": {"columns": {"n": "bigint"}, "rows": [[1], [2]],
+                            "fault": {"row_delay": 2, "rows": 1, "cut": true}}}
+
+Every login is let in, unless the table has an answer to `@login ann`, or to `@login` for all others.
+An error in place of the greeting is that of `@greeting`:
+
+    {"@greeting": {"error": 1040, "message": "Too many connections"},
+     "@login ann": {"error": 1045, "state": "28000", "message": "Access denied"}}
+
+SET, USE, transactions, pings and the like are answered by OK. What drivers ask by themselves is
+answered by `asked.py`, but where the table has it. Any other query is error 1064, and is printed on
+standard error.
 """
 
 from __future__ import annotations
@@ -49,6 +61,8 @@ HERE = os.path.dirname(os.path.abspath(__file__))
 sys.path[:0] = [HERE, os.path.join(HERE, os.pardir)]
 
 import asked  # noqa: E402  (found by the line above)
+from faults import (NO_FAULT, Cut, Failure, Fault, Patience, failure_of, last_words,  # noqa: E402
+                    payload_of)
 
 import mysql_session as ms  # noqa: E402
 from mysql_session import Capability, Column, ColumnFlag, ColumnType, ReplyKind, Side  # noqa: E402
@@ -97,12 +111,14 @@ OK_COMMANDS = (PING, SET_OPTION, RESET_CONNECTION)
 
 
 class Rows(NamedTuple):
-    """Rows under columns; the names of those columns that an execution's values are compared
-    with."""
+    """Rows under columns; the names of those columns that an execution's values are compared with;
+    the status and the warnings behind them."""
 
     columns: Sequence[Column]
     rows: Sequence[Sequence[ms.Parameter]]
     where: Sequence[str] = ()
+    status: int = ms.AUTOCOMMIT
+    warnings: int = 0
 
 
 class Done(NamedTuple):
@@ -110,17 +126,21 @@ class Done(NamedTuple):
 
     affected: int = 0
     id: int = 0
-
-
-class Failure(NamedTuple):
-    """An error."""
-
-    error: int
-    state: str
-    message: str
+    status: int = ms.AUTOCOMMIT
+    warnings: int = 0
+    info: bytes = b""
 
 
 Answer = Union[Rows, Done, Failure]
+
+
+class Reply(NamedTuple):
+    """The results that answer a query, and what goes wrong with them."""
+
+    results: Sequence[Answer]
+    fault: Fault = NO_FAULT
+
+
 Values = Tuple[Any, ...]
 # What a table has: an answer as JSON has it, or what makes one of an execution's values.
 Given = Union[Mapping[str, Any], Callable[[Values], Mapping[str, Any]]]
@@ -192,10 +212,18 @@ def cell(value: Any, of: Column) -> ms.Parameter:
     return value
 
 
+def reply_of(given: Mapping[str, Any]) -> Reply:
+    """An answer as it is in a table, with its fault."""
+    results = [answer_of(it) for it in given.get("results", [given])]
+    if not results:
+        raise ValueError("an answer has no results")
+    return Reply(results, Fault.of(given["fault"]) if "fault" in given else NO_FAULT)
+
+
 def answer_of(given: Mapping[str, Any]) -> Answer:
-    """An answer as it is in a table."""
+    """One result of an answer."""
     if "error" in given:
-        return Failure(given["error"], given.get("state", "HY000"), given.get("message", ""))
+        return failure_of(given)
     if "columns" not in given:
         return Done(given.get("affected", 0), given.get("id", 0))
     columns = [column(*it) for it in given["columns"].items()]
@@ -251,20 +279,43 @@ class Who(NamedTuple):
 class Table:
     """Queries and their answers. Raises one of NO_TABLE."""
 
-    def __init__(self, answers: Mapping[str, Given]) -> None:
-        self._answers = {normal(query): given if callable(given) else answer_of(given)
-                         for query, given in answers.items()}
+    version = VERSION
 
-    def answer(self, query: bytes, values: Values = (), who: Who = Who(0)) -> Optional[Answer]:
+    def __init__(self, answers: Mapping[str, Given]) -> None:
+        self._answers: Dict[str, Union[Reply, Callable[[Values], Mapping[str, Any]]]] = {
+            normal(query): given if callable(given) else reply_of(given)
+            for query, given in answers.items()}
+
+    def answer(self, query: bytes, values: Optional[Values] = None,
+               who: Who = Who(0)) -> Optional[Reply]:
         """The answer to a query, or to its execution with values; None where none is known."""
-        text = normal(query)
-        if text in self._answers:
-            found = self._answers[text]
-            return answer_of(found(values)) if callable(found) else found
-        if text.startswith(DONE):
-            return Done()
-        of_driver = asked.answer(text_in(query), who.told())
-        return None if of_driver is None else answer_of(of_driver)
+        found = self._found(query, values)
+        if found is not None:
+            return found
+        if normal(query).startswith(DONE):
+            return Reply([Done()])
+        of_driver = asked.answer(text_in(query), {**who.told(), "version()": self.version})
+        return None if of_driver is None else reply_of(of_driver)
+
+    def prepared(self, query: bytes, who: Who) -> Tuple[int, Optional[Reply]]:
+        """How many placeholders a query has that is prepared, and the answer to its execution, whose
+        columns are told. Each value is None there."""
+        count = parameters_of(query)
+        return count, self.answer(query, (None,) * count, who)
+
+    def greeting(self) -> Reply:
+        """What a client is greeted with: an error, or the greeting, which is no result."""
+        return self._found(b"@greeting", None) or Reply([])
+
+    def login(self, user: str) -> Reply:
+        """The answer to a user's login."""
+        return (self._found(f"@login {user}".encode(), None) or self._found(b"@login", None)
+                or Reply([Done()]))
+
+    def _found(self, query: bytes, values: Optional[Values]) -> Optional[Reply]:
+        """What the table has."""
+        found = self._answers.get(normal(query))
+        return reply_of(found(values or ())) if callable(found) else found
 
 
 # ---- A client's connection ----------------------------------------------------------------------
@@ -285,8 +336,10 @@ def parameters_of(query: bytes) -> int:
 class Session:
     """A client's connection: what the client says is fed, and what answers it is put."""
 
-    def __init__(self, stream: socket.socket, table: Table, client: int) -> None:
+    def __init__(self, stream: socket.socket, table: Table, client: int,
+                 patience: Optional[Patience] = None) -> None:
         self._stream, self._table, self._who = stream, table, Who(client)
+        self._patience = patience or Patience()
         self._connection = ms.Connection()
         self._prepared = 0
 
@@ -299,14 +352,26 @@ class Session:
         """Greets the client, and answers it until it goes."""
         # A small packet behind another would else wait for the client's acknowledgement.
         self._stream.setsockopt(socket.IPPROTO_TCP, socket.TCP_NODELAY, 1)
-        scramble = bytes(33 + it % 94 for it in os.urandom(20))
-        self._put(ms.put_greeting(self._who.client, VERSION, CAPABILITIES, scramble[:8], scramble[8:]))
+        self._greet()
         while self._connection.reason is None:
             piece = self._stream.recv(min(PIECE, self._connection.room(Side.CLIENT)))
             if not piece:
                 return
             for event in self._connection.feed(Side.CLIENT, piece):
                 self._answer(event)
+
+    def _greet(self) -> None:
+        """Greets the client, or sends it away."""
+        scramble = bytes(33 + it % 94 for it in os.urandom(20))
+        greeting = ms.put_greeting(self._who.client, self._table.version, CAPABILITIES, scramble[:8],
+                                   scramble[8:])
+        results, fault = self._table.greeting()
+        self._begin(fault)
+        for answer in results:
+            if isinstance(answer, Failure):
+                # What a client knows before the greeting has no SQL state.
+                greeting = payload_of(answer, with_state=False)
+        self._send_part(self._connection.put(Side.SERVER, greeting).packets, fault)
 
     def _put(self, payload: bytes) -> None:
         """Sends a payload."""
@@ -315,11 +380,29 @@ class Session:
     def _writer(self, kind: ReplyKind = ReplyKind.QUERY) -> ms.ReplyWriter:
         return ms.ReplyWriter(kind, self._connection.capabilities)
 
-    def _send(self, packets: bytes) -> None:
-        """Sends a reply. The connection numbers its packets as they follow."""
+    def _send(self, packets: bytes, fault: Fault = NO_FAULT) -> None:
+        """Sends a reply, or a part of it. The connection numbers its packets as they follow."""
         put, used = self._connection.put_packets(Side.SERVER, packets)
         assert used == len(packets), "a reply isn't as the client awaits it"
-        self._stream.sendall(put)
+        self._send_part(put, fault)
+
+    def _send_part(self, packets: bytes, fault: Fault) -> None:
+        """Sends packets, as far as they go. Raises Cut."""
+        self._stream.sendall(packets if fault.bytes is None else packets[:fault.bytes])
+        if fault.bytes is not None:
+            raise Cut("behind some bytes of the answer")
+
+    def _begin(self, fault: Fault) -> None:
+        """What goes wrong before an answer. Raises Cut."""
+        self._patience.wait(fault.delay)
+        if fault.cut and fault.rows is None:
+            raise Cut("before the answer")
+
+    def _end(self, fault: Fault) -> None:
+        """What goes wrong behind it. Raises Cut."""
+        if fault.last_words is not None:
+            self._stream.sendall(last_words(fault.last_words))
+            raise Cut("behind the last words")
 
     def _answer(self, event: ms.Event) -> None:
         """Answers what the client says, where it has an answer."""
@@ -327,7 +410,7 @@ class Session:
             self._who = self._who._replace(user=event.user.decode(errors="replace"))
             self._use(event.database)
             print(f"client {self._who.client}: {on_a_line(self._who.user)}", flush=True)
-            self._reply(Done())
+            self._reply(self._table.login(self._who.user))
         elif isinstance(event, ms.QueryEvent):
             self._reply(self._found(event.text))
         elif isinstance(event, ms.PrepareEvent):
@@ -337,11 +420,11 @@ class Session:
             self._reply(self._found(event.text, event.values), event.values)
         elif isinstance(event, ms.InitDbEvent):
             self._use(event.schema)
-            self._reply(Done())
+            self._reply(Reply([Done()]))
         elif isinstance(event, ms.ResetStatementEvent):
-            self._reply(Done())
+            self._reply(Reply([Done()]))
         elif isinstance(event, ms.CommandEvent) and event.number in OK_COMMANDS:
-            self._reply(Done())
+            self._reply(Reply([Done()]))
         elif isinstance(event, ms.CommandEvent) and event.number == STATISTICS:
             self._put(b"Answers are canned")
         elif not isinstance(event, (ms.QuitEvent, ms.CloseEvent, ms.LongDataEvent)):
@@ -351,42 +434,67 @@ class Session:
         """Goes on with a schema; no bytes are none."""
         self._who = self._who._replace(schema=schema.decode(errors="replace") or None)
 
-    def _unknown(self, error: int, state: str, why: str) -> Failure:
+    def _unknown(self, error: int, state: str, why: str) -> Reply:
         """The error of what has no answer, which is printed too: many drivers tell no more of it."""
         print(f"client {self._who.client}: {on_a_line(why)}", file=sys.stderr, flush=True)
-        return Failure(error, state, why)
+        return Reply([Failure(error, state, why)])
 
-    def _found(self, query: bytes, values: Values = ()) -> Answer:
+    def _found(self, query: bytes, values: Optional[Values] = None) -> Reply:
         """The answer to a query, or to its execution with values."""
         found = self._table.answer(query, values, self._who)
-        if found is not None:
-            if normal(query).startswith("use "):
-                self._use(text_in(query).split(None, 1)[1].strip("` ").encode())
-            return found
+        if found is not None and normal(query).startswith("use "):
+            self._use(text_in(query).split(None, 1)[1].strip("` ").encode())
+        return found or self._no_answer(query)
+
+    def _no_answer(self, query: bytes) -> Reply:
+        """The error of a query that the table doesn't have."""
         return self._unknown(1064, "42000", f"no answer to this query is known: {normal(query)}")
 
-    def _reply(self, answer: Answer, values: Optional[Values] = None) -> None:
+    def _reply(self, reply: Reply, values: Optional[Values] = None) -> None:
         """Answers a query by text, or an execution with these values in binary."""
+        results, fault = reply
+        self._begin(fault)
         kind = ReplyKind.QUERY if values is None else ReplyKind.EXECUTE
         with self._writer(kind) as writer:
-            if isinstance(answer, Failure):
-                self._send(writer.error(*answer))
-            elif isinstance(answer, Done):
-                self._send(writer.ok(*answer))
-            else:
-                rows = answer.rows if values is None else rows_for(answer, values)
-                # It is sent at once: parts of it would wait for one another in the network.
-                packets = [writer.rows(answer.columns)]
-                packets += [writer.row([it if it is None or values is not None else text_of(it)
-                                        for it in row]) for row in rows]
-                self._send(b"".join(packets) + writer.end_rows())
+            # It is sent at once: parts of it would wait for one another in the network.
+            packets: List[bytes] = []
+            for number, answer in enumerate(results):
+                for it in self._written(writer, answer, values, fault, number + 1 < len(results)):
+                    packets.append(it)
+                    if fault.row_delay:
+                        self._send(b"".join(packets))
+                        packets.clear()
+                        self._patience.wait(fault.row_delay)
+            self._send(b"".join(packets), fault)
+        if fault.cut:
+            raise Cut("behind some rows")
+        self._end(fault)
+
+    def _written(self, writer: ms.ReplyWriter, answer: Answer, values: Optional[Values],
+                 fault: Fault, more: bool) -> Iterator[bytes]:
+        """The packets of a result: one, or those of rows, up to the fault among them."""
+        if isinstance(answer, Failure):
+            yield writer.error(*answer)
+        elif isinstance(answer, Done):
+            yield writer.ok(*answer, more=more)
+        else:
+            rows = answer.rows if values is None else rows_for(answer, values)
+            yield writer.rows(answer.columns)
+            for row in rows[:fault.rows]:
+                yield writer.row([it if it is None or values is not None else text_of(it)
+                                  for it in row])
+            if fault.error is not None:
+                yield writer.error(*fault.error)
+            elif not fault.cut:
+                yield writer.end_rows(answer.status, answer.warnings, more)
 
     def _prepare(self, query: bytes) -> None:
         """Prepares a statement whose text the table has."""
-        count = parameters_of(query)
-        answer = self._found(query, (None,) * count)
+        count, found = self._table.prepared(query, self._who)
+        reply = found or self._no_answer(query)
+        [answer, *_] = reply.results
         if isinstance(answer, Failure):
-            self._reply(answer)
+            self._reply(reply)
             return
         self._prepared += 1
         columns = answer.columns if isinstance(answer, Rows) else ()
@@ -397,44 +505,73 @@ class Session:
 # ---- Serving ------------------------------------------------------------------------------------
 
 
-def serve_client(stream: socket.socket, table: Table, client: int) -> None:
-    """Serves a client, in its thread."""
-    session = Session(stream, table, client)
-    try:
-        session.serve()
-    except (OSError, ms.MySQLSessionError) as error:
-        print(f"client {client}: {error}", file=sys.stderr, flush=True)
-    finally:
-        session.close()
+class Server:
+    """Serves the clients of a listening socket, each in its own thread."""
 
+    def __init__(self, listener: socket.socket, table: Table) -> None:
+        self._listener, self._table = listener, table
+        self._patience = Patience()
+        self._streams: Dict[int, socket.socket] = {}
+        self._lock = threading.Lock()
 
-def serve(listener: socket.socket, table: Table, clients: Optional[int] = None) -> None:
-    """Serves so many clients, or all that come until the listener is closed."""
-    threads: List[threading.Thread] = []
-    while clients is None or len(threads) < clients:
+    def serve(self, clients: Optional[int] = None) -> None:
+        """Serves so many clients, or all that come until the server ends."""
+        threads: List[threading.Thread] = []
+        while clients is None or len(threads) < clients:
+            try:
+                stream, _ = self._listener.accept()
+            except OSError:
+                break
+            number = len(threads) + 1
+            with self._lock:
+                self._streams[number] = stream
+            threads.append(threading.Thread(target=self._serve_client, args=(number, stream)))
+            threads[-1].start()
+        for thread in threads:
+            thread.join()
+
+    def end(self) -> None:
+        """Ends it, and the connections of its clients."""
+        self._patience.end()
+        # Wakes the thread that waits for another client.
+        with contextlib.suppress(OSError):
+            self._listener.shutdown(socket.SHUT_RDWR)
+        with self._lock:
+            for stream in self._streams.values():
+                # Its thread finds that nothing more comes.
+                with contextlib.suppress(OSError):
+                    stream.shutdown(socket.SHUT_RDWR)
+
+    def _serve_client(self, number: int, stream: socket.socket) -> None:
+        """Serves a client, in its thread."""
+        session = Session(stream, self._table, number, self._patience)
         try:
-            stream, _ = listener.accept()
-        except OSError:
-            break
-        threads.append(threading.Thread(target=serve_client,
-                                        args=(stream, table, len(threads) + 1)))
-        threads[-1].start()
-    for thread in threads:
-        thread.join()
+            self._patience.wait(0)
+            session.serve()
+        except Cut:
+            pass
+        except (OSError, ms.MySQLSessionError) as error:
+            if not self._patience.is_over:
+                print(f"client {number}: {error}", file=sys.stderr, flush=True)
+        finally:
+            with self._lock:
+                del self._streams[number]
+            session.close()
 
 
 @contextlib.contextmanager
-def serving(answers: Mapping[str, Given]) -> Iterator[int]:
-    """Within it, clients are answered by the table; gives the port."""
-    table = Table(answers)
+def serving(answers: Union[Table, Mapping[str, Given]]) -> Iterator[int]:
+    """Within it, clients are answered by the table; gives the port. At its end the connections of
+    clients that are still there are closed."""
+    table = answers if isinstance(answers, Table) else Table(answers)
     with socket.create_server(("127.0.0.1", 0)) as listener:
-        thread = threading.Thread(target=serve, args=(listener, table))
+        server = Server(listener, table)
+        thread = threading.Thread(target=server.serve)
         thread.start()
         try:
             yield int(listener.getsockname()[1])
         finally:
-            # Wakes the thread, which waits for another client.
-            listener.shutdown(socket.SHUT_RDWR)
+            server.end()
             thread.join()
 
 
@@ -455,7 +592,7 @@ def main() -> int:
         return 2
     with socket.create_server(("127.0.0.1", given.port)) as listener:
         print(f"listening on port {listener.getsockname()[1]}", flush=True)
-        serve(listener, table, given.clients)
+        Server(listener, table).serve(given.clients)
     return 0
 
 

@@ -114,6 +114,12 @@ static enum fresh fresh_of(uint32_t side)
     return side ? FRESH_BYTES_2 : FRESH_BYTES;
 }
 
+/* Nothing is put before an event that precedes it is told. */
+static bool has_untold(const Connection *self)
+{
+    return connection_untold(self) != MYSQL_SESSION_EVENT_NONE;
+}
+
 /* What a call that put something gives: where that fails, the bytes weren't given. */
 static PyObject *put_end(Connection *self, uint32_t side, PyObject *made)
 {
@@ -126,8 +132,9 @@ static PyObject *put_end(Connection *self, uint32_t side, PyObject *made)
 
 static PyObject *put(Connection *self, uint32_t side, const In *payload)
 {
-    if (connection_set_aside(self) ||
-        (!self->is_greeted && connection_greet(self, payload->at, payload->len)))
+    if (has_untold(self))
+        return fail(self->state, MYSQL_SESSION_CONNECTION_NOT_ITS_TURN);
+    if (!self->is_greeted && connection_greet(self, payload->at, payload->len))
         return NULL;
     mysql_session_event shown;
     memset(&shown, 0, sizeof shown);
@@ -164,23 +171,32 @@ static PyObject *connection_put(PyObject *it, PyObject *args)
     return made;
 }
 
-static PyObject *put_packets(Connection *self, uint32_t side, const In *packets)
+/* What was put of packets. */
+static PyObject *put_of(Connection *self, uint32_t side, const In *packets, size_t used,
+                        uint32_t code)
 {
-    if (connection_set_aside(self))
-        return NULL;
-    size_t used = 0;
-    mysql_session_handle *out = to_write((Object *)self, (int)side);
-    uint32_t code = mysql_session_connection_put_packets(at(self), side, packets->at, packets->len,
-                                                         out, &used);
-    connection_note_packets(self, side, packets->at, used);
-    /* Of a row that was lent nothing is shown any more. */
-    if (self->is_lent)
-        self->shows_row = self->is_lent = self->has_cells = false;
+    if (!has_untold(self)) {
+        connection_note_packets(self, side, packets->at, used);
+        /* Of a row that was lent nothing is shown any more. */
+        if (self->is_lent)
+            self->shows_row = self->is_lent = self->has_cells = false;
+    }
     if (code && !used)
         return fail(self->state, code);
     PyObject *taken = out_take((Object *)self, (int)side, fresh_of(side));
     PyObject *made = taken ? Py_BuildValue("(Nn)", taken, (Py_ssize_t)used) : NULL;
     return put_end(self, side, made);
+}
+
+static PyObject *put_packets(Connection *self, uint32_t side, const In *packets)
+{
+    size_t used = 0;
+    uint32_t code = 0;
+    mysql_session_handle *out = to_write((Object *)self, (int)side);
+    if (!has_untold(self))
+        code = mysql_session_connection_put_packets(at(self), side, packets->at, packets->len, out,
+                                                    &used);
+    return put_of(self, side, packets, used, code);
 }
 
 static PyObject *connection_put_packets(PyObject *it, PyObject *args)
@@ -194,6 +210,35 @@ static PyObject *connection_put_packets(PyObject *it, PyObject *args)
     PyObject *made = NULL;
     if (!begin((Object *)self)) {
         made = put_packets(self, side, &packets);
+        self->busy = false;
+    }
+    in_end(&packets);
+    return made;
+}
+
+static PyObject *put_sets(Connection *self, uint32_t statement, size_t places, const In *packets)
+{
+    size_t used = 0;
+    uint32_t code = 0;
+    mysql_session_handle *out = to_write((Object *)self, MYSQL_SESSION_CLIENT);
+    if (!has_untold(self))
+        code = mysql_session_connection_put_sets(at(self), statement, places, packets->at,
+                                                 packets->len, out, &used);
+    return put_of(self, MYSQL_SESSION_CLIENT, packets, used, code);
+}
+
+static PyObject *connection_put_sets(PyObject *it, PyObject *args)
+{
+    Connection *self = (Connection *)it;
+    uint32_t statement;
+    size_t places;
+    In packets = {0};
+    if (check_fresh((Object *)self) ||
+        !PyArg_ParseTuple(args, "O&O&O&", to_u32, &statement, to_size, &places, to_piece, &packets))
+        return NULL;
+    PyObject *made = NULL;
+    if (!begin((Object *)self)) {
+        made = put_sets(self, statement, places, &packets);
         self->busy = false;
     }
     in_end(&packets);
@@ -296,6 +341,37 @@ static PyObject *connection_rest(PyObject *it, PyObject *side)
     return made;
 }
 
+/* The phase in which an event comes. Last words come in any, and the connection is over then. */
+static uint32_t phase_of(uint32_t kind)
+{
+    switch (kind) {
+    case MYSQL_SESSION_EVENT_REJECTED:
+    case MYSQL_SESSION_EVENT_GREETING: return MYSQL_SESSION_PHASE_GREETING;
+    case MYSQL_SESSION_EVENT_SECURE_REQUEST:
+    case MYSQL_SESSION_EVENT_LOGIN:
+    case MYSQL_SESSION_EVENT_CUT_OFF_LOGIN: return MYSQL_SESSION_PHASE_RESPONSE;
+    case MYSQL_SESSION_EVENT_ANSWER: return MYSQL_SESSION_PHASE_ANSWER;
+    case MYSQL_SESSION_EVENT_FILE_DATA: return MYSQL_SESSION_PHASE_FILE_DATA;
+    case MYSQL_SESSION_EVENT_FAREWELL: return MYSQL_SESSION_PHASE_OVER;
+    }
+    return kind >= MYSQL_SESSION_EVENT_QUIT ? MYSQL_SESSION_PHASE_COMMAND
+           : kind >= MYSQL_SESSION_EVENT_OK ? MYSQL_SESSION_PHASE_REPLY
+                                            : MYSQL_SESSION_PHASE_AUTHENTICATION;
+}
+
+/* An event that isn't told yet stands as one that comes next. */
+static void stand_before(uint32_t untold, mysql_session_standing *s)
+{
+    uint32_t phase = phase_of(untold);
+    if (untold == MYSQL_SESSION_EVENT_NONE || phase == MYSQL_SESSION_PHASE_OVER)
+        return;
+    bool is_client = phase == MYSQL_SESSION_PHASE_RESPONSE || phase == MYSQL_SESSION_PHASE_ANSWER ||
+                     phase == MYSQL_SESSION_PHASE_COMMAND || phase == MYSQL_SESSION_PHASE_FILE_DATA;
+    s->phase = phase;
+    s->turn = is_client ? MYSQL_SESSION_CLIENT : MYSQL_SESSION_SERVER;
+    s->reason = 0;
+}
+
 static PyObject *connection_standing(PyObject *it, PyObject *none)
 {
     (void)none;
@@ -305,6 +381,7 @@ static PyObject *connection_standing(PyObject *it, PyObject *none)
     if (check((Object *)self))
         return NULL;
     uint32_t code = mysql_session_connection_standing(at(self), &s);
+    stand_before(connection_untold(self), &s);
     return code ? fail(self->state, code)
                 : Py_BuildValue("(IIIIIIIKnnn)", (unsigned)s.turn, (unsigned)s.phase,
                                 (unsigned)s.reason, (unsigned)s.capabilities,
@@ -314,13 +391,15 @@ static PyObject *connection_standing(PyObject *it, PyObject *none)
                                 (Py_ssize_t)s.held);
 }
 
-static PyObject *connection_mode(PyObject *it, PyObject *none)
+static PyObject *connection_known(PyObject *it, PyObject *none)
 {
     (void)none;
     Connection *self = (Connection *)it;
     if (check((Object *)self))
         return NULL;
-    return PyLong_FromUnsignedLong(mysql_session_connection_mode(at(self)));
+    mysql_session_known known = MYSQL_SESSION_NOTHING_KNOWN;
+    mysql_session_connection_known(at(self), &known);
+    return of_known(&known);
 }
 
 static PyObject *connection_close_side(PyObject *it, PyObject *side)
@@ -351,6 +430,8 @@ static PyObject *connection_finish(PyObject *it, PyObject *none)
     PyObject *made = NULL;
     if (!connection_set_aside(self)) {
         uint32_t code = mysql_session_connection_finish(at(self), &end);
+        if (has_untold(self))
+            end.kind = MYSQL_SESSION_CONNECTION_UNREAD;
         self->is_planned = false;
         self->shows_row = self->is_lent = self->has_cells = false;
         made = code ? fail(self->state, code)
@@ -501,13 +582,14 @@ static PyMethodDef connection_methods[] = {
     {"ungive", connection_ungive, METH_NOARGS, NULL},
     {"put", connection_put, METH_VARARGS, NULL},
     {"put_packets", connection_put_packets, METH_VARARGS, NULL},
+    {"put_sets", connection_put_sets, METH_VARARGS, NULL},
     {"unsent", connection_unsent, METH_O, NULL},
     {"line", connection_line, METH_VARARGS, NULL},
     {"columns", connection_columns, METH_NOARGS, NULL},
     {"statement", connection_statement, METH_O, NULL},
     {"rest", connection_rest, METH_O, NULL},
     {"standing", connection_standing, METH_NOARGS, NULL},
-    {"mode", connection_mode, METH_NOARGS, NULL},
+    {"known", connection_known, METH_NOARGS, NULL},
     {"close_side", connection_close_side, METH_O, NULL},
     {"finish", connection_finish, METH_NOARGS, NULL},
     {NULL, NULL, 0, NULL}};

@@ -83,6 +83,8 @@ int connection_show(Connection *self, bool lent);
 int connection_keep_lent(Connection *self);
 /* Copies an event that wasn't given, before the library shows another. */
 int connection_set_aside(Connection *self);
+/* The kind of the event that was read and isn't told yet, or MYSQL_SESSION_EVENT_NONE. */
+uint32_t connection_untold(const Connection *self);
 /* Has what a failed call read stand as rows, or as a table. */
 int connection_settle(Connection *self, bool as_rows);
 PyObject *connection_next(PyObject *it, PyObject *none);

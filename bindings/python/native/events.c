@@ -483,6 +483,15 @@ int connection_set_aside(Connection *self)
     return 0;
 }
 
+uint32_t connection_untold(const Connection *self)
+{
+    if (self->has_table ||
+        (self->kept && (!PyList_Check(self->kept) || self->kept_at < PyList_Size(self->kept))))
+        return MYSQL_SESSION_EVENT_ROW;
+    /* No other event is shown before a copied one is told. */
+    return self->is_taken || self->copied ? self->event.kind : MYSQL_SESSION_EVENT_NONE;
+}
+
 /* Has what a failed call read stand as rows, or as a table. */
 int connection_settle(Connection *self, bool as_rows)
 {

@@ -131,12 +131,58 @@ static PyObject *mode_of_sql_mode(PyObject *module, PyObject *it)
     return PyLong_FromUnsignedLong(flags);
 }
 
+/* What is known of a session goes in and comes out as the fields of the struct. */
+PyObject *of_known(const mysql_session_known *known)
+{
+    return Py_BuildValue("(IOO)", (unsigned)known->flags, known->set_known ? Py_True : Py_False,
+                         known->counts ? Py_True : Py_False);
+}
+
+static PyObject *known_behind_text(PyObject *module, PyObject *args)
+{
+    (void)module;
+    mysql_session_known known = MYSQL_SESSION_NOTHING_KNOWN;
+    In text = {0};
+    if (!PyArg_ParseTuple(args, "O&O&O&O&", to_u32, &known.flags, to_bool, &known.set_known,
+                          to_bool, &known.counts, to_text, &text))
+        return NULL;
+    mysql_session_known_behind_text(&known, text.at, text.len);
+    in_end(&text);
+    return of_known(&known);
+}
+
+static PyObject *known_behind_ok(PyObject *module, PyObject *args)
+{
+    (void)module;
+    mysql_session_known known = MYSQL_SESSION_NOTHING_KNOWN;
+    uint16_t status;
+    In changes = {0};
+    if (!PyArg_ParseTuple(args, "O&O&O&O&O&", to_u32, &known.flags, to_bool, &known.set_known,
+                          to_bool, &known.counts, to_u16, &status, to_piece, &changes))
+        return NULL;
+    mysql_session_known_behind_ok(&known, status, changes.at, changes.len);
+    in_end(&changes);
+    return of_known(&known);
+}
+
 static PyObject *is_safe_to_quote(PyObject *module, PyObject *it)
 {
     (void)module;
     uint16_t collation;
     return to_u16(it, &collation) ? PyBool_FromLong((long)mysql_session_is_safe_to_quote(collation))
                                   : NULL;
+}
+
+static PyObject *place_count(PyObject *module, PyObject *args)
+{
+    In text = {0};
+    uint32_t flags;
+    size_t count = 0;
+    if (!PyArg_ParseTuple(args, "O&O&", in_of_text, &text, to_u32, &flags))
+        return NULL;
+    uint32_t code = mysql_session_place_count(text.at, text.len, flags, &count);
+    in_end(&text);
+    return code ? fail(PyModule_GetState(module), code) : PyLong_FromSize_t(count);
 }
 
 /* ---- Payloads that are written and read at once ------------------------------------------------ */
@@ -333,7 +379,10 @@ static PyMethodDef methods[] = {
     {"code_text", code_text, METH_O, NULL},
     {"mode_of_status", mode_of_status, METH_O, NULL},
     {"mode_of_sql_mode", mode_of_sql_mode, METH_O, NULL},
+    {"known_behind_text", known_behind_text, METH_VARARGS, NULL},
+    {"known_behind_ok", known_behind_ok, METH_VARARGS, NULL},
     {"is_safe_to_quote", is_safe_to_quote, METH_O, NULL},
+    {"place_count", place_count, METH_VARARGS, NULL},
     {"packet_put", packet_put, METH_VARARGS, NULL},
     {"greeting_read", greeting_read, METH_O, NULL},
     {"greeting_put", greeting_put, METH_VARARGS, NULL},
@@ -384,6 +433,7 @@ static int module_exec(PyObject *module)
     if (!(state->decimal = attribute("decimal", "Decimal")) ||
         !(state->date = attribute("datetime", "date")) ||
         !(state->datetime = attribute("datetime", "datetime")) ||
+        !(state->time = attribute("datetime", "time")) ||
         !(state->timedelta = attribute("datetime", "timedelta")) ||
         !(state->mapping = attribute("collections.abc", "Mapping")) ||
         !(state->unordered = attribute("collections.abc", "Set")) ||
@@ -409,6 +459,7 @@ static int module_traverse(PyObject *module, visitproc visit, void *arg)
     Py_VISIT(state->decimal);
     Py_VISIT(state->date);
     Py_VISIT(state->datetime);
+    Py_VISIT(state->time);
     Py_VISIT(state->timedelta);
     Py_VISIT(state->mapping);
     Py_VISIT(state->unordered);
@@ -439,6 +490,7 @@ static int module_clear(PyObject *module)
     Py_CLEAR(state->decimal);
     Py_CLEAR(state->date);
     Py_CLEAR(state->datetime);
+    Py_CLEAR(state->time);
     Py_CLEAR(state->timedelta);
     Py_CLEAR(state->mapping);
     Py_CLEAR(state->unordered);

@@ -50,7 +50,7 @@ typedef struct {
     int event_count;
     const EventClass *events[EVENT_KINDS];
     /* Types of Python's library. */
-    PyObject *decimal, *date, *datetime, *timedelta, *mapping, *unordered;
+    PyObject *decimal, *date, *datetime, *time, *timedelta, *mapping, *unordered;
     PyObject *none_given, *no_bytes, *room_key;
     /* Dates come again in a table: the last one of each slot is kept, and found by its number. */
     PyObject *dates[DATES];
@@ -148,6 +148,9 @@ int in_of_text(PyObject *it, In *in);
 
 /* A piece of this length is read with the lock let go. */
 enum { LET_GO = 1 << 17 };
+
+/* What is known of a session, by the fields of the struct. */
+PyObject *of_known(const mysql_session_known *known);
 
 /* ---- Bytes that the library wrote ------------------------------------------------------------- */
 

@@ -103,23 +103,24 @@ static int float_in(PyObject *it, bool is_narrow, mysql_session_parameter *value
     return 0;
 }
 
+/* Refuses a datetime or a time with a zone, which no parameter has. */
+static int no_zone(PyObject *it)
+{
+    PyObject *zone = PyObject_GetAttrString(it, "tzinfo");
+    bool has_zone = zone && zone != Py_None;
+    if (has_zone)
+        PyErr_Format(PyExc_ValueError, "a parameter has no time zone: convert %R to a naive one", it);
+    Py_XDECREF(zone);
+    return zone && !has_zone ? 0 : -1;
+}
+
 static int date_in(PyObject *it, bool has_time, mysql_session_parameter *value)
 {
     static const char *const NAMES[] = {"year",   "month",  "day",        "hour",
                                         "minute", "second", "microsecond"};
     int64_t fields[7] = {0};
-    if (has_time) {
-        PyObject *zone = PyObject_GetAttrString(it, "tzinfo");
-        if (!zone)
-            return -1;
-        bool has_zone = zone != Py_None;
-        Py_DECREF(zone);
-        if (has_zone) {
-            PyErr_SetString(PyExc_ValueError,
-                            "a parameter has no time zone: convert the datetime to a naive one");
-            return -1;
-        }
-    }
+    if (has_time && no_zone(it))
+        return -1;
     for (int i = 0; i < (has_time ? 7 : 3); i++)
         if (attribute_in(it, NAMES[i], &fields[i]))
             return -1;
@@ -154,6 +155,21 @@ static int duration_in(PyObject *it, mysql_session_parameter *value)
     value->hour = (uint8_t)(whole % 86400 / 3600);
     value->minute = (uint8_t)(whole % 3600 / 60);
     value->second = (uint8_t)(whole % 60);
+    value->micros = (uint32_t)micros;
+    return 0;
+}
+
+/* A time of day, as a duration since midnight. */
+static int time_in(PyObject *it, mysql_session_parameter *value)
+{
+    int64_t hour, minute, second, micros;
+    if (no_zone(it) || attribute_in(it, "hour", &hour) || attribute_in(it, "minute", &minute) ||
+        attribute_in(it, "second", &second) || attribute_in(it, "microsecond", &micros))
+        return -1;
+    value->kind = MYSQL_SESSION_TIME;
+    value->hour = (uint8_t)hour;
+    value->minute = (uint8_t)minute;
+    value->second = (uint8_t)second;
     value->micros = (uint32_t)micros;
     return 0;
 }
@@ -210,6 +226,39 @@ static int is_a(PyObject *it, PyObject *class)
     return (PyObject *)Py_TYPE(it) == class ? 1 : PyObject_IsInstance(it, class);
 }
 
+/* What goes as the text that str makes of it. */
+static int text_in(PyObject *it, Set *set, mysql_session_parameter *value)
+{
+    PyObject *text = PyObject_Str(it);
+    int wrong = text ? bytes_in(text, set, value) : -1;
+    Py_XDECREF(text);
+    return wrong;
+}
+
+static int decimal_in(PyObject *it, Set *set, mysql_session_parameter *value)
+{
+    PyObject *finite = PyObject_CallMethod(it, "is_finite", NULL);
+    int is = finite ? PyObject_IsTrue(finite) : -1;
+    Py_XDECREF(finite);
+    if (!is)
+        PyErr_Format(PyExc_ValueError, "%R is no number that a server has", it);
+    return is > 0 ? text_in(it, set, value) : -1;
+}
+
+/* There is no UUID before its module is imported, which isn't done here. */
+static int is_uuid(PyObject *it)
+{
+    PyObject *module = PyDict_GetItemString(PyImport_GetModuleDict(), "uuid");
+    PyObject *class = module ? PyObject_GetAttrString(module, "UUID") : NULL;
+    if (!class) {
+        PyErr_Clear();
+        return 0;
+    }
+    int is = is_a(it, class);
+    Py_DECREF(class);
+    return is;
+}
+
 /* Puts a value into its place of the array. */
 static int value_in(State *state, PyObject *it, bool is_narrow, Set *set,
                     mysql_session_parameter *value)
@@ -233,6 +282,12 @@ static int value_in(State *state, PyObject *it, bool is_narrow, Set *set,
         return is < 0 ? -1 : date_fields_in(it, value);
     if (PyTuple_Check(it) && (is = is_a(it, state->time_fields)))
         return is < 0 ? -1 : time_fields_in(it, value);
+    if ((is = is_a(it, state->decimal)))
+        return is < 0 ? -1 : decimal_in(it, set, value);
+    if ((is = is_a(it, state->time)))
+        return is < 0 ? -1 : time_in(it, value);
+    if ((is = is_uuid(it)))
+        return is < 0 ? -1 : text_in(it, set, value);
     PyObject *name = PyObject_GetAttrString((PyObject *)Py_TYPE(it), "__name__");
     if (name)
         PyErr_Format(PyExc_TypeError, "a parameter can't be of the type %S", name);

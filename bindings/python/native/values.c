@@ -578,8 +578,12 @@ static int reading_of(PyObject *it, Reading *reading)
     PyObject *codec;
     Py_ssize_t place;
     int how;
-    if (!PyTuple_Check(it) || !PyArg_ParseTuple(it, "niOOO&", &place, &how, &codec, &reading->reader,
-                                                to_bool, &reading->is_optional))
+    if (!PyTuple_Check(it)) {
+        PyErr_SetString(PyExc_TypeError, "a reading is a tuple");
+        return -1;
+    }
+    if (!PyArg_ParseTuple(it, "niOOO&", &place, &how, &codec, &reading->reader, to_bool,
+                          &reading->is_optional))
         return -1;
     if (place < 0 || how < 0 || how > AS_IT_IS) {
         PyErr_SetString(PyExc_ValueError, "there is no such reading");

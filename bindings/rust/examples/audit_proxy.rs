@@ -38,11 +38,15 @@ mod masking;
 mod passing;
 #[path = "../../audit/src/plain.rs"]
 mod plain;
+#[path = "../../audit/src/secrecy.rs"]
+mod secrecy;
 #[allow(dead_code)] // (the program has more of it told)
 #[path = "../../audit/src/teller.rs"]
 mod teller;
 #[path = "../../audit/src/texts.rs"]
 mod texts;
+#[path = "../../audit/src/unanswered.rs"]
+mod unanswered;
 
 use audit::{Audit, OnFault};
 use commands::Telling;
@@ -132,6 +136,7 @@ impl Options {
             secrets: self.secrets,
             digests: false,
             redacts: false,
+            most: usize::MAX,
             mode: Mode::default(),
             has_secrets: false,
         }
@@ -288,7 +293,7 @@ fn plain_greeting(server: &mut TcpStream) -> Result<Vec<u8>, Failure> {
     let mut payload = unread.packet(server, &mut PacketReader::new(0, LIMIT)?)?;
     // A server that refuses the client sends an error in place of a greeting.
     if payload.first() != Some(&ERROR) {
-        hide(&mut payload)?;
+        hide(&mut payload, 0)?;
     }
     let mut came = Vec::new();
     write_packet(&mut came, 0, &payload)?;

@@ -25,8 +25,8 @@ mod passwords;
 
 use client::{Account, Client, Failure, LIMIT};
 use mysql_session::{
-    capability, column_type, command, executions_in, Capabilities, ColumnType, Event, FromValue,
-    OkPacket, ParameterSets, Time, Value,
+    capability, column_type, command, executions_in, place_count, Capabilities, ColumnType, Event,
+    FromValue, OkPacket, ParameterSets, Time, Value,
 };
 use passwords::Secret;
 use std::env;
@@ -149,11 +149,12 @@ fn execute(
     let Some(statement) = statement_of(client, out)? else {
         return Ok(false);
     };
+    let places = place_count(query, mode)?;
     let packets = executions_in(sets, query, statement, LIMIT, mode)?;
     let mut left = &packets[..];
     let mut done = true;
     while !left.is_empty() {
-        let used = client.send_packets(left)?;
+        let used = client.send_sets(statement, places, left)?;
         left = &left[used..];
         done &= print_reply(client, out)?;
     }

@@ -149,6 +149,14 @@ impl Replay {
             self.left_out += 1;
             return Ok(());
         };
+        if let Some(counted) = self.other_count(command, &payload) {
+            println!(
+                "command {number}, {}: left out, this server counted {counted} parameters",
+                command.title
+            );
+            self.left_out += 1;
+            return Ok(());
+        }
         self.put += 1;
         self.client.send(&payload)?;
         let reply = self.reply_to(command)?;
@@ -176,6 +184,15 @@ impl Replay {
             place.copy_from_slice(&id.to_le_bytes());
         }
         Some(payload)
+    }
+
+    /// The number of parameters that this server counted, where an execution has another number of
+    /// values. It would run it with other values than were recorded.
+    fn other_count(&self, command: &Command, payload: &[u8]) -> Option<usize> {
+        let values = command.values?;
+        let id = u32::from_le_bytes(payload.get(1..5)?.try_into().ok()?);
+        let counted = self.client.parameters(id)?;
+        (counted != values).then_some(counted)
     }
 
     /// Reads the reply to a command, and sends the file that the server wants.

@@ -1,13 +1,20 @@
 //! Reads a server's binary log, as a replica does, and prints the header of each event:
 //!
 //! ```text
-//! replication_reader ADDRESS USER [--file NAME --position N | --gtid POSITION] [--events N]
+//! replication_reader ADDRESS USER WHERE [--events N]
 //! ```
 //!
-//! The user logs in as blocking_client has it, by MYSQL_PASSWORD or MYSQL_PASSWORD_SHA1. The log is
-//! read from its first file on, or from a position in a file. Or it is read behind a position of
-//! MariaDB's global transaction identifiers, as `0-1-42`. It is read to its end, or until N events
-//! were printed.
+//! WHERE says from where the log is read:
+//!
+//! - `--first`: from its first file on;
+//! - `--file NAME --position N`: from a position in a file on;
+//! - `--gtid GTIDS`: behind the transactions of these global identifiers. At a MySQL they are those
+//!   that its `@@gtid_executed` tells, as `3e11fa47-71ca-11e1-9e33-c80aa9429562:1-5:tag:1-3`. At a
+//!   MariaDB they are a position, as `0-1-42`.
+//!
+//! It is read to its end, or until N events were printed. Of each event the header is read: what its
+//! body says is not. The user logs in as blocking_client has it, by MYSQL_PASSWORD or
+//! MYSQL_PASSWORD_SHA1.
 
 #[path = "blocking_client/client.rs"]
 #[allow(dead_code)] // its queries of one text: here they have values
@@ -20,16 +27,16 @@ mod passwords;
 use client::{Account, Client, LIMIT};
 use common::{Failure, Unread};
 use mysql_session::{
-    capability, BinlogDump, Bytes, Capabilities, Event, PacketReader, ParameterSets,
-    RegisterReplica, Value, BINLOG_DUMP_NON_BLOCK,
+    capability, BinlogDump, BinlogDumpGtid, Bytes, Capabilities, Event, PacketReader,
+    ParameterSets, RegisterReplica, Value, BINLOG_DUMP_NON_BLOCK,
 };
 use passwords::Secret;
 use std::env;
 use std::io::{self, Write};
 use std::process::ExitCode;
 
-const USAGE: &str =
-    "replication_reader ADDRESS USER [--file NAME --position N | --gtid POSITION] [--events N]";
+const USAGE: &str = "replication_reader ADDRESS USER \
+    (--first | --file NAME --position N | --gtid GTIDS) [--events N]";
 
 const CAPABILITIES: Capabilities = Capabilities {
     protocol: capability::CLIENT_LONG_PASSWORD
@@ -44,13 +51,19 @@ const CAPABILITIES: Capabilities = Capabilities {
 /// How many bytes an event's header has.
 const HEADER: usize = 19;
 
+/// From where the log is read.
+enum Start {
+    /// From a position in a file; the file without a name is the first one.
+    File(String, u32),
+    /// Behind the transactions of these global identifiers.
+    Gtid(String),
+}
+
 /// What is asked for.
 struct Request {
     address: String,
     user: String,
-    file: String,
-    position: u32,
-    gtid: Option<String>,
+    start: Start,
     events: Option<u64>,
 }
 
@@ -74,29 +87,26 @@ fn request_of(words: &[String]) -> Option<Request> {
     let [address, user, options @ ..] = words else {
         return None;
     };
-    let mut request = Request {
+    let options: Vec<&str> = options.iter().map(String::as_str).collect();
+    let (start, events) = match options[..] {
+        ["--first", ref rest @ ..] => (Start::File(String::new(), 4), rest),
+        ["--gtid", gtids, ref rest @ ..] => (Start::Gtid(gtids.into()), rest),
+        ["--file", name, "--position", position, ref rest @ ..] => {
+            (Start::File(name.into(), position.parse().ok()?), rest)
+        }
+        _ => return None,
+    };
+    let events = match events {
+        [] => None,
+        ["--events", count] => Some(count.parse().ok()?),
+        _ => return None,
+    };
+    Some(Request {
         address: address.clone(),
         user: user.clone(),
-        file: String::new(),
-        position: 4,
-        gtid: None,
-        events: None,
-    };
-    let (mut file, mut position) = (false, false);
-    for option in options.chunks(2) {
-        let [name, value] = option else {
-            return None;
-        };
-        match name.as_str() {
-            "--file" => (request.file, file) = (value.clone(), true),
-            "--position" => (request.position, position) = (value.parse().ok()?, true),
-            "--gtid" => request.gtid = Some(value.clone()),
-            "--events" => request.events = Some(value.parse().ok()?),
-            _ => return None,
-        }
-    }
-    let both = file && request.gtid.is_some();
-    (file == position && !both).then_some(request)
+        start,
+        events,
+    })
 }
 
 /// Logs in, registers as a replica, and prints the log's events and how many they are.
@@ -108,19 +118,8 @@ fn read_log(request: &Request) -> Result<(), Failure> {
         capabilities: CAPABILITIES,
     };
     let mut client = Client::connect(&request.address, &account)?;
-    set(
-        &mut client,
-        b"SET @master_binlog_checksum = @@global.binlog_checksum",
-        &[],
-    )?;
-    set(
-        &mut client,
-        b"SET @mariadb_slave_capability = ?",
-        &[4.into()],
-    )?;
-    if let Some(gtid) = &request.gtid {
-        set(&mut client, b"SET @slave_connect_state = ?", &[gtid.into()])?;
-    }
+    let is_mariadb = client.is_mariadb();
+    set_up(&mut client, is_mariadb)?;
     let server = std::process::id();
     let mut payload = Bytes::new()?;
     RegisterReplica {
@@ -131,17 +130,49 @@ fn read_log(request: &Request) -> Result<(), Failure> {
     client.send(&payload)?;
     read_reply(&mut client)?;
     payload.clear();
-    BinlogDump {
-        server,
-        position: request.position,
-        flags: BINLOG_DUMP_NON_BLOCK,
-        file: request.file.as_bytes(),
+    match &request.start {
+        Start::Gtid(gtids) if is_mariadb => {
+            let state = b"SET @slave_connect_state = ?";
+            set(&mut client, state, &[gtids.into()])?;
+            put_dump(server, "", 4, &mut payload)?;
+        }
+        Start::Gtid(gtids) => BinlogDumpGtid {
+            server,
+            position: 4,
+            flags: BINLOG_DUMP_NON_BLOCK,
+            file: b"",
+            gtids: gtids.as_bytes(),
+        }
+        .put(&mut payload)?,
+        Start::File(file, position) => put_dump(server, file, *position, &mut payload)?,
     }
-    .put(&mut payload)?;
     client.send(&payload)?;
     let mut out = io::stdout().lock();
     let events = print_events(client, request.events, &mut out)?;
     Ok(writeln!(out, "{events} events")?)
+}
+
+/// The request for the log from a position in a file on.
+fn put_dump(server: u32, file: &str, position: u32, out: &mut Bytes) -> Result<(), Failure> {
+    Ok(BinlogDump {
+        server,
+        position,
+        flags: BINLOG_DUMP_NON_BLOCK,
+        file: file.as_bytes(),
+    }
+    .put(out)?)
+}
+
+/// Tells the server that a replica can read checksums, and a MariaDB's own events. The variable of
+/// checksums has a new name from MySQL 8.0.26 on.
+fn set_up(client: &mut Client, is_mariadb: bool) -> Result<(), Failure> {
+    let checksum = b"SET @master_binlog_checksum = @@global.binlog_checksum";
+    set(client, checksum, &[])?;
+    if is_mariadb {
+        return set(client, b"SET @mariadb_slave_capability = ?", &[4.into()]);
+    }
+    let checksum = b"SET @source_binlog_checksum = @@global.binlog_checksum";
+    set(client, checksum, &[])
 }
 
 /// Sets a variable by a query with these values, which is written for the session's mode.
@@ -250,6 +281,13 @@ fn type_name(kind: u8) -> &'static str {
         33 => "GTID_LOG_EVENT (MySQL)",
         34 => "ANONYMOUS_GTID_LOG_EVENT",
         35 => "PREVIOUS_GTIDS_LOG_EVENT",
+        36 => "TRANSACTION_CONTEXT_EVENT",
+        37 => "VIEW_CHANGE_EVENT",
+        38 => "XA_PREPARE_LOG_EVENT",
+        39 => "PARTIAL_UPDATE_ROWS_EVENT",
+        40 => "TRANSACTION_PAYLOAD_EVENT",
+        41 => "HEARTBEAT_LOG_EVENT_V2",
+        42 => "GTID_TAGGED_LOG_EVENT",
         160 => "ANNOTATE_ROWS_EVENT",
         161 => "BINLOG_CHECKPOINT_EVENT",
         162 => "GTID_EVENT (MariaDB)",

@@ -208,6 +208,10 @@ codes! {
         pub const CONNECTION_NOT_DUE: Code = Code(519);
         /// It isn't the turn of this side's payload, so that it can't be put.
         pub const CONNECTION_NOT_ITS_TURN: Code = Code(520);
+        /// The statement whose sets are put isn't known.
+        pub const CONNECTION_UNKNOWN_STATEMENT: Code = Code(521);
+        /// The server counted another number of parameters than the query has placeholders.
+        pub const CONNECTION_WRONG_COUNT: Code = Code(522);
     }
 }
 

@@ -5,7 +5,7 @@ use crate::codes::{answer, certain, in_range, shown_code, At, Code, Error};
 use crate::events::Event;
 use crate::handle::check_interface;
 use crate::login::Greeting;
-use crate::modes::Mode;
+use crate::modes::{Mode, SessionMode, Spelling};
 use crate::phase::{Capabilities, Limits, Phase, Reason};
 use crate::raw;
 use crate::readable::debug_with_texts;
@@ -491,30 +491,27 @@ impl Connection {
     }
 
     /// Puts framed packets of a side, one after another while it is its turn, as
-    /// [`executions`](crate::executions), [`send`](crate::send) and a
-    /// [`ReplyWriter`](crate::ReplyWriter) make them. They get the next numbers. The answer
-    /// is how many bytes of them were taken: all, or those before the first packet whose turn
-    /// hasn't come. A packet that is cut off at the end is left. No event is shown of what was put.
+    /// [`send`](crate::send) and a [`ReplyWriter`](crate::ReplyWriter) make them. They get the next
+    /// numbers. The answer is how many bytes of them were taken: all, or those before the first
+    /// packet whose turn hasn't come. A packet that is cut off at the end is left. No event is shown
+    /// of what was put.
     ///
     /// So nothing tells of a command that is laid out as none, which [`Connection::put`] answers as
     /// [`Event::Other`]. Such are executions of a statement that [`Connection::statement`] doesn't
-    /// know, and those for other capabilities than are in force.
+    /// know, and those for other capabilities than are in force. No count is compared here:
+    /// executions of a query's sets go by [`Connection::put_sets`].
     ///
-    /// So an execution with its long data and a whole reply are one call each. A list of executions
-    /// is put up to the first one, which has a reply:
+    /// A whole reply is one call:
     ///
     /// ```
-    /// use mysql_session::{
-    ///     executions, Bytes, Capabilities, Connection, Limits, ParameterSets, Side,
-    /// };
+    /// use mysql_session::{command, put_packet, Bytes, Capabilities, Connection, Limits, Side};
     ///
     /// # fn main() -> Result<(), Box<dyn std::error::Error>> {
     /// let capabilities = Capabilities { protocol: 1 << 9, mariadb: 0 };
     /// let mut connection = Connection::after_login(Limits::default(), capabilities)?;
-    /// let mut sets = ParameterSets::new()?;
-    /// sets.add(&[7.into()])?;
-    /// sets.add(&[8.into()])?;
-    /// let packets = executions(&sets, b"SELECT ?", 1, 1 << 24)?;
+    /// let (mut packets, mut number) = (Bytes::new()?, 0);
+    /// put_packet(&command::ping(), &mut number, 1 << 24, &mut packets)?;
+    /// put_packet(&command::ping(), &mut number, 1 << 24, &mut packets)?;
     /// let mut out = Bytes::new()?;
     /// let used = connection.put_packets(Side::Client, &packets, &mut out)?;
     /// assert_eq!(out.as_slice(), &packets[..used]);
@@ -559,6 +556,85 @@ impl Connection {
         }
     }
 
+    /// Puts packets of a query's sets for the statement of this id, if the server counted as many
+    /// parameters as the query has placeholders. The packets are those of
+    /// [`executions`](crate::executions) or [`bulk_executions`](crate::bulk_executions), and the
+    /// number of placeholders is [`place_count`](crate::place_count)'s.
+    ///
+    /// The bytes of an execution don't tell how many values it has. A server that counted another
+    /// number runs it with other values than were meant. So sets go by this call, and not by
+    /// [`Connection::put_packets`]. The answer is how many bytes of the packets were taken. An
+    /// execution with its long data is one call, and the next one waits for the reply.
+    ///
+    /// ```
+    /// use mysql_session::{
+    ///     column_type, command, executions, place_count, Bytes, Capabilities, Code, ColumnType,
+    ///     Connection, Limits, Mode, ParameterSets, ReplyKind, ReplyWriter, Side,
+    /// };
+    ///
+    /// # fn main() -> Result<(), Box<dyn std::error::Error>> {
+    /// let capabilities = Capabilities { protocol: 1 << 9, mariadb: 0 };
+    /// let mut connection = Connection::after_login(Limits::default(), capabilities)?;
+    /// let query = b"DELETE FROM t WHERE id = ? /*!80000 AND k = ? */";
+    /// let mut out = Bytes::new()?;
+    /// connection.put(Side::Client, &command::prepare(query), &mut out)?;
+    /// // A MariaDB answers: statement 9 has one parameter.
+    /// # let mut answer = Bytes::new()?;
+    /// # let mut writer = ReplyWriter::new(ReplyKind::Prepare, capabilities.protocol, 1, 1 << 24)?;
+    /// # let kind = column_type::VAR_STRING;
+    /// # let text = ColumnType { kind, flags: 0, charset: 63, length: 0, decimals: 0 };
+    /// # writer.column(b"?", text)?;
+    /// # writer.prepared(9, 1, 0, &mut answer)?;
+    /// connection.feed(Side::Server, &answer)?;
+    /// while connection.next_event()?.is_some() {}
+    ///
+    /// let mut sets = ParameterSets::new()?;
+    /// sets.add(&[5.into(), 7.into()])?;
+    /// let packets = executions(&sets, query, 9, 1 << 24)?;
+    /// let places = place_count(query, Mode::default())?;
+    /// let error = connection.put_sets(9, places, &packets, &mut out).unwrap_err();
+    /// assert_eq!(error.code(), Code::CONNECTION_WRONG_COUNT);
+    /// # Ok(())
+    /// # }
+    /// ```
+    ///
+    /// # Errors
+    /// The first that holds. Of the first two nothing has changed.
+    ///
+    /// - [`Code::CONNECTION_UNKNOWN_STATEMENT`]: the server's answer to its prepare hasn't come, or
+    ///   it is closed;
+    /// - [`Code::CONNECTION_WRONG_COUNT`];
+    /// - those of [`Connection::put_packets`].
+    pub fn put_sets(
+        &mut self,
+        statement: u32,
+        places: usize,
+        packets: &[u8],
+        out: &mut Bytes,
+    ) -> Result<usize, Error> {
+        self.forget();
+        let mut used = 0;
+        // SAFETY: as in `put_packets`.
+        let code = unsafe {
+            raw::mysql_session_connection_put_sets(
+                self.handle.get(),
+                statement,
+                places,
+                packets.as_ptr(),
+                packets.len(),
+                out.changing(),
+                &mut used,
+            )
+        };
+        match answer(code) {
+            Ok(()) => Ok(used),
+            Err(code @ (Code::CONNECTION_UNKNOWN_STATEMENT | Code::CONNECTION_WRONG_COUNT)) => {
+                Err(code.into())
+            }
+            Err(code) => Err(Error::new(code, Some(At::Byte(used)))),
+        }
+    }
+
     /// The event that was told or put last, again, until the connection changes.
     #[inline]
     pub fn event(&self) -> Option<Event<'_>> {
@@ -590,10 +666,12 @@ impl Connection {
     /// ```
     pub fn state_changes(&self) -> &[u8] {
         match self.event() {
-            Some(Event::Accepted(_) | Event::Ok(_) | Event::ColumnsEnd(_) | Event::RowsEnd(_)) => {
-                // SAFETY: as in `event`: the bytes are good until a call that takes `&mut self`.
-                unsafe { self.shown.0.data.bytes() }
-            }
+            Some(
+                Event::Accepted(packet)
+                | Event::Ok(packet)
+                | Event::ColumnsEnd(packet)
+                | Event::RowsEnd(packet),
+            ) => packet.state_changes,
             _ => &[],
         }
     }
@@ -708,18 +786,27 @@ impl Connection {
         }
     }
 
-    /// The session's SQL mode, by what came of the server so far, where it is known.
+    /// What is known of the session's SQL mode and character set, by all that was said so far.
     ///
-    /// A login, a change of user and a reset of the connection tell it. Behind a statement it is
-    /// known only where the server tells each change. Have it do so, if it has
-    /// `CLIENT_SESSION_TRACK`, by `SET session_track_system_variables = 'sql_mode', sql_mode =
-    /// @@sql_mode`, whose answer tells the mode. Where it is None take
-    /// [`Spelling::Hexadecimal`](crate::Spelling::Hexadecimal), or execute.
+    /// Behind a login, a change of user and a reset of the connection that is nothing: ask by
+    /// [`ASK_SESSION_MODE`](crate::ASK_SESSION_MODE).
     ///
     /// (MySQL Reference Manual, "Server SQL Modes", "Server Tracking of Client Session State".)
+    pub fn session_mode(&self) -> SessionMode {
+        let mut known = raw::Known::from(SessionMode::default());
+        // SAFETY: "Handles": by `ConnectionHandle::get`; "Results go out": a local.
+        unsafe { raw::mysql_session_connection_known(self.handle.get(), &mut known) };
+        known.into()
+    }
+
+    /// The session's SQL mode, where it is known: that of [`Connection::session_mode`].
     pub fn mode(&self) -> Option<Mode> {
-        // SAFETY: "Handles": by `ConnectionHandle::get`.
-        Mode::known(unsafe { raw::mysql_session_connection_mode(self.handle.get()) })
+        self.session_mode().mode
+    }
+
+    /// How byte strings are spelled in a text for the session: [`SessionMode::spelling`].
+    pub fn spelling(&self) -> Spelling {
+        self.session_mode().spelling()
     }
 
     /// The fault that was found.

@@ -572,7 +572,7 @@ impl<'a> Part<'a, '_> {
             // SAFETY: by this call's condition.
             4 => Event::Login(unsafe { self.login() }),
             5 => Event::CutOffLogin(self.request()),
-            6 => Event::Accepted(self.packet(text)),
+            6 => Event::Accepted(self.packet(text, data)),
             7 => Event::Denied(self.error(text)),
             8 => Event::AuthSwitch { plugin, data },
             9 => Event::OldAuthSwitch,
@@ -590,7 +590,7 @@ impl<'a> Part<'a, '_> {
     fn replied(&self, kind: u32, text: &'a [u8], data: &'a [u8]) -> Event<'a> {
         let shown = self.shown;
         match kind {
-            20 => Event::Ok(self.packet(text)),
+            20 => Event::Ok(self.packet(text, data)),
             21 => Event::Error(self.error(text)),
             22 => Event::Progress {
                 stage: shown.rows as u8,
@@ -607,14 +607,14 @@ impl<'a> Part<'a, '_> {
                 column: self.column(),
                 default: (shown.flags == 1).then_some(data),
             },
-            26 => Event::ColumnsEnd(self.packet(text)),
+            26 => Event::ColumnsEnd(self.packet(text, data)),
             27 => Event::Row(EventRow {
                 handle: self.handle,
                 len: shown.columns,
                 cells: self.cells,
             }),
             28 => Event::RawRow(data),
-            29 => Event::RowsEnd(self.packet(text)),
+            29 => Event::RowsEnd(self.packet(text, data)),
             30 => Event::FileRequest(text),
             31 => Event::Prepared {
                 statement: shown.statement,
@@ -710,7 +710,7 @@ impl<'a> Part<'a, '_> {
         }
     }
 
-    fn packet(&self, info: &'a [u8]) -> OkPacket<'a> {
+    fn packet(&self, info: &'a [u8], state_changes: &'a [u8]) -> OkPacket<'a> {
         let shown = self.shown;
         OkPacket {
             affected_rows: shown.affected_rows,
@@ -718,6 +718,7 @@ impl<'a> Part<'a, '_> {
             status: shown.status,
             warnings: shown.warnings,
             info,
+            state_changes,
         }
     }
 

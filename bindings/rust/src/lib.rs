@@ -5,10 +5,10 @@
 //!   [`Recoder`] and [`recode`] make one form of it.
 //! - [`send`] appends [`ParameterSets`] as commands to [`Bytes`], by text, by execution or in bulk.
 //!   [`executions`] has those of a statement that was prepared before, [`put_execution`] one with
-//!   floats. And [`bind_text`] puts one set into the query's text. [`digest`] takes the values out of
+//!   floats; [`Connection::put_sets`] puts them where the server counted as many parameters. And [`bind_text`] puts one set into the query's text. [`digest`] takes the values out of
 //!   a text.
 //! - [`Mode`] is how a server reads a text, and [`Spelling`] how byte strings are written in one:
-//!   calls whose names end with `_in` take them.
+//!   calls whose names end with `_in` take them. [`SessionMode`] is what is known of a session.
 //! - [`ReplyReader`] reads a server's reply; [`ReplyWriter`] writes one.
 //! - [`Connection`] reads a whole connection, and tells each payload of either side as an
 //!   [`Event`]. A client and a server put theirs on it; [`command`] makes payloads of commands.
@@ -85,7 +85,7 @@ pub use event_values::{Attributes, BulkRow, BulkRows, BulkValue, EventRow, Value
 pub use events::{ClientChange, ClientLogin, ClientRequest, Event, OtherCommand, ServerGreeting};
 pub use iter::Iter;
 pub use login::{Greeting, Login};
-pub use modes::{is_safe_to_quote, Mode, Spelling};
+pub use modes::{is_safe_to_quote, Mode, SessionMode, Spelling, ASK_SESSION_MODE};
 pub use names::{NameError, NamedQuery};
 pub use packets::{put_packet, PacketReader, Payloads};
 pub use phase::{Capabilities, Limits, Phase, Reason};
@@ -98,8 +98,8 @@ pub use results::{
     SessionState, SessionStates,
 };
 pub use sending::{
-    bind_text, bind_text_in, bulk_executions, executions, executions_in, put_execution, send,
-    send_in, value_text, value_text_in, Road,
+    bind_text, bind_text_in, bulk_executions, executions, executions_in, place_count,
+    put_execution, send, send_in, value_text, value_text_in, Road,
 };
 pub use sets::ParameterSets;
 pub use values::{Content, Date, Time, Value};

@@ -2,6 +2,7 @@
 
 use crate::handle::check_interface;
 use crate::raw;
+use crate::results::OkPacket;
 
 /// The SQL mode of a server, as far as it changes how a text is read. The default has neither.
 ///
@@ -77,11 +78,8 @@ impl Mode {
     }
 
     /// The mode that the library's flags tell, where it is known.
-    pub(crate) fn known(flags: u32) -> Option<Mode> {
-        match flags {
-            raw::UNKNOWN_MODE => None,
-            flags => Some(Mode::told(flags)),
-        }
+    fn known(flags: u32) -> Option<Mode> {
+        (flags & raw::UNKNOWN_MODE == 0).then(|| Mode::told(flags))
     }
 
     /// The mode that the library's flags tell.
@@ -128,6 +126,129 @@ pub enum Spelling {
     /// and `''` for no bytes. They are the same in each mode and each character set, and a text or a
     /// string of bytes also where a number is wanted.
     Hexadecimal,
+}
+
+/// The text that asks a server for the mode and the character set of its session.
+///
+/// It may be sent any number of times, at each server, and keeps all that was tracked. Its OK packet
+/// tells both where both sides have `CLIENT_SESSION_TRACK`; else texts stay in hexadecimal.
+///
+/// (MySQL Reference Manual, "Server Tracking of Client Session State".)
+pub const ASK_SESSION_MODE: &[u8] = b"SET session_track_system_variables = '*', \
+    sql_mode = @@sql_mode, character_set_client = @@character_set_client";
+
+/// What is known of a session's SQL mode and character set, by what was said so far.
+///
+/// A [`Connection`](crate::Connection) keeps it. A program that has none goes on with it by itself,
+/// behind each statement and each OK packet. The default is that nothing is known. Take it behind a
+/// login, a change of user and a reset, and ask by [`ASK_SESSION_MODE`].
+///
+/// Nothing is concluded from a status, a login or silence. A procedure's mode remains in the status
+/// of MariaDB. MySQL's has no bit of ANSI_QUOTES. And `init_connect` changes both behind a login.
+///
+/// (MySQL Reference Manual, "Server SQL Modes", "Connection Character Sets and Collations", "Server
+/// Tracking of Client Session State".)
+///
+/// ```
+/// use mysql_session::{Mode, OkPacket, SessionMode, Spelling, ASK_SESSION_MODE};
+///
+/// let asked = SessionMode::default().behind_text(ASK_SESSION_MODE);
+/// assert_eq!((asked.mode, asked.spelling()), (None, Spelling::Hexadecimal));
+/// let state_changes = b"\0\x27\x08sql_mode\0\x14character_set_client\x07utf8mb4";
+/// let told = asked.behind_ok(&OkPacket { state_changes, ..OkPacket::default() });
+/// assert_eq!((told.mode, told.spelling()), (Some(Mode::default()), Spelling::Quoted));
+/// let later = told.behind_text(b"SET NAMES gbk");
+/// assert_eq!((later.mode, later.spelling()), (Some(Mode::default()), Spelling::Hexadecimal));
+/// ```
+#[derive(Clone, Copy, Debug, Default, PartialEq, Eq, Hash)]
+pub struct SessionMode {
+    /// The session's mode, where it is known.
+    ///
+    /// Where it isn't, a query with a backslash may have other placeholders than it seems: take an
+    /// execution for it.
+    pub mode: Option<Mode>,
+    /// Whether quotes are safe in the session's character set, where it is known.
+    pub is_safe_set: Option<bool>,
+    /// Whether what the next OK packet tells counts.
+    pub counts: bool,
+}
+
+impl SessionMode {
+    /// How byte strings are spelled in a text for the session. It is [`Spelling::Quoted`] only where
+    /// the mode is known, and quotes are known to be safe in its character set.
+    pub fn spelling(self) -> Spelling {
+        match (self.mode, self.is_safe_set) {
+            (Some(_), Some(true)) => Spelling::Quoted,
+            _ => Spelling::Hexadecimal,
+        }
+    }
+
+    /// Behind a statement that is sent as this text, or that is executed as it was prepared of it.
+    /// Call it for each, before its reply is looked at, whether it is answered or refused.
+    ///
+    /// What was known stays behind one statement that begins with a word as SELECT, INSERT, COMMIT or
+    /// CALL. Behind a SET the mode or the character set that it names isn't known, and behind all else
+    /// neither is. A prepare, a close, a ping and the like change nothing.
+    #[must_use]
+    pub fn behind_text(self, text: &[u8]) -> SessionMode {
+        // SAFETY: "Bytes go in": the text is a slice; "Results go out": a local.
+        self.changed(|known| unsafe {
+            raw::mysql_session_known_behind_text(known, text.as_ptr(), text.len());
+        })
+    }
+
+    /// Behind an OK packet of the reply to that statement: one that is a result, or ends columns or
+    /// rows.
+    ///
+    /// What it tells of `sql_mode` and `character_set_client` is known then. It isn't where further
+    /// results follow, where the text has the word STATEMENT, or where it can't be read.
+    #[must_use]
+    pub fn behind_ok(self, packet: &OkPacket<'_>) -> SessionMode {
+        let changes = packet.state_changes;
+        // SAFETY: as in `behind_text`.
+        self.changed(|known| unsafe {
+            raw::mysql_session_known_behind_ok(
+                known,
+                packet.status,
+                changes.as_ptr(),
+                changes.len(),
+            );
+        })
+    }
+
+    /// What the library goes on to.
+    fn changed(self, change: impl FnOnce(&mut raw::Known)) -> SessionMode {
+        check_interface();
+        let mut known = raw::Known::from(self);
+        change(&mut known);
+        known.into()
+    }
+}
+
+impl From<raw::Known> for SessionMode {
+    fn from(known: raw::Known) -> SessionMode {
+        let is_safe_set = known.flags & raw::HEXADECIMAL == 0;
+        SessionMode {
+            mode: Mode::known(known.flags),
+            is_safe_set: known.set_known.then_some(is_safe_set),
+            counts: known.counts,
+        }
+    }
+}
+
+impl From<SessionMode> for raw::Known {
+    fn from(session: SessionMode) -> raw::Known {
+        let mode = session.mode.map_or(raw::UNKNOWN_MODE, Mode::flags);
+        let spelling = match session.is_safe_set {
+            Some(true) => 0,
+            _ => raw::HEXADECIMAL,
+        };
+        raw::Known {
+            flags: mode | spelling,
+            set_known: session.is_safe_set.is_some(),
+            counts: session.counts,
+        }
+    }
 }
 
 /// Whether literals in quotes are safe in a text that a server reads in this collation, which is

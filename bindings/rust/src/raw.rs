@@ -9,7 +9,7 @@ use std::ptr::null;
 use std::slice;
 
 /// `MYSQL_SESSION_ABI`: the interface that is declared here.
-pub const ABI: u32 = 10;
+pub const ABI: u32 = 11;
 
 // `enum mysql_session_flag`.
 pub const NO_BACKSLASH_ESCAPES: u32 = 1;
@@ -49,6 +49,15 @@ impl Text {
         // SAFETY: by this call's condition; the header forbids to read at no bytes alone.
         unsafe { slice::from_raw_parts(self.at, self.len) }
     }
+}
+
+/// `mysql_session_known`.
+#[repr(C)]
+#[derive(Clone, Copy)]
+pub struct Known {
+    pub flags: u32,
+    pub set_known: bool,
+    pub counts: bool,
 }
 
 /// `mysql_session_content`.
@@ -124,6 +133,7 @@ pub struct ReplyResult {
     pub params: usize,
     pub states: usize,
     pub text: Text,
+    pub changes: Text,
     pub state: [u8; 5],
     pub state_len: usize,
     pub ended: bool,
@@ -279,6 +289,13 @@ extern "C" {
     pub fn mysql_session_mode_of_status(status: u16) -> u32;
     pub fn mysql_session_mode_of_sql_mode(value: *const u8, len: usize) -> u32;
     pub fn mysql_session_is_safe_to_quote(collation: u16) -> u32;
+    pub fn mysql_session_known_behind_text(known: *mut Known, text: *const u8, len: usize);
+    pub fn mysql_session_known_behind_ok(
+        known: *mut Known,
+        status: u16,
+        changes: *const u8,
+        len: usize,
+    );
 
     pub fn mysql_session_receiver_new(
         handle: *mut Handle,
@@ -345,6 +362,12 @@ extern "C" {
     ) -> u32;
     pub fn mysql_session_bytes_clear(handle: *mut Handle) -> u32;
 
+    pub fn mysql_session_place_count(
+        query: *const u8,
+        len: usize,
+        flags: u32,
+        count: *mut usize,
+    ) -> u32;
     pub fn mysql_session_send(
         sets: *mut Handle,
         query: *const u8,
@@ -642,6 +665,15 @@ extern "C" {
         out: *mut Handle,
         used: *mut usize,
     ) -> u32;
+    pub fn mysql_session_connection_put_sets(
+        connection: *mut Connection,
+        statement: u32,
+        places: usize,
+        packets: *const u8,
+        len: usize,
+        out: *mut Handle,
+        used: *mut usize,
+    ) -> u32;
     pub fn mysql_session_connection_value(
         connection: *mut Connection,
         row: usize,
@@ -688,7 +720,7 @@ extern "C" {
         connection: *mut Connection,
         standing: *mut Standing,
     ) -> u32;
-    pub fn mysql_session_connection_mode(connection: *mut Connection) -> u32;
+    pub fn mysql_session_connection_known(connection: *mut Connection, known: *mut Known);
     pub fn mysql_session_connection_statement(
         connection: *mut Connection,
         id: u32,

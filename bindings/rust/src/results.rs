@@ -32,9 +32,11 @@ pub struct OkPacket<'a> {
     pub warnings: u16,
     /// What the server tells about it.
     pub info: &'a [u8],
+    /// The changes of the session's state, as the packet has them. None are written.
+    pub state_changes: &'a [u8],
 }
 
-debug_with_texts!(OkPacket: affected_rows, last_insert_id, status, warnings; info);
+debug_with_texts!(OkPacket: affected_rows, last_insert_id, status, warnings; info, state_changes);
 
 /// An error of the server. Its text is as the server's own clients print it:
 ///
@@ -148,37 +150,29 @@ fn result_of(of: Number<'_>) -> Result<ReplyResult<'_>, Error> {
     let mut shown = raw::ReplyResult::default();
     // SAFETY: "Handles": by `Handle::get`; "Results go out": a local.
     answer(unsafe { raw::mysql_session_reply_result(of.handle.get(), of.number, &mut shown) })?;
-    // SAFETY: "Its text is good until the next call on the handle other than" those that look at
+    // SAFETY: "Its texts are good until the next call on the handle other than" those that look at
     // results, and a shared reader has no others.
-    let text = unsafe { shown.text.bytes() };
+    let (text, state_changes) = unsafe { (shown.text.bytes(), shown.changes.bytes()) };
+    let packet = OkPacket {
+        affected_rows: shown.affected_rows,
+        last_insert_id: shown.last_insert_id,
+        status: shown.status,
+        warnings: shown.warnings,
+        info: text,
+        state_changes,
+    };
     Ok(match shown.kind {
-        0 => ReplyResult::Ok(Done {
-            of,
-            packet: ok_packet(&shown, text),
-        }),
-        1 => ReplyResult::Rows(rows(of, &shown, text)),
+        0 => ReplyResult::Ok(Done { of, packet }),
+        1 => ReplyResult::Rows(rows(of, &shown, packet)),
         2 => ReplyResult::Prepared(prepared(of, &shown)),
         3 => ReplyResult::Error(error_packet(&shown, text)),
         4 => ReplyResult::File(text),
         5 => ReplyResult::RawRows(RawRows {
             count: shown.rows,
-            end: shown.ended.then(|| Done {
-                of,
-                packet: ok_packet(&shown, text),
-            }),
+            end: shown.ended.then_some(Done { of, packet }),
         }),
         kind => panic!("the header has no kind {kind} of a result"),
     })
-}
-
-fn ok_packet<'a>(shown: &raw::ReplyResult, info: &'a [u8]) -> OkPacket<'a> {
-    OkPacket {
-        affected_rows: shown.affected_rows,
-        last_insert_id: shown.last_insert_id,
-        status: shown.status,
-        warnings: shown.warnings,
-        info,
-    }
 }
 
 fn error_packet<'a>(shown: &raw::ReplyResult, message: &'a [u8]) -> ErrorPacket<'a> {
@@ -190,16 +184,12 @@ fn error_packet<'a>(shown: &raw::ReplyResult, message: &'a [u8]) -> ErrorPacket<
     }
 }
 
-fn rows<'a>(of: Number<'a>, shown: &raw::ReplyResult, info: &'a [u8]) -> Rows<'a> {
-    let end = shown.ended.then(|| Done {
-        of,
-        packet: ok_packet(shown, info),
-    });
+fn rows<'a>(of: Number<'a>, shown: &raw::ReplyResult, packet: OkPacket<'a>) -> Rows<'a> {
     Rows {
         of,
         columns: shown.columns,
         rows: shown.rows,
-        end,
+        end: shown.ended.then_some(Done { of, packet }),
     }
 }
 

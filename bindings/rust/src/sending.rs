@@ -21,6 +21,34 @@ pub enum Road {
     Bulk = 2,
 }
 
+/// How many placeholders a query has, for a server in this mode.
+///
+/// [`Connection::put_sets`](crate::Connection::put_sets) compares it with the server's number of
+/// parameters. Who sends sets without a `Connection` compares them before what follows the prepare
+/// is sent. A server runs an execution of another number of values too, with other values
+/// than were meant.
+///
+/// ```
+/// use mysql_session::{place_count, Mode};
+///
+/// # fn main() -> Result<(), mysql_session::Error> {
+/// assert_eq!(place_count(b"SELECT ?, '?' /* ? */", Mode::default())?, 1);
+/// # Ok(())
+/// # }
+/// ```
+///
+/// # Errors
+/// [`Code::MIXED`] where both names and question marks are placeholders, or [`Code::MEMORY`].
+pub fn place_count(query: &[u8], mode: Mode) -> Result<usize, Error> {
+    let mut count = 0;
+    let flags = mode.flags_with(Spelling::Quoted);
+    // SAFETY: "Bytes go in": the query is a slice; "Results go out": a local.
+    let code =
+        unsafe { raw::mysql_session_place_count(query.as_ptr(), query.len(), flags, &mut count) };
+    answer(code)?;
+    Ok(count)
+}
+
 /// Appends to `out` the commands that carry the sets, as framed packets.
 ///
 /// A [`Receiver`](crate::Receiver) of the same query, id and limit reads the sets back. Values of a
@@ -132,9 +160,10 @@ pub fn send_in(
 }
 
 /// The packets that execute a prepared statement with each of these sets, as
-/// [`Connection::put_packets`](crate::Connection::put_packets) takes them. They are those of
+/// [`Connection::put_sets`](crate::Connection::put_sets) takes them. They are those of
 /// [`send`] by [`Road::Execute`], without the prepare before them. The statement's id is that
-/// of the server's reply to the prepare.
+/// of the server's reply to the prepare. Who has no `Connection` compares the number of parameters
+/// in that reply with [`place_count`] first.
 ///
 /// They are laid out for a connection where [`CLIENT_QUERY_ATTRIBUTES`] isn't in force. The server
 /// is in any mode that reads the query's placeholders as the default mode does; else there is
@@ -214,7 +243,9 @@ pub fn bulk_executions(
 }
 
 /// Appends to `out` the payload of an execution of a prepared statement with the values of one set,
-/// by its number from 0. [`Connection::put`](crate::Connection::put) takes it.
+/// by its number from 0. Framed by [`put_packet`](crate::put_packet) it goes by
+/// [`Connection::put_sets`](crate::Connection::put_sets), whose number of placeholders is that of the
+/// set's values.
 ///
 /// Each value has its own type. Floats are among them, which [`send`] refuses. The
 /// payload is laid out for a connection where

@@ -74,6 +74,7 @@ impl ReplyWriter {
             status,
             warnings,
             info,
+            state_changes: _,
         } = *packet;
         // SAFETY: "Handles" and "Results go out": by `write`; "Bytes go in": the text is a slice.
         self.write(out, |handle, out, spot| unsafe {

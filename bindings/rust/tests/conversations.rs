@@ -1,7 +1,9 @@
 //! Conversations, which are rows of payloads and of the events that they are. The head of each file
 //! says how they are written.
 
-use mysql_session::{Bytes, Capabilities, Connection, ConnectionFault, Error, Limits, Mode, Side};
+use mysql_session::{
+    Bytes, Capabilities, Connection, ConnectionFault, Error, Limits, Mode, Side, Spelling,
+};
 use std::collections::HashMap;
 use std::fs;
 use std::path::{Path, PathBuf};
@@ -25,6 +27,7 @@ enum Kind {
     Feed(Side, Vec<u8>),
     Held(usize),
     Mode(Option<Mode>),
+    Spelling(Spelling),
     Turn(Option<Side>),
     Close(Side),
     End(String),
@@ -61,6 +64,15 @@ fn mode_of(word: &str) -> Option<Mode> {
         no_backslash_escapes: matches!(word, "NO_BACKSLASH_ESCAPES" | "both"),
         ansi_quotes: matches!(word, "ANSI_QUOTES" | "both"),
     })
+}
+
+/// The spelling that a word names.
+fn spelling_of(word: &str) -> Spelling {
+    match word {
+        "quoted" => Spelling::Quoted,
+        "hexadecimal" => Spelling::Hexadecimal,
+        word => panic!("no spelling: {word}"),
+    }
 }
 
 type Names = HashMap<String, Vec<u8>>;
@@ -156,6 +168,7 @@ impl Conversation {
             }
             "held" => Kind::Held(number(1)),
             "mode" => Kind::Mode(mode_of(fields[1])),
+            "spelling" => Kind::Spelling(spelling_of(fields[1])),
             "turn" => Kind::Turn(side_of(fields[1])),
             "close" => Kind::Close(side_of(fields[1]).expect("it names a side")),
             "end" => Kind::End(format!("end {}", fields[1])),
@@ -328,6 +341,7 @@ fn read_steps(it: &Conversation, most: usize) {
             }
             Kind::Held(held) => assert_eq!(connection.held(), *held, "{place}"),
             Kind::Mode(mode) => assert_eq!(connection.mode(), *mode, "{place}"),
+            Kind::Spelling(spelling) => assert_eq!(connection.spelling(), *spelling, "{place}"),
             Kind::Turn(turn) => assert_eq!(connection.turn(), *turn, "{place}"),
             Kind::End(end) => assert_eq!(finish(&mut connection, &mut lines), *end, "{place}"),
             Kind::Feed(..) => (),

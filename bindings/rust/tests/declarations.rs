@@ -15,7 +15,7 @@ fn text_of(file: &str) -> String {
 
 /// The header without comments and lines of the preprocessor, each run of spaces being one.
 fn header() -> String {
-    let mut text = text_of("../c/mysql_session.h");
+    let mut text = text_of("../c/mysql_session.h").replace("\\\n", " ");
     while let Some(start) = text.find("/*") {
         let end = start + text[start..].find("*/").expect("a comment ends");
         text.replace_range(start..end + 2, " ");
@@ -259,6 +259,7 @@ fn library_name(name: &str) -> String {
     match name {
         "Connection" => "Handle".to_string(),
         "Handle" | "Parameter" => name.to_string(),
+        "Known" => "ShownSession".to_string(),
         "ReplyResult" => "ShownResult".to_string(),
         _ => format!("Shown{name}"),
     }

@@ -80,7 +80,7 @@ fn behind_last_words_nothing_is_sent() -> Result<(), Failure> {
     let packets = executions(&sets, b"SELECT ?", 7, 1 << 24)?;
     let errors = [
         client.query(b"SELECT 1").unwrap_err(),
-        client.send_packets(&packets).unwrap_err(),
+        client.send_sets(7, 1, &packets).unwrap_err(),
     ];
     for error in errors {
         assert_eq!(error.to_string(), "the connection is over");

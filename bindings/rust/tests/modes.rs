@@ -1,9 +1,10 @@
 //! Texts by the mode of a server, and byte strings in hexadecimal.
 
 use mysql_session::{
-    bind_text, bind_text_in, is_safe_to_quote, recode, recode_in, send, send_in, value_text,
-    value_text_in, Bytes, Code, Content, Date, End, Error, Mode, ParameterSets, Receiver, Recoder,
-    Road, Spelling, Value,
+    bind_text, bind_text_in, capability, is_safe_to_quote, recode, recode_in, send, send_in,
+    value_text, value_text_in, Bytes, Code, Content, Date, End, Error, Mode, OkPacket,
+    ParameterSets, Receiver, Recoder, ReplyKind, ReplyReader, ReplyResult, Road, SessionMode,
+    Spelling, Value, ASK_SESSION_MODE,
 };
 
 const LIMIT: usize = 1 << 24;
@@ -304,4 +305,71 @@ fn collations_that_hide_quotes_are_not_safe() {
         assert_eq!(is_safe_to_quote(id), !hides, "{id}");
     }
     assert!(is_safe_to_quote(u16::MAX));
+}
+
+/// An OK packet that tells these variables.
+fn told(status: u16, state_changes: &[u8]) -> OkPacket<'_> {
+    OkPacket {
+        status,
+        state_changes,
+        ..OkPacket::default()
+    }
+}
+
+const BOTH_TOLD: &[u8] = b"\0\x27\x08sql_mode\0\x14character_set_client\x07utf8mb4";
+const GBK_TOLD: &[u8] = b"\0\x19\x14character_set_client\x03gbk";
+const ANSI_TOLD: &[u8] = b"\0\x15\x08sql_mode\x0bANSI_QUOTES";
+
+#[test]
+fn quotes_are_for_what_is_known() {
+    let nothing = SessionMode::default();
+    assert_eq!((nothing.mode, nothing.is_safe_set), (None, None));
+    assert_eq!(nothing.spelling(), Spelling::Hexadecimal);
+    // Nothing was said before: the OK packet of a login doesn't count.
+    assert_eq!(nothing.behind_ok(&told(0x4002, BOTH_TOLD)), nothing);
+    let asked = nothing.behind_text(ASK_SESSION_MODE);
+    let known = asked.behind_ok(&told(0x4002, BOTH_TOLD));
+    assert_eq!((known.mode, known.is_safe_set), (Some(DEFAULT), Some(true)));
+    assert_eq!(known.spelling(), Spelling::Quoted);
+    let gbk = known
+        .behind_text(b"SET NAMES gbk")
+        .behind_ok(&told(0x4002, GBK_TOLD));
+    assert_eq!((gbk.mode, gbk.is_safe_set), (Some(DEFAULT), Some(false)));
+    assert_eq!(gbk.spelling(), Spelling::Hexadecimal);
+    // Refused, or not told.
+    let set = known.behind_text(b"SET @@sql_mode = 'ANSI_QUOTES'");
+    assert_eq!((set.mode, set.is_safe_set), (None, Some(true)));
+    assert_eq!(set.spelling(), Spelling::Hexadecimal);
+    let ansi = set.behind_ok(&told(0xc002, ANSI_TOLD));
+    assert_eq!((ansi.mode, ansi.spelling()), (Some(ANSI_QUOTES), Spelling::Quoted));
+    // Further results follow, or the text has the word.
+    let called = known
+        .behind_text(b"CALL p()")
+        .behind_ok(&told(0xc00a, ANSI_TOLD));
+    assert_eq!((called.mode, called.is_safe_set), (None, Some(true)));
+    let statement = known.behind_text(b"SET STATEMENT sql_mode = 'ANSI_QUOTES' FOR DO 1");
+    let statement = statement.behind_ok(&told(0xc002, ANSI_TOLD));
+    assert_eq!((statement.mode, statement.is_safe_set), (None, None));
+    // What can't be read.
+    let cut = known
+        .behind_text(b"DO 1")
+        .behind_ok(&told(0x4002, &BOTH_TOLD[..9]));
+    assert_eq!((cut.mode, cut.is_safe_set), (None, None));
+}
+
+#[test]
+fn a_result_tells_what_its_packet_does() -> Result<(), Error> {
+    let capabilities = capability::CLIENT_PROTOCOL_41 | capability::CLIENT_SESSION_TRACK;
+    let mut reader = ReplyReader::new(ReplyKind::Query, capabilities, 1, LIMIT)?;
+    let mut packet = b"\x32\0\0\x01\0\0\0\x02\x40\0\0\0\x29".to_vec();
+    packet.extend_from_slice(BOTH_TOLD);
+    reader.feed(&packet)?;
+    let results = reader.take()?;
+    let [ReplyResult::Ok(done)] = &results[..] else {
+        panic!("{results:?}");
+    };
+    assert_eq!(done.packet.state_changes, BOTH_TOLD);
+    let asked = SessionMode::default().behind_text(ASK_SESSION_MODE);
+    assert_eq!(asked.behind_ok(&done.packet).spelling(), Spelling::Quoted);
+    Ok(())
 }

@@ -9,6 +9,7 @@ mod execution;
 #[allow(dead_code)] // as above
 mod passwords;
 #[path = "../examples/replay_connection/recording.rs"]
+#[allow(dead_code)] // nothing is put at a server here
 mod recording;
 #[path = "../examples/replay_connection/reply.rs"]
 mod reply;

@@ -166,6 +166,7 @@ fn a_reply_that_goes_on_has_more_results() -> Result<(), Error> {
         status: 10,
         warnings: 1,
         info: b"",
+        state_changes: b"",
     };
     assert_eq!(done.packet, wanted);
     assert!(done.has_more() && !results[0].is_last());

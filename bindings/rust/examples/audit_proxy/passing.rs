@@ -58,7 +58,7 @@ impl Passage {
             self.pass_side(Side::Client, Vec::new(), client, server, said);
             io::Result::Ok(())
         })?;
-        self.audit().end();
+        self.audit().end(&[]);
         Ok(())
     }
 

@@ -3,7 +3,7 @@
 use crate::passwords::Secret;
 use mysql_session::{
     bind_text_in, capability, command, Bytes, Capabilities, Connection, Event, Limits, Login, Mode,
-    ParameterSets, ServerGreeting, Side, Spelling,
+    ParameterSets, ServerGreeting, SessionMode, Side, ASK_SESSION_MODE,
 };
 use std::error::Error;
 use std::io::{self, Read, Write};
@@ -23,11 +23,6 @@ const NATIVE: &[u8] = b"mysql_native_password";
 
 /// What a server of caching_sha2_password says where it wants the password itself.
 const FULL: &[u8] = b"\x04";
-
-/// What is tracked already, and the SQL mode with it. The answer tells the mode, which is set to
-/// itself. The text is the same in each mode.
-const TRACK_MODE: &[u8] = b"SET session_track_system_variables = CONCAT_WS(',', 'sql_mode', \
-    NULLIF(@@session_track_system_variables, '')), sql_mode = @@sql_mode";
 
 /// What takes a connection to where it isn't read.
 const HIDDEN: u32 = capability::CLIENT_COMPRESS
@@ -51,6 +46,8 @@ pub struct Client {
     connection: Connection,
     /// What was put, and isn't written yet.
     out: Bytes,
+    /// Whether the greeting was a MariaDB's.
+    is_mariadb: bool,
 }
 
 impl Client {
@@ -65,29 +62,30 @@ impl Client {
             stream: TcpStream::connect(address)?,
             connection: Connection::new(limits)?,
             out: Bytes::new()?,
+            is_mariadb: false,
         };
         client.stream.set_nodelay(true)?;
         client.log_in(account)?;
-        client.track_mode()?;
+        client.ask_session_mode()?;
         Ok(client)
     }
 
-    /// Asks the server for its SQL mode, and to tell each change of it, if it can. A status isn't
-    /// enough: behind a procedure that set the mode a MariaDB tells by it a mode that it isn't in.
-    fn track_mode(&mut self) -> Result<(), Failure> {
+    /// Asks the server for the session's SQL mode and character set, if it can tell them. A status
+    /// isn't enough: behind a procedure that set the mode a MariaDB tells by it a mode that it isn't in.
+    fn ask_session_mode(&mut self) -> Result<(), Failure> {
         if self.connection.capabilities().protocol & capability::CLIENT_SESSION_TRACK == 0 {
             return Ok(());
         }
-        self.query(TRACK_MODE)?;
+        self.query(ASK_SESSION_MODE)?;
         while self.awaits_reply() {
             self.next()?;
         }
         Ok(())
     }
 
-    /// A query with the values of a set in it, written for the session's mode, for which the server
-    /// is asked if it isn't known. If the server doesn't tell, they are in hexadecimal, which each
-    /// mode reads alike.
+    /// A query with the values of a set in it, written for the session's mode and character set. The
+    /// server is asked where either isn't known. If it doesn't tell them, or quotes aren't safe in the
+    /// set, values are in hexadecimal, which each mode and set reads alike.
     ///
     /// By the mode a backslash in the query ends a string or not. If the mode isn't known no text
     /// of such a query is made: it has to be executed.
@@ -97,13 +95,11 @@ impl Client {
         sets: &ParameterSets,
         set: usize,
     ) -> Result<Bytes, Failure> {
-        let (mode, spelling) = match self.mode()? {
-            Some(mode) => (mode, Spelling::Quoted),
-            None if query.contains(&b'\\') => {
-                return Err("the mode isn't known, and the query has a backslash".into())
-            }
-            None => (Mode::default(), Spelling::Hexadecimal),
-        };
+        let session = self.session_mode()?;
+        if session.mode.is_none() && query.contains(&b'\\') {
+            return Err("the mode isn't known, and the query has a backslash".into());
+        }
+        let (mode, spelling) = (session.mode.unwrap_or_default(), session.spelling());
         let mut text = Bytes::new()?;
         bind_text_in(sets, set, query, mode, spelling, &mut text)?;
         Ok(text)
@@ -112,6 +108,11 @@ impl Client {
     /// Whether it is the server's turn, which replies.
     pub fn awaits_reply(&self) -> bool {
         self.connection.turn() == Some(Side::Server)
+    }
+
+    /// Whether the server is a MariaDB: its greeting lacks the bit that MySQL always has.
+    pub fn is_mariadb(&self) -> bool {
+        self.is_mariadb
     }
 
     /// Whether queries and executions have attributes.
@@ -135,14 +136,28 @@ impl Client {
         self.write()
     }
 
-    /// Sends packets up to the first that has a reply. The answer is how many of their bytes went.
-    pub fn send_packets(&mut self, packets: &[u8]) -> Result<usize, Failure> {
+    /// Sends the executions of a statement up to the first that has a reply. The answer is how many of
+    /// their bytes went. It fails where the server counted another number of parameters than the
+    /// query has placeholders: the server would run them with other values.
+    pub fn send_sets(
+        &mut self,
+        statement: u32,
+        places: usize,
+        packets: &[u8],
+    ) -> Result<usize, Failure> {
         self.goes_on()?;
         let used = self
             .connection
-            .put_packets(Side::Client, packets, &mut self.out)?;
+            .put_sets(statement, places, packets, &mut self.out)?;
         self.write()?;
         Ok(used)
+    }
+
+    /// How many parameters the server counted of a statement.
+    #[allow(dead_code)] // not in each example
+    pub fn parameters(&self, statement: u32) -> Option<usize> {
+        let found = self.connection.statement(statement)?;
+        Some(usize::from(found.parameters))
     }
 
     /// The next event of the server's, which may have to be waited for.
@@ -161,10 +176,17 @@ impl Client {
 
     /// The session's SQL mode, for which the server is asked if it isn't known.
     pub fn mode(&mut self) -> Result<Option<Mode>, Failure> {
-        if self.connection.mode().is_none() {
-            self.track_mode()?;
+        Ok(self.session_mode()?.mode)
+    }
+
+    /// What is known of the session, for which the server is asked where the mode or the character
+    /// set isn't known.
+    fn session_mode(&mut self) -> Result<SessionMode, Failure> {
+        let session = self.connection.session_mode();
+        if session.mode.is_none() || session.is_safe_set.is_none() {
+            self.ask_session_mode()?;
         }
-        Ok(self.connection.mode())
+        Ok(self.connection.session_mode())
     }
 
     /// Fails where the connection is over, as behind the server's last words: nothing is put then.
@@ -195,11 +217,14 @@ impl Client {
 
     /// Answers the greeting, and what the server asks for behind it.
     fn log_in(&mut self, account: &Account<'_>) -> Result<(), Failure> {
-        let login = match self.next()? {
-            Event::Greeting(greeting) => login(account, &greeting)?,
+        let (login, capabilities) = match self.next()? {
+            Event::Greeting(greeting) => {
+                (login(account, &greeting)?, greeting.capabilities.protocol)
+            }
             Event::Rejected(error) => return Err(error.to_string().into()),
             event => return Err(format!("the server doesn't greet: {event:?}").into()),
         };
+        self.is_mariadb = capabilities & capability::CLIENT_LONG_PASSWORD == 0;
         self.send(&login)?;
         self.authenticate(account)
     }

@@ -17,6 +17,8 @@ pub struct Command {
     pub plain: Option<Vec<u8>>,
     /// The statement that it is about.
     pub statement: Option<u32>,
+    /// How many values an execution has, or each row of a bulk one.
+    pub values: Option<usize>,
     /// The payloads of the file that the client sent.
     pub file: Vec<Vec<u8>>,
     pub reply: Reply,
@@ -82,6 +84,7 @@ impl Recording {
                     payload,
                     plain,
                     statement,
+                    values: values_in(command),
                     file: Vec::new(),
                     reply: Reply::default(),
                 });
@@ -126,6 +129,15 @@ impl Recording {
         if let Some(asked) = self.commands.last_mut() {
             asked.reply.add(event);
         }
+    }
+}
+
+/// How many values an execution has, or each row of a bulk one.
+fn values_in(event: &Event<'_>) -> Option<usize> {
+    match event {
+        Event::Execute { values, .. } => Some(values.len()),
+        Event::BulkExecute { rows, .. } => rows.row(0).map(|row| row.len()),
+        _ => None,
     }
 }
 

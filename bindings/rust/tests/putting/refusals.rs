@@ -1,8 +1,9 @@
 //! Payloads and packets that aren't put, or not all of them.
 
-use crate::said::{after_login, greeting, login, rows, LIMIT, LIMITS, OK};
+use crate::said::{after_login, greeting, login, prepared, rows, LIMIT, LIMITS, OK};
 use mysql_session::{
-    command, put_packet, At, Bytes, Code, Connection, Error, Limits, Phase, Reason, ReplyKind, Side,
+    command, executions, place_count, put_execution, put_packet, At, Bytes, Code, Connection,
+    Error, Limits, Mode, ParameterSets, Phase, Reason, ReplyKind, Side,
 };
 
 /// Looks whether a payload is refused, and the connection and the bytes stay as they were.
@@ -255,5 +256,45 @@ fn the_numbers_of_a_payloads_packets_go_on() -> Result<(), Error> {
         (Code::CONNECTION_OUT_OF_SYNC, Some(At::Byte(0)))
     );
     assert!(out.is_empty());
+    Ok(())
+}
+
+/// Two parameters by its tokens; a MariaDB counts one.
+const SKIPPED: &[u8] = b"DELETE FROM t WHERE id = ? /*!80000 AND k = ? */";
+
+#[test]
+fn sets_of_another_count_are_refused() -> Result<(), Error> {
+    let mut connection = after_login(LIMITS);
+    let (mut sets, mut out) = (ParameterSets::new()?, Bytes::new()?);
+    sets.add(&[5.into(), 7.into()])?;
+    let places = place_count(b"SELECT ?, ?", Mode::default())?;
+    let packets = executions(&sets, b"SELECT ?, ?", 9, LIMIT)?;
+    let unknown = connection.put_sets(9, places, &packets, &mut out);
+    let error = unknown.expect_err("the server has prepared nothing");
+    assert_eq!(
+        (error.code(), error.at()),
+        (Code::CONNECTION_UNKNOWN_STATEMENT, None)
+    );
+    connection.put(Side::Client, &command::prepare(SKIPPED), &mut out)?;
+    connection.put_packets(Side::Server, &prepared(9, 1)?, &mut out)?;
+    out.clear();
+    let held = connection.held();
+    let other = connection.put_sets(9, places, &packets, &mut out);
+    let error = other.expect_err("the server counted one");
+    assert_eq!(
+        (error.code(), error.at()),
+        (Code::CONNECTION_WRONG_COUNT, None)
+    );
+    assert_eq!((connection.held(), out.len()), (held, 0));
+    assert_eq!(connection.turn(), Some(Side::Client));
+
+    // Of one value it is put, floats among them.
+    sets.clear();
+    sets.add(&[1.5.into()])?;
+    let (mut payload, mut packets) = (Bytes::new()?, Bytes::new()?);
+    put_execution(&sets, 0, 9, &mut payload)?;
+    put_packet(&payload, &mut 0, LIMIT, &mut packets)?;
+    let used = connection.put_sets(9, 1, &packets, &mut out)?;
+    assert_eq!((used, out.as_slice()), (packets.len(), &packets[..]));
     Ok(())
 }
