@@ -14,6 +14,7 @@ CONNECT_WITH_DB, PROTOCOL_41, TRANSACTIONS = 1 << 3, 1 << 9, 1 << 13
 SECURE_CONNECTION, MULTI_STATEMENTS, MULTI_RESULTS = 1 << 15, 1 << 16, 1 << 17
 PS_MULTI_RESULTS = 1 << 18
 PLUGIN_AUTH, CONNECT_ATTRS = 1 << 19, 1 << 20
+QUERY_ATTRIBUTES = 1 << 27
 # Without DEPRECATE_EOF; and without LONG_PASSWORD, by which a client has no extended capabilities.
 CAPABILITIES = (CONNECT_WITH_DB | PROTOCOL_41 | TRANSACTIONS | SECURE_CONNECTION | MULTI_RESULTS
                 | PS_MULTI_RESULTS | PLUGIN_AUTH)
@@ -31,7 +32,7 @@ NEW_PARAMETERS = b"\x01"
 
 # Types of values, and of columns; numbers of a fixed size by their formats.
 TINY, SHORT, LONG, FLOAT, DOUBLE, LONGLONG, INT24, YEAR = 1, 2, 3, 4, 5, 8, 9, 13
-TIMESTAMP, DATE, TIME, DATETIME, VAR_STRING = 7, 10, 11, 12, 253
+TIMESTAMP, DATE, TIME, DATETIME, BLOB, VAR_STRING = 7, 10, 11, 12, 252, 253
 UNSIGNED = 0x80
 NUMBERS = {TINY: "b", SHORT: "h", YEAR: "h", LONG: "i", INT24: "i", LONGLONG: "q"}
 FLOATS = {FLOAT: "f", DOUBLE: "d"}
@@ -123,8 +124,9 @@ def binary_row(payload, types):
     return cells
 
 
-def cell_of(value):
-    """The type of a value and its cell, as an execution has them; no cell for None."""
+def cell_of(value, of_bytes=VAR_STRING):
+    """The type of a value and its cell, as an execution has them; no cell for None. Bytes have the
+    type that is named."""
     if value is None:
         return VAR_STRING, 0, b""
     if isinstance(value, int):
@@ -136,18 +138,18 @@ def cell_of(value):
         return DATETIME, 0, lenenc(day)
     if isinstance(value, datetime.date):
         return DATE, 0, lenenc(struct.pack("<HBB", value.year, value.month, value.day))
-    return VAR_STRING, 0, lenenc(value)
+    return of_bytes, 0, lenenc(value)
 
 
-def execution(statement, values):
-    """The payload of an execution with these values."""
+def execution(statement, values, of_bytes=VAR_STRING):
+    """The payload of an execution with these values; bytes have the type that is named."""
     head = struct.pack("<BIBI", EXECUTE, statement, 0, 1)
     if not values:
         return head
     bitmap = bytearray((len(values) + 7) // 8)
     types, cells = b"", b""
     for place, value in enumerate(values):
-        kind, flag, cell = cell_of(value)
+        kind, flag, cell = cell_of(value, of_bytes)
         types += bytes([kind, flag])
         cells += cell
         if value is None:
@@ -319,8 +321,9 @@ class Client:
         return payload[at + 7], bool(flags & 32)
 
     def query(self, text):
-        """The results of a text query. Raises Refused."""
-        return self.answers(bytes([QUERY]) + text)
+        """The results of a text query, which has no attributes. Raises Refused."""
+        front = b"\0\1" if self.capabilities & QUERY_ATTRIBUTES else b""
+        return self.answers(bytes([QUERY]) + front + text)
 
     def prepare(self, text):
         """Prepares a statement. Raises Refused."""

@@ -11,19 +11,25 @@ variables, and set them back. Everything random is by the seed. The parts are
   the library finds placeholders. Otherwise the server refuses the text, or the library refuses it
   by NOT_ALONE, or the library finds none.
 - `injection`: such texts with a hostile value in each placeholder, in each spelling. The server
-  answers the text as the prepared execution of the same values. If it counts other parameters, or
-  refuses to prepare, it answers as with a harmless value: no column, result or error more.
+  answers the text as the prepared execution of the same values, or as SECURITY.md says of servers.
+  If it counts other parameters, or refuses to prepare, it answers as with a harmless value: no
+  column, result or error more. Values that aren't UTF-8 are executed as BLOBs.
 - `types`: queries that want texts, numbers, dates or JSON of their values, or keep them in columns.
   The server answers the text as the execution. MySQL takes a parameter's type from what is beside
   it, so there only texts are wanted.
 - `bytes`: values of all bytes come back from a text. For another mode, or character set, one ends
   its literal, which shows that the test sees it.
+- `commands`: what a connection tells of random commands is what the server ran: values, texts and
+  replies. `random_commands.py` says how it is seen.
+- `odd commands`: the same with commands that no client library lays out so. It runs only where it
+  is named: its findings are known, and docs/SERVERS.md has most of them.
 - `sessions`: what a connection tells of random sessions is what the server says, or not known. That
   is the SQL mode, and whether the character set is safe for quotes. Both are known behind eight of
   ten ordinary steps.
 
-The count is that of texts, of pairs of text and value, of queries, of values in each mode and
-spelling, and of steps. Without one each part takes its own. Executions are laid out by hand.
+The count is that of texts, of pairs of text and value, of queries, and of values in each mode and
+spelling. Of sessions it is that of steps, and of commands their own. Without one each part takes
+its own. Executions are laid out by hand.
 
 A line tells each kind of finding, how many there were, and the smallest input. The last line is
 `N passed, M failed`. The status is 1 if any failed.
@@ -31,6 +37,7 @@ A line tells each kind of finding, how many there were, and the smallest input. 
 
 import argparse
 import collections
+import contextlib
 import os
 import random
 import sys
@@ -40,10 +47,11 @@ TESTING = os.path.dirname(os.path.abspath(__file__))
 sys.dont_write_bytecode = True
 sys.path[:0] = [TESTING, os.path.join(os.path.dirname(TESTING), "python")]
 
-from by_hand import (Client, MULTI_STATEMENTS, PREPARE, QUERY, Refused, closing, execution)
-from random_queries import (COLUMNS, CONDITIONS, HARMLESS, KEPT, Maker, NUMERIC, ODD_NAMES,
-                            OF_DATES, OF_JSON, Place, TABLE, TEXTUAL, TOKENS, any_bytes,
-                            hostile_value, is_utf8, random_text, written)
+from by_hand import (BLOB, Client, MULTI_STATEMENTS, PREPARE, QUERY, Refused, VAR_STRING, closing,
+                     execution)
+from random_queries import (COLUMNS, CONDITIONS, KEPT, Maker, NUMERIC, ODD_NAMES, OF_DATES, OF_JSON,
+                            Place, TABLE, TEXTUAL, TOKENS, any_bytes, harmless_value, hostile_value,
+                            is_utf8, random_text, written)
 from mysql_session import (Code, Mode, MySQLSessionError, Receiver, Spelling, bind_text,
                            is_safe_to_quote, positional)
 
@@ -51,7 +59,10 @@ MODES = {"": Mode(), "NO_BACKSLASH_ESCAPES": Mode(no_backslash_escapes=True),
          "ANSI_QUOTES": Mode(ansi_quotes=True),
          "NO_BACKSLASH_ESCAPES,ANSI_QUOTES": Mode(True, True)}
 SPELLINGS = {"quoted": Spelling.QUOTED, "hexadecimal": Spelling.HEXADECIMAL}
-COUNTS = {"parameters": 4000, "injection": 4000, "types": 4000, "bytes": 10000, "sessions": 2000}
+COUNTS = {"parameters": 4000, "injection": 4000, "types": 4000, "bytes": 10000, "sessions": 2000,
+          "commands": 2000, "odd commands": 2000}
+# What no run wants that doesn't name it.
+BY_NAME = ("odd commands",)
 AT_ONCE = 128
 MOST_PLACEHOLDERS = 99
 # Of pairs of text and value so many follow one another of which only the first needn't be executed.
@@ -61,11 +72,9 @@ MADE_SMALLER, MOST_TRIES, TRIED_AT_ONCE = 12, 600, 32
 # Findings whose smallest inputs have the same of these are told once.
 TELLING = (b"/*+", b"/*M!", b"/*m!", b"/*!", b"/*", b"*/", b"--", b"#", b"$", b"[", b"\\", b"'",
            b'"', b"`", b"\0", b"\xa0", b";")
-SYNTAX_ERROR = 1064
+SYNTAX_ERROR, NOT_CONVERTED = 1064, 3854
 # A number that no text has by itself.
 MARK = 7171717171717171
-# Errors of a text that a character set hasn't: MySQL converts a parameter, and not a literal.
-OF_CHARACTER_SETS = {1300, 3854, 3988}
 # By so many a hundred of the queries have to be answered with rows, else the test asks nothing.
 ANSWERED = 70
 
@@ -75,6 +84,9 @@ class Verdict(NamedTuple):
 
     name: str
     failed: bool = False
+
+
+CODE = Verdict("a value becomes code", True)
 
 
 # ---- The server ---------------------------------------------------------------------------------
@@ -90,6 +102,26 @@ class Reply(NamedTuple):
     def shape(self):
         """What no value may change."""
         return [columns for columns, _, _ in self.results], self.error
+
+    def is_same(self, other):
+        """Whether another reply is the same; its floats are numbers that this one has as texts."""
+        return self.shape() == other.shape() and all(
+            changed == of_other and len(rows) == len(others) and all(map(are_same, rows, others))
+            for (_, changed, rows), (_, of_other, others) in zip(self.results, other.results))
+
+
+def are_same(cells, others):
+    """Whether the cells of two rows are the same."""
+    return len(cells) == len(others) and all(map(is_same_cell, cells, others))
+
+
+def is_same_cell(cell, other):
+    """Whether two cells are the same: bytes, or a text and the float that it says."""
+    if cell is None or not isinstance(other, float):
+        return cell == other
+    with contextlib.suppress(ValueError):
+        return float(cell) == other
+    return False
 
 
 def is_mariadb(version):
@@ -148,11 +180,9 @@ class Sessions:
         return [self._read(session, it[0] != QUERY) for it in commands]
 
     def _read(self, session, binary):
-        """A reply; floats are as texts have them."""
+        """A reply."""
         results, error = self.clients[session].read_results(binary)
-        cell = lambda it: b"%g" % it if isinstance(it, float) else it
-        return Reply([(it.columns, it.affected, [[cell(one) for one in row] for row in it.rows])
-                      for it in results], error)
+        return Reply([(it.columns, it.affected, it.rows) for it in results], error)
 
 
 # ---- What is told -------------------------------------------------------------------------------
@@ -401,60 +431,75 @@ class Injection:
             asked, commands = [], []
             for case, text, told in zip(some, texts, self.sessions.prepare(session, texts)):
                 is_executed = not isinstance(told, int) and told.places == case.count
-                values = [case.value] * case.count
-                made = bound(text, values, mode, case.spelling)
-                other = execution(told.number, values) if is_executed else (
-                    self.query(bound(text, [HARMLESS] * case.count, mode, case.spelling)))
-                asked.append((case, is_executed))
-                commands += [self.query(made), other]
+                other = self.execution(case, told) if is_executed else (
+                    self.query(case, text, harmless_value(case.value)))
+                asked.append((case, text, is_executed))
+                commands += [self.query(case, text, case.value), other]
             replies = iter(self.sessions.ask(session, commands))
-            for case, is_executed in asked:
+            for case, text, is_executed in asked:
                 by_text, other = next(replies), next(replies)
-                found[case] = self.verdict(case, is_executed, by_text, other)
+                found[case] = self.verdict(is_executed, by_text, other)
                 if is_executed and found[case].failed:
-                    found[case] = self.looked_at_again(case, found[case], by_text)
+                    found[case] = self.looked_at_again(case, text, found[case], by_text, other)
         return [found[it] for it in cases]
 
-    def looked_at_again(self, case, verdict, by_text):
-        """A verdict, unless the text differs from its execution by another cause. That may be a
-        statement behind a semicolon, or a parameter that isn't a text by what is beside it."""
-        mode = self.sessions.modes[case.session]
-        text, values = asked_text(case.parts, mode), [case.value] * case.count
-        harmless = self.query(bound(text, [HARMLESS] * case.count, mode, case.spelling))
-        as_text = bound(text, [MARK] * case.count, mode).replace(b"%d" % MARK, b"CONCAT(?)")
-        [told] = self.sessions.prepare(case.session, [as_text])
-        if isinstance(told, int) or told.places != case.count:
+    def looked_at_again(self, case, text, verdict, by_text, executed):
+        """A verdict, unless a text differs from its execution by what SECURITY.md says of servers:
+
+        - a semicolon ends a statement where several are sent, also within a comment that is run;
+        - what isn't UTF-8 is bare digits in quotes' stead, a number where one is wanted;
+        - MySQL refuses such a literal beside a text, for any bytes;
+        - MySQL gives a parameter the type and the collation of its neighbours, within a call none.
+        """
+        mode, is_text = self.sessions.modes[case.session], is_utf8(case.value)
+        in_digits = case._replace(spelling=Spelling.HEXADECIMAL)
+        harmless, digits = self.sessions.ask(case.session, [
+            self.query(case, text, harmless_value(case.value)),
+            self.query(in_digits, text, case.value)])
+        if by_text.shape() == harmless.shape() and b";" in text and (
+                not by_text.results or Reply(by_text.results[:1], None).is_same(executed)):
+            return Verdict("as with a harmless value, by a semicolon of the query")
+        if verdict == CODE:
             return verdict
-        replies = self.sessions.ask(case.session, [harmless, execution(told.number, values)])
-        if replies[1] == by_text:
-            return Verdict("same answer, by a parameter that is a text")
-        first = Reply(by_text.results[:1], None)
-        if b";" in text and by_text.shape() == replies[0].shape() and first == replies[1]:
-            return Verdict("same answer, and that of a statement behind a semicolon")
+        if not is_text and by_text.error == harmless.error == NOT_CONVERTED:
+            return Verdict("refused, as each literal that isn't UTF-8")
+        texts, executions = {"": by_text}, {"": executed}
+        if not is_text:
+            texts[", in hexadecimal"] = digits
+        if not is_mariadb(self.sessions.version):
+            alone = b"CONCAT(?)" if is_text else b"CAST(? AS BINARY)"
+            [told] = self.sessions.prepare(case.session, [
+                bound(text, [MARK] * case.count, mode).replace(b"%d" % MARK, alone)])
+            if not isinstance(told, int) and told.places == case.count:
+                [executions[", without a neighbour"]] = self.sessions.ask(case.session, [
+                    self.execution(case, told)])
+        for told, reply in texts.items():
+            for more, other in executions.items():
+                if reply.is_same(other):
+                    return Verdict(f"same answer{told}{more}")
         return verdict
 
-    @staticmethod
-    def query(text):
-        """The command that sends a text."""
-        return bytes([QUERY]) + text
+    def query(self, case, text, value):
+        """The command that sends a case's text with a value in each placeholder."""
+        mode = self.sessions.modes[case.session]
+        return bytes([QUERY]) + bound(text, [value] * case.count, mode, case.spelling)
 
     @staticmethod
-    def verdict(case, is_executed, by_text, other):
+    def execution(case, told):
+        """The execution of a case. Bytes that aren't UTF-8 go as such."""
+        return execution(told.number, [case.value] * told.places,
+                         VAR_STRING if is_utf8(case.value) else BLOB)
+
+    @staticmethod
+    def verdict(is_executed, by_text, other):
         """What comes of what a text and the other command are answered."""
-        if is_executed and by_text == other:
+        if is_executed and by_text.is_same(other):
             return Verdict("same error" if other.error else "same answer")
         if not is_executed and by_text.shape() == other.shape():
             return Verdict("as with a harmless value")
-        # What isn't UTF-8 is digits in either spelling; servers take these for no name, and more.
-        is_text, errors = is_utf8(case.value), (by_text.error, other.error)
-        is_of_set = not is_text or OF_CHARACTER_SETS & set(errors)
-        if errors == (None, None) and by_text.shape() != other.shape() or (
-                SYNTAX_ERROR in errors and not is_of_set):
-            return Verdict("a value becomes code", True)
-        if is_of_set:
-            return Verdict("otherwise, by a character set")
-        if not is_executed and None not in errors:
-            return Verdict("another error than with a harmless value")
+        errors = (by_text.error, other.error)
+        if errors == (None, None) and by_text.shape() != other.shape() or SYNTAX_ERROR in errors:
+            return CODE
         of = "by execution" if is_executed else "with a harmless value"
         if errors != (None, None):
             return Verdict(f"error {errors[0]}, {errors[1]} {of}".replace("None", "none"), True)
@@ -480,16 +525,15 @@ class Injection:
         """A case in words."""
         mode = self.sessions.modes[case.session]
         text = asked_text(case.parts, mode)
-        made = bound(text, [case.value] * case.count, mode, case.spelling)
         [told] = self.sessions.prepare(case.session, [text])
-        [reply], executed = self.sessions.ask(case.session, [self.query(made)]), "is refused"
+        query, executed = self.query(case, text, case.value), "is refused"
+        [reply] = self.sessions.ask(case.session, [query])
         if not isinstance(told, int):
-            [executed] = self.sessions.ask(case.session, [
-                execution(told.number, [case.value] * told.places)])
+            [executed] = self.sessions.ask(case.session, [self.execution(case, told)])
             executed = f"answers {short(executed)}"
         return (f"{text!r} with {case.value!r} in sql_mode={case.session!r}, "
-                f"{case.spelling.name.lower()}: {made!r} answers {short(reply)}, its execution "
-                f"{executed}")
+                f"{case.spelling.name.lower()}: {query[1:]!r} answers {short(reply)}, "
+                f"its execution {executed}")
 
 
 def short(reply):
@@ -575,9 +619,9 @@ class Types:
         """What comes of the replies to the execution and to the text, each with its looks."""
         half = len(replies) // 2
         executed, by_text = replies[:half], replies[half:]
-        if executed == by_text:
+        if all(map(Reply.is_same, by_text, executed)):
             return Verdict("same error" if executed[0].error else "same answer")
-        if executed[0] == by_text[0]:
+        if by_text[0].is_same(executed[0]):
             return Verdict("another row is kept", True)
         if by_text[0].error or executed[0].error:
             return Verdict(f"error {by_text[0].error} by text, {executed[0].error} by execution"
@@ -754,6 +798,9 @@ def run_part(part, where, words, tally):
         from random_sessions import run_sessions
         run_sessions(where, words.seed, count, tally)
         tally.tell_part(part)
+    elif part in ("commands", "odd commands"):
+        from random_commands import run_commands
+        run_commands(part, where, words.seed, count, tally)
     elif part == "bytes":
         Bytes(where, words, tally).all(count)
         tally.tell_part(part)
@@ -773,7 +820,8 @@ def words_of():
     parser.add_argument("port", type=int)
     parser.add_argument("user")
     parser.add_argument("database")
-    parser.add_argument("--part", choices=COUNTS, nargs="+", default=list(COUNTS))
+    parser.add_argument("--part", choices=COUNTS, nargs="+",
+                        default=[it for it in COUNTS if it not in BY_NAME])
     parser.add_argument("--count", type=int, metavar="N")
     parser.add_argument("--seed", default="0")
     parser.add_argument("--spelling", choices=SPELLINGS, nargs="+", default=list(SPELLINGS))

@@ -71,7 +71,8 @@ ATTACK = b" , 77 , "
 ENDS = (b"'", b'"', b"`", b"\\", b"\\'", b"''", b"\\\\'", b"\\''", b"*/", b"'*/", b"*/'", b"\n",
         b"'\n", b"$$", b"$a$", b"]", b"\xe2\x82\xac'", b"\xbf'", b"\x81'", b"\0", b"'\0", b"/*",
         b"/*!", b"'/*", b"'; SELECT 78; -- ", b"' -- ", b"*/ -- ", b"\n-- ", b"'#\n", b"--\n")
-HARMLESS = b"zzz"
+# What isn't UTF-8 is written as digits, and a name holds no character of four bytes.
+HARMLESS, HARMLESS_OF_FOUR, HARMLESS_BYTES = b"zzz", "\N{HERB}".encode(), b"\xff"
 
 
 def random_text(source, mode):
@@ -94,6 +95,14 @@ def hostile_value(source):
     if source.randrange(4) == 0:
         return bytes(source.randrange(256) for _ in range(source.randrange(1, 12)))
     return random_bytes(source) or b"'"
+
+
+def harmless_value(value):
+    """A value that ends nothing. Servers take it for a text, or a name, where they take this one
+    for that."""
+    if not is_utf8(value):
+        return HARMLESS_BYTES
+    return HARMLESS_OF_FOUR if any(it >= 0xF0 for it in value) else HARMLESS
 
 
 class _Text:

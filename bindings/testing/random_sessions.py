@@ -61,8 +61,8 @@ DROP TRIGGER IF EXISTS changes
 CREATE TRIGGER changes BEFORE INSERT ON triggered FOR EACH ROW SET sql_mode = IF(NEW.n = 1, 'NO_BACKSLASH_ESCAPES', '')"""
 
 # A step is a text, or what begins with one of these: a text that is prepared and executed, and
-# commands without a text. `ask` is what a client does that wants to know.
-EXECUTED, RESET, USER, ASK = "execute ", "reset", "change user", "ask"
+# commands without a text. `ask` is what a client does that wants to know, `use` names the database.
+EXECUTED, RESET, USER, ASK, USE = "execute ", "reset", "change user", "ask", "use"
 ORDINARY = """SELECT 1
 select s from scanned where id = 1
 SELECT * FROM nowhere
@@ -80,7 +80,7 @@ SHOW VARIABLES LIKE 'sql_mode'
 SHOW NOTHING
 EXPLAIN SELECT 1
 DESCRIBE changed
-USE bindings
+use
 USE nowhere
 CREATE TABLE IF NOT EXISTS made (id INT)
 CREATE TABLE changed (id INT)
@@ -192,6 +192,10 @@ change user
 ask
 ask
 ask""".splitlines()
+# A connection doesn't read a long text again behind an execution.
+LONG = f"/* {'a' * 1024} */"
+TRICKS += [f"execute SELECT 1 {LONG}", f"execute SET @@sql_mode = 'ANSI_QUOTES' {LONG}",
+           f"execute {LONG} SET NAMES gbk"]
 # The server's own defaults, in some sessions.
 DEFAULTS = ("SET GLOBAL sql_mode = 'ANSI_QUOTES'", "SET GLOBAL sql_mode = 'NO_BACKSLASH_ESCAPES'",
             "SET GLOBAL character_set_client = gbk",
@@ -237,6 +241,8 @@ class Session:
         """A step."""
         if step == ASK:
             self.client.track_mode()
+        elif step == USE:
+            self.client.query(f"USE {self.database}")
         elif step in (RESET, USER):
             in_force = self.client.connection.capabilities
             payload = Command.reset_connection() if step == RESET else (
