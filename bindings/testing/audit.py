@@ -1,6 +1,6 @@
 """Tests of bindings/audit, the proxy that audits; `bindings/test` runs it.
 
-    audit.py PROGRAM RECORDINGS [--idle N] [--load AUDIT_LOAD]
+    audit.py PROGRAM RECORDINGS [--idle N] [--load AUDIT_LOAD] [--without-tls] [--only PART]
 
 PROGRAM is its executable. The folder RECORDINGS has recorded connections, which pass it as they pass
 the example (recorded.py). Else a client and a server here say what is to be seen. N connections are
@@ -24,6 +24,8 @@ import audit_limits
 import audit_log
 import audit_settings
 import audit_skipping
+import audit_tls
+import audit_unseen
 import recorded
 from audit_support import COLUMN, EOF, ERROR, OFFERED, OK, Pair, Program, greeting, log_file, \
     packet, query, receive, wait_for
@@ -61,6 +63,11 @@ def check_whole(executable, paths):
                   "addresses of clients")
 
 
+def without_refusal(got):
+    """Returns what a client got without the error by which the program itself refuses it."""
+    return re.sub(rb"...\x02\xff(\x13\x04|\xea\x07)#HY000[^#]*$", b"", got, flags=re.S)
+
+
 def check_changed(executable, paths):
     """Changed recordings: each end gets a prefix of what the other sent, and no connection hangs."""
     at = random.Random(3)
@@ -73,6 +80,7 @@ def check_changed(executable, paths):
                     side = at.choice([it for it in sides if it])
                     side[at.randrange(len(side))] = at.randrange(256)
                 got, asked, records = proxy.connect(*map(bytes, sides), at)
+                got = without_refusal(got)
                 check(True, sides[0].startswith(asked) and sides[1].startswith(got),
                       f"{path.stem}, what passes")
                 check("end", records[-1]["kind"], f"{path.stem}, what is told")
@@ -212,7 +220,8 @@ def check_manual(executable):
     check(words, set(re.findall(r"--([a-z-]+)", page)), "the words of the manual page")
     document = (ROOT / "docs" / "AUDITING.md").read_text().partition("## In production")[2]
     found = set(re.findall(r"--([a-z][a-z-]*)", document.partition("\n## ")[0]))
-    check(words, found - {"help", "offline", "release"}, "the words of docs/AUDITING.md")
+    found -= {"help", "install", "offline", "release", "config", "manifest-path", "ssl-ca"} - words
+    check(words, found, "the words of docs/AUDITING.md")
     code = set(re.findall(r'^ +"([a-z-]+)" =>', (folder / "src/options.rs").read_text(), re.M))
     check(words - {"config"}, code - {"pass", "cut", "wait", "stop", "yes", "no"}, "the words")
 
@@ -291,6 +300,8 @@ def main():
     parser.add_argument("recordings", type=pathlib.Path)
     parser.add_argument("--idle", type=int, default=2000)
     parser.add_argument("--load")
+    parser.add_argument("--without-tls", action="store_true", help="it was built without TLS")
+    parser.add_argument("--only", default="", help="a part of the names of checks")
     words = parser.parse_args()
     paths = sorted(words.recordings.glob("*.events"))
     at = random.Random(4)
@@ -304,14 +315,18 @@ def main():
               ("a plain greeting", check_plain),
               ("settings", check_settings), ("the manual", check_manual),
               *audit_limits.checks(), *audit_log.checks(), *audit_skipping.checks(),
-              *audit_settings.checks(), *audit_addresses.checks(), *audit_counts.checks(),
+              *audit_settings.checks(), *audit_addresses.checks(), *audit_tls.checks(), *audit_unseen.checks(),
+              *audit_counts.checks(),
               ("idle connections", lambda it: measure_idle(it, words.idle))]
     if words.load:
         for name in ("mysqldb-text", "perl-execute"):
             checks.append((f"load of {name}", lambda it, name=name: measure_load(
                 it, words.load, words.recordings / name)))
-    checks.append(("the document", lambda _: check_document({it for it, _ in checks})))
+    names = {it for it, _ in checks}
+    checks.append(("the document", lambda _: check_document(names)))
     failed = 0
+    left_out = audit_tls.checks() if words.without_tls else []
+    checks = [it for it in checks if words.only in it[0] and it not in left_out]
     for name, test in checks:
         began = time.monotonic()
         try:

@@ -59,13 +59,28 @@ def check_balancer_itself(executable):
             own = pair.client.getsockname(), pair.client.getpeername()
             check(binary(*own), pair.heard, "what the server hears of a balancer")
             pair.close()
-    with Program(executable, "--proxy-from", "10.0.0.0/8", "--proxy-from", "::1") as proxy:
-        pair = Pair(proxy, says=TEXT, hears=len(TEXT), logs_in=False)
-        check(TEXT, pair.heard, "what passes of one who is no balancer")
-        pair.close()
-        proxy.stop()
-        check({"127.0.0.1"}, {it["client"].rpartition(":")[0] for it in proxy.printed()},
-              "whose address is told")
+
+
+def check_foreign_header(executable):
+    """Who isn't told to be a balancer can't send a header to the server, in any mode."""
+    for options in ([], ["--strict"], ["--on-fault", "pass"]):
+        with Program(executable, "--proxy-from", "10.0.0.0/8", "--proxy-from", "::1",
+                     *options) as proxy:
+            for says in (TEXT, binary(FROM, TO)):
+                for is_late in (False, True):
+                    pair = Pair(proxy, logs_in=False, says=b"" if is_late else says)
+                    pair.greets()
+                    if is_late:
+                        pair.client.sendall(says)
+                    # It may have been reset, for what it said isn't read.
+                    check(b"", receive(pair.server, 1), "what passes of one who is no balancer")
+                    pair.close()
+            proxy.stop()
+            records = proxy.printed()
+            check({"127.0.0.1"}, {it["client"].rpartition(":")[0] for it in records},
+                  "whose address is told")
+            why = "a header of the PROXY protocol, of one who may not send it"
+            check([why] * 4, [it["text"] for it in records if it["kind"] == "cut"], "the cuts")
 
 
 def check_pieces(executable):
@@ -89,7 +104,7 @@ def check_pieces(executable):
 
 def check_no_header(executable):
     """Who has no header, or none in time, is refused, and its server isn't asked."""
-    front = len(b"\x00\x00\x00\x00\xff\x51\x04#08S01")
+    front = len(b"\x00\x00\x00\x00\xff\x13\x04")
     with Program(executable, "--proxy-from", "127.0.0.1", "--login-timeout", "2") as proxy:
         for says in (b"GET / HTTP/1.0\r\n\r\n", b"PROXY TCP4 1.1.1.1 2.2.2.2 3\r\n", BINARY + b"\x41",
                      BINARY + b"\x21\x11\xff\xff", b"PROXY UNKNOWN " + b"x" * 200, b"PROXY TC", b""):
@@ -130,5 +145,6 @@ def check_to_server(executable):
 def checks():
     """Returns all of them, by their names."""
     return [("a balancer", check_balancer), ("a balancer that speaks for itself", check_balancer_itself),
+            ("a header of one who is no balancer", check_foreign_header),
             ("a header in pieces", check_pieces), ("no header", check_no_header),
             ("a header for the server", check_to_server)]

@@ -239,6 +239,7 @@ def check_page(executable):
             pair.close()
         cut = Pair(proxy)
         cut.client.sendall(packet(7, b"\x03SELECT 1"))
+        check(b"", receive(cut.client, 1), "the end of a connection that is cut")
         cut.close()
         proxy.stop()
         text = report(executable, str(log))

@@ -10,13 +10,14 @@ import re
 import resource
 import signal
 import socket
+import subprocess
 import sys
 import termios
 import threading
 import time
 
-from audit_support import ERROR, OK, Pair, Program, lines_of, log_file, login, packet, query, \
-    receive, wait_for
+from audit_support import ERROR, OK, TRACKING, Pair, Program, greeting, lines_of, log_file, login, \
+    packet, query, receive, wait_for
 from recorded import check
 
 # How long a file may get where the disk is to be full.
@@ -248,6 +249,52 @@ def check_rotated(executable):
         check(True, len(found) > 40, "how many there are")
 
 
+def check_links(executable):
+    """No link is followed, neither by the log nor by what is to become the next one."""
+    with log_file() as log:
+        victim = log.with_name("victim")
+        victim.write_text("mine\n")
+        log.with_name("log.new").symlink_to(victim)
+        with Program(executable, "--log", str(log), "--rotate", "2000") as proxy:
+            pair = Pair(proxy)
+            for number in range(60):
+                pair.say(f"SELECT {number}")
+            pair.close()
+            proxy.stop()
+        check((True, False), (log.with_suffix(".1").exists(), log.is_symlink()), "the rotation")
+        link = log.with_name("link")
+        link.symlink_to(victim)
+        ran = subprocess.run([executable, "127.0.0.1:0", "127.0.0.1:1", "--log", str(link)],
+                             stderr=subprocess.PIPE, text=True, check=False, timeout=60)
+        check((1, True), (ran.returncode, "the log: " in ran.stderr), "a log that is a link")
+        check("mine\n", victim.read_text(), "what a link leads to")
+
+
+def check_pipe(executable):
+    """A pipe that nobody reads is no log: settings with it stay out, and clients go on."""
+    with log_file() as log:
+        file, pipe = log.with_name("settings"), log.with_name("pipe")
+        os.mkfifo(pipe)
+        file.write_text(f"log = {log}\n")
+        with Program(executable, "--config", str(file)) as proxy:
+            pair = Pair(proxy)
+            file.write_text(f"log = {pipe}\n")
+            proxy.signal(signal.SIGHUP, "the settings stay as they were: the log: ")
+            other = Pair(proxy)
+            for it in (pair, other):
+                it.say("SELECT 1")
+            wait_for(lambda: log.read_text().count("SELECT 1") == 2, "lines in the first log")
+            reader = os.open(pipe, os.O_RDONLY | os.O_NONBLOCK)
+            proxy.signal(signal.SIGHUP, "the settings were read")
+            for it in (pair, other):
+                it.say("SELECT 2")
+                it.close()
+            proxy.stop()
+            told = lines_of(os.read(reader, 1 << 16).decode())
+            os.close(reader)
+        check(["SELECT 2"] * 2, texts(told), "lines of the pipe")
+
+
 def check_packed(executable):
     """Older files are packed by gzip, and none of their lines is lost."""
     with log_file() as log, Program(executable, "--log", str(log), "--rotate", "5000", "--keep",
@@ -374,21 +421,27 @@ def check_digests(executable):
     with Program(executable, "--digests") as proxy:
         pair = Pair(proxy)
         secret = "hidden-in-a-statement"
-        for text in (f"SET PASSWORD = PASSWORD('{secret}')", f"ALTER USER ann IDENTIFIED AS {secret}"):
+        # Servers disagree about where a string is in the last two.
+        for text in (f"SET PASSWORD = PASSWORD('{secret}')", f"ALTER USER ann IDENTIFIED AS {secret}",
+                     "SELECT a AS $$, 'b $$ c '", "SELECT b /*!99999 it's */ , 'c'"):
             pair.say(text)
-        # At its login another session is told that a backslash escapes nothing.
+        # Another session asks, and is told that a backslash escapes nothing.
         other = Pair(proxy, logs_in=False)
-        other.greets()
-        said = login("bob", "shop")
+        other.answer(greeting(TRACKING))
+        said = login("bob", "shop", TRACKING)
         other.client.sendall(said)
         receive(other.server, len(said))
-        other.answer(packet(2, b"\0\0\0\x02\x02\0\0"))
+        other.answer(packet(2, OK))
+        other.say("SET sql_mode = @@sql_mode", b"\0\0\0\x02\x42\0\0\0\x20\0\x1e\x08sql_mode"
+                  b"\x14NO_BACKSLASH_ESCAPES")
         for it in (pair, other):
             it.say(r"SELECT '\', a")
             it.close()
         proxy.stop()
         printed = proxy.process.stdout.read()
     check(False, secret in printed, "whether a secret is in a digest")
+    marked = [it["digest"] for it in lines_of(printed) if it.get("digest", "").endswith("/* ... */")]
+    check(["select a as /* ... */", "select b /* ... */"], marked, "digests with a mark")
     for options in (["--redact"], ["--redact", "--secrets"]):
         records = told(executable, *options)
         check(digests, sorted(it.get("digest", "") for it in records), "digests in place of texts")
@@ -409,5 +462,6 @@ def checks():
             ("/dev/full", check_dev_full), ("a slow reader of the log", check_slow_reader),
             ("long lines that wait", check_long_waits), ("a log that stands still", check_stuck),
             ("a log that is moved", check_moved), ("a log that is rotated", check_rotated),
+            ("links", check_links), ("a pipe that nobody reads", check_pipe),
             ("older files are packed", check_packed), ("the system's log", check_syslog),
             ("filters", check_filters), ("digests", check_digests)]

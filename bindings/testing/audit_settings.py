@@ -53,7 +53,7 @@ def check_reload(executable):
             bob.say("SELECT 3")
             wait_for(lambda: has(other, '"SELECT 3"'), "a line in the other log")
             with proxy.ask() as refused:
-                check(b"Too many connections", refused.recv(100)[13:], "one client too many")
+                check(b"Too many connections", refused.recv(100)[7:], "one client too many")
             for it in (pair, bob):
                 it.say("SELECT 4")
                 it.close()

@@ -1,9 +1,11 @@
 """What bindings/audit tells of payloads that are longer than it reads: their first bytes and lengths."""
 
+import pathlib
 import random
 import threading
 
-from audit_support import COLUMN, EOF, ERROR, OK, Pair, Program, lines_of, log_file, packet, receive
+from audit_support import COLUMN, EOF, ERROR, OK, Pair, Program, lines_of, log_file, packet, \
+    receive
 from recorded import check
 
 LONGEST = 20000
@@ -98,7 +100,7 @@ def check_skipped(executable):
               ("query", None, 50024, len("SET PASSWORD = '*****'"), [("error", 1146)]),
               ("skipped", "server", 0xFFFFFF + 4, 0, []), ("query", None, 0x2000000 + 10, front, rows),
               ("prepare", None, None, 8, [("statement", 7)]),
-              ("skipped", "server", 50006, 0, []), ("unknown", None, 50018, front + 1, rows),
+              ("skipped", "server", 50006, 0, []), ("execute", None, 50018, 8, rows),
               ("skipped", "client", 50007, 0, []), ("execute", None, None, 8, [("rows", 0)]),
               ("skipped", "client", 50000, 0, []),
               ("query", None, None, 29, [("file", "more"), ("affected", 0)]),
@@ -119,7 +121,60 @@ def check_skipped(executable):
         check(50004, records[-3]["results"][0]["bytes"], "the bytes of a file")
 
 
+def check_texts(executable):
+    """A line has so much of a text and of values, and says where that isn't all. A secret behind that is
+    hidden, too."""
+    with Program(executable, "--longest-text", "1000") as proxy:
+        pair, at = Pair(proxy), random.Random(7)
+        for text in ("SELECT '" + "\xe9" * 600, "SELECT 1", "SELECT '" + "x" * 2000 + "', PASSWORD('secret')"):
+            talk(pair, at, b"\x03" + text.encode(), ERROR)
+        talk(pair, at, b"\x16SELECT ?, ?", b"\0\x07\0\0\0\0\0\x02\0\0\0\0", COLUMN, COLUMN, EOF)
+        types = b"\0\x01\xfd\0\xfd\0"
+        for values in (b"\xfc\xd0\x07" + b"x" * 2000 + b"\x01y", b"\x01x\x01y"):
+            talk(pair, at, b"\x17\x07\0\0\0\0\x01\0\0\0" + types + values, OK)
+        pair.close()
+        proxy.stop()
+        lines = [it for it in proxy.printed() if it["kind"] in ("query", "execute")]
+    check([True, None, True, True, None], [it.get("short") for it in lines], "whether it is short")
+    check(["SELECT '" + "\xe9" * 496, "SELECT 1"], [it["text"] for it in lines[:2]], "texts")
+    check(["no such table"] * 2 + ["*****"], [it["results"][0]["message"] for it in lines[:3]], "errors")
+    check([["x" * 1000], ["x", "y"]], [it["values"] for it in lines[3:]], "values")
+
+
+def check_lists(executable):
+    """What is read as a list of many times its size is told by its first bytes, and memory stays."""
+    with Program(executable, "--log", "/dev/null") as proxy:
+        pair, at = Pair(proxy), random.Random(8)
+        talk(pair, at, b"\x16INSERT INTO goods VALUES (?)", b"\0\x07\0\0\0\0\0\x01\0\0\0\0", COLUMN, EOF)
+        before = proxy.memory()
+        said = in_turn(0, b"\xfa\x07\0\0\0\x80\0\xfd\0" + b"\x01" * 8000000)[0]
+        sender = threading.Thread(target=pair.client.sendall, args=[said])
+        sender.start()
+        check(True, said == receive(pair.server, len(said)), "what passes")
+        sender.join()
+        pair.answer(packet(1, OK))
+        pair.say("SELECT 1")
+        status = pathlib.Path(f"/proc/{proxy.process.pid}/status").read_text()
+        most = 1024 * int(status.partition("VmHWM:")[2].split()[0]) - before
+        check(True, most < 3 * len(said), f"{most} bytes of memory for {len(said)}")
+        pair.close()
+        proxy.stop()
+
+
+def check_results(executable):
+    """Of a reply so many results are told, and how many more came."""
+    with Program(executable) as proxy:
+        pair, at = Pair(proxy), random.Random(9)
+        more = OK[:3] + b"\x0a" + OK[4:]
+        talk(pair, at, b"\x03CALL many()", *[more] * 2500, ERROR)
+        pair.close()
+        proxy.stop()
+        results = proxy.printed()[1]["results"]
+    check((1002, {"more": 1500}, 1146), (len(results), results[1000], results[1001]["error"]), "results")
+
+
 def checks():
     """Returns all of them, by their names."""
-    return [("long payloads", check_skipped)]
+    return [("long payloads", check_skipped), ("long texts", check_texts), ("lists", check_lists),
+            ("many results", check_results)]
 

@@ -88,7 +88,8 @@ LIMITED = """
     PyErr_ExceptionMatches PyErr_Fetch PyErr_Format PyErr_NoMemory PyErr_Occurred PyErr_Restore
     PyErr_SetObject PyErr_SetString PyEval_RestoreThread PyEval_SaveThread PyExc_ArithmeticError
     PyExc_ImportError PyExc_KeyError PyExc_OverflowError PyExc_RuntimeError PyExc_TypeError
-    PyExc_ValueError PyFloat_AsDouble PyFloat_FromDouble PyFloat_Type PyImport_ImportModule PyIter_Next
+    PyExc_ValueError PyFloat_AsDouble PyFloat_FromDouble PyFloat_Type PyImport_GetModuleDict
+    PyImport_ImportModule PyIter_Next
     PyList_Append PyList_AsTuple PyList_GetItem PyList_GetSlice PyList_New PyList_SetItem
     PyList_SetSlice PyList_Size PyList_Type PyLong_AsLongLong PyLong_AsLongLongAndOverflow
     PyLong_AsUnsignedLongLong PyLong_FromLong PyLong_FromLongLong PyLong_FromSize_t
@@ -96,7 +97,7 @@ LIMITED = """
     PyMem_Realloc PyMemoryView_FromObject PyMemoryView_Type PyModuleDef_Init PyModule_GetState
     PyOS_string_to_double PyObject_Call PyObject_CallFunctionObjArgs PyObject_GC_UnTrack
     PyObject_GenericSetAttr PyObject_GetAttrString PyObject_GetIter PyObject_IsInstance
-    PyObject_IsTrue PySequence_Concat PySequence_GetItem PySequence_Tuple PyThreadState_GetDict
+    PyObject_IsTrue PyObject_Str PySequence_Concat PySequence_GetItem PySequence_Tuple PyThreadState_GetDict
     PyTuple_GetItem PyTuple_New PyTuple_Pack PyTuple_SetItem PyTuple_Size PyTuple_Type
     PyType_FromSpec PyType_GenericAlloc PyType_GetFlags PyType_GetSlot PyType_IsSubtype PyType_Type
     PyUnicode_AsUTF8String PyUnicode_Decode PyUnicode_DecodeASCII PyUnicode_DecodeUTF8
@@ -150,14 +151,25 @@ class Installed:
         self.folder = os.path.join(room, "installed")
 
     def install(self):
-        """The header, the libraries and what pkg-config reads are there, and nothing else is."""
-        run([os.path.join(BINDINGS, "build"), "--to", self.library, "--install", self.prefix])
+        """The header, the libraries, what pkg-config reads and the audit are there, and no more."""
+        # What was built for other tests isn't built again.
+        environment = rust_environment(self.library, os.path.dirname(self.folder))
+        run([os.path.join(BINDINGS, "build"), "--to", self.library, "--install", self.prefix],
+            env=environment)
         found = [os.path.relpath(os.path.join(at, name), self.prefix)
                  for at, _, names in os.walk(self.prefix) for name in names]
-        compare(sorted(found), ["include/mysql_session.h", "lib/libmysql_session.a",
-                                "lib/libmysql_session.so",
-                                f"lib/libmysql_session.so.{defined('ABI')}",
-                                "lib/mysql_session.build", "lib/pkgconfig/mysql_session.pc"])
+        audit = ["bin/audit-report", "lib/systemd/system/mysql-audit.service", "sbin/mysql-audit",
+                 "share/doc/mysql-audit/mysql-audit.conf", "share/man/man1/audit-report.1",
+                 "share/man/man8/mysql-audit.8"]
+        wanted = ["include/mysql_session.h", "lib/libmysql_session.a", "lib/libmysql_session.so",
+                  f"lib/libmysql_session.so.{defined('ABI')}", "lib/mysql_session.build",
+                  "lib/pkgconfig/mysql_session.pc"]
+        compare(sorted(found), sorted(wanted + (audit if has("cargo") else [])))
+        if has("cargo"):
+            program = os.path.join(self.prefix, "sbin", "mysql-audit")
+            compare(run([program, "--help"])[:18], "usage: mysql-audit")
+            with open(os.path.join(self.prefix, audit[1]), encoding="utf-8") as it:
+                compare(re.findall(r"^ExecStart=(\S+)", it.read(), re.M), [program])
         os.makedirs(self.folder)
         self.write("program.c", PROGRAM)
         self.write("CMakeLists.txt", CMAKE)

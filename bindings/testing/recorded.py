@@ -31,9 +31,14 @@ SECONDS = 60
 # How many descriptors the proxy may open where it is to have too few.
 DESCRIPTORS = 24
 
+# The first bytes of executions, which may be laid out as none.
+EXECUTIONS = {b"\x17": "execute", b"\xfa": "bulk execute"}
+CLOSE, RESET_CONNECTION = b"\x19", b"\x1f"
 # The first byte of a change of user, which may be laid out as none.
 CHANGE_USER = b"\x11"
 
+# How MySQL answers a client that leaves without a word.
+LEFT = ["error 1158"]
 # Reasons why a connection isn't read any further.
 UNREAD = ("Over Secure", "Over Compressed", "Over Dump", "Over Clone", "Fault")
 
@@ -146,8 +151,14 @@ class Teller:
         """Takes an event."""
         if event.side == "client" and event.name in NAMES:
             self.end_rows()
+            if event.name in ("ChangeUser", "ResetConnection"):
+                self.prepared.clear()
+            if event.name == "Prepare":
+                self.last = None
             self.told.append(self.command(event))
             self.becomes.append(self.change(event))
+        elif event.name == "Close":
+            self.prepared.pop(self.statement(event.number("id")), None)
         elif event.name in ("Rejected", "Farewell"):
             self.end_rows()
             name = {"Rejected": "refused", "Farewell": "farewell"}[event.name]
@@ -173,14 +184,17 @@ class Teller:
             whole.append(told._replace(who=who))
         return whole
 
+    def statement(self, number):
+        """Returns the number of a statement, which may be said to be the last one."""
+        return self.last if number == 0xFFFFFFFF else number
+
     def command(self, event):
         """Returns a command without its reply."""
         kind, field = NAMES[event.name]
         text = event.text(field) if field else None
         values = None
         if event.name in ("Execute", "BulkExecute"):
-            number = event.number("id")
-            text = self.prepared[self.last if number == 0xFFFFFFFF else number]
+            text = self.prepared[self.statement(event.number("id"))]
         if event.name == "Execute":
             values = [value_of(it) for it in values_in(event.fields["parameters"])[0]]
         elif event.name == "BulkExecute":
@@ -188,7 +202,16 @@ class Teller:
         elif event.name == "Other":
             byte = event.fields["byte"]
             first = b"" if byte == "-" else bytes([int(byte)])
-            text = json_text(first + bytes.fromhex(event.fields["data"][1:]))
+            data = bytes.fromhex(event.fields["data"][1:])
+            text = json_text(first + data)
+            number = int.from_bytes(data[:4], "little") if len(data) > 3 else None
+            number = self.statement(number)
+            if first == CLOSE:
+                self.prepared.pop(number, None)
+            elif first == RESET_CONNECTION:
+                self.prepared.clear()
+            if first in EXECUTIONS and number in self.prepared:
+                kind, text = EXECUTIONS[first], self.prepared[number]
             if first == CHANGE_USER and not self.secrets:
                 text = None
         self.asked = text
@@ -243,8 +266,8 @@ def told_by(lines, secrets):
 
 def result_in(result):
     """Returns a result of the proxy's JSON in the form of `told_by`."""
-    if "rows" in result:
-        return f"rows {result['rows']}"
+    if "rows" in result or "cursor" in result:
+        return f"rows {result.get('rows', 0)}"
     if "affected" in result:
         return f"affected {result['affected']}"
     if "error" in result:
@@ -350,7 +373,13 @@ def check_recording(proxy, path, at, options):
     got, asked, records = proxy.connect(client, server, at)
     kinds = [it["kind"] for it in records]
     told = [told_in(it) for it in records if it["kind"] not in ("end", "unread", "cut")]
-    check(told_by(lines, "--secrets" in options), told, f"{path.stem}, what is told")
+    wanted = told_by(lines, "--secrets" in options)
+    if wanted[-1:] and wanted[-1].results == LEFT and "farewell" not in kinds:
+        # What MySQL answers a client that has left is no error, where its end was seen first.
+        wanted.pop()
+    # A program may also tell commands that passed and that nothing answers.
+    more = [it.results for it in told[len(wanted):]]
+    check((wanted, [[]] * len(more)), (told[:len(wanted)], more), f"{path.stem}, what is told")
     is_unread = end[4:].startswith(UNREAD)
     check(["cut" if cuts else "unread"] if is_unread else [],
           [it for it in kinds if it in ("cut", "unread")], f"{path.stem}, what isn't read")

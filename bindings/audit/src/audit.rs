@@ -3,8 +3,10 @@
 
 use crate::commands::Telling;
 use crate::lines::Sink;
+use crate::secrecy::has_clear_password;
 use crate::teller::{Origin, Teller};
-use mysql_session::{Connection, ConnectionEnd, Error, Limits, Phase, Reason, Side};
+use mysql_session::capability::CLIENT_LONG_PASSWORD;
+use mysql_session::{Connection, ConnectionEnd, Error, Event, Limits, Phase, Reason, Side};
 use std::fmt::Display;
 
 /// What is done with a connection that can't be read any further.
@@ -24,12 +26,32 @@ pub enum Follows {
     Cuts,
 }
 
+/// The error by which MySQL answers a client that leaves without a word.
+const READ_ERROR: u16 = 1158;
+pub const COM_STMT_EXECUTE: u8 = 0x17;
+pub const COM_STMT_BULK_EXECUTE: u8 = 0xfa;
+const COM_STMT_SEND_LONG_DATA: u8 = 0x18;
+const COM_STMT_CLOSE: u8 = 0x19;
+/// The error of clients whose plugin needs TLS.
+const NEEDS_TLS: u16 = 2061;
+/// The bytes of an execution up to its statement's number.
+pub const EXECUTION: usize = 5;
 /// The limits of a connection of which nothing is read.
 const NOTHING: Limits = Limits {
     client: 0,
     server: 0,
     held: 0,
 };
+
+/// Whether MySQL answers a command of which no answer is awaited: a close of a statement, or long data
+/// for it, that are cut off. Replies would be told of the commands behind theirs.
+fn is_cut_off(event: &Event) -> bool {
+    match event {
+        Event::Other([COM_STMT_SEND_LONG_DATA, rest @ ..]) => rest.len() < 6,
+        Event::Other([COM_STMT_CLOSE, rest @ ..]) => rest.len() < 4,
+        _ => false,
+    }
+}
 
 /// A connection that is read.
 pub struct Audit<S> {
@@ -43,6 +65,19 @@ pub struct Audit<S> {
     pub before: [u64; 2],
     /// Whether there was something that can't be read.
     gave_up: bool,
+    /// Whether the client left without a word, which the server answered.
+    has_left: bool,
+    /// Whether the server greeted as MariaDB does.
+    is_mariadb: bool,
+    /// Whether commands pass before they are read.
+    pub passes_first: bool,
+    /// Whether the client has TLS and the server's side has none.
+    pub guards: bool,
+    /// Whether what can't be read doesn't pass, whatever was chosen: it may be a login without the TLS
+    /// that is wanted, or a password that would go in clear.
+    pub insists: bool,
+    /// The code and the words by which the client is to be refused.
+    pub refusal: Option<(u16, String)>,
 }
 
 impl<S: Sink> Audit<S> {
@@ -61,6 +96,12 @@ impl<S: Sink> Audit<S> {
             ended: Vec::new(),
             before: [0; 2],
             gave_up: false,
+            has_left: false,
+            is_mariadb: false,
+            passes_first: false,
+            guards: false,
+            insists: false,
+            refusal: None,
         })
     }
 
@@ -69,16 +110,20 @@ impl<S: Sink> Audit<S> {
         self.on_fault = on_fault;
     }
 
-    /// Takes bytes of a side, as many as there is room for, and tells what they say.
+    /// Takes bytes of a side, as many as there is room for, and tells what they say. None are taken
+    /// of a connection that was cut.
     pub fn feed(&mut self, side: Side, bytes: &[u8]) -> usize {
-        if self.follows != Follows::Reads {
-            self.teller.take_bytes(side, bytes.len());
-            return bytes.len();
-        }
         let room = self.connection.room(side);
-        if room == 0 && self.is_stuck(side) {
+        if self.follows == Follows::Reads && room == 0 && self.is_stuck(side) {
             self.give_up_stuck();
-            return bytes.len();
+        }
+        match self.follows {
+            Follows::Reads => {}
+            Follows::Passes => {
+                self.teller.take_bytes(side, bytes.len());
+                return bytes.len();
+            }
+            Follows::Cuts => return 0,
         }
         self.feed_within(side, &bytes[..bytes.len().min(room)])
     }
@@ -114,14 +159,21 @@ impl<S: Sink> Audit<S> {
         }
     }
 
-    /// Tells the connection's end.
-    pub fn end(&mut self) {
+    /// Tells the connection's end, where this of the client passed and wasn't read.
+    pub fn end(&mut self, unread: &[u8]) {
         self.finish_command(false);
+        self.tell_unanswered(unread);
+        if self.is_cut() {
+            return self.teller.end(&"proxy", "unread");
+        }
         let (by, how) = match self.connection.finish() {
             _ if self.gave_up => (None, "unread"),
             ConnectionEnd::Over(Reason::Quit) => (Some(Side::Client), "quit"),
             ConnectionEnd::Over(Reason::Rejected) => (Some(Side::Server), "rejected"),
             ConnectionEnd::Over(Reason::Denied) => (Some(Side::Server), "denied"),
+            ConnectionEnd::Over(Reason::Farewell) if self.has_left => {
+                (Some(Side::Client), "without quit")
+            }
             ConnectionEnd::Over(Reason::Farewell) => (Some(Side::Server), "farewell"),
             ConnectionEnd::Whole => (None, "without quit"),
             ConnectionEnd::Unfinished(_) => (None, "unfinished"),
@@ -134,32 +186,67 @@ impl<S: Sink> Audit<S> {
 
     /// Tells the events that stand whole.
     fn read(&mut self) {
-        let mut phase = self.connection.phase();
-        loop {
-            if phase == Phase::Command {
-                // The mode in which the server reads the text that may come next.
-                self.teller.telling.mode = self.connection.mode().unwrap_or_default();
-            }
-            match self.connection.next_event() {
-                Ok(Some(event)) => self.teller.take(&event),
-                Ok(None) => break,
-                Err(fault) => {
-                    let (side, code) = (fault.side(), fault.code());
-                    let byte = self.before[side as usize] + fault.byte();
-                    return self.give_up(&format_args!("{side}, byte {byte}: {code}"));
-                }
-            }
-            phase = self.connection.phase();
-            match phase {
+        while self.read_event() {
+            match self.connection.phase() {
                 Phase::Command => self.finish_command(true),
                 Phase::Over(reason) => return self.pass_over(reason),
                 _ => {}
             }
         }
-        let has_ended = self.ended.contains(&Side::Server);
-        if has_ended && self.connection.turn() == Some(Side::Server) {
+        let waits = self.follows == Follows::Reads && self.ended.contains(&Side::Server);
+        if waits && self.connection.turn() == Some(Side::Server) {
             // It doesn't come any more, and nothing behind it can be read.
             self.follows = Follows::Passes;
+        }
+    }
+
+    /// Tells the next event. Says whether there was one, and more can be read.
+    fn read_event(&mut self) -> bool {
+        if self.connection.phase() == Phase::Command {
+            // The mode in which the server reads the text that may come next.
+            let known = self.connection.mode();
+            self.teller.telling.mode = known.unwrap_or(self.teller.mode_by_status);
+        }
+        let has_left = self.ended.first() == Some(&Side::Client);
+        let most = self.teller.telling.most;
+        match self.connection.next_event_lent() {
+            Ok(None) => false,
+            Ok(Some(event)) if self.guards && has_clear_password(&event) => {
+                if let Event::Login(login) = &event {
+                    self.teller.name(login.user, login.database);
+                }
+                self.refuse_clear_password();
+                false
+            }
+            Ok(Some(event)) if !self.is_mariadb && is_cut_off(&event) => {
+                self.give_up(&"MySQL answers a command that is cut off");
+                false
+            }
+            Ok(Some(Event::Other(payload @ [COM_STMT_EXECUTE | COM_STMT_BULK_EXECUTE, ..]))) => {
+                // As much as is told.
+                let front = payload[..payload.len().min(most.saturating_add(EXECUTION))].to_vec();
+                self.take_unread_execution(&front);
+                true
+            }
+            // It is no error of the server.
+            Ok(Some(Event::Farewell(error))) if error.code == READ_ERROR && has_left => {
+                self.has_left = true;
+                true
+            }
+            Ok(Some(event)) => {
+                if let Event::Greeting(greeting) = &event {
+                    let bits = greeting.capabilities.protocol;
+                    self.is_mariadb = bits & CLIENT_LONG_PASSWORD == 0;
+                }
+                self.teller.take(&event);
+                true
+            }
+            Err(fault) => {
+                let (side, code) = (fault.side(), fault.code());
+                let byte = self.before[side as usize] + fault.byte();
+                self.give_up(&format_args!("{side}, byte {byte}: {code}"));
+                false
+            }
         }
     }
 
@@ -186,16 +273,37 @@ impl<S: Sink> Audit<S> {
     /// Reads no more of the connection, which is told.
     pub fn give_up(&mut self, why: &dyn Display) {
         let (kind, follows) = match self.on_fault {
-            OnFault::Pass => ("unread", Follows::Passes),
-            OnFault::Cut => ("cut", Follows::Cuts),
+            OnFault::Pass if !self.insists => ("unread", Follows::Passes),
+            _ => ("cut", Follows::Cuts),
         };
         self.follows = follows;
         self.gave_up = true;
+        self.finish_command(false);
+        if follows == Follows::Cuts {
+            // It ends at once, and what waits is told then.
+            return self.teller.tell_unread(kind, why);
+        }
+        self.tell_unanswered(&[]);
         self.teller.tell_unread(kind, why);
         // What is held of it goes.
         if let Ok(empty) = Connection::new(NOTHING) {
             self.connection = empty;
         }
+    }
+
+    /// Ends the connection, whatever is done with others that can't be read.
+    pub fn cut(&mut self, why: &dyn Display) {
+        if !self.is_cut() {
+            self.on_fault = OnFault::Cut;
+            self.give_up(why);
+        }
+    }
+
+    /// Ends the connection before a password goes in clear.
+    fn refuse_clear_password(&mut self) {
+        let why = "a password would go in clear, since the server's side has no TLS";
+        self.refusal = Some((NEEDS_TLS, why.to_string()));
+        self.cut(&why);
     }
 
     pub fn is_cut(&self) -> bool {

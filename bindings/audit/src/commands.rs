@@ -1,9 +1,9 @@
 //! What clients ask for, as it is told.
 
 use crate::lines::{Format, Told};
-use crate::masking::masked;
-use crate::texts::digest_of;
-use mysql_session::{Attributes, BulkRow, Event, Mode, OtherCommand};
+use crate::masking::{masked, may_have_secrets};
+use crate::texts::{digest_of, front_of};
+use mysql_session::{Attributes, BulkRow, BulkValue, Event, Mode, OtherCommand, Value};
 
 /// What is told for a secret that isn't part of a text.
 pub const HIDDEN: &[u8] = b"*****";
@@ -23,6 +23,8 @@ pub struct Telling {
     pub digests: bool,
     /// Whether they are told in place of texts and values.
     pub redacts: bool,
+    /// How many bytes of a text, and of what values are written as, are told.
+    pub most: usize,
     /// The mode in which the server reads the session's texts.
     pub mode: Mode,
     /// Whether a statement was prepared whose values are secrets.
@@ -31,13 +33,16 @@ pub struct Telling {
 
 impl Telling {
     /// A command about a statement's text, as it may be told.
-    fn about(self, kind: &'static str, text: &[u8]) -> Told {
+    pub fn about(self, kind: &'static str, text: &[u8]) -> Told {
         let mut told = Told::new(kind);
+        let front = front_of(text, self.most);
+        told.is_short = front.len() < text.len();
         if self.secrets && !self.redacts {
-            return self.with_shown(told, text);
+            return self.with_shown(told, front);
         }
-        let masked = masked(text, !self.mode.no_backslash_escapes);
-        told.is_secret = masked.is_secret;
+        let masked = masked(front, !self.mode.no_backslash_escapes);
+        // What isn't told may have a secret, too.
+        told.is_secret = masked.is_secret || told.is_short && may_have_secrets(text);
         self.with_shown(told, &masked.text)
     }
 
@@ -54,18 +59,58 @@ impl Telling {
         told.with_text(self.format.text(text))
     }
 
-    /// Values of an execution, where they are told.
-    fn with_values(self, told: Told, values: String) -> Told {
-        match self.redacts {
-            true => told,
-            false => told.with_values(values),
+    /// Values of an execution, where they are told, each by `write`.
+    fn with_values<T>(
+        self,
+        mut told: Told,
+        values: impl Iterator<Item = T>,
+        write: impl FnMut(&mut String, T),
+    ) -> Told {
+        if self.redacts {
+            return told;
+        }
+        let mut list = String::new();
+        told.is_short |= !self.format.list(&mut list, self.most, values, write);
+        told.with_values(list)
+    }
+
+    /// Writes a value, no more of it than is told.
+    fn value(self, list: &mut String, value: Value) {
+        let value = match value {
+            Value::Bytes(bytes) => Value::Bytes(front_of(bytes, self.most)),
+            value => value,
+        };
+        self.format.value(list, value);
+    }
+
+    /// Writes a value of a bulk execution.
+    fn bulk_value(self, list: &mut String, value: BulkValue) {
+        match value {
+            BulkValue::Value(value) => self.value(list, value),
+            value => self.format.bulk_value(list, value),
+        }
+    }
+
+    /// Cells that servers read each their way, from the first one on.
+    pub fn with_unclear(self, told: Told, cells: &[u8]) -> Told {
+        self.with_bytes(told, "unclear", cells)
+    }
+
+    /// Bytes of an execution, where it has some.
+    fn with_bytes(self, mut told: Told, name: &'static str, bytes: &[u8]) -> Told {
+        let front = &bytes[..bytes.len().min(self.most)];
+        told.is_short |= front.len() < bytes.len();
+        match (front, told.is_secret) {
+            ([], _) => told,
+            (_, true) => told.with(name, self.format.text(HIDDEN)),
+            _ => told.with(name, self.format.text(front)),
         }
     }
 
     /// Attributes, of which some are read by servers each their way.
     fn with_attributes(
         self,
-        told: Told,
+        mut told: Told,
         attributes: &Attributes,
         is_unclear: impl Fn(usize) -> bool,
     ) -> Told {
@@ -73,17 +118,24 @@ impl Telling {
             return told;
         }
         let (format, mut list) = (self.format, String::new());
-        format.list(
+        let is_whole = format.list(
             &mut list,
+            self.most,
             (0..).zip(attributes.iter()),
             |list, (number, (name, value))| {
                 let pair = [Some(name.into()), (!is_unclear(number)).then_some(value)];
-                format.list(list, pair.into_iter(), |list, value| match value {
-                    Some(value) => format.value(list, value),
-                    None => list.push_str(format.unclear()),
-                });
+                format.list(
+                    list,
+                    usize::MAX,
+                    pair.into_iter(),
+                    |list, value| match value {
+                        Some(value) => self.value(list, value),
+                        None => list.push_str(format.unclear()),
+                    },
+                );
             },
         );
+        told.is_short |= !is_whole;
         told.with("attributes", list)
     }
 
@@ -131,21 +183,16 @@ pub fn asked(telling: Telling, event: &Event) -> Option<Told> {
         } => {
             let told = telling.about("execute", text).with("statement", statement);
             let is_secret = told.is_secret;
-            let mut list = String::new();
-            format.list(
-                &mut list,
-                (0..).zip(values.iter()),
-                |list, (place, value)| {
-                    if is_secret {
-                        format.value(list, HIDDEN.into());
-                    } else if values.is_unclear(place) {
-                        list.push_str(format.unclear());
-                    } else {
-                        format.value(list, value);
-                    }
-                },
-            );
-            let mut told = telling.with_values(told, list);
+            let write = |list: &mut String, (place, value)| {
+                if is_secret {
+                    format.value(list, HIDDEN.into());
+                } else if values.is_unclear(place) {
+                    list.push_str(format.unclear());
+                } else {
+                    telling.value(list, value);
+                }
+            };
+            let mut told = telling.with_values(told, (0..).zip(values.iter()), write);
             if *nameless_flags != 0 {
                 told = told.with("flags", nameless_flags);
             }
@@ -155,8 +202,8 @@ pub fn asked(telling: Telling, event: &Event) -> Option<Told> {
             let told = telling.with_attributes(told, attributes, |number| {
                 values.is_unclear(values.len() + number)
             });
-            let told = with_rest(told, format, rest);
-            with_unclear(told, format, values.unclear_cells())
+            let told = telling.with_bytes(told, "rest", rest);
+            telling.with_unclear(told, values.unclear_cells())
         }
         Event::BulkExecute {
             statement,
@@ -168,21 +215,21 @@ pub fn asked(telling: Telling, event: &Event) -> Option<Told> {
                 .about("bulk execute", text)
                 .with("statement", statement);
             let is_secret = told.is_secret;
-            let row = |list: &mut String, row: BulkRow| {
-                format.list(list, (0..).zip(row.iter()), |list, (place, value)| {
+            let write = |list: &mut String, row: BulkRow| {
+                let values = (0..).zip(row.iter());
+                format.list(list, usize::MAX, values, |list, (place, value)| {
                     if is_secret {
                         format.value(list, HIDDEN.into());
                     } else if row.is_unclear(place) {
                         list.push_str(format.unclear());
                     } else {
-                        format.bulk_value(list, value);
+                        telling.bulk_value(list, value);
                     }
                 });
             };
-            let mut list = String::new();
-            format.list(&mut list, rows.iter(), row);
-            let told = with_rest(telling.with_values(told, list), format, rest);
-            with_unclear(told, format, rows.unclear_cells())
+            let told = telling.with_values(told, rows.iter(), write);
+            let told = telling.with_bytes(told, "rest", rest);
+            telling.with_unclear(told, rows.unclear_cells())
         }
         Event::Fetch { statement, rows } => Told::new("fetch")
             .with("statement", statement)
@@ -195,25 +242,6 @@ pub fn asked(telling: Telling, event: &Event) -> Option<Told> {
         _ => return None,
     };
     Some(told)
-}
-
-/// Cells that servers read each their way, from the first one on.
-fn with_unclear(told: Told, format: Format, cells: &[u8]) -> Told {
-    with_bytes(told, format, "unclear", cells)
-}
-
-/// Bytes of an execution that are left over.
-fn with_rest(told: Told, format: Format, rest: &[u8]) -> Told {
-    with_bytes(told, format, "rest", rest)
-}
-
-/// Bytes of an execution, where it has some.
-fn with_bytes(told: Told, format: Format, name: &'static str, bytes: &[u8]) -> Told {
-    match (bytes, told.is_secret) {
-        ([], _) => told,
-        (_, true) => told.with(name, format.text(HIDDEN)),
-        _ => told.with(name, format.text(bytes)),
-    }
 }
 
 /// A command that has no event of its own.

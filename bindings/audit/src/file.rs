@@ -3,12 +3,13 @@
 
 use crate::lines::Format;
 use crate::options::LogFull;
+use crate::sys::append_and_wait;
 use crate::syslog::{is_socket, is_too_long, Syslog};
 use crate::texts::push_now;
 use std::fmt::Display;
 use std::fs::{self, File, OpenOptions};
 use std::io::{self, ErrorKind, Write};
-use std::os::fd::AsFd;
+use std::os::fd::{AsFd, AsRawFd};
 use std::os::unix::fs::OpenOptionsExt;
 use std::path::{Path, PathBuf};
 use std::process::{exit, Child, Command, Stdio};
@@ -17,6 +18,19 @@ use std::sync::{Arc, Mutex, PoisonError};
 use std::thread::sleep;
 use std::time::Duration;
 
+#[cfg(any(
+    target_arch = "aarch64",
+    target_arch = "arm",
+    target_arch = "powerpc64"
+))]
+const O_NOFOLLOW: i32 = 0o10_0000;
+#[cfg(not(any(
+    target_arch = "aarch64",
+    target_arch = "arm",
+    target_arch = "powerpc64"
+)))]
+const O_NOFOLLOW: i32 = 0o40_0000;
+const O_NONBLOCK: i32 = 0o4000;
 /// How long it waits until a line is tried again.
 const PAUSE: Duration = Duration::from_millis(50);
 
@@ -118,14 +132,26 @@ pub fn say(what: &str) {
     let _ = writeln!(io::stderr(), "{what}");
 }
 
+/// Opens a log, which is no link. A pipe that nobody reads is refused, and not waited for.
 fn open(path: Option<&Path>) -> io::Result<File> {
-    match path {
-        Some(path) => {
-            let mut how = OpenOptions::new();
-            how.append(true).create(true).mode(0o640).open(path)
-        }
-        None => Ok(io::stdout().as_fd().try_clone_to_owned()?.into()),
+    let Some(path) = path else {
+        return Ok(io::stdout().as_fd().try_clone_to_owned()?.into());
+    };
+    let mut how = OpenOptions::new();
+    how.append(true).create(true).mode(0o640);
+    let file = how.custom_flags(O_NOFOLLOW | O_NONBLOCK).open(path)?;
+    append_and_wait(file.as_raw_fd())?;
+    Ok(file)
+}
+
+/// Makes a log, in the place of whatever is there.
+fn make(path: &Path) -> io::Result<File> {
+    match fs::remove_file(path) {
+        Err(error) if error.kind() != ErrorKind::NotFound => return Err(error),
+        _ => {}
     }
+    let mut how = OpenOptions::new();
+    how.append(true).create_new(true).mode(0o640).open(path)
 }
 
 fn count_lines(bytes: &[u8]) -> u64 {
@@ -317,7 +343,7 @@ impl LogFile {
             return Ok(());
         };
         let next = beside(&path, "new");
-        let file = open(Some(&next))?;
+        let file = make(&next)?;
         self.end_packing(true);
         let moved = move_on(&path, self.manner.keep).and_then(|()| fs::rename(&next, &path));
         if let Err(error) = moved {

@@ -29,6 +29,8 @@ pub struct Told {
     pub digest: Option<Vec<u8>>,
     /// Whether it has a secret that isn't told. Nor is what the server says of it then.
     pub is_secret: bool,
+    /// Whether its texts and values are told up to some length alone.
+    pub is_short: bool,
 }
 
 /// A result in a server's reply.
@@ -37,6 +39,8 @@ pub enum Outcome {
         rows: u64,
         warnings: u16,
     },
+    /// Rows are to be fetched.
+    Cursor,
     Done {
         affected: u64,
         insert_id: u64,
@@ -57,6 +61,8 @@ pub enum Outcome {
         bytes: u64,
     },
     Line(Vec<u8>),
+    /// So many more results.
+    More(u64),
 }
 
 /// The connection that a line is about.
@@ -96,6 +102,7 @@ impl Told {
             values: None,
             digest: None,
             is_secret: false,
+            is_short: false,
         }
     }
 
@@ -227,20 +234,28 @@ impl Format {
         }
     }
 
-    /// Writes a list, each item by `write`.
+    /// Writes a list, each item by `write`, up to the item with which it gets so long. Says whether that
+    /// is all of it.
     pub fn list<T>(
         self,
         text: &mut String,
+        most: usize,
         items: impl Iterator<Item = T>,
         mut write: impl FnMut(&mut String, T),
-    ) {
+    ) -> bool {
         let between = if self == Format::Json { "," } else { ", " };
+        let most = most.saturating_add(text.len());
         text.push('[');
         for (number, item) in items.enumerate() {
+            if text.len() > most {
+                break;
+            }
             text.push_str(if number > 0 { between } else { "" });
             write(text, item);
         }
+        let is_whole = text.len() <= most;
         text.push(']');
+        is_whole
     }
 
     /// Writes digits of a date or a duration, or a float. JSON has no float that isn't finite.
@@ -275,6 +290,7 @@ fn text_line(line: &mut String, heading: &Heading, told: &Told, answer: Option<&
             line.push_str(what);
         }
     }
+    line.push_str(if told.is_short { " .." } else { "" });
     if let Some(answer) = answer {
         text_answer(line, heading, answer);
     }
@@ -314,6 +330,7 @@ fn text_outcome(line: &mut String, outcome: &Outcome) {
             line.push_str(&counted(*rows, "row"));
             push_warnings(line, *warnings);
         }
+        Outcome::Cursor => line.push_str("a cursor"),
         Outcome::Done {
             affected,
             insert_id,
@@ -349,6 +366,9 @@ fn text_outcome(line: &mut String, outcome: &Outcome) {
             let _ = write!(line, " of {}", counted(*bytes, "byte"));
         }
         Outcome::Line(text) => push_readable(line, text),
+        Outcome::More(number) => {
+            let _ = write!(line, "{number} more");
+        }
     }
 }
 
@@ -397,6 +417,9 @@ fn json_line(line: &mut String, heading: &Heading, told: &Told, answer: Option<&
         json_name(line, name);
         line.push_str(what);
     }
+    if told.is_short {
+        line.push_str(",\"short\":true");
+    }
     if let Some(answer) = answer {
         json_answer(line, heading, answer);
     }
@@ -422,7 +445,7 @@ fn json_number(line: &mut String, name: &str, number: u64) {
 
 fn json_answer(line: &mut String, heading: &Heading, answer: &Answer) {
     json_name(line, "results");
-    Format::Json.list(line, answer.outcomes.iter(), json_outcome);
+    Format::Json.list(line, usize::MAX, answer.outcomes.iter(), json_outcome);
     json_name(line, "whole");
     line.push_str(if answer.whole { "true" } else { "false" });
     json_name(line, "seconds");
@@ -433,7 +456,7 @@ fn json_answer(line: &mut String, heading: &Heading, answer: &Answer) {
             push_seconds(line, first);
         }
         json_name(line, "traffic");
-        Format::Json.list(line, answer.traffic.into_iter(), push_number);
+        Format::Json.list(line, usize::MAX, answer.traffic.into_iter(), push_number);
     }
     if heading.sample > 1 {
         json_number(line, "sample", u64::from(heading.sample));
@@ -453,6 +476,7 @@ fn json_numbers(line: &mut String, numbers: &[(&str, u64)]) {
 
 fn json_outcome(line: &mut String, outcome: &Outcome) {
     match outcome {
+        Outcome::Cursor => line.push_str("{\"cursor\":true}"),
         Outcome::Rows { rows, warnings: 0 } => json_numbers(line, &[("rows", *rows)]),
         Outcome::Rows { rows, warnings } => {
             json_numbers(line, &[("rows", *rows), ("warnings", u64::from(*warnings))]);
@@ -497,6 +521,7 @@ fn json_outcome(line: &mut String, outcome: &Outcome) {
             push_json(line, text);
             line.push('}');
         }
+        Outcome::More(number) => json_numbers(line, &[("more", *number)]),
     }
 }
 

@@ -57,6 +57,11 @@ pub fn masked(text: &[u8], escapes: bool) -> Masked<'_> {
     }
 }
 
+/// Whether a text has a word of those by which a secret may follow.
+pub fn may_have_secrets(text: &[u8]) -> bool {
+    end_of_suspect(text).is_some()
+}
+
 /// Where the first word ends by which a text may have a secret.
 fn end_of_suspect(text: &[u8]) -> Option<usize> {
     (0..text.len()).find_map(|at| {

@@ -6,6 +6,7 @@ use crate::counts::KINDS;
 use crate::lines::Format;
 use crate::network::Network;
 use crate::proxy_header::Version;
+use crate::tls_settings::TlsOptions;
 use mysql_session::{Limits, Mode};
 use std::fs;
 use std::path::PathBuf;
@@ -22,8 +23,16 @@ pub enum LogFull {
 }
 
 /// Names that have no value on the command line, and yes or no in a file.
-const SWITCHES: [&str; 8] = [
-    "json", "secrets", "strict", "plain", "errors", "gzip", "digests", "redact",
+const SWITCHES: [&str; 9] = [
+    "json",
+    "secrets",
+    "strict",
+    "plain",
+    "tls-server-alone",
+    "errors",
+    "gzip",
+    "digests",
+    "redact",
 ];
 
 pub struct Options {
@@ -34,8 +43,10 @@ pub struct Options {
     pub secrets: bool,
     pub strict: bool,
     pub plain: bool,
+    pub tls: TlsOptions,
     pub on_fault: OnFault,
     pub longest: usize,
+    pub longest_text: usize,
     pub held: Option<usize>,
     pub held_in_all: usize,
     pub connections: Option<usize>,
@@ -76,8 +87,10 @@ impl Default for Options {
             secrets: false,
             strict: false,
             plain: false,
+            tls: TlsOptions::default(),
             on_fault: OnFault::Cut,
             longest: 1 << 26,
+            longest_text: 1 << 20,
             held: None,
             held_in_all: 1 << 30,
             connections: None,
@@ -155,6 +168,7 @@ impl Options {
         if limits.held / 2 <= options.longest {
             return Err("--held: it has to be more than twice what --longest is".to_string());
         }
+        options.tls.check(&options)?;
         Ok(options)
     }
 
@@ -197,6 +211,21 @@ impl Options {
                 }
             }
             "metrics" => self.metrics = Some(value.to_string()),
+            _ => return self.set_tls(name, value),
+        }
+        Ok(())
+    }
+
+    fn set_tls(&mut self, name: &str, value: &str) -> Result<(), String> {
+        match name {
+            "plain" => self.plain = answer(value)?,
+            "tls-client" => self.tls.client = Some(value.parse()?),
+            "tls-cert" => self.tls.cert = Some(value.to_string()),
+            "tls-key" => self.tls.key = Some(value.to_string()),
+            "tls-server" => self.tls.server = value.parse()?,
+            "tls-server-alone" => self.tls.alone = answer(value)?,
+            "tls-server-ca" => self.tls.server_ca = Some(value.to_string()),
+            "tls-server-name" => self.tls.server_name = Some(value.to_string()),
             _ => return self.set_log(name, value),
         }
         Ok(())
@@ -207,7 +236,6 @@ impl Options {
             "json" => self.json = answer(value)?,
             "secrets" => self.secrets = answer(value)?,
             "strict" => self.strict = answer(value)?,
-            "plain" => self.plain = answer(value)?,
             "errors" => self.errors = answer(value)?,
             "log" => self.log = Some(value.into()),
             "user" => self.users.push(value.to_string()),
@@ -223,6 +251,7 @@ impl Options {
             "digests" => self.digests = answer(value)?,
             "redact" => self.redact = answer(value)?,
             "digest" => self.wanted_digests.push(value.to_string()),
+            "longest-text" => self.longest_text = number(value)?,
             "log-held" => self.log_held = number(value)?,
             "log-full" => {
                 self.log_full = match value {
@@ -247,9 +276,15 @@ impl Options {
             secrets: self.secrets,
             digests: self.digests || !self.wanted_digests.is_empty(),
             redacts: self.redact,
+            most: self.longest_text,
             mode: Mode::default(),
             has_secrets: false,
         }
+    }
+
+    /// Whether a server's greeting is changed.
+    pub fn changes_greeting(&self) -> bool {
+        self.plain || self.tls.changes_greeting()
     }
 
     pub fn limits(&self) -> Limits {

@@ -3,6 +3,7 @@
 
 use crate::audit::Audit;
 use crate::choosing::Lines;
+use crate::gate::{Gate, LOGIN_MOST};
 use crate::options::Options;
 use crate::proxy_header::{self, Ends, Header};
 use crate::refusing::Refused;
@@ -11,19 +12,19 @@ use crate::skipping::Skipping;
 use crate::stage::Stage;
 use crate::sys::{begin_to_connect, open_socket, set_up, Poll, EPOLLIN, EPOLLOUT};
 use crate::teller::Origin;
-use crate::way::{is_not_yet, is_plain, keep, Means, Way};
+use crate::way::{is_not_yet, keep, Means, Way};
+use crate::wires::{Came, Wires};
 use mysql_session::{Limits, Side};
-use std::io::{self, ErrorKind, Read, Write};
+use std::io::{self, ErrorKind, Read};
 use std::mem;
-use std::net::{Shutdown, SocketAddr, TcpStream};
+use std::net::{SocketAddr, TcpStream};
 use std::os::fd::{AsRawFd, OwnedFd};
 use std::sync::atomic::Ordering;
+use std::sync::Arc;
 use std::time::{Duration, Instant};
 
 pub const SIDES: [Side; 2] = [Side::Client, Side::Server];
 
-/// The most that is held of a connection before a user is logged in.
-const LOGIN_MOST: usize = 1 << 18;
 /// What a connection may hold, however much all hold.
 const SMALL: usize = 1 << 16;
 /// As many bytes are read at once, so that no more wait beside a payload that isn't whole.
@@ -44,22 +45,25 @@ pub struct Passage {
     number: u64,
     /// The client's address, which its balancer may have said.
     address: Box<str>,
-    client: TcpStream,
-    server: Option<TcpStream>,
+    pub wires: Wires,
     introduction: Option<Introduction>,
     /// Which address of the server is asked, as long as it doesn't answer.
     asks: Option<usize>,
-    ways: [Way; 2],
+    pub ways: [Way; 2],
     /// What is waited for of each socket.
     waits: [u32; 2],
-    /// Whether the greeting is to come, and to be changed.
-    is_greeting: bool,
-    audit: Audit<Lines>,
+    /// Through which the login goes.
+    pub gate: Option<Box<Gate>>,
+    pub audit: Audit<Lines>,
     limits: Limits,
     lines: Lines,
     skipping: Skipping,
     began: Instant,
     last: Instant,
+    /// Since when a side takes no more.
+    lost: Option<Instant>,
+    /// What had passed of the client and wasn't taken to be read when the server ended.
+    unanswered: Vec<u8>,
     /// The most that was held of it: so much memory it keeps.
     peak: usize,
     /// What it is counted for of what all hold.
@@ -68,7 +72,7 @@ pub struct Passage {
 
 impl Passage {
     /// A connection that asks the server. None where the client was refused.
-    pub fn new(client: Client, lines: Lines, settings: &Settings) -> Option<Passage> {
+    pub fn new(client: Client, lines: Lines, settings: &Arc<Settings>) -> Option<Passage> {
         let (options, number) = (&settings.options, client.number);
         let address: Box<str> = client.address.to_string().into();
         lines.counts().connections.add(1);
@@ -95,7 +99,7 @@ impl Passage {
                 return None;
             }
         };
-        let mut passage = Passage::of(client.stream, address, number, audit, lines, options);
+        let mut passage = Passage::of(client.stream, address, number, audit, lines, settings);
         match passage.begin(socket, client.address, settings) {
             Ok(()) => Some(passage),
             Err(why) => {
@@ -109,27 +113,29 @@ impl Passage {
         client: TcpStream,
         address: Box<str>,
         number: u64,
-        audit: Audit<Lines>,
+        mut audit: Audit<Lines>,
         lines: Lines,
-        options: &Options,
+        settings: &Arc<Settings>,
     ) -> Passage {
-        let now = Instant::now();
+        let (now, options) = (Instant::now(), &settings.options);
+        audit.insists = options.tls.changes_greeting();
         Passage {
             number,
             address,
-            client,
-            server: None,
+            wires: Wires::new(client),
             introduction: None,
             asks: None,
             ways: Default::default(),
             waits: [0; 2],
-            is_greeting: options.plain,
+            gate: Some(Box::new(Gate::new(settings.clone()))),
             audit,
             limits: options.limits(),
             lines,
             skipping: Skipping::new(options.longest),
             began: now,
             last: now,
+            lost: None,
+            unanswered: Vec::new(),
             peak: 0,
             counted: 0,
         }
@@ -143,8 +149,8 @@ impl Passage {
         settings: &Settings,
     ) -> io::Result<()> {
         let options = &settings.options;
-        self.client.set_nonblocking(true)?;
-        set_up(&self.client, options.keepalive)?;
+        self.wires.client.set_nonblocking(true)?;
+        set_up(&self.wires.client, options.keepalive)?;
         if options.proxy_from.iter().any(|it| it.has(address.ip())) {
             let bytes = Vec::new();
             self.introduction = Some(Introduction { bytes, socket });
@@ -160,7 +166,7 @@ impl Passage {
             return Ok(());
         };
         let room = proxy_header::MOST - heard.bytes.len().min(proxy_header::MOST - 1);
-        match (&self.client).read(&mut means.piece[..room]) {
+        match (&self.wires.client).read(&mut means.piece[..room]) {
             Ok(0) => return Err("it has gone".to_string()),
             Ok(count) => heard.bytes.extend_from_slice(&means.piece[..count]),
             Err(error) if is_not_yet(&error) => return Ok(()),
@@ -180,9 +186,9 @@ impl Passage {
         }
         let settings = means.settings;
         let asked = self.introduce(ends, &settings.options);
-        self.ways[Side::Client as usize]
-            .bytes
-            .extend_from_slice(&bytes[length..]);
+        if let Some(gate) = &mut self.gate {
+            gate.held[Side::Client as usize].extend_from_slice(&bytes[length..]);
+        }
         let asked = asked.and_then(|()| self.ask(0, Some(socket), settings));
         asked.map_err(|why| why.to_string())
     }
@@ -194,7 +200,10 @@ impl Passage {
         };
         let ends = match ends {
             Some(ends) => ends,
-            None => (self.client.peer_addr()?, self.client.local_addr()?),
+            None => (
+                self.wires.client.peer_addr()?,
+                self.wires.client.local_addr()?,
+            ),
         };
         // It is passed on before all that the client says, and isn't read.
         let way = &mut self.ways[Side::Client as usize];
@@ -212,13 +221,13 @@ impl Passage {
     ) -> io::Result<()> {
         let mut why = ErrorKind::AddrNotAvailable.into();
         // Its descriptor may be the only one that is left.
-        self.server = None;
+        self.wires.server = None;
         self.waits[1] = 0;
         for (number, address) in settings.upstream.iter().enumerate().skip(from) {
             let opened = socket.take().map_or_else(|| open_socket(*address), Ok);
             match opened.and_then(|socket| begin_to_connect(socket, *address)) {
                 Ok(stream) => {
-                    (self.server, self.asks) = (Some(stream), Some(number));
+                    (self.wires.server, self.asks) = (Some(stream), Some(number));
                     return Ok(());
                 }
                 Err(error) => why = error,
@@ -231,7 +240,7 @@ impl Passage {
         Refused {
             number: self.number,
             address: &self.address,
-            client: &self.client,
+            client: &self.wires.client,
             format: self.audit.teller.telling.format,
             lines: self.lines.clone(),
         }
@@ -250,26 +259,33 @@ impl Passage {
         if let Some(number) = self.asks {
             return self.answered(number, means.settings);
         }
+        if bits & EPOLLOUT != 0 {
+            self.wires.flush(side);
+        }
         if bits & !EPOLLOUT != 0 && self.reads(side) {
             self.read(side, means);
         }
-        self.go_on(means);
+        loop {
+            let went = self.log_in(means);
+            self.go_on(means);
+            if !went || self.audit.is_cut() {
+                break;
+            }
+        }
         self.count(means);
         if self.audit.is_cut() {
             self.audit.close(side);
             return false;
         }
-        let is_over = self.ways.iter().all(|way| way.shut);
-        if is_over && self.audit.ended.is_empty() {
-            // Neither took more.
-            self.audit.close(side);
+        if self.wires.has_lost() {
+            self.lost.get_or_insert(means.now);
         }
-        !is_over
+        !self.ways.iter().all(|way| way.shut)
     }
 
     /// The server answered, or it refused.
     fn answered(&mut self, number: usize, settings: &Settings) -> bool {
-        let Some(server) = &self.server else {
+        let Some(server) = &self.wires.server else {
             return false;
         };
         let refused = match server.take_error() {
@@ -287,17 +303,12 @@ impl Passage {
         }
     }
 
-    fn stream(&self, side: Side) -> io::Result<&TcpStream> {
-        match side {
-            Side::Client => Ok(&self.client),
-            Side::Server => self.server.as_ref().ok_or(ErrorKind::NotConnected.into()),
-        }
-    }
-
     /// Whether bytes of a side are taken from its socket.
     fn reads(&self, side: Side) -> bool {
         let way = &self.ways[side as usize];
-        !way.ended && (way.bytes.is_empty() || self.is_greeting && side == Side::Server)
+        let waits = || self.gate.as_ref().is_some_and(|gate| !gate.reads(side));
+        let is_due = way.bytes.is_empty() && !waits();
+        !way.ended && (is_due || self.wires.has_to_read(side))
     }
 
     /// What is waited for of a side's socket.
@@ -310,9 +321,10 @@ impl Passage {
         }
         let reads = if self.reads(side) { EPOLLIN } else { 0 };
         let waiting = &self.ways[side.other() as usize];
-        let is_held = self.is_greeting && side == Side::Client;
-        let goes = waiting.passed < waiting.bytes.len() && !is_held;
-        match goes && (!is_strict || waiting.passed < self.can_go(side.other(), waiting.fed)) {
+        let is_strict = is_strict || self.audit.guards;
+        let goes = waiting.passed < waiting.bytes.len() && self.wires.takes(side);
+        let goes = goes && (!is_strict || waiting.passed < self.can_go(side.other(), waiting.fed));
+        match goes || self.wires.is_pending(side) {
             true => reads | EPOLLOUT,
             false => reads,
         }
@@ -323,7 +335,7 @@ impl Passage {
         for side in SIDES {
             let (bits, at) = (self.wants(side, is_strict), side as usize);
             if bits != self.waits[at] {
-                let file = self.stream(side)?.as_raw_fd();
+                let file = self.wires.stream(side)?.as_raw_fd();
                 poll.change(file, (slot << 1 | at) as u64, self.waits[at], bits)?;
                 self.waits[at] = bits;
             }
@@ -333,25 +345,23 @@ impl Passage {
 
     /// Takes what came of a side, and passes it on as far as it goes.
     fn read(&mut self, side: Side, means: &mut Means) {
-        let came = self.stream(side).and_then(|mut it| it.read(means.piece));
-        let count = match came {
-            Ok(count) => count,
-            Err(error) if is_not_yet(&error) => return,
-            // A socket that fails has ended.
-            Err(_) => 0,
-        };
-        self.lines.counts().take_bytes(side, count);
         let piece = mem::take(&mut means.piece);
-        self.take(side, &piece[..count], means);
+        match self.wires.read(side, piece) {
+            Ok(Came { count, has_ended }) => {
+                self.lines.counts().take_bytes(side, count);
+                if count > 0 {
+                    self.take(side, &piece[..count], means);
+                }
+                self.ways[side as usize].ended |= has_ended;
+            }
+            Err(why) => self.fail_tls(side, &why),
+        }
         means.piece = piece;
     }
 
     fn take(&mut self, side: Side, piece: &[u8], means: &mut Means) {
-        self.ways[side as usize].ended = piece.is_empty();
-        if self.is_greeting && side == Side::Server {
-            let way = &mut self.ways[side as usize];
-            way.bytes.extend_from_slice(piece);
-            self.is_greeting = !way.ended && !is_plain(&mut way.bytes);
+        if let Some(gate) = &mut self.gate {
+            gate.held[side as usize].extend_from_slice(piece);
             return;
         }
         let (mut passed, mut fed) = (0, 0);
@@ -373,10 +383,16 @@ impl Passage {
         fed: &mut usize,
         means: &mut Means,
     ) {
-        let is_strict = means.settings.options.strict;
+        let is_strict = means.settings.options.strict || self.audit.guards;
         if is_strict {
             self.feed(side, bytes, fed);
-            means.lines.hand_to(&means.shared.log);
+            if means.settings.options.strict {
+                means.lines.hand_to(&means.shared.log);
+            }
+            if let Some((code, why)) = self.audit.refusal.take() {
+                let number = bytes.get(*passed + 3).copied().unwrap_or_default();
+                self.refuse(number + u8::from(side == Side::Client), code, &why);
+            }
             if self.audit.is_cut() {
                 return;
             }
@@ -385,16 +401,17 @@ impl Passage {
             true => self.can_go(side, *fed).max(*passed),
             false => bytes.len(),
         };
-        let written = self.write(side.other(), &bytes[*passed..most]);
+        let written = self.wires.write(side.other(), &bytes[*passed..most]);
         *passed += *written.as_ref().unwrap_or(&0);
         if !is_strict {
             // What is said is told, also to a side that has gone.
             self.feed(side, bytes, fed);
         }
         if written.is_err() {
-            // It takes no more. What it said before that still comes of it.
-            let way = &mut self.ways[side as usize];
-            (way.ended, way.shut) = (true, true);
+            // It takes no more. What it said before still comes of it, and this side is read to its
+            // end: that may answer commands that passed.
+            self.wires.lose(side.other());
+            *passed = most;
         }
     }
 
@@ -404,22 +421,8 @@ impl Passage {
         fed.saturating_sub(self.audit.waiting(side))
     }
 
-    /// Writes to a side what it takes now.
-    fn write(&self, side: Side, bytes: &[u8]) -> io::Result<usize> {
-        let (mut to, mut done) = (self.stream(side)?, 0);
-        while done < bytes.len() {
-            match to.write(&bytes[done..]) {
-                Ok(0) => return Err(ErrorKind::WriteZero.into()),
-                Ok(count) => done += count,
-                Err(error) if is_not_yet(&error) => break,
-                Err(error) => return Err(error),
-            }
-        }
-        Ok(done)
-    }
-
     fn feed(&mut self, side: Side, bytes: &[u8], fed: &mut usize) {
-        while *fed < bytes.len() {
+        while *fed < bytes.len() && !self.audit.is_cut() {
             let end = bytes.len().min(*fed + SLICE);
             match self.skipping.feed(&mut self.audit, side, &bytes[*fed..end]) {
                 0 => break,
@@ -441,9 +444,6 @@ impl Passage {
     /// Goes on with what waits of a side. Says whether something went.
     fn go_on_with(&mut self, side: Side, means: &mut Means) -> bool {
         let at = side as usize;
-        if self.is_greeting && side == Side::Server {
-            return false;
-        }
         let Way { passed, fed, .. } = self.ways[at];
         let (mut now_passed, mut now_fed) = (passed, fed);
         if !self.ways[at].bytes.is_empty() {
@@ -457,16 +457,17 @@ impl Passage {
                 false => way.bytes = bytes,
             }
         }
+        let is_held = self.gate.as_ref().is_some_and(|it| !it.held[at].is_empty());
         let way = &mut self.ways[at];
-        let ends = way.ended && way.bytes.is_empty() && !way.shut;
+        let ends = way.ended && way.bytes.is_empty() && !way.shut && !is_held;
         if ends {
             way.shut = true;
+            if side == Side::Server {
+                self.unanswered = self.unread();
+            }
             self.skipping.close(&mut self.audit, side);
             self.audit.close(side);
-            // It may be gone already.
-            let _ = self
-                .stream(side.other())
-                .map(|it| it.shutdown(Shutdown::Write));
+            self.wires.shut(side.other());
         }
         ends || (passed, fed) != (now_passed, now_fed)
     }
@@ -476,15 +477,20 @@ impl Passage {
         self.audit.connection.held() + self.skipping.held()
     }
 
+    /// How many bytes are held of it to be sent.
+    fn waiting(&self) -> usize {
+        let ways: usize = self.ways.iter().map(|way| way.bytes.capacity()).sum();
+        ways + self.wires.held() + self.gate.as_ref().map_or(0, |it| it.size())
+    }
+
     /// Counts what it holds for what all hold. Where that is too much, no more is read of it.
     fn count(&mut self, means: &Means) {
         let shared = means.shared;
-        let ways: usize = self.ways.iter().map(|way| way.bytes.capacity()).sum();
         if self.peak > RENEWED && self.audit.renew(self.limits) {
             self.peak = 0;
         }
         // What is held now was counted when it was read.
-        let held = ways + self.peak;
+        let held = self.waiting() + self.peak;
         let before = mem::replace(&mut self.counted, held);
         if held == before {
             return;
@@ -514,6 +520,11 @@ impl Passage {
             Some("idle timeout")
         } else if self.ways[Side::Server as usize].shut && idle >= LINGER {
             Some("")
+        } else if self
+            .lost
+            .is_some_and(|lost| now.saturating_duration_since(lost) >= LINGER)
+        {
+            Some("")
         } else {
             None
         }
@@ -522,7 +533,12 @@ impl Passage {
     /// Takes settings that hold for open connections, too.
     pub fn change(&mut self, options: &Options) {
         self.audit.change(options.on_fault);
+        let audit = &mut self.audit;
+        // What passed before stays so until it was read.
+        audit.passes_first &= !audit.connection.rest(Side::Client).is_empty();
+        audit.passes_first |= self.gate.is_none() && !options.strict && !audit.guards;
         self.audit.teller.telling.secrets = options.secrets;
+        self.audit.teller.telling.most = options.longest_text;
     }
 
     /// Whether it can end without a command or a transaction that is lost.
@@ -541,13 +557,23 @@ impl Passage {
             self.audit.teller.came_at = None;
         }
         if how.is_empty() {
-            self.audit.end();
+            self.audit.end(&self.unread());
         } else if self.introduction.is_some() {
             self.refused().unintroduced(how);
         } else if self.asks.is_some() {
             self.refused().unreached(how);
         } else {
-            self.audit.stop(how);
+            self.audit.stop(how, &self.unread());
         }
+    }
+
+    /// What passed of the client and wasn't taken to be read, or not when the server ended.
+    fn unread(&self) -> Vec<u8> {
+        if !self.unanswered.is_empty() {
+            return self.unanswered.clone();
+        }
+        let way = &self.ways[Side::Client as usize];
+        let passed = way.bytes.get(way.fed..way.passed).unwrap_or_default();
+        [self.skipping.header(Side::Client), passed].concat()
     }
 }

@@ -1,9 +1,13 @@
 //! What is said to clients that aren't served, and of them in the log.
 
 use crate::choosing::Lines;
+use crate::gate::{packet, HANDSHAKE};
 use crate::lines::{Format, Heading, Sink, Told};
 use std::io::Write;
 use std::net::TcpStream;
+
+/// The code of who can't be reached, at which clients try again.
+const UNREACHED: u16 = 2003;
 
 /// A client that is refused.
 pub struct Refused<'a> {
@@ -19,21 +23,21 @@ impl Refused<'_> {
     pub fn too_many(self) {
         let stream = self.client;
         self.tell("too many connections");
-        refuse(stream, 1040, "08004", "Too many connections");
+        refuse(stream, 1040, "Too many connections");
     }
 
     /// Its server can't be asked.
     pub fn unreached(self, why: &str) {
         let (stream, what) = (self.client, "the server can't be reached");
         self.tell(&format!("{what}: {why}"));
-        refuse(stream, 1105, "08S01", what);
+        refuse(stream, UNREACHED, what);
     }
 
     /// What its balancer said of it isn't known.
     pub fn unintroduced(self, why: &str) {
         let (stream, what) = (self.client, "no header of the PROXY protocol");
         self.tell(&format!("{what}: {why}"));
-        refuse(stream, 1105, "08S01", what);
+        refuse(stream, HANDSHAKE, what);
     }
 
     fn tell(mut self, why: &str) {
@@ -50,18 +54,15 @@ impl Refused<'_> {
     }
 }
 
-/// Sends an error in place of a greeting.
-fn refuse(mut client: &TcpStream, code: u16, state: &str, message: &str) {
-    let payload = [
-        &[0xff],
-        &code.to_le_bytes()[..],
-        b"#",
-        state.as_bytes(),
-        message.as_bytes(),
-    ]
-    .concat();
-    let length = (payload.len() as u32).to_le_bytes();
-    let packet = [&length[..3], &[0], &payload].concat();
+/// The payload of an error, with an SQL state where one has its place.
+pub fn error_payload(code: u16, state: Option<&str>, message: &str) -> Vec<u8> {
+    let state = state.map(|it| format!("#{it}")).unwrap_or_default();
+    let front = [&[0xff], &code.to_le_bytes()[..]].concat();
+    [&front[..], state.as_bytes(), message.as_bytes()].concat()
+}
+
+/// Sends an error in place of a greeting, where servers send no state.
+fn refuse(mut client: &TcpStream, code: u16, message: &str) {
     // It may be gone already.
-    let _ = client.write(&packet);
+    let _ = client.write(&packet(0, &error_payload(code, None, message)));
 }

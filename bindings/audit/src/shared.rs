@@ -3,7 +3,8 @@
 use crate::counts::Counts;
 use crate::log::Log;
 use crate::options::Options;
-use crate::sys::Waker;
+use crate::sys::{hide_memory, Waker};
+use crate::tls::Contexts;
 use std::net::{SocketAddr, TcpStream, ToSocketAddrs};
 use std::os::fd::OwnedFd;
 use std::sync::atomic::{AtomicU8, AtomicUsize, Ordering};
@@ -24,17 +25,29 @@ pub struct Settings {
     pub options: Options,
     /// The addresses of the server, of which the first that answers is taken.
     pub upstream: Vec<SocketAddr>,
+    /// What TLS needs, where it is spoken.
+    pub tls: Option<Arc<Contexts>>,
 }
 
 impl Settings {
-    /// Looks the server's name up.
+    /// Looks the server's name up, and reads certificates and keys.
     pub fn of(options: Options) -> Result<Settings, String> {
         let upstream = options.upstream.to_socket_addrs();
         let upstream = upstream.map_err(|error| format!("{}: {error}", options.upstream))?;
         let upstream: Vec<SocketAddr> = upstream.collect();
         match upstream[..] {
             [] => Err(format!("{}: it has no address", options.upstream)),
-            _ => Ok(Settings { options, upstream }),
+            _ => {
+                if options.tls.is_spoken() {
+                    hide_memory();
+                }
+                let tls = Contexts::new(&options.tls, &options.upstream)?.map(Arc::new);
+                Ok(Settings {
+                    options,
+                    upstream,
+                    tls,
+                })
+            }
         }
     }
 }

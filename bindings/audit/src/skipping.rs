@@ -1,9 +1,9 @@
 //! Payloads that are longer than what is read. In the place of a command its front is read, and in
 //! the place of a row as many NULLs as it has values. The reading goes on behind it.
 
-use crate::audit::{Audit, Follows};
+use crate::audit::{Audit, Follows, COM_STMT_BULK_EXECUTE, COM_STMT_EXECUTE};
 use crate::choosing::Lines;
-use mysql_session::{Phase, Side};
+use mysql_session::{capability, Phase, Side};
 use std::mem;
 
 const HEADER: usize = 4;
@@ -11,6 +11,12 @@ const HEADER: usize = 4;
 const CHUNK: usize = 0xff_ffff;
 /// So much of a command is read in its place.
 const FRONT: usize = 1 << 16;
+/// An execution in bulk, or a command with many attributes, is read as a list of many times its size. A
+/// longer one is told up to its front.
+const LISTED: usize = 1 << 18;
+/// More attributes than these are many.
+const MANY: u64 = 1 << 12;
+const COM_QUERY: u8 = 0x03;
 
 /// Both streams, packet by packet.
 pub struct Skipping {
@@ -49,6 +55,23 @@ fn header_of(length: usize, number: u8) -> [u8; HEADER] {
     [low, middle, high, number]
 }
 
+/// Whether a command is read as a list of many times its size. Of one whose front isn't there that isn't
+/// known.
+fn is_list(front: &[u8], has_attributes: bool) -> Option<bool> {
+    let count = match *front {
+        [COM_STMT_BULK_EXECUTE, ..] => return Some(true),
+        [COM_QUERY, ref behind @ ..] if has_attributes => behind,
+        [COM_STMT_EXECUTE, ref behind @ ..] if has_attributes => behind.get(9..)?,
+        [] => return None,
+        _ => return Some(false),
+    };
+    Some(match *count {
+        [] | [0xfc] | [0xfc, _] => return None,
+        [0xfc, low, high, ..] => u64::from(u16::from_le_bytes([low, high])) > MANY,
+        [first, ..] => first > 0xfc,
+    })
+}
+
 fn length_in(header: &[u8]) -> usize {
     usize::from(header[0]) | usize::from(header[1]) << 8 | usize::from(header[2]) << 16
 }
@@ -68,6 +91,11 @@ impl Skipping {
         longs.map(|long| long.bytes.capacity()).sum()
     }
 
+    /// The front of a header of a side that isn't whole.
+    pub fn header(&self, side: Side) -> &[u8] {
+        &self.streams[side as usize].header
+    }
+
     /// Has bytes of a side read, and says how many were taken.
     pub fn feed(&mut self, audit: &mut Audit<Lines>, side: Side, bytes: &[u8]) -> usize {
         if audit.follows != Follows::Reads {
@@ -84,7 +112,8 @@ impl Skipping {
             return count;
         }
         let most = bytes.len().min(audit.connection.room(side));
-        let (count, left, goes_on) = stream.plain(&bytes[..most], self.longest, self.shift);
+        let longest = longest_plain(side, self.longest);
+        let (count, left, goes_on) = stream.plain(&bytes[..most], longest, self.shift);
         if count > 0 {
             (stream.left, stream.goes_on) = (left, goes_on);
             return audit.feed_within(side, &bytes[..count]);
@@ -116,7 +145,10 @@ impl Skipping {
         if begins && audit.connection.phase() == Phase::Command {
             self.shift = 0;
         }
-        let may_be_long = begins && (length > self.longest || length == CHUNK);
+        let is_command = side == Side::Client && audit.connection.phase() == Phase::Command;
+        let is_plain = || is_list(&bytes[count..], has_attributes(audit)) == Some(false);
+        let is_listed = is_command && length > LISTED && !is_plain();
+        let may_be_long = begins && (length > self.longest || length == CHUNK || is_listed);
         let is_over = audit.ended.contains(&side.other());
         let is_due = audit.connection.turn() == Some(side);
         if begins && !is_due && !is_over && (self.shift != 0 || may_be_long) {
@@ -152,12 +184,20 @@ impl Skipping {
         if stream.left > 0 || stream.goes_on {
             return;
         }
-        let Some(long) = stream.long.take() else {
+        let Some(mut long) = stream.long.take() else {
             return;
         };
-        if !long.is_skipped {
-            audit.feed(side, &long.bytes);
-            return;
+        let front = &long.bytes[HEADER..];
+        let is_listed = side == Side::Client
+            && audit.connection.phase() == Phase::Command
+            && long.length > LISTED
+            && is_list(front, has_attributes(audit)) == Some(true);
+        if !long.is_skipped && !is_listed {
+            let taken = audit.feed(side, &long.bytes);
+            return end_taken(audit, taken, long.bytes.len());
+        }
+        if is_listed {
+            long.bytes.truncate(HEADER + FRONT.min(self.longest));
         }
         self.shift = self.shift.wrapping_add(long.packets - 1);
         let front = long.row.as_deref().unwrap_or(&long.bytes[HEADER..]);
@@ -166,9 +206,29 @@ impl Skipping {
         audit
             .teller
             .skip(long.length, long.length - front.len().min(long.length));
-        audit.feed(side, &packet);
+        let taken = audit.feed(side, &packet);
+        end_taken(audit, taken, packet.len());
         audit.pass_by(side, whole - packet.len().min(whole));
         audit.teller.end_skip(side);
+    }
+}
+
+/// A longer payload of a side may be one that is skipped.
+fn longest_plain(side: Side, longest: usize) -> usize {
+    match side {
+        Side::Client => longest.min(LISTED),
+        Side::Server => longest,
+    }
+}
+
+fn has_attributes(audit: &Audit<Lines>) -> bool {
+    audit.connection.capabilities().protocol & capability::CLIENT_QUERY_ATTRIBUTES != 0
+}
+
+/// A payload goes in as a whole. Behind a part of it nothing can be read.
+fn end_taken(audit: &mut Audit<Lines>, taken: usize, length: usize) {
+    if taken < length && audit.follows == Follows::Reads {
+        audit.give_up(&"there is no room for a payload");
     }
 }
 

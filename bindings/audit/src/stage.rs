@@ -35,6 +35,11 @@ impl Audit<Lines> {
         }
     }
 
+    /// Whether it is read, and a login isn't over.
+    pub fn is_logging_in(&self) -> bool {
+        self.follows == Follows::Reads && self.connection.phase() != Phase::Command
+    }
+
     /// How many bytes that were taken of a side wait for its turn, which comes no more where the
     /// other side has ended.
     pub fn waiting(&self, side: Side) -> usize {
@@ -64,9 +69,10 @@ impl Audit<Lines> {
         }
     }
 
-    /// Tells the end of a connection that the proxy ends.
-    pub fn stop(&mut self, how: &str) {
+    /// Tells the end of a connection that the proxy ends, of whose client this wasn't read.
+    pub fn stop(&mut self, how: &str, unread: &[u8]) {
         self.finish_command(false);
+        self.tell_unanswered(unread);
         self.teller.end(&"proxy", how);
     }
 }

@@ -1,7 +1,7 @@
 //! What the standard library doesn't have of Linux: epoll, signals as a file, a socket that
 //! connects without waiting, limits of descriptors.
 
-use std::ffi::{c_int, c_uint, c_void};
+use std::ffi::{c_int, c_uint, c_ulong, c_void};
 use std::io::{self, Error};
 use std::net::{SocketAddr, TcpStream};
 use std::os::fd::{AsRawFd, FromRawFd, OwnedFd, RawFd};
@@ -38,7 +38,10 @@ const TCP_KEEPIDLE: c_int = 4;
 const TCP_KEEPINTVL: c_int = 5;
 const TCP_KEEPCNT: c_int = 6;
 const EINPROGRESS: i32 = 115;
+const PR_SET_DUMPABLE: c_int = 4;
 const F_SETFD: c_int = 2;
+const F_SETFL: c_int = 4;
+const O_APPEND: c_int = 0o2000;
 
 /// `struct epoll_event`, which is packed on x86-64.
 #[repr(C, packed)]
@@ -79,6 +82,8 @@ extern "C" {
     fn getrlimit(which: c_int, limit: *mut Limit) -> c_int;
     fn setrlimit(which: c_int, limit: *const Limit) -> c_int;
     fn socket(family: c_int, kind: c_int, protocol: c_int) -> c_int;
+    fn prctl(what: c_int, ...) -> c_int;
+    fn geteuid() -> c_uint;
     fn listen(file: c_int, most: c_int) -> c_int;
     fn connect(file: c_int, address: *const Address, length: c_uint) -> c_int;
     fn setsockopt(
@@ -229,6 +234,12 @@ pub fn keep_open(file: RawFd) -> io::Result<()> {
     done(unsafe { fcntl(file, F_SETFD, 0 as c_int) })
 }
 
+/// Has writes to a file append, and wait until it takes them.
+pub fn append_and_wait(file: RawFd) -> io::Result<()> {
+    // SAFETY: the flags are a number.
+    done(unsafe { fcntl(file, F_SETFL, O_APPEND) })
+}
+
 /// Raises the limit of descriptors as far as it goes, and says what it is.
 pub fn raise_descriptors() -> u64 {
     let mut limit = Limit {
@@ -247,6 +258,19 @@ pub fn raise_descriptors() -> u64 {
             _ => limit.soft,
         }
     }
+}
+
+/// The user that the program runs as.
+#[cfg_attr(not(feature = "tls"), allow(dead_code))]
+pub fn own_user() -> u32 {
+    // SAFETY: the call has no condition, and doesn't fail.
+    unsafe { geteuid() }
+}
+
+/// Has no crash write the memory out, in which there are keys and passwords.
+pub fn hide_memory() {
+    // SAFETY: it takes two numbers, and answers by one.
+    unsafe { prctl(PR_SET_DUMPABLE, 0 as c_ulong) };
 }
 
 /// Has more clients wait at a listener than the standard library asks for.

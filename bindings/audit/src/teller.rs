@@ -2,12 +2,14 @@
 
 use crate::commands::{asked, Telling};
 use crate::lines::{Answer, Format, Heading, Outcome, Sink, Told};
-use mysql_session::{status, ErrorPacket, Event, OkPacket, Side};
+use mysql_session::{status, ErrorPacket, Event, Mode, OkPacket, Side};
 use std::fmt::Display;
 use std::mem;
 use std::time::{Duration, Instant};
 
 const COM_CHANGE_USER: u8 = 0x11;
+/// As many results of a reply are told, and how many more there are.
+const MOST_RESULTS: usize = 1000;
 
 /// A command, or a login, whose reply isn't whole.
 struct Running {
@@ -22,6 +24,8 @@ struct Running {
     columns: [u16; 2],
     /// Whether its values are laid out as those of an execution.
     is_binary: bool,
+    /// Whether its rows are fetched from a cursor.
+    has_cursor: bool,
     /// What the connection's user and database are where the server agrees.
     becomes: Option<(Option<Vec<u8>>, Vec<u8>)>,
 }
@@ -31,6 +35,14 @@ pub struct Origin {
     pub number: u64,
     /// The client's address, where it is told.
     pub client: Option<Box<str>>,
+}
+
+/// A name of a login as servers read it.
+fn without_quotes(user: &[u8]) -> &[u8] {
+    match user {
+        [b'\'', name @ .., b'\''] => name,
+        name => name,
+    }
 }
 
 /// Tells the events of a connection.
@@ -50,6 +62,9 @@ pub struct Teller<S> {
     length: Option<usize>,
     /// Whether the server said that a transaction is open.
     pub in_transaction: bool,
+    /// The session's mode, as far as the server's status has it. Where nothing else is known texts are
+    /// masked and digested by it.
+    pub mode_by_status: Mode,
     pub commands: u64,
     /// How many bytes of each side came.
     pub came: [u64; 2],
@@ -58,6 +73,8 @@ pub struct Teller<S> {
     began: Instant,
     /// When the bytes came that are read, where that is known.
     pub came_at: Option<Instant>,
+    /// How each side is secured, where it is.
+    pub tls: [Option<String>; 2],
 }
 
 impl<S: Sink> Teller<S> {
@@ -74,12 +91,25 @@ impl<S: Sink> Teller<S> {
             running: None,
             length: None,
             in_transaction: false,
+            mode_by_status: Mode::default(),
             commands: 0,
             came: [0; 2],
             told: [0; 2],
             began: Instant::now(),
             came_at: None,
+            tls: [None, None],
         }
+    }
+
+    /// Tells a command of which it isn't known what came of it.
+    pub fn tell_unanswered(&mut self, told: Told) {
+        self.begin(told);
+        self.finish_command(false, [0; 2]);
+    }
+
+    /// Takes the names of a login. Servers drop quotes around the user there, and nowhere else.
+    pub fn name(&mut self, user: &[u8], database: &[u8]) {
+        (self.user, self.database) = (without_quotes(user).to_vec(), database.to_vec());
     }
 
     /// The time by which commands and replies are measured.
@@ -112,13 +142,9 @@ impl<S: Sink> Teller<S> {
         match event {
             Event::Greeting(greeting) => self.thread = greeting.connection,
             Event::Login(login) => {
-                let told = Told::new("login").with("thread", self.thread);
-                self.begin(match &self.balancer {
-                    Some(balancer) => told.with("balancer", self.format.text(balancer.as_bytes())),
-                    None => told,
-                });
+                self.begin_login();
                 // One that is refused is told by this name, too.
-                (self.user, self.database) = (login.user.to_vec(), login.database.to_vec());
+                self.name(login.user, login.database);
             }
             Event::ChangeUser(change) => {
                 let to = self.format.text(change.user);
@@ -148,6 +174,20 @@ impl<S: Sink> Teller<S> {
         }
     }
 
+    fn begin_login(&mut self) {
+        let mut told = Told::new("login").with("thread", self.thread);
+        let [client, server] = &self.tls;
+        for (name, what) in [("tls", client), ("tls_server", server)] {
+            if let Some(what) = what {
+                told = told.with(name, self.format.text(what.as_bytes()));
+            }
+        }
+        self.begin(match &self.balancer {
+            Some(balancer) => told.with("balancer", self.format.text(balancer.as_bytes())),
+            None => told,
+        });
+    }
+
     /// Takes what a server answers, or the bytes of a file that it asked for.
     fn take_reply(&mut self, event: &Event) {
         let came_at = self.came_at;
@@ -158,6 +198,7 @@ impl<S: Sink> Teller<S> {
         running.first.get_or_insert_with(now);
         if let Event::Accepted(ok) | Event::Ok(ok) | Event::RowsEnd(ok) = event {
             self.in_transaction = ok.status & status::SERVER_STATUS_IN_TRANS != 0;
+            self.mode_by_status = Mode::of(ok.status);
         }
         match event {
             Event::ColumnCount {
@@ -167,6 +208,7 @@ impl<S: Sink> Teller<S> {
                 running.rows = Some(0);
                 running.columns = [*count, u16::from(*columns_follow) * count];
             }
+            Event::ColumnsEnd(ok) => running.note_cursor(ok),
             Event::Column(_) => running.columns[1] = running.columns[1].saturating_sub(1),
             Event::Row(_) | Event::RawRow(_) | Event::Field { .. } => {
                 *running.rows.get_or_insert(0) += 1;
@@ -181,7 +223,7 @@ impl<S: Sink> Teller<S> {
                 if let Some(outcome) = Outcome::of(event) {
                     // An error may stand in a row's place.
                     running.end_rows();
-                    running.outcomes.push(outcome);
+                    running.push(outcome);
                 }
             }
         }
@@ -248,8 +290,17 @@ impl<S: Sink> Teller<S> {
             rows: None,
             columns: [0; 2],
             is_binary: false,
+            has_cursor: false,
             becomes: None,
         });
+    }
+
+    /// Takes an execution that is laid out as none.
+    pub fn begin_execution(&mut self, told: Told) {
+        self.begin(told);
+        if let Some(running) = &mut self.running {
+            running.is_binary = true;
+        }
     }
 
     fn will_become(&mut self, user: Option<&[u8]>, database: &[u8]) {
@@ -357,15 +408,37 @@ impl Running {
     }
 
     fn end_rows_with(&mut self, warnings: u16) {
-        let rows = self.rows.take();
-        self.outcomes
-            .extend(rows.map(|rows| Outcome::Rows { rows, warnings }));
+        let opens = mem::take(&mut self.has_cursor) && self.told.kind == "execute";
+        let outcome = |rows| match (rows, opens) {
+            (0, true) => Outcome::Cursor,
+            _ => Outcome::Rows { rows, warnings },
+        };
+        if let Some(rows) = self.rows.take() {
+            self.push(outcome(rows));
+        }
+    }
+
+    /// Takes a result. An error, which ends a reply, is always told.
+    fn push(&mut self, outcome: Outcome) {
+        let is_error = matches!(outcome, Outcome::Error { .. });
+        let has_room = self.outcomes.len() < MOST_RESULTS || is_error;
+        match self.outcomes.last_mut() {
+            Some(Outcome::More(number)) if !is_error => *number += 1,
+            _ if has_room => self.outcomes.push(outcome),
+            _ => self.outcomes.push(Outcome::More(1)),
+        }
+    }
+
+    /// Notes whether rows are fetched from a cursor.
+    fn note_cursor(&mut self, ok: &OkPacket) {
+        self.has_cursor |= ok.status & status::SERVER_STATUS_CURSOR_EXISTS != 0;
     }
 
     /// Takes the packet that ends rows. Some commands are answered by it alone.
     fn take_end(&mut self, ok: &OkPacket) {
+        self.note_cursor(ok);
         match self.rows {
-            None if self.told.kind != "fetch" => self.outcomes.push(Outcome::done(ok)),
+            None if self.told.kind != "fetch" => self.push(Outcome::done(ok)),
             _ => {
                 self.rows.get_or_insert(0);
                 self.end_rows_with(ok.warnings);

@@ -14,6 +14,16 @@ pub fn digest_of(text: &[u8], mode: Mode) -> Option<Vec<u8>> {
     Some(out.as_slice().to_vec())
 }
 
+/// So many bytes of a text, or up to three less, where a character would be torn.
+pub fn front_of(text: &[u8], most: usize) -> &[u8] {
+    if text.len() <= most {
+        return text;
+    }
+    let begins = |at: &usize| text[*at] & 0xc0 != 0x80;
+    let end = (most.saturating_sub(3)..=most).rev().find(begins);
+    &text[..end.unwrap_or(most)]
+}
+
 /// Whether a character is one that a terminal doesn't show, or by which it turns what it shows.
 fn is_hidden(character: char) -> bool {
     character.is_control()
