@@ -83,5 +83,5 @@ def table(uses, crates=()):
     unknown = sorted(set(uses) - set(costs))
     if unknown:
         names = ', '.join(f'`{it}`' for it in unknown)
-        lines.append('\n' + textwrap.fill(f'Without {names}, which have no row yet.', 100) + '\n')
+        lines.append('\n' + textwrap.fill(f'No row yet: {names}.', 100) + '\n')
     return ''.join(lines)
