@@ -20,6 +20,7 @@ EOF = b"\xfe\0\0\x02\0"
 # Both sides know PROTOCOL_41, SECURE_CONNECTION and CONNECT_WITH_DB; the server more.
 CAPABILITIES = 0x8208
 OFFERED = CAPABILITIES | 0x0820  # (and compression and TLS)
+TRACKING = CAPABILITIES | 0x800000  # (and changes of the session)
 
 
 def packet(number, payload):
@@ -29,13 +30,14 @@ def packet(number, payload):
 
 def greeting(capabilities=CAPABILITIES):
     """Returns a server's greeting."""
-    return packet(0, b"\x0a5.5.5\0\x07\0\0\x0012345678\0" + capabilities.to_bytes(2, "little")
-                  + b"\x21\x02\0\0\0\x15" + bytes(10) + b"123456789012\0")
+    low, high = (capabilities.to_bytes(4, "little")[at:at + 2] for at in (0, 2))
+    return packet(0, b"\x0a5.5.5\0\x07\0\0\x0012345678\0" + low + b"\x21\x02\0" + high + b"\x15"
+                  + bytes(10) + b"123456789012\0")
 
 
-def login(user, database):
+def login(user, database, capabilities=CAPABILITIES):
     """Returns a client's login."""
-    return packet(1, CAPABILITIES.to_bytes(4, "little") + b"\0\0\0\x01\x21" + bytes(23)
+    return packet(1, capabilities.to_bytes(4, "little") + b"\0\0\0\x01\x21" + bytes(23)
                   + user.encode() + b"\0\0" + database.encode() + b"\0")
 
 

@@ -17,7 +17,8 @@ from streams import packets_of
 DEFAULT_LIMITS = (16777216, 16777216, 134217728)
 CLIENT, SERVER = 0, 1
 SIDES = {"client": CLIENT, "server": SERVER}
-# The library's flags of modes.
+# The library's flags of modes and spellings.
+SPELLINGS = {"quoted": 0, "hexadecimal": 4}
 MODES = {"plain": 0, "NO_BACKSLASH_ESCAPES": 1, "ANSI_QUOTES": 2, "both": 3, "unknown": 8}
 
 
@@ -75,6 +76,8 @@ class Conversation:
             self.steps.append(Step(place, "held", number=int(texts[0])))
         elif kind == "mode":
             self.steps.append(Step(place, "mode", number=MODES[texts[0]]))
+        elif kind == "spelling":
+            self.steps.append(Step(place, "spelling", number=SPELLINGS[texts[0]]))
         elif kind == "turn":
             side = None if texts[0] == "nobody" else SIDES[texts[0]]
             self.steps.append(Step(place, "turn", side))

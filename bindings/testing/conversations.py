@@ -14,7 +14,7 @@ import os
 import random
 import re
 import sys
-from typing import Dict, Iterator, List, Optional, Tuple
+from typing import Dict, Iterator, List, Optional, Tuple, Union
 
 sys.path.insert(0, os.path.join(os.path.dirname(os.path.dirname(os.path.abspath(__file__))),
                                 "python"))
@@ -33,6 +33,8 @@ OF_PACKETS = ("OutOfSync", "AfterQuit", "Unasked", "Held", "NotDue")
 # Events whose names in lines are others: COM_.. have those of their own.
 NAMES = {"Answer": "AuthAnswer", "OldAuthSwitch": "AuthSwitch", "CutOffLogin": "Login",
          "Field": "Column"}
+# The first bytes of commands that run no statement, behind which the session goes on.
+QUIET = {bytes([it]) for it in (1, 2, 4, 9, 14, 22, 24, 25, 26, 27, 28)}
 # The field of a line that is a length where secrets are hidden.
 SECRETS = {"Login": "answer", "ChangeUser": "answer", "RegisterSlave": "password",
            **{name: "data" for name in ("AuthAnswer", "AuthSwitch", "AuthMore", "NextFactor",
@@ -60,6 +62,25 @@ def mode_of(connection: ms.Connection) -> int:
             + MODES["ANSI_QUOTES"] * mode.ansi_quotes)
 
 
+def behind(session: ms.SessionMode, event: ms.Event) -> ms.SessionMode:
+    """What is known of a session behind an event, as a program goes on that has no connection."""
+    if isinstance(event, ms.QueryEvent):
+        return session.behind_text(event.text)
+    if isinstance(event, (ms.ExecuteEvent, ms.BulkExecuteEvent)):
+        # A connection doesn't read a longer text again.
+        is_long = len(event.text) > 1024
+        return ms.SessionMode() if is_long else session.behind_text(event.text)
+    if isinstance(event, (ms.OkEvent, ms.ColumnsEndEvent, ms.RowsEndEvent)):
+        return session.behind_ok(event)
+    if isinstance(event, ms.OtherEvent):
+        return session if event.data[:1] in QUIET else ms.SessionMode()
+    if isinstance(event, ms.ChangeUserEvent):
+        return ms.SessionMode()
+    if isinstance(event, ms.CommandEvent):
+        return session if bytes([event.number]) in QUIET else ms.SessionMode()
+    return session
+
+
 def without_secrets(line: str) -> str:
     """A line in which data of an authentication, and a replica's password, are a length."""
     name = line.split(" ")[1]
@@ -69,14 +90,16 @@ def without_secrets(line: str) -> str:
         f" {field}=x([0-9a-f]*)", lambda it: f" {field}=({len(it.group(1)) // 2} bytes)", line)
 
 
-def next_line(connection: ms.Connection) -> Optional[str]:
-    """The line of the next event, or none, or a line of a fault."""
+def next_event(connection: ms.Connection) -> Union[ms.Event, str, None]:
+    """The next event, or none, or a line of a fault."""
     try:
-        event = connection.next_event()
+        return connection.next_event()
     except ms.ConnectionFault as fault:
         return f"fault {fault}"
-    if event is None:
-        return None
+
+
+def line_of(connection: ms.Connection, event: ms.Event) -> str:
+    """The line of an event."""
     line = connection.line(secrets=True)
     side, name = line.split(" ")[:2]
     told = NAMES.get(event.name, event.name)
@@ -92,7 +115,7 @@ class Reading:
 
     def __init__(self, of: Conversation):
         self.of, self.connection = of, connection_of(of)
-        self.failed = False
+        self.session, self.failed = ms.SessionMode(), False
 
     def __enter__(self) -> "Reading":
         return self
@@ -108,14 +131,25 @@ class Reading:
         """The lines that come."""
         found = []
         while not self.failed:
-            line = next_line(self.connection)
-            if line is None:
+            event = next_event(self.connection)
+            if event is None:
                 break
-            if line.startswith("fault "):
+            if isinstance(event, str):
                 self.failed = True
             else:
-                found.append(line)
+                found.append(line_of(self.connection, event))
+                self.know(event)
         return found
+
+    def know(self, event: ms.Event) -> None:
+        """Behind this event the connection has to know of its session what a program without one
+        does."""
+        self.session = behind(self.session, event)
+        told, own = self.connection.session_mode, self.session
+        if (told.mode, told.is_safe_set, told.spelling) != (
+                own.mode, own.is_safe_set, own.spelling):
+            line = self.connection.line(secrets=True)
+            raise Failure(f"behind {line} the connection knows {told}, a program without one {own}")
 
     def feed(self, side: Side, data: bytes, most: int = 1 << 62) -> List[str]:
         """Feeds bytes, as many at once as there is room for, and returns the lines that come."""
@@ -163,6 +197,8 @@ def read_steps(of: Conversation, most: int = 1 << 62) -> None:
                 it.compare(it.connection.held, step.number, step.place)
             elif step.kind == "mode":
                 it.compare(mode_of(it.connection), step.number, step.place)
+            elif step.kind == "spelling":
+                it.compare(it.connection.spelling, step.number, step.place)
             elif step.kind == "turn":
                 it.compare(it.connection.turn, step.side, step.place)
             it.compare_lines(found, step.wanted, step.place)
@@ -212,12 +248,14 @@ def put_again(of: Conversation) -> int:
             side = ends[Side.CLIENT].connection.turn if want.side is None else want.side
             payload, packets = next(payloads[side])
             speaker, listener = ends[side], ends[Side(1 - side)]
-            put, _ = speaker.connection.put(side, payload)
+            put, event = speaker.connection.put(side, payload)
+            speaker.know(event)
             client.compare(put.hex(), packets.hex(), want.place)
             for line in [speaker.connection.line(secrets=True)], listener.feed(side, put):
                 client.compare_lines(line, [want], want.place)
             client.compare(client.connection.turn, server.connection.turn, want.place)
-            client.compare(client.connection.mode, server.connection.mode, want.place)
+            client.compare(client.connection.session_mode, server.connection.session_mode,
+                           want.place)
             count += 1
         put_fault(of, ends, payloads)
     return count
@@ -299,6 +337,7 @@ def read_strange(of: Conversation, at: random.Random) -> int:
                 put, event = it.connection.put(side, payload)
             except ms.MySQLSessionError:
                 continue
+            it.know(event)
             if not (put and repr(event) and it.connection.line()):
                 raise Failure(f"{payload.hex()} has no line", of.place)
             count += 1

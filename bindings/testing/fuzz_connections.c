@@ -15,7 +15,7 @@ typedef struct told {
     uint32_t closed;
     mysql_session_connection_end end;
     mysql_session_standing standing;
-    uint32_t mode;
+    uint32_t known;
 } told;
 
 /* What the sum was behind each event of the connection that was read last. */
@@ -25,6 +25,13 @@ static mysql_session_standing standing_of(mysql_session_connection *connection) 
     mysql_session_standing standing;
     must(mysql_session_connection_standing(connection, &standing), "standing");
     return standing;
+}
+
+/* What is known of the session, as one number. */
+static uint32_t known_of(mysql_session_connection *connection) {
+    mysql_session_known known = MYSQL_SESSION_NOTHING_KNOWN;
+    mysql_session_connection_known(connection, &known);
+    return known.flags | (uint32_t)known.set_known << 8 | (uint32_t)known.counts << 9;
 }
 
 /* How much a side's longest payload takes with its headers. */
@@ -237,7 +244,7 @@ static int take(const input *in, mysql_session_connection *connection, told *of,
         look_at_held(in, &behind);
         add_number(&of->sum, behind.capabilities ^ (uint64_t)behind.mariadb_capabilities << 32);
         add_number(&of->sum, behind.phase << 8 | behind.reason << 4 | behind.turn);
-        add_number(&of->sum, mysql_session_connection_mode(connection));
+        add_number(&of->sum, known_of(connection));
         if (of->events < EVENTS) sums[of->events] = of->sum;
         of->events++;
     }
@@ -281,7 +288,7 @@ static void end_streams(const input *in, mysql_session_connection *connection, t
         take(in, connection, of, ended);
     }
     of->standing = standing_of(connection);
-    of->mode = mysql_session_connection_mode(connection);
+    of->known = known_of(connection);
     must(mysql_session_connection_finish(connection, &of->end), "finish");
 }
 
@@ -319,7 +326,7 @@ static void compare(const told *one, const told *other, const char *how) {
         found("another end by other pieces", "%s: %u %u %u %llu in place of %u %u %u %llu", how,
               first->kind, first->side, first->fault, (unsigned long long)first->byte,
               second->kind, second->side, second->fault, (unsigned long long)second->byte);
-    if (!is_alike(&one->standing, &other->standing) || one->mode != other->mode ||
+    if (!is_alike(&one->standing, &other->standing) || one->known != other->known ||
         one->standing.turn != other->standing.turn ||
         one->standing.fault_byte != other->standing.fault_byte)
         found("another standing by other pieces", "%s: phase %u in place of %u", how,
@@ -414,7 +421,7 @@ static void put_connection(const input *in, const told *read) {
         mysql_session_standing behind = standing_of(&connection);
         add_number(&of.sum, behind.capabilities ^ (uint64_t)behind.mariadb_capabilities << 32);
         add_number(&of.sum, behind.phase << 8 | behind.reason << 4 | behind.turn);
-        add_number(&of.sum, mysql_session_connection_mode(&connection));
+        add_number(&of.sum, known_of(&connection));
         if (of.events >= read->events || (of.events < EVENTS && of.sum != sums[of.events]))
             found("a payload that is put is another event", "the event %zu of %zu", of.events,
                   read->events);

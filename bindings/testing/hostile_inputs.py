@@ -556,10 +556,10 @@ def connection_binary_rows(n):
     return behind_columns(WIDE, n)
 
 
-@row("connection", "a text like the tracking's name", "a query of `session_track_system_variable`",
+@row("connection", "a text like words of a SET", "a query `SET statemencharactecharsesql_modnam..`",
      12)
-def connection_nearly_tracking(n):
-    return after_login(framed(b"\x03" + b"session_track_system_variable" * n), OK, 2)
+def connection_nearly_setting(n):
+    return after_login(framed(b"\x03SET " + b"statemencharactecharsesql_modnam" * n), OK, 2)
 
 
 @row("connection", "answers to a server", "authentication data of 2 bytes, and an answer of none", 12)

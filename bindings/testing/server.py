@@ -20,16 +20,19 @@ import time
 from typing import NamedTuple
 
 from .audited import test_audited
+from .auditing import has_tls
 from .by_hand import Client as ByHand
 from .proxied import test_proxied
 from .replayed import test_replayed
 from .support import (BINDINGS, BOTH, C99, Failure, MARIADB, MARIADBS, MYSQL, ROOT, archive_in,
-                      compare, has, python_environment, run, rust_environment)
+                      compare, has, python_environment, run, rust_environment, tell)
 
 SERVER_PACKAGES = {"mariadb": "mariadb-client", "mariadb_config": "libmariadb-dev"}
 SERVERS = os.path.join(ROOT, "tools", "servers")
 
 USER, DATABASE = "tester", "bindings"
+# As many commands look for a way past the audit.
+COMMANDS = 3000
 WAIT_SECONDS = 60
 FIRST_SECONDS = 240
 # More than a batch holds, so that several requests are sent.
@@ -37,12 +40,10 @@ ROWS = 12345
 RECORDINGS = os.path.join(ROOT, "crates", "connection_conformance", "data")
 # The parts of the differential tests, how much of each, and whose rules they show.
 DIFFERENTIAL = {"parameters": (3000, BOTH), "injection": (3000, BOTH), "types": (3000, BOTH),
-                "bytes": (10000, BOTH), "sessions": (2000, BOTH)}
+                "bytes": (10000, BOTH), "sessions": (2000, BOTH), "commands": (2000, BOTH)}
 # Recorded connections that need no more than a server.
 WHOLE_RECORDINGS = ("c-direct", "perl-execute", "java-bulk", "ruby-text", "php-pdo-text",
                     "go-long-data", "load_data_by_execution", "types_in_force")
-# The version that docs/SERVERS.md is of.
-PAGE_OF = "10.11."
 # A table of the test server.
 TABLE = """{
     "SELECT * FROM times": {
@@ -493,6 +494,20 @@ class Tests:
         few = self.read_log("--gtid", position, "--events", "2")
         compare([name for name, _ in few], names[:2])
 
+    def replication_by_tags(self):
+        """At a MySQL the same, behind the set that it prints, in which transactions have tags."""
+        self.sql("CREATE TABLE before_it (id INT); SET gtid_next = 'AUTOMATIC:mytag'; "
+                 "INSERT INTO before_it VALUES (1); INSERT INTO before_it VALUES (2)")
+        [[done]] = self.sql("SELECT @@global.gtid_executed")
+        if ":mytag:1-2" not in done:
+            raise Failure(f"it prints {done}")
+        self.sql("INSERT INTO before_it VALUES (3); SET gtid_next = 'AUTOMATIC:other'; "
+                 "INSERT INTO before_it VALUES (4)")
+        names = [name for name, _ in self.read_log("--gtid", done)]
+        compare([name for name in names if "GTID" in name and "PREVIOUS" not in name],
+                ["GTID_LOG_EVENT (MySQL)", "GTID_TAGGED_LOG_EVENT"])
+        compare(names.count("WRITE_ROWS_EVENT"), 2)
+
     # The test server.
 
     @contextlib.contextmanager
@@ -552,6 +567,15 @@ class Tests:
                           str(self.port), USER, DATABASE, "--part", part, "--count", str(count)],
                          env=self.python).strip().replace("\n", "\n  "), flush=True)
 
+    def evasions(self):
+        """No statement of an odd client passes the audit unseen."""
+        program = os.path.join(self.built, "target", "release", "mysql-audit")
+        if not os.path.exists(program):
+            raise Failure("the audit isn't built")
+        tell(run(["python3", os.path.join(BINDINGS, "testing", "evasions.py"), program,
+                  str(self.port), "--user", USER, "--commands", str(COMMANDS),
+                  *([] if has_tls() else ["--without-tls"])]))
+
     def examples_in_ansi_quotes(self):
         """At a server in ANSI_QUOTES the replay, the loader and the replication reader do what they do
         elsewhere."""
@@ -575,8 +599,8 @@ class Tests:
 
     def odd_commands(self):
         """What the server runs of odd commands is told, and is on its page."""
-        run(["python3", os.path.join(BINDINGS, "testing", "executions.py"), str(self.port), USER,
-             DATABASE, "--check", os.path.join(ROOT, "docs", "SERVERS.md")], env=self.python)
+        run(["python3", os.path.join(BINDINGS, "testing", "executions.py"), USER, DATABASE,
+             str(self.port), "--check", os.path.join(ROOT, "docs", "SERVERS.md")], env=self.python)
 
     def proxy_of_a_mode(self):
         """The proxy follows a session that changes to ANSI_QUOTES."""
@@ -663,8 +687,10 @@ STEPS = ((Tests.bulk_load, MARIADBS), (Tests.bulk_load_refused, MARIADBS),
          (Tests.proxy_statements, MARIADBS), (Tests.proxy_rows, MARIADBS), (Tests.replays, BOTH),
          (Tests.replay_faults, BOTH), (Tests.replays_of_connections, MARIADBS),
          (Tests.replay_of_files, BOTH), (Tests.replication, MARIADBS),
-         (Tests.replication_by_gtid, MARIADBS), (Tests.test_server_clients, ()),
+         (Tests.replication_by_gtid, MARIADBS), (Tests.replication_by_tags, (MYSQL,)),
+         (Tests.test_server_clients, ()),
          (Tests.test_server_table, ()), (Tests.test_server_statements, ()),
+         (Tests.evasions, BOTH),
          (Tests.proxy_of_a_mode, BOTH), (Tests.examples_of_a_mode, MARIADBS),
          (Tests.examples_in_ansi_quotes, MARIADBS))
 
@@ -690,8 +716,7 @@ def test_server(report, room, library, kind, is_first):
 def test_longer(report, kind, tests):
     """Runs the longer tests: odd commands, captures, the examples in Rust and clients of the
     proxy."""
-    if PAGE_OF in tests.version:
-        tests.run(report, "odd commands", MARIADBS, tests.odd_commands)
+    tests.run(report, "odd commands", BOTH, tests.odd_commands)
     if has("tcpdump") and os.geteuid() == 0:
         tests.run(report, "captured by tcpdump", MARIADBS, tests.captured)
     else:

@@ -295,6 +295,35 @@ def run_collation(numbers, wanted):
         compare("safe" if ms.is_safe_to_quote(int(number)) else "unsafe", wanted.text)
 
 
+def changes_of(variables):
+    """Returns variables as the OK packet has them that tells them; values have no blanks."""
+    pairs = [it.partition("=")[::2] for it in variables]
+    told = b"".join(bytes([len(it)]) + it.encode() for pair in pairs for it in pair)
+    return bytes([ms.StateType.SYSTEM_VARIABLES, len(told)]) + told if told else b""
+
+
+def run_session(before, statement, told, after):
+    """Goes on with what is known of a session behind a statement and the OK packets of its reply.
+    Each packet is told by an event and by a result."""
+    session = known_of(*before.words).behind_text(statement.data)
+    by_results = session
+    for packet in told.parts(";") if told.text != "nothing" else ():
+        status, *variables = packet.words
+        changes = changes_of(variables)
+        session = session.behind_ok(ms.OkEvent(0, 0, int(status, 16), 0, b"", changes))
+        states = ((ms.State(changes[0], changes[2:]),) if changes else ())
+        by_results = by_results.behind_ok(ms.Ok(0, 0, int(status, 16), 0, b"", states))
+    wanted = known_of(*after.words)
+    for found in (session, by_results):
+        compare((found.mode, found.is_safe_set), (wanted.mode, wanted.is_safe_set))
+        compare(found.spelling, wanted.spelling)
+
+
+def known_of(mode, charset):
+    """Returns what is known of a session by the words of its mode and its character set."""
+    return ms.SessionMode(MODES.get(mode), {"safe": True, "unsafe": False}.get(charset))
+
+
 # ---- Replies ------------------------------------------------------------------------------------
 
 
@@ -337,7 +366,7 @@ def run_payloads(kind, capabilities, first, limit, payloads, columns, *lines):
 RUNS = {"audit": run_audit, "send": run_send, "bind": run_bind, "recode": run_recode,
         "reply": run_reply, "payloads": run_payloads, "text": run_text, "read": run_read,
         "prepare": run_prepare, "status": run_status, "sql_mode": run_sql_mode,
-        "collation": run_collation}
+        "collation": run_collation, "session": run_session}
 
 
 def run_row(row):

@@ -29,21 +29,22 @@ CAPABILITIES = int(Capability.LONG_PASSWORD | Capability.PROTOCOL_41 | Capabilit
 SCRAMBLE = b"12345678123456789012"
 STATUS = int(ms.Status.AUTOCOMMIT | ms.Status.ANSI_QUOTES)
 OK = b"\0\0\0" + STATUS.to_bytes(2, "little") + b"\0\0"
-# The same with the session's mode, as a server that tracks it tells it.
-MODE = b"\x08sql_mode\x0bANSI_QUOTES"
+# The same with the session's mode and character set, as a server tells them that is asked.
+MODE = b"\x08sql_mode\x0bANSI_QUOTES\x14character_set_client\x07utf8mb4"
 OK_WITH_MODE = (b"\0\0\0" + (STATUS | ms.Status.SESSION_STATE_CHANGED).to_bytes(2, "little")
                 + b"\0\0\0" + bytes([len(MODE) + 2, ms.StateType.SYSTEM_VARIABLES, len(MODE)]) + MODE)
-REGISTER, DUMP = 0x15, 0x12
+REGISTER, DUMP, DUMP_GTID = 0x15, 0x12, 0x1e
 BINARY = 63
 
 
 class Server:
-    """A server for one client, in a thread. `said` has what it heard."""
+    """A server for one client, in a thread. `said` has what it heard, `asked` the questions for the
+    mode."""
 
     CAPABILITIES = CAPABILITIES
 
     def __init__(self):
-        self.said, self.connection = [], ms.Connection()
+        self.said, self.asked, self.connection = [], [], ms.Connection()
         self._listener = socket.create_server(("127.0.0.1", 0))
         self.address = "127.0.0.1:%d" % self._listener.getsockname()[1]
         self._thread = threading.Thread(target=self._serve)
@@ -90,7 +91,9 @@ class Server:
 
 
 class Log(Server):
-    """A server with a binary log of three events."""
+    """A MariaDB with a binary log of three events."""
+
+    CAPABILITIES = CAPABILITIES & ~int(Capability.LONG_PASSWORD)
 
     def answer(self, event):
         """Answers what a replica says."""
@@ -99,7 +102,7 @@ class Log(Server):
             self.put(OK)
         elif event.number == REGISTER:
             self.put(OK)
-        elif event.number == DUMP:
+        elif event.number in (DUMP, DUMP_GTID):
             self.said.append(event.number)
             events = [self.event(kind, place) for place, kind in enumerate((4, 15, 2))]
             self.put(events[0])
@@ -117,8 +120,14 @@ class Log(Server):
                                 ((9, 4), (kind, 1), (1, 4), (19, 4), (4 + 19 * place, 4), (0, 2)))
 
 
+class MySQLLog(Log):
+    """The same of a MySQL."""
+
+    CAPABILITIES = CAPABILITIES
+
+
 class Times(Server):
-    """A server that executes a statement whose row has dates and durations. It tracks the mode."""
+    """A server that executes a statement whose row has dates and durations. It tells the mode."""
 
     CAPABILITIES = CAPABILITIES | int(Capability.SESSION_TRACK)
     COLUMNS = [Column(b"day", ColumnType.DATE, charset=BINARY),
@@ -136,6 +145,7 @@ class Times(Server):
     def answer(self, event):
         """Answers the question for the mode, the statement and its execution."""
         if isinstance(event, ms.QueryEvent):
+            self.asked.append(event.text)
             self.put(OK_WITH_MODE)
             return
         kind = (ms.ReplyKind.PREPARE if isinstance(event, ms.PrepareEvent)
@@ -160,10 +170,17 @@ def test_log(program):
         compare(server.said, [b"SET @master_binlog_checksum = @@global.binlog_checksum",
                               b"SET @mariadb_slave_capability = 4",
                               b"SET @slave_connect_state = _utf8mb4 0x302D312D3432", DUMP])
+    source = "3e11fa47-71ca-11e1-9e33-c80aa9429562"
+    for words, command in ((("--gtid", f"{source}:1-5:tag:1-3"), DUMP_GTID), (("--first",), DUMP),
+                           (("--file", "binlog.000001", "--position", "4"), DUMP)):
+        server = MySQLLog()
+        compare(server.run(program, *words), "".join(wanted) + "3 events\n")
+        compare(server.said, [b"SET @master_binlog_checksum = @@global.binlog_checksum",
+                              b"SET @source_binlog_checksum = @@global.binlog_checksum", command])
 
 
 def test_times(program):
-    """The row of an execution. In ANSI_QUOTES, which is tracked, the statement has one placeholder,
+    """The row of an execution. In ANSI_QUOTES, which is told, the statement has one placeholder,
     else none."""
     query, server = r'SELECT "a\", ?', Times()
     said = server.run(program, "shop", query, "1")
@@ -171,6 +188,8 @@ def test_times(program):
             "2024-02-29 00:00:00.500\t2024-02-29 00:00:00.000000\t2024-02-29 00:00:00.000007\t"
             "838:59:00\t-30:00:01.50\n1 row\n")
     compare(server.said, [query.encode()] * 2)
+    # Once: behind the login.
+    compare(server.asked, [ms.ASK_SESSION_MODE])
 
 
 def main():
