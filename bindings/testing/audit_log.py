@@ -348,11 +348,18 @@ def check_syslog(executable):
         stream = kept.enter_context(syslog(log))
         pair.say("SELECT 'anew'")
         check("SELECT 'anew'", next_line()["text"], "a line for one who began anew")
-        pair.say("SELECT '" + "x" * (1 << 20) + "'")
-        pair.say("SELECT 'behind'")
-        found = [next_line() for _ in range(2)]
-        check((1, "SELECT 'behind'"), (found[0].get("lines"), found[1].get("text")),
-              "lines behind one that is too long")
+        # Both lines may be written at once, or one after the other.
+        long = query("SELECT '" + "x" * (1 << 20) + "'")
+        for _ in range(3):
+            said = long + query("SELECT 'behind'")
+            asking = threading.Thread(target=pair.client.sendall, args=[said])
+            asking.start()
+            check(True, said == receive(pair.server, len(said)), "what passes")
+            asking.join()
+            pair.answer(2 * packet(1, OK))
+            found = [next_line() for _ in range(2)]
+            check((1, "SELECT 'behind'"), (found[0].get("lines"), found[1].get("text")),
+                  "lines behind one that is too long")
         pair.close()
         check("end", next_line()["kind"], "the last line")
         proxy.stop()

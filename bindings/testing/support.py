@@ -87,8 +87,10 @@ def run(words, status=0, timeout=SECONDS, **how):
             ran.kill()
             raise
     if ran.returncode != status:
-        raise Failure(f"{' '.join(words)} ended with status {ran.returncode}, not {status}\n"
-                      f"{said[-20000:]}")
+        # What failed comes first, since a report may be cut off.
+        failed = [it for it in said.splitlines() if it.lstrip().startswith("FAILED")]
+        raise Failure("\n".join([f"{' '.join(words)} ended with status {ran.returncode}, not {status}",
+                                 *failed, said[-20000:]]))
     return said
 
 

@@ -186,15 +186,18 @@ impl LogFile {
         self.asked.lost_in_all.fetch_add(lines, Ordering::Relaxed);
     }
 
-    /// Writes lines, or loses them. Before them it tells how many were lost.
+    /// Writes lines, or loses them. It tells how many were lost before the next one that it writes.
     pub fn write(&mut self, mut lines: &[u8]) {
         self.reopen_if_asked();
         self.end_packing(false);
-        if self.lost > 0 && !self.tell_lost() {
-            self.count_lost(count_lines(lines));
-            return;
-        }
-        while !lines.is_empty() {
+        loop {
+            if self.lost > 0 && !self.tell_lost() {
+                self.count_lost(count_lines(lines));
+                return;
+            }
+            if lines.is_empty() {
+                return;
+            }
             let count = self.make_room(lines);
             let (piece, rest) = lines.split_at(count);
             if let Err(done) = self.put(piece) {
@@ -319,8 +322,12 @@ impl LogFile {
         }
     }
 
-    /// How many of these bytes go into the file, another one where it has its size.
+    /// How many of these bytes are written at a time. It begins another file where this one has its
+    /// size. A socket takes line by line, and may lose each.
     fn make_room(&mut self, lines: &[u8]) -> usize {
+        if matches!(self.target, Target::Syslog(_)) {
+            return front(lines, 0);
+        }
         let rotates_no_more = self.asked.rotates_no_more.load(Ordering::Relaxed);
         let is_file = matches!(self.target, Target::File(_)) && self.path.is_some();
         if self.manner.rotate == 0 || !is_file || rotates_no_more {
