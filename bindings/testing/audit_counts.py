@@ -151,10 +151,15 @@ def check_askers(executable):
                     asker.sendall(said)
                 except OSError:
                     pass
-        with proxy.asks() as silent:
-            # Another one has its answer once this one has had its time.
-            proxy.waits_for("connections", 0)
-            check(b"", receive(silent, 100), "what comes to one who says nothing")
+        silent = [proxy.asks() for _ in range(30)]
+        began = time.monotonic()
+        # Nobody waits for those who say nothing.
+        proxy.waits_for("connections", 0)
+        check(True, time.monotonic() - began < 1, "how long one waits beside silent askers")
+        for it in silent:
+            check(b"", receive(it, 100), "what comes to one who says nothing")
+            it.close()
+        check(True, time.monotonic() - began < 9, "how long silent askers stay")
 
 
 # ---- Samples and kinds --------------------------------------------------------------------------

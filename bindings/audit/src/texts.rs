@@ -27,8 +27,9 @@ pub fn front_of(text: &[u8], most: usize) -> &[u8] {
 /// Whether a character is one that a terminal doesn't show, or by which it turns what it shows.
 fn is_hidden(character: char) -> bool {
     character.is_control()
-        || matches!(character, '\u{200e}' | '\u{200f}' | '\u{202a}'..='\u{202e}')
-        || matches!(character, '\u{2028}' | '\u{2029}' | '\u{2066}'..='\u{2069}')
+        || matches!(character, '\u{ad}' | '\u{61c}' | '\u{180e}' | '\u{200b}'..='\u{200f}')
+        || matches!(character, '\u{2028}'..='\u{202e}' | '\u{2060}'..='\u{206f}')
+        || matches!(character, '\u{feff}' | '\u{fff9}'..='\u{fffb}' | '\u{e0000}'..='\u{e0fff}')
 }
 
 /// Writes a text for people, on one line.
@@ -112,7 +113,9 @@ pub fn push_json(json: &mut String, bytes: &[u8]) {
             '\r' => json.push_str("\\r"),
             '\t' => json.push_str("\\t"),
             hidden if is_hidden(hidden) => {
-                let _ = write!(json, "\\u{:04x}", u32::from(hidden));
+                for half in hidden.encode_utf16(&mut [0; 2]) {
+                    let _ = write!(json, "\\u{half:04x}");
+                }
             }
             shown => json.push(shown),
         }
@@ -231,6 +234,11 @@ mod tests {
                 "\u{e9}\n\u{202e}".as_bytes(),
                 r#""é\n\u202e""#,
                 r"'é\n\u{202e}'",
+            ),
+            (
+                "ro\u{200b}ot\u{e0041}".as_bytes(),
+                r#""ro\u200bot\udb40\udc41""#,
+                r"'ro\u{200b}ot\u{e0041}'",
             ),
             (b"\xff\0", r#"{"hex":"ff00"}"#, "0xff00"),
             (b"", r#""""#, "''"),
