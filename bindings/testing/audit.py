@@ -2,10 +2,10 @@
 
     audit.py PROGRAM RECORDINGS [--idle N] [--load AUDIT_LOAD] [--without-tls] [--only PART]
 
-PROGRAM is its executable. The folder RECORDINGS has recorded connections, which pass it as they pass
-the example (recorded.py). Else a client and a server here say what is to be seen. N connections are
-made that say nothing (2000), and their memory is printed. AUDIT_LOAD is what audit_load.rs is
-compiled to: with it the processor time of a statement is printed.
+PROGRAM is its executable. The folder RECORDINGS has recorded connections, which pass it (recorded.py).
+Else a client and a server here say what is to be seen. N connections are made that say nothing (2000),
+and their memory is printed. AUDIT_LOAD is what audit_load.rs is compiled to: with it the processor time
+of a statement is printed.
 """
 
 import argparse
@@ -22,6 +22,7 @@ import audit_addresses
 import audit_counts
 import audit_limits
 import audit_log
+import audit_recording
 import audit_settings
 import audit_skipping
 import audit_tls
@@ -40,11 +41,20 @@ ROOT = pathlib.Path(__file__).resolve().parent.parent.parent
 def check_recordings(executable, paths):
     """Recorded connections pass byte by byte, and their lines are what the events say."""
     at = random.Random(1)
+    count = 0
     for options in (["--on-fault", "pass"], ["--on-fault", "pass", "--strict", "--secrets"],
                     ["--on-fault", "cut", "--strict"]):
         with Program(executable, *options) as proxy:
             for path in paths:
-                recorded.check_recording(proxy, path, at, options)
+                count += recorded.check_recording(proxy, path, at, options)
+    print(f"  {len(paths)} recordings, {count} commands and logins are told as their events say")
+
+
+def check_flood(executable, path, at):
+    """A server goes on behind the end of a client whose turn it is."""
+    for options in ([], ["--strict"]):
+        with Program(executable, "--on-fault", "pass", "--longest", "20000", *options) as proxy:
+            recorded.check_flood(proxy, path, at)
 
 
 def check_whole(executable, paths):
@@ -307,6 +317,9 @@ def main():
     at = random.Random(4)
     checks = [("recordings", lambda it: check_recordings(it, paths)),
               ("bytes of recordings", lambda it: check_whole(it, paths)),
+              ("a flood", lambda it: check_flood(it, words.recordings / "ansi_quotes.events", at)),
+              ("what is recorded", lambda it: audit_recording.check_recorded(it, paths)),
+              *audit_recording.checks(),
               ("changed recordings", lambda it: check_changed(it, paths)),
               ("secrets", lambda it: recorded.check_secrets(
                   it, words.recordings / "php-execute.events", at)),

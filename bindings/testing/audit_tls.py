@@ -372,9 +372,29 @@ def check_words(executable):
             check((status, True), (ran.returncode, why in ran.stderr), f"{words}: {ran.stderr}")
 
 
+def check_key_log(executable):
+    """The keys of each side's sessions go to a file, which nobody else may read."""
+    with certificates() as folder:
+        keys = folder / "keys"
+        words = [*pair_of(folder), "--tls-key-log", str(keys)]
+        with Program(executable, *words) as proxy:
+            pair = Secured(proxy, folder)
+            pair.logs_in()
+            pair.accepts_tls()
+            pair.hears(2, login(BITS | SSL))
+            pair.close()
+            proxy.stop()
+        found = {it.split()[1] for it in keys.read_text().splitlines()}
+        check((2, 0o600), (len(found), keys.stat().st_mode & 0o777), "sessions of the key log")
+        os.chmod(keys, 0o640)
+        ran = subprocess.run([executable, "127.0.0.1:0", "127.0.0.1:1", *words], check=False,
+                             stderr=subprocess.PIPE, text=True, timeout=SECONDS)
+        check((1, True), (ran.returncode, "others can read it" in ran.stderr), ran.stderr)
+
+
 def checks():
     """Returns all of them, by their names."""
-    return [("TLS on both sides", check_both), ("a hidden password", check_password),
+    return [("a key log", check_key_log), ("TLS on both sides", check_both), ("a hidden password", check_password),
             ("other certificates", check_reload), ("plain clients that are refused", check_plain_refused),
             ("passwords in clear", check_clear_refused), ("what can't be read with TLS", check_unread),
             ("requests for TLS", check_requests),

@@ -105,9 +105,6 @@ def test_rust(report, library, room):
     if report.run("cargo build --examples", run, ["cargo", "build", "--offline", "--examples"],
                   **how):
         examples = os.path.join(room, "target", "debug", "examples")
-        proxy = os.path.join(examples, "audit_proxy")
-        words = ["python3", os.path.join(TESTING, "recorded.py"), proxy, RECORDINGS]
-        report.run("recorded connections through the proxy", run, words)
         report.run("examples/poll_loop", poll_loop, os.path.join(examples, "poll_loop"))
         report.run("clients at servers that are told what to say", run,
                    ["python3", os.path.join(TESTING, "told.py"), examples],

@@ -354,7 +354,7 @@ class Audits:
         """Many commands at once, more than there is room for: all are told, in their order."""
         texts = [f"SELECT {number}, '{'x' * 100}'" for number in range(PIPELINED)]
         payloads = [b"\x03" + text.encode() for text in texts]
-        for options in ([], ["--pass-first"]):
+        for options in ([], ["--strict"]):
             with self.proxy("--longest", "4096", *options) as (port, lines):
                 with self.raw(port) as connection:
                     self.send_and_count(connection, payloads)
@@ -387,7 +387,7 @@ def test_proxied(report, tests, running):
             else:
                 print(f"left out: the proxy with {client.name} (apt-get install {client.package})",
                       flush=True)
-        for options in (["--pass-first"], ["--plain"], ["--on-fault", "cut"]):
+        for options in (["--strict"], ["--plain"], ["--on-fault", "cut"]):
             tests.run(report, f"the proxy with PyMySQL, {' '.join(options)}", MARIADBS, it.client,
                       ALL[0], *options)
         of_both = (it.killed, it.pipelined, it.at_once, it.compressed)

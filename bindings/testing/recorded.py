@@ -1,36 +1,24 @@
-"""Recorded connections through the auditing proxy; `bindings/test` runs it.
+"""Recorded connections through an auditing proxy; audit.py calls this.
 
-    recorded.py PROXY RECORDINGS
-
-PROXY is the proxy's executable, and the folder RECORDINGS has recorded connections. NAME.client and
-NAME.server are the bytes of both sides, and NAME.events is what each payload is. Here are both
-ends: a client and a server that send what was recorded. What each gets has to be what the other
-sent, and what the proxy prints, what the events say. With `--on-fault cut` a connection that can't
-be read further is ended. Without descriptors or threads for more clients the proxy goes on. It
-prints no password but with `--secrets`.
+A folder has recorded connections. NAME.client and NAME.server are the bytes of both sides, and
+NAME.events is what each payload is. Here are both ends: a client and a server that send what was
+recorded. What each gets has to be what the other sent, and what the proxy prints, what the events
+say. With `--on-fault cut` a connection that can't be read further is ended. It prints no password but
+with `--secrets`.
 """
 
 import contextlib
 import json
-import os
-import pathlib
-import random
 import re
-import resource
 import socket
 import struct
 import subprocess
-import sys
-import tempfile
 import threading
 from typing import NamedTuple
 
 import with_passwords
 
 SECONDS = 60
-# How many descriptors the proxy may open where it is to have too few.
-DESCRIPTORS = 24
-
 # The first bytes of executions, which may be laid out as none.
 EXECUTIONS = {b"\x17": "execute", b"\xfa": "bulk execute"}
 CLOSE, RESET_CONNECTION = b"\x19", b"\x1f"
@@ -424,76 +412,3 @@ def check_secrets(executable, path, at):
     check([masked, "*****"], [records[2]["text"], records[2]["results"][0]["message"]], "a mask")
     check([["*****"]] * 2, [it["values"] for it in records if it["kind"] == "execute"], "values")
     check("SELECT 'shown'", records[-2]["text"], "a text without a password")
-
-
-def check_records(executable, path, at):
-    """The bytes that are passed on are those of two files."""
-    client, server = (path.with_suffix(it).read_bytes() for it in (".client", ".server"))
-    for options in ([], ["--pass-first"]):
-        with tempfile.TemporaryDirectory() as room:
-            folder = pathlib.Path(room, "records")
-            with Proxy(executable, "--record", str(folder), *options) as proxy:
-                for number in ("1", "2"):
-                    check((server, client), proxy.connect(client, server, at)[:2], "what passes")
-                    files = (folder / f"{number}.{it}" for it in ("client", "server"))
-                    check([client, server], [it.read_bytes() for it in files], "a recording")
-
-
-def limit_descriptors():
-    """Lets the process that is to be the proxy open few files."""
-    resource.setrlimit(resource.RLIMIT_NOFILE, (DESCRIPTORS, DESCRIPTORS))
-
-
-def check_descriptors(executable):
-    """More clients come than the proxy has descriptors for. It says so, and serves the next one once
-    they have gone."""
-    with Proxy(executable, "--pass-first", preexec_fn=limit_descriptors) as proxy:
-        flood = [proxy.ask() for _ in range(2 * DESCRIPTORS)]
-        while "no client can be taken" not in proxy.process.stderr.readline():
-            check(None, proxy.process.poll(), "the status of a proxy without descriptors")
-        for it in flood:
-            it.close()
-        with proxy.ask() as asking:
-            asking.sendall(b"?")
-            said = b""
-            while not said:
-                answering, _ = proxy.listener.accept()
-                with answering:
-                    answering.settimeout(SECONDS)
-                    said = answering.recv(1)
-        check(b"?", said, "what comes of the client behind the flood")
-
-
-def check_threads(executable):
-    """A client for which no thread can be had is closed, and the proxy goes on."""
-    with Proxy(executable, env={**os.environ, "RUST_MIN_STACK": str(1 << 47)}) as proxy:
-        for number in (1, 2):
-            with proxy.ask() as asking, contextlib.suppress(ConnectionResetError):
-                check(b"", asking.recv(1), "what a client without a thread gets")
-            check(f"connection {number}: it has no thread",
-                  proxy.process.stderr.readline()[:len("connection 1: it has no thread")],
-                  "what is said of a client without a thread")
-        check(None, proxy.process.poll(), "the status of a proxy without threads")
-
-
-def main():
-    executable, recordings = sys.argv[1:]
-    paths = sorted(pathlib.Path(recordings).glob("*.events"))
-    count, at = 0, random.Random(1)
-    for options in ([], ["--pass-first", "--secrets"], ["--on-fault", "cut", "--secrets"],
-                    ["--longest", "200000"]):
-        with Proxy(executable, *options) as proxy:
-            for path in paths:
-                count += check_recording(proxy, path, at, options)
-    check_secrets(executable, pathlib.Path(recordings, "php-execute.events"), at)
-    check_records(executable, pathlib.Path(recordings, "pipelined.events"), at)
-    for options in ([], ["--pass-first"]):
-        with Proxy(executable, "--longest", "20000", *options) as proxy:
-            check_flood(proxy, pathlib.Path(recordings, "ansi_quotes.events"), at)
-    check_descriptors(executable)
-    check_threads(executable)
-    print(f"{len(paths)} recordings, {count} commands and logins are told as their events say")
-
-
-if __name__ == "__main__":
-    main()

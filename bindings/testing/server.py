@@ -306,11 +306,18 @@ class Tests:
 
     # The auditing proxy.
 
+    @property
+    def audit(self):
+        """The file of `mysql-audit`, which is built before."""
+        program = os.path.join(self.built, "target", "release", "mysql-audit")
+        if not os.path.exists(program):
+            raise Failure("the audit isn't built")
+        return program
+
     @contextlib.contextmanager
     def proxy(self, log, *options):
         """Runs the proxy, and gives it with the port that it listens at."""
-        words = [self.rust_example("audit_proxy"), "127.0.0.1:0", f"127.0.0.1:{self.port}",
-                 *options]
+        words = [self.audit, "127.0.0.1:0", f"127.0.0.1:{self.port}", "--on-fault", "pass", *options]
         with Started(words, self.file(log)) as it:
             yield it, int(it.wait_for(r"^listening at .*:([0-9]+)$")[1])
 
@@ -325,8 +332,8 @@ class Tests:
             for road in ("execute", "bulk"):
                 self.replay(stream, query, "--road", road, port=port)
             proxy.wait_until(lambda said: said.count(" end by=") == 3)
-            found = re.findall(r"execute statement=[0-9]+: (.*) -> (.*) \(.* s\)$", proxy.said(),
-                               re.M)
+            found = re.findall(r"execute statement=[0-9]+: (.*) -> (.*) \([^()]* bytes\)$",
+                               proxy.said(), re.M)
         wanted = [*((f"[{it}]", "1 row affected") for it in ("1, 'it\\'s'", "NULL, ''",
                                                             "3, 'long data'")),
                   ("[[4, 'bulk'], [5, '']]", "2 rows affected"),
@@ -569,10 +576,7 @@ class Tests:
 
     def evasions(self):
         """No statement of an odd client passes the audit unseen."""
-        program = os.path.join(self.built, "target", "release", "mysql-audit")
-        if not os.path.exists(program):
-            raise Failure("the audit isn't built")
-        tell(run(["python3", os.path.join(BINDINGS, "testing", "evasions.py"), program,
+        tell(run(["python3", os.path.join(BINDINGS, "testing", "evasions.py"), self.audit,
                   str(self.port), "--user", USER, "--commands", str(COMMANDS),
                   *([] if has_tls() else ["--without-tls"])]))
 

@@ -3,6 +3,7 @@
 
 use crate::commands::Telling;
 use crate::lines::Sink;
+use crate::recording::{Hidden, Recording};
 use crate::secrecy::has_clear_password;
 use crate::teller::{Origin, Teller};
 use mysql_session::capability::CLIENT_LONG_PASSWORD;
@@ -78,6 +79,8 @@ pub struct Audit<S> {
     pub insists: bool,
     /// The code and the words by which the client is to be refused.
     pub refusal: Option<(u16, String)>,
+    /// Where what is read is recorded.
+    pub recording: Option<Box<Recording>>,
 }
 
 impl<S: Sink> Audit<S> {
@@ -102,10 +105,10 @@ impl<S: Sink> Audit<S> {
             guards: false,
             insists: false,
             refusal: None,
+            recording: None,
         })
     }
 
-    #[allow(dead_code)] // (the example has one for all)
     pub fn change(&mut self, on_fault: OnFault) {
         self.on_fault = on_fault;
     }
@@ -133,6 +136,9 @@ impl<S: Sink> Audit<S> {
         match self.connection.feed(side, bytes) {
             Ok(()) => {
                 self.teller.take_bytes(side, bytes.len());
+                if let Some(recording) = &mut self.recording {
+                    recording.take(side, bytes);
+                }
                 self.read();
             }
             Err(error) => self.give_up(&error),
@@ -184,8 +190,26 @@ impl<S: Sink> Audit<S> {
         }
     }
 
-    /// Tells the events that stand whole.
+    /// Tells the events that stand whole, and records them.
     fn read(&mut self) {
+        self.read_events();
+        let written = self.recording.as_mut().map_or(Ok(()), |it| it.write());
+        if let Err(why) = written {
+            self.recording = None;
+            self.cut(&format_args!("it can't be recorded: {why}"));
+        }
+    }
+
+    /// Notes that an event was read.
+    fn record(&mut self, hidden: Hidden) {
+        if let Some(recording) = &mut self.recording {
+            let connection = &self.connection;
+            let unread = [Side::Client, Side::Server].map(|side| connection.rest(side).len());
+            recording.pass(unread, hidden);
+        }
+    }
+
+    fn read_events(&mut self) {
         while self.read_event() {
             match self.connection.phase() {
                 Phase::Command => self.finish_command(true),
@@ -209,7 +233,8 @@ impl<S: Sink> Audit<S> {
         }
         let has_left = self.ended.first() == Some(&Side::Client);
         let most = self.teller.telling.most;
-        match self.connection.next_event_lent() {
+        let mut hidden = Hidden::Nothing;
+        let is_read = match self.connection.next_event_lent() {
             Ok(None) => false,
             Ok(Some(event)) if self.guards && has_clear_password(&event) => {
                 if let Event::Login(login) = &event {
@@ -238,6 +263,7 @@ impl<S: Sink> Audit<S> {
                     let bits = greeting.capabilities.protocol;
                     self.is_mariadb = bits & CLIENT_LONG_PASSWORD == 0;
                 }
+                hidden = Hidden::of(&event);
                 self.teller.take(&event);
                 true
             }
@@ -247,7 +273,11 @@ impl<S: Sink> Audit<S> {
                 self.give_up(&format_args!("{side}, byte {byte}: {code}"));
                 false
             }
+        };
+        if is_read {
+            self.record(hidden);
         }
+        is_read
     }
 
     /// Tells the command that ran, if one did, with how many bytes of both sides were read.
@@ -278,6 +308,10 @@ impl<S: Sink> Audit<S> {
         };
         self.follows = follows;
         self.gave_up = true;
+        if let Some(mut recording) = self.recording.take() {
+            // It ends where the reading does.
+            let _ = recording.write();
+        }
         self.finish_command(false);
         if follows == Follows::Cuts {
             // It ends at once, and what waits is told then.

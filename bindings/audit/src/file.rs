@@ -10,7 +10,7 @@ use std::fmt::Display;
 use std::fs::{self, File, OpenOptions};
 use std::io::{self, ErrorKind, Write};
 use std::os::fd::{AsFd, AsRawFd};
-use std::os::unix::fs::OpenOptionsExt;
+use std::os::unix::fs::{MetadataExt, OpenOptionsExt};
 use std::path::{Path, PathBuf};
 use std::process::{exit, Child, Command, Stdio};
 use std::sync::atomic::{AtomicBool, AtomicU64, Ordering};
@@ -144,14 +144,29 @@ fn open(path: Option<&Path>) -> io::Result<File> {
     Ok(file)
 }
 
-/// Makes a log, in the place of whatever is there.
-fn make(path: &Path) -> io::Result<File> {
+/// Opens a file that nobody else can read, to append to it.
+///
+/// # Errors
+/// It can't be opened, or is a link, or others can read it.
+#[cfg_attr(not(feature = "tls"), allow(dead_code))]
+pub fn open_secret(path: &Path) -> io::Result<File> {
+    let mut how = OpenOptions::new();
+    how.append(true).create(true).mode(0o600);
+    let file = how.custom_flags(O_NOFOLLOW | O_NONBLOCK).open(path)?;
+    match file.metadata()?.mode() & 0o077 {
+        0 => Ok(file),
+        _ => Err(io::Error::new(ErrorKind::PermissionDenied, "others can read it")),
+    }
+}
+
+/// Makes a file that others can't read, or a group alone, in the place of whatever is there.
+pub fn make(path: &Path, mode: u32) -> io::Result<File> {
     match fs::remove_file(path) {
         Err(error) if error.kind() != ErrorKind::NotFound => return Err(error),
         _ => {}
     }
     let mut how = OpenOptions::new();
-    how.append(true).create_new(true).mode(0o640).open(path)
+    how.append(true).create_new(true).mode(mode).open(path)
 }
 
 fn count_lines(bytes: &[u8]) -> u64 {
@@ -350,7 +365,7 @@ impl LogFile {
             return Ok(());
         };
         let next = beside(&path, "new");
-        let file = make(&next)?;
+        let file = make(&next, 0o640)?;
         self.end_packing(true);
         let moved = move_on(&path, self.manner.keep).and_then(|()| fs::rename(&next, &path));
         if let Err(error) = moved {

@@ -19,6 +19,7 @@ mod options;
 mod passage;
 mod plain;
 mod proxy_header;
+mod recording;
 mod refusing;
 mod secrecy;
 mod serving;
@@ -122,7 +123,8 @@ fn begin(options: Options, handed: &mut Handed) -> Result<Acceptor, String> {
     let log = Log::open(options).map_err(said("the log"))?;
 
     let kept = OWN_DESCRIPTORS + 2 * options.threads as u64;
-    let possible = (descriptors.saturating_sub(kept) / 2).max(1) as usize;
+    let each = if options.record.is_some() { 4 } else { 2 };
+    let possible = (descriptors.saturating_sub(kept) / each).max(1) as usize;
     let shared = Arc::new(Shared::new(settings, log));
     let metrics = metrics.transpose()?;
     let metrics = metrics.map(|listener| start_metrics(&shared, listener));

@@ -57,6 +57,8 @@ pub struct Options {
     pub proxy_from: Vec<Network>,
     pub proxy_to: Option<Version>,
     pub metrics: Option<String>,
+    /// Where what is read of each connection goes.
+    pub record: Option<PathBuf>,
     pub log: Option<PathBuf>,
     pub users: Vec<String>,
     pub databases: Vec<String>,
@@ -101,6 +103,7 @@ impl Default for Options {
             proxy_from: Vec::new(),
             proxy_to: None,
             metrics: None,
+            record: None,
             log: None,
             users: Vec::new(),
             databases: Vec::new(),
@@ -134,6 +137,14 @@ fn seconds(value: &str) -> Result<Duration, String> {
     match Duration::try_from_secs_f64(number(value)?) {
         Ok(seconds) if seconds <= MOST_SECONDS => Ok(seconds),
         _ => Err(format!("{value} are no seconds")),
+    }
+}
+
+/// A number of this kind that isn't 0.
+fn some(value: &str) -> Result<usize, String> {
+    match number(value)? {
+        0 => Err("with 0 nothing has room".to_string()),
+        more => Ok(more),
     }
 }
 
@@ -197,7 +208,7 @@ impl Options {
             "longest" => self.longest = number(value)?,
             "held" => self.held = Some(number(value)?),
             "held-in-all" => self.held_in_all = number(value)?,
-            "connections" => self.connections = Some(number(value)?),
+            "connections" => self.connections = Some(some(value)?),
             "login-timeout" => self.login_timeout = seconds(value)?,
             "idle-timeout" => self.idle_timeout = seconds(value)?,
             "keepalive" => self.keepalive = seconds(value)?,
@@ -211,6 +222,7 @@ impl Options {
                 }
             }
             "metrics" => self.metrics = Some(value.to_string()),
+            "record" => self.record = Some(value.into()),
             _ => return self.set_tls(name, value),
         }
         Ok(())
@@ -226,6 +238,7 @@ impl Options {
             "tls-server-alone" => self.tls.alone = answer(value)?,
             "tls-server-ca" => self.tls.server_ca = Some(value.to_string()),
             "tls-server-name" => self.tls.server_name = Some(value.to_string()),
+            "tls-key-log" => self.tls.key_log = Some(value.to_string()),
             _ => return self.set_log(name, value),
         }
         Ok(())
@@ -252,7 +265,7 @@ impl Options {
             "redact" => self.redact = answer(value)?,
             "digest" => self.wanted_digests.push(value.to_string()),
             "longest-text" => self.longest_text = number(value)?,
-            "log-held" => self.log_held = number(value)?,
+            "log-held" => self.log_held = some(value)?,
             "log-full" => {
                 self.log_full = match value {
                     "pass" => Some(LogFull::Pass),
@@ -389,6 +402,8 @@ mod tests {
             "a:1 b:2 --grace -1",
             "a:1 b:2 --grace 1e10",
             "a:1 b:2 --held 200 --longest 100",
+            "a:1 b:2 --connections 0",
+            "a:1 b:2 --log-held 0",
         ] {
             assert!(of(words).is_err(), "{words}");
         }

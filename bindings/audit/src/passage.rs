@@ -3,9 +3,11 @@
 
 use crate::audit::Audit;
 use crate::choosing::Lines;
+use crate::file::make;
 use crate::gate::{Gate, LOGIN_MOST};
 use crate::options::Options;
 use crate::proxy_header::{self, Ends, Header};
+use crate::recording::Recording;
 use crate::refusing::Refused;
 use crate::shared::{Client, Settings, Shared};
 use crate::skipping::Skipping;
@@ -92,13 +94,22 @@ impl Passage {
             client: Some(address.clone()),
         };
         let (telling, limits) = (options.telling(), options.limits());
-        let audit = match Audit::new(origin, telling, limits, options.on_fault, lines.clone()) {
+        let mut audit = match Audit::new(origin, telling, limits, options.on_fault, lines.clone()) {
             Ok(audit) => audit,
             Err(why) => {
                 refused(&address).unreached(&why.to_string());
                 return None;
             }
         };
+        if let Some(folder) = &options.record {
+            match Recording::new(folder, number, |path| make(path, 0o600)) {
+                Ok(recording) => audit.recording = Some(Box::new(recording)),
+                Err(why) => {
+                    refused(&address).unrecorded(&why.to_string());
+                    return None;
+                }
+            }
+        }
         let mut passage = Passage::of(client.stream, address, number, audit, lines, settings);
         match passage.begin(socket, client.address, settings) {
             Ok(()) => Some(passage),
@@ -474,7 +485,8 @@ impl Passage {
 
     /// How many bytes are held of it to be read.
     fn held(&self) -> usize {
-        self.audit.connection.held() + self.skipping.held()
+        let recorded = self.audit.recording.as_ref().map_or(0, |it| it.held());
+        self.audit.connection.held() + self.skipping.held() + recorded
     }
 
     /// How many bytes are held of it to be sent.

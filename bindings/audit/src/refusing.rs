@@ -33,6 +33,13 @@ impl Refused<'_> {
         refuse(stream, UNREACHED, what);
     }
 
+    /// What it says can't be recorded.
+    pub fn unrecorded(self, why: &str) {
+        let (stream, what) = (self.client, "the connection can't be recorded");
+        self.tell(&format!("{what}: {why}"));
+        refuse(stream, UNREACHED, what);
+    }
+
     /// What its balancer said of it isn't known.
     pub fn unintroduced(self, why: &str) {
         let (stream, what) = (self.client, "no header of the PROXY protocol");

@@ -5,8 +5,10 @@ use crate::log::Log;
 use crate::options::Options;
 use crate::sys::{hide_memory, Waker};
 use crate::tls::Contexts;
+use std::fs::DirBuilder;
 use std::net::{SocketAddr, TcpStream, ToSocketAddrs};
 use std::os::fd::OwnedFd;
+use std::os::unix::fs::DirBuilderExt;
 use std::sync::atomic::{AtomicU8, AtomicUsize, Ordering};
 use std::sync::{Arc, Mutex, PoisonError};
 
@@ -42,6 +44,7 @@ impl Settings {
                     hide_memory();
                 }
                 let tls = Contexts::new(&options.tls, &options.upstream)?.map(Arc::new);
+                make_folder(&options)?;
                 Ok(Settings {
                     options,
                     upstream,
@@ -50,6 +53,15 @@ impl Settings {
             }
         }
     }
+}
+
+/// Makes the folder for recordings, which nobody else can read, where it isn't there.
+fn make_folder(options: &Options) -> Result<(), String> {
+    let Some(folder) = &options.record else {
+        return Ok(());
+    };
+    let made = DirBuilder::new().recursive(true).mode(0o700).create(folder);
+    made.map_err(|error| format!("{}: {error}", folder.display()))
 }
 
 pub struct Shared {

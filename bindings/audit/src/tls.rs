@@ -1,6 +1,7 @@
 //! TLS of one side of a connection, over bytes: what came of the socket is put in, what is to go is
 //! taken out. This is the only file that knows OpenSSL.
 
+use crate::file::open_secret;
 use crate::tls_settings::{read_key, OfServer, TlsOptions};
 use openssl::encrypt::Decrypter;
 use openssl::error::ErrorStack;
@@ -10,6 +11,7 @@ use openssl::ssl::{
     ErrorCode, Ssl, SslContext, SslContextBuilder, SslMethod, SslMode, SslOptions, SslSession,
     SslSessionCacheMode, SslStream, SslVerifyMode, SslVersion,
 };
+use std::fs::File;
 use std::io::{self, ErrorKind, Read, Write};
 use std::mem;
 use std::net::TcpStream;
@@ -37,8 +39,25 @@ fn said(what: &str) -> impl FnOnce(ErrorStack) -> String + '_ {
     move |error| format!("{what}: {error}")
 }
 
-fn builder(method: SslMethod) -> Result<SslContextBuilder, String> {
+type KeyLog = Option<Arc<File>>;
+
+/// The file for the keys of sessions, by which captures can be read.
+fn key_log(options: &TlsOptions) -> Result<KeyLog, String> {
+    let Some(path) = &options.key_log else {
+        return Ok(None);
+    };
+    let file = open_secret(path.as_ref()).map_err(|error| format!("{path}: {error}"))?;
+    Ok(Some(Arc::new(file)))
+}
+
+fn builder(method: SslMethod, keys: &KeyLog) -> Result<SslContextBuilder, String> {
     let mut builder = SslContext::builder(method).map_err(said("TLS"))?;
+    if let Some(file) = keys.clone() {
+        builder.set_keylog_callback(move |_, line| {
+            // Who can't be decrypted later is served all the same.
+            let _ = (&*file).write_all(format!("{line}\n").as_bytes());
+        });
+    }
     let least = Some(SslVersion::TLS1_2);
     builder.set_min_proto_version(least).map_err(said("TLS"))?;
     builder.set_options(SslOptions::NO_COMPRESSION | SslOptions::NO_RENEGOTIATION);
@@ -52,8 +71,13 @@ fn builder(method: SslMethod) -> Result<SslContextBuilder, String> {
 }
 
 /// The proxy's certificate, for clients.
-fn context_for_clients(cert: &str, path: &str, key: &PKey<Private>) -> Result<SslContext, String> {
-    let mut of = builder(SslMethod::tls_server())?;
+fn context_for_clients(
+    cert: &str,
+    path: &str,
+    key: &PKey<Private>,
+    keys: &KeyLog,
+) -> Result<SslContext, String> {
+    let mut of = builder(SslMethod::tls_server(), keys)?;
     of.set_certificate_chain_file(cert).map_err(said(cert))?;
     of.set_private_key(key).map_err(said(path))?;
     of.check_private_key().map_err(said(path))?;
@@ -66,8 +90,9 @@ fn context_for_clients(cert: &str, path: &str, key: &PKey<Private>) -> Result<Ss
 fn context_for_server(
     options: &TlsOptions,
     session: &Arc<Mutex<Option<SslSession>>>,
+    keys: &KeyLog,
 ) -> Result<SslContext, String> {
-    let mut of = builder(SslMethod::tls_client())?;
+    let mut of = builder(SslMethod::tls_client(), keys)?;
     match (options.server.verifies(), options.server_ca.as_deref()) {
         (true, Some(file)) => of.set_ca_file(file).map_err(said(file))?,
         (true, None) => of.set_default_verify_paths().map_err(said("the CAs"))?,
@@ -94,11 +119,11 @@ impl Contexts {
         if !options.is_spoken() {
             return Ok(None);
         }
-        let (mut client, mut key) = (None, None);
+        let (mut client, mut key, keys) = (None, None, key_log(options)?);
         if let (Some(cert), Some(path)) = (&options.cert, &options.key) {
             let pem = read_key(path)?;
             let private = PKey::private_key_from_pem(&pem).map_err(said(path))?;
-            client = Some(context_for_clients(cert, path, &private)?);
+            client = Some(context_for_clients(cert, path, &private, &keys)?);
             key = Some(private).filter(|it| it.id() == Id::RSA);
         }
         if options.alone && key.is_none() {
@@ -108,7 +133,7 @@ impl Contexts {
         let session = Arc::default();
         Ok(Some(Contexts {
             client: client.filter(|_| options.serves()),
-            server: context_for_server(options, &session)?,
+            server: context_for_server(options, &session, &keys)?,
             name: options.name_to_check(upstream).map(str::to_string),
             session,
             key: key.filter(|_| options.alone && options.server != OfServer::Disabled),

@@ -39,6 +39,8 @@ pub struct TlsOptions {
     pub key: Option<String>,
     pub server_ca: Option<String>,
     pub server_name: Option<String>,
+    /// Where the keys of each session go.
+    pub key_log: Option<String>,
 }
 
 impl FromStr for OfClient {
@@ -130,6 +132,8 @@ impl TlsOptions {
              --tls-client required, or --tls-server-alone"
         } else if self.alone && !self.server.raises() {
             "--tls-server-alone: it needs a --tls-server that doesn't go by the client"
+        } else if self.key_log.is_some() && !self.is_spoken() {
+            "--tls-key-log: no TLS is spoken"
         } else if self.server_ca.is_some() && !self.server.verifies() {
             "--tls-server-ca: no certificate of a server is checked"
         } else if self.server_name.is_some() && self.server != OfServer::VerifyIdentity {
@@ -219,6 +223,7 @@ mod tests {
                 "neither disabled, preferred nor required",
             ),
             ("--tls-server what", "no way to ask a server"),
+            ("--tls-key-log f", "no TLS is spoken"),
         ] {
             let found = why_not(words);
             assert!(found.is_some_and(|it| it.contains(why)), "{words}");
