@@ -222,16 +222,18 @@ def check_settings(executable):
 
 
 def check_manual(executable):
-    """The help, the manual page, the document and the code have the same words."""
+    """The help, the manual page, the sample, the document and the code have the same words."""
     folder = ROOT / "bindings" / "audit"
     said = subprocess.run([executable, "--help"], stdout=subprocess.PIPE, text=True, check=True)
     words = set(re.findall(r"--([a-z-]+)", said.stdout)) - {"help"}
     page = (folder / "mysql-audit.8").read_text().replace("\\-", "-")
     check(words, set(re.findall(r"--([a-z-]+)", page)), "the words of the manual page")
-    document = (ROOT / "docs" / "AUDITING.md").read_text().partition("## In production")[2]
-    found = set(re.findall(r"--([a-z][a-z-]*)", document.partition("\n## ")[0]))
-    found -= {"help", "install", "offline", "release", "config", "manifest-path", "ssl-ca"} - words
-    check(words, found, "the words of docs/AUDITING.md")
+    sample = (folder / "mysql-audit.conf").read_text()
+    found = set(re.findall(r"^#?([a-z-]+) = ", sample, re.M))
+    check(words - {"config"}, found, "the words of the sample")
+    document = (ROOT / "docs" / "AUDITING.md").read_text()
+    named = set(re.findall(r"`([a-z-]+) = ", document)) | set(re.findall(r"`((?:tls|log|on)-[a-z-]+)`", document))
+    check(set(), named - words, "words of docs/AUDITING.md that there aren't")
     code = set(re.findall(r'^ +"([a-z-]+)" =>', (folder / "src/options.rs").read_text(), re.M))
     check(words - {"config"}, code - {"pass", "cut", "wait", "stop", "yes", "no"}, "the words")
 
@@ -244,14 +246,14 @@ def last_cells(document, heading):
 
 
 def check_document(names):
-    """The checks that docs/AUDITING.md names are these, those of audited.py and of test_captures.py."""
-    document = (ROOT / "docs" / "AUDITING.md").read_text()
+    """The checks that the documents name are these, those of audited.py and of test_captures.py."""
+    document = (ROOT / "docs" / "AUDIT_TESTS.md").read_text()
     audited = (ROOT / "bindings" / "testing" / "audited.py").read_text()
     names = names | set(re.findall(r'report\.run\("([^"]+)"', audited))
     named = last_cells(document, "What its checks hold")
     check((True, set()), (len(named) > 30, named - names), "checks that there aren't")
     tests = (ROOT / "bindings" / "python" / "test_captures.py").read_text()
-    named = last_cells(document, "The capture reader")
+    named = last_cells((ROOT / "docs" / "CAPTURES.md").read_text(), "Its tests")
     check((True, set()), (len(named) > 4, named - set(re.findall(r"def (\w+)", tests))), "tests")
 
 

@@ -240,6 +240,22 @@ def check_cursor(executable):
         check([[{"cursor": True}], [{"rows": 1}]], told, "what executions answer")
 
 
+def check_quit(executable):
+    """A client that has quit and doesn't close its socket is over: TERM waits for nothing of it."""
+    with Program(executable) as proxy:
+        pair = Pair(proxy)
+        pair.client.sendall(packet(0, b"\x01"))
+        check(packet(0, b"\x01"), receive(pair.server, 5), "a quit")
+        pair.server.close()
+        check(b"", receive(pair.client, 1), "the server's end")
+        began = time.monotonic()
+        proxy.stop()
+        check(True, time.monotonic() - began < 5, "how long a TERM takes")
+        pair.client.close()
+        told = [(it["kind"], it.get("by"), it.get("text")) for it in proxy.printed()[1:]]
+        check([("end", "client", "quit")], told, "who ended the connection")
+
+
 def send_all(stream, said):
     """Sends bytes as far as they go."""
     with contextlib.suppress(OSError):
@@ -254,4 +270,4 @@ def checks():
             ("commands behind a login", check_ahead), ("compression that wasn't offered", check_compression),
             ("names in quotes", check_names), ("commands that are cut off", check_cut_off),
             ("an early error", check_strict_ends), ("who has left", check_left),
-            ("a cursor", check_cursor)]
+            ("a cursor", check_cursor), ("a client that has quit", check_quit)]

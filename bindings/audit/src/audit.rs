@@ -65,7 +65,7 @@ pub struct Audit<S> {
     /// How many bytes of each side came before the first that `connection` read.
     pub before: [u64; 2],
     /// Whether there was something that can't be read.
-    gave_up: bool,
+    pub gave_up: bool,
     /// Whether the client left without a word, which the server answered.
     has_left: bool,
     /// Whether the server greeted as MariaDB does.

@@ -556,7 +556,7 @@ impl Passage {
     /// Whether it can end without a command or a transaction that is lost.
     pub fn is_between(&self) -> bool {
         let waits = self.ways.iter().any(|way| !way.bytes.is_empty());
-        !waits && self.audit.stage() == Stage::Between
+        !waits && (self.audit.is_over() || self.audit.stage() == Stage::Between)
     }
 
     /// Tells its end, by the proxy where that has a word.
@@ -568,7 +568,7 @@ impl Passage {
             // It ends now, and not when bytes came.
             self.audit.teller.came_at = None;
         }
-        if how.is_empty() {
+        if how.is_empty() || self.audit.is_over() {
             self.audit.end(&self.unread());
         } else if self.introduction.is_some() {
             self.refused().unintroduced(how);

@@ -2,7 +2,7 @@
 
 use crate::audit::{Audit, Follows};
 use crate::choosing::Lines;
-use mysql_session::{Connection, Limits, Phase, Side};
+use mysql_session::{Connection, Limits, Phase, Reason, Side};
 
 #[derive(Clone, Copy, Debug, PartialEq)]
 pub enum Stage {
@@ -33,6 +33,13 @@ impl Audit<Lines> {
             }
             _ => Stage::Within,
         }
+    }
+
+    /// Whether it was over before its sockets were closed.
+    pub fn is_over(&self) -> bool {
+        let over = [Reason::Quit, Reason::Rejected, Reason::Denied, Reason::Farewell];
+        let is_over = |phase| matches!(phase, Phase::Over(reason) if over.contains(&reason));
+        !self.gave_up && is_over(self.connection.phase())
     }
 
     /// Whether it is read, and a login isn't over.
