@@ -19,6 +19,7 @@ import threading
 import time
 
 import audit_addresses
+import audit_alerts
 import audit_counts
 import audit_limits
 import audit_log
@@ -234,7 +235,8 @@ def check_manual(executable):
     document = (ROOT / "docs" / "AUDITING.md").read_text()
     named = set(re.findall(r"`([a-z-]+) = ", document)) | set(re.findall(r"`((?:tls|log|on)-[a-z-]+)`", document))
     check(set(), named - words, "words of docs/AUDITING.md that there aren't")
-    code = set(re.findall(r'^ +"([a-z-]+)" =>', (folder / "src/options.rs").read_text(), re.M))
+    code = "".join((folder / "src" / it).read_text() for it in ("options.rs", "choosing.rs"))
+    code = set(re.findall(r'^ +"([a-z-]+)" (?:=>|if)', code, re.M))
     check(words - {"config"}, code - {"pass", "cut", "wait", "stop", "yes", "no"}, "the words")
 
 
@@ -331,7 +333,7 @@ def main():
               ("settings", check_settings), ("the manual", check_manual),
               *audit_limits.checks(), *audit_log.checks(), *audit_skipping.checks(),
               *audit_settings.checks(), *audit_addresses.checks(), *audit_tls.checks(), *audit_unseen.checks(),
-              *audit_counts.checks(),
+              *audit_counts.checks(), *audit_alerts.checks(),
               ("idle connections", lambda it: measure_idle(it, words.idle))]
     if words.load:
         for name in ("mysqldb-text", "perl-execute"):

@@ -290,6 +290,17 @@ document.body.append(place);
 """
 
 
+# It tells the widths of the page, of the statements' column and of the window.
+WIDTHS = """<script>
+const place = document.createElement("pre");
+place.id = "told";
+place.textContent = JSON.stringify([document.documentElement.scrollWidth,
+  document.querySelector("#statements td.t").offsetWidth, window.innerWidth]);
+document.body.append(place);
+</script>
+"""
+
+
 def browse(text, *options):
     """Has a browser without a screen read a page, and returns what it makes of it."""
     with tempfile.TemporaryDirectory(prefix="mysql-audit-") as folder:
@@ -319,6 +330,10 @@ def check_browser(executable):
     told = json.loads(dom.partition('<pre id="told">')[2].partition("</pre>")[0])
     check([["12", "7", "3"], ["3", "7", "12"], ["selecta", "selectb", "selectc"]], told,
           "rows that are sorted")
+    for width in (1280, 400):
+        dom = browse(text.replace("</body>", WIDTHS + "</body>"), f"--window-size={width},900")
+        page, column, window = json.loads(dom.partition('<pre id="told">')[2].partition("</pre>")[0])
+        check((True, True), (page <= window, column >= 200), f"widths at {width}: {page}, {column}, {window}")
 
 
 def check_large_page(executable):

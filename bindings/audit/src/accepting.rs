@@ -127,7 +127,7 @@ impl Acceptor {
         while let Some(signal) = self.signals.take() {
             match signal {
                 SIGHUP => self.read_settings(),
-                SIGUSR1 => self.shared.log.reopen(),
+                SIGUSR1 => self.shared.logs().for_each(|log| log.reopen()),
                 SIGUSR2 => self.hand_over(),
                 SIGINT | SIGTERM => ends = true,
                 // A write says that a file takes no more.
@@ -141,7 +141,7 @@ impl Acceptor {
     fn read_settings(&mut self) {
         if let Err(why) = self.change_settings() {
             say(&format!("the settings stay as they were: {why}"));
-            self.shared.log.reopen();
+            self.shared.logs().for_each(|log| log.reopen());
         }
     }
 
@@ -157,6 +157,7 @@ impl Acceptor {
         // The next server may have an address of another kind.
         self.socket = None;
         self.shared.log.change(&settings.options, place);
+        self.shared.alerts.log.iter().for_each(|log| log.reopen());
         self.shared.change(settings);
         self.doors.iter().for_each(|door| door.waker.wake());
         say("the settings were read");
@@ -210,7 +211,7 @@ impl Acceptor {
         if let Some((_, stop)) = self.metrics.take() {
             stop.stop();
         }
-        self.shared.log.rotate_no_more();
+        self.shared.logs().for_each(|log| log.rotate_no_more());
     }
 
     /// Waits no more for clients, or again.
@@ -301,7 +302,10 @@ impl Acceptor {
             self.wait_for_loops(Instant::now() + AT_LAST);
         }
         // However late they have ended, their last lines have some time.
-        self.shared.log.end(latest.max(Instant::now()))
+        let latest = latest.max(Instant::now());
+        let is_told = self.shared.log.end(latest);
+        self.shared.alerts.end(latest.max(Instant::now()));
+        is_told
     }
 
     fn go_over_to(&self, course: Course) {

@@ -2,6 +2,7 @@
 
 use crate::lines::{Format, Told};
 use crate::masking::{masked, may_have_secrets};
+use crate::tables::tables_in;
 use crate::texts::{digest_of, front_of};
 use mysql_session::{Attributes, BulkRow, BulkValue, Event, Mode, OtherCommand, Value};
 
@@ -21,7 +22,9 @@ pub struct Telling {
     pub secrets: bool,
     /// Whether digests of statements are told.
     pub digests: bool,
-    /// Whether they are told in place of texts and values.
+    /// Whether the tables that a text names are told.
+    pub tables: bool,
+    /// Whether digests are told in place of texts and values.
     pub redacts: bool,
     /// How many bytes of a text, and of what values are written as, are told.
     pub most: usize,
@@ -50,6 +53,9 @@ impl Telling {
     fn with_shown(self, mut told: Told, text: &[u8]) -> Told {
         if self.digests || self.redacts {
             told.digest = digest_of(text, self.mode);
+        }
+        if self.tables {
+            told.tables = Some(tables_in(text, self.mode));
         }
         if self.redacts {
             // A server's message may have a part of the text.
@@ -154,6 +160,7 @@ impl Telling {
         }
         let without = Telling {
             digests: false,
+            tables: false,
             ..self
         };
         without.about("unknown", payload)
@@ -242,6 +249,18 @@ pub fn asked(telling: Telling, event: &Event) -> Option<Told> {
         _ => return None,
     };
     Some(told)
+}
+
+/// The text that an event is about, whatever is told of it.
+pub fn text_of<'a>(event: &Event<'a>) -> &'a [u8] {
+    match event {
+        Event::Query { text, .. }
+        | Event::Prepare { text }
+        | Event::Execute { text, .. }
+        | Event::BulkExecute { text, .. } => text,
+        Event::Other(payload) => payload,
+        _ => b"",
+    }
 }
 
 /// A command that has no event of its own.

@@ -146,6 +146,7 @@ pub struct Counts {
     /// The bytes that came of clients and of servers.
     pub bytes: [Count; 2],
     lines: Count,
+    alerts: Count,
     times: [Times; ANSWERED],
     others: [Count; KINDS.len()],
     errors: ByWord,
@@ -168,6 +169,7 @@ impl Default for Counts {
             connections: Count::default(),
             bytes: Default::default(),
             lines: Count::default(),
+            alerts: Count::default(),
             times: Default::default(),
             others: [(); KINDS.len()].map(|()| Count::default()),
             errors: ByWord::default(),
@@ -205,6 +207,10 @@ impl Counts {
 
     pub fn take_line(&self) {
         self.lines.add(1);
+    }
+
+    pub fn take_alert(&self) {
+        self.alerts.add(1);
     }
 
     pub fn take_bytes(&self, side: Side, count: usize) {
@@ -388,8 +394,15 @@ impl Page {
         }
         let (lines, lost) = (sum(loops, |it| &it.lines), shared.log.lost_in_all());
         let waiting = shared.log.waiting() as u64;
+        let alerts = sum(loops, |it| &it.alerts);
         for (name, kind, help, number) in [
             ("lines_total", "counter", "Lines for the log.", lines),
+            (
+                "alerts_total",
+                "counter",
+                "Lines that a rule takes.",
+                alerts,
+            ),
             (
                 "lines_lost_total",
                 "counter",

@@ -155,7 +155,10 @@ pub fn open_secret(path: &Path) -> io::Result<File> {
     let file = how.custom_flags(O_NOFOLLOW | O_NONBLOCK).open(path)?;
     match file.metadata()?.mode() & 0o077 {
         0 => Ok(file),
-        _ => Err(io::Error::new(ErrorKind::PermissionDenied, "others can read it")),
+        _ => Err(io::Error::new(
+            ErrorKind::PermissionDenied,
+            "others can read it",
+        )),
     }
 }
 

@@ -27,6 +27,10 @@ pub struct Told {
     pub values: Option<String>,
     /// The text's digest, where digests are told.
     pub digest: Option<Vec<u8>>,
+    /// The tables that it names, where they are told.
+    pub tables: Option<Vec<String>>,
+    /// Which of the names that are asked for its text has.
+    pub named: Vec<String>,
     /// Whether it has a secret that isn't told. Nor is what the server says of it then.
     pub is_secret: bool,
     /// Whether its texts and values are told up to some length alone.
@@ -101,6 +105,8 @@ impl Told {
             text: None,
             values: None,
             digest: None,
+            tables: None,
+            named: Vec::new(),
             is_secret: false,
             is_short: false,
         }
@@ -178,6 +184,30 @@ impl Format {
             Format::Text => text_line(line, heading, told, answer),
             Format::Json => json_line(line, heading, told, answer),
         }
+    }
+
+    /// Adds a name with a text to a line.
+    pub fn add(self, line: &mut String, name: &str, text: &str) {
+        match self {
+            Format::Text => {
+                let _ = write!(line, " {name}=");
+                push_quoted(line, text.as_bytes());
+            }
+            Format::Json => {
+                line.pop();
+                json_field(line, name, text.as_bytes());
+                line.push('}');
+            }
+        }
+    }
+
+    /// Names of tables.
+    fn tables(self, line: &mut String, tables: &[String]) {
+        let write = |line: &mut String, table: &String| match self {
+            Format::Text => push_quoted(line, table.as_bytes()),
+            Format::Json => push_json(line, table.as_bytes()),
+        };
+        self.list(line, usize::MAX, tables.iter(), write);
     }
 
     /// A text of a peer.
@@ -283,6 +313,10 @@ fn text_line(line: &mut String, heading: &Heading, told: &Told, answer: Option<&
     if let Some(digest) = &told.digest {
         line.push_str(" digest=");
         push_quoted(line, digest);
+    }
+    if let Some(tables) = &told.tables {
+        line.push_str(" tables=");
+        Format::Text.tables(line, tables);
     }
     for (before, what) in [(": ", &told.text), (" ", &told.values)] {
         if let Some(what) = what {
@@ -409,6 +443,10 @@ fn json_line(line: &mut String, heading: &Heading, told: &Told, answer: Option<&
     json_field(line, "kind", told.kind.as_bytes());
     if let Some(digest) = &told.digest {
         json_field(line, "digest", digest);
+    }
+    if let Some(tables) = &told.tables {
+        json_name(line, "tables");
+        Format::Json.tables(line, tables);
     }
     let texts = told.text.iter().map(|text| ("text", text));
     let values = told.values.iter().map(|values| ("values", values));

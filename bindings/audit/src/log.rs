@@ -5,6 +5,7 @@ use crate::file::{say, Asked, LogFile, Manner, Place};
 use crate::options::{LogFull, Options};
 use std::io;
 use std::mem;
+use std::path::PathBuf;
 use std::process::exit;
 use std::sync::atomic::{AtomicBool, Ordering};
 use std::sync::{Arc, Condvar, Mutex, MutexGuard, PoisonError};
@@ -75,17 +76,41 @@ fn locked<T>(mutex: &Mutex<T>) -> MutexGuard<'_, T> {
 
 impl Log {
     pub fn open(options: &Options) -> io::Result<Log> {
+        let course = Course::of(options);
+        Log::at(
+            options.log.clone(),
+            manner_of(options),
+            course,
+            options.strict,
+        )
+    }
+
+    /// A log of alerts, for which nobody waits.
+    pub fn of_alerts(path: PathBuf, options: &Options) -> io::Result<Log> {
+        let (full, most) = (LogFull::Pass, options.log_held);
+        let manner = Manner {
+            full,
+            ..manner_of(options)
+        };
+        Log::at(Some(path), manner, Course { full, most }, false)
+    }
+
+    fn at(
+        path: Option<PathBuf>,
+        manner: Manner,
+        course: Course,
+        is_strict: bool,
+    ) -> io::Result<Log> {
         let asked = Arc::new(Asked::default());
-        let place = Place::open(options.log.clone())?;
-        let file = LogFile::new(place, manner_of(options), asked.clone());
+        let file = LogFile::new(Place::open(path)?, manner, asked.clone());
         Ok(Log {
             queue: Mutex::default(),
             comes: Condvar::new(),
             goes: Condvar::new(),
             file: Mutex::new(file),
             asked,
-            strict: AtomicBool::new(options.strict),
-            course: Mutex::new(Course::of(options)),
+            strict: AtomicBool::new(is_strict),
+            course: Mutex::new(course),
         })
     }
 

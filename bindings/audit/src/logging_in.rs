@@ -122,7 +122,7 @@ impl Passage {
             return Err(Refusal(code, why));
         }
         if means.settings.options.strict {
-            means.lines.hand_to(&means.shared.log);
+            means.lines.hand_to(means.shared);
         }
         if !self.audit.is_cut() {
             let way = &mut self.ways[side as usize];

@@ -2,6 +2,7 @@
 //! `docs/AUDITING.md` what each of them does.
 
 mod accepting;
+mod alerts;
 mod audit;
 mod choosing;
 mod commands;
@@ -28,6 +29,7 @@ mod skipping;
 mod stage;
 mod sys;
 mod syslog;
+mod tables;
 mod teller;
 mod texts;
 #[cfg_attr(not(feature = "tls"), path = "tls_left_out.rs")]
@@ -38,6 +40,7 @@ mod way;
 mod wires;
 
 use accepting::{door, Acceptor, Post};
+use alerts::Alerts;
 use file::say;
 use handing::{tell_ready, Handed, Own};
 use log::Log;
@@ -121,11 +124,12 @@ fn begin(options: Options, handed: &mut Handed) -> Result<Acceptor, String> {
     let asked = options.metrics.as_deref();
     let metrics = asked.map(|address| listen(handed.metrics.take(), address));
     let log = Log::open(options).map_err(said("the log"))?;
+    let alerts = Alerts::open(options).map_err(said("the log of alerts"))?;
 
     let kept = OWN_DESCRIPTORS + 2 * options.threads as u64;
     let each = if options.record.is_some() { 4 } else { 2 };
     let possible = (descriptors.saturating_sub(kept) / each).max(1) as usize;
-    let shared = Arc::new(Shared::new(settings, log));
+    let shared = Arc::new(Shared::new(settings, log, alerts));
     let metrics = metrics.transpose()?;
     let metrics = metrics.map(|listener| start_metrics(&shared, listener));
     let metrics = metrics.transpose().map_err(said("the counts"))?;
@@ -174,8 +178,22 @@ fn start(shared: &Arc<Shared>) -> io::Result<Vec<Arc<Door>>> {
         })?;
         doors.push(door);
     }
-    let writing = shared.clone();
-    let named = thread::Builder::new().name("log".to_string());
-    named.spawn(move || writing.log.run())?;
+    start_logs(shared)?;
     Ok(doors)
+}
+
+/// Starts what writes lines, and what has alerts told.
+fn start_logs(shared: &Arc<Shared>) -> io::Result<()> {
+    let named = |name: &str| thread::Builder::new().name(name.to_string());
+    let writing = shared.clone();
+    named("log").spawn(move || writing.log.run())?;
+    if shared.alerts.log.is_some() {
+        let writing = shared.clone();
+        named("alerts").spawn(move || writing.alerts.log.iter().for_each(|log| log.run()))?;
+    }
+    if shared.alerts.runs() {
+        let telling = shared.clone();
+        named("telling").spawn(move || telling.alerts.run())?;
+    }
+    Ok(())
 }

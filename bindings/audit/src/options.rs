@@ -1,11 +1,12 @@
 //! What the command line and a file of settings say.
 
 use crate::audit::OnFault;
+use crate::choosing::Choice;
 use crate::commands::Telling;
-use crate::counts::KINDS;
 use crate::lines::Format;
 use crate::network::Network;
 use crate::proxy_header::Version;
+use crate::tables::Names;
 use crate::tls_settings::TlsOptions;
 use mysql_session::{Limits, Mode};
 use std::fs;
@@ -23,7 +24,7 @@ pub enum LogFull {
 }
 
 /// Names that have no value on the command line, and yes or no in a file.
-const SWITCHES: [&str; 9] = [
+const SWITCHES: [&str; 10] = [
     "json",
     "secrets",
     "strict",
@@ -32,6 +33,7 @@ const SWITCHES: [&str; 9] = [
     "errors",
     "gzip",
     "digests",
+    "tables",
     "redact",
 ];
 
@@ -60,16 +62,15 @@ pub struct Options {
     /// Where what is read of each connection goes.
     pub record: Option<PathBuf>,
     pub log: Option<PathBuf>,
-    pub users: Vec<String>,
-    pub databases: Vec<String>,
-    pub hosts: Vec<Network>,
-    pub kinds: Vec<String>,
+    /// Which lines are written.
+    pub choice: Choice,
+    /// Which lines are alerts, by rules of which one has to take them.
+    pub alerts: Vec<Choice>,
+    pub alert_log: Option<PathBuf>,
+    pub alert_command: Option<String>,
     pub digests: bool,
+    pub tables: bool,
     pub redact: bool,
-    /// Digests, or statements that have them.
-    pub wanted_digests: Vec<String>,
-    pub slower: Option<Duration>,
-    pub errors: bool,
     /// Of so many commands one is told.
     pub sample: u32,
     pub rotate: u64,
@@ -105,15 +106,13 @@ impl Default for Options {
             metrics: None,
             record: None,
             log: None,
-            users: Vec::new(),
-            databases: Vec::new(),
-            hosts: Vec::new(),
-            kinds: Vec::new(),
+            choice: Choice::default(),
+            alerts: Vec::new(),
+            alert_log: None,
+            alert_command: None,
             digests: false,
+            tables: false,
             redact: false,
-            wanted_digests: Vec::new(),
-            slower: None,
-            errors: false,
             sample: 1,
             rotate: 0,
             keep: 5,
@@ -125,7 +124,7 @@ impl Default for Options {
 }
 
 /// A number of this kind.
-fn number<T: std::str::FromStr>(value: &str) -> Result<T, String> {
+pub fn number<T: std::str::FromStr>(value: &str) -> Result<T, String> {
     let refused = |_| format!("{value} is no such number");
     value.parse().map_err(refused)
 }
@@ -133,7 +132,7 @@ fn number<T: std::str::FromStr>(value: &str) -> Result<T, String> {
 /// No time is longer, so that any can be added to the time that it is.
 const MOST_SECONDS: Duration = Duration::from_secs(1_000_000_000);
 
-fn seconds(value: &str) -> Result<Duration, String> {
+pub fn seconds(value: &str) -> Result<Duration, String> {
     match Duration::try_from_secs_f64(number(value)?) {
         Ok(seconds) if seconds <= MOST_SECONDS => Ok(seconds),
         _ => Err(format!("{value} are no seconds")),
@@ -148,7 +147,7 @@ fn some(value: &str) -> Result<usize, String> {
     }
 }
 
-fn answer(value: &str) -> Result<bool, String> {
+pub fn answer(value: &str) -> Result<bool, String> {
     match value {
         "yes" => Ok(true),
         "no" => Ok(false),
@@ -180,6 +179,10 @@ impl Options {
             return Err("--held: it has to be more than twice what --longest is".to_string());
         }
         options.tls.check(&options)?;
+        let has_place = options.alert_log.is_some() || options.alert_command.is_some();
+        if has_place == options.alerts.is_empty() {
+            return Err("--alert goes with --alert-log or --alert-command".to_string());
+        }
         Ok(options)
     }
 
@@ -249,21 +252,17 @@ impl Options {
             "json" => self.json = answer(value)?,
             "secrets" => self.secrets = answer(value)?,
             "strict" => self.strict = answer(value)?,
-            "errors" => self.errors = answer(value)?,
             "log" => self.log = Some(value.into()),
-            "user" => self.users.push(value.to_string()),
-            "database" => self.databases.push(value.to_string()),
-            "host" => self.hosts.push(value.parse()?),
-            "kind" if KINDS.contains(&value) => self.kinds.push(value.to_string()),
-            "kind" => return Err(format!("no line is of the kind {value}")),
-            "slower" => self.slower = Some(seconds(value)?),
+            "alert" => self.alerts.push(value.parse()?),
+            "alert-log" => self.alert_log = Some(value.into()),
+            "alert-command" => self.alert_command = Some(value.to_string()),
             "sample" => self.sample = number::<u32>(value)?.max(1),
             "rotate" => self.rotate = number(value)?,
             "keep" => self.keep = number(value)?,
             "gzip" => self.gzip = answer(value)?,
             "digests" => self.digests = answer(value)?,
+            "tables" => self.tables = answer(value)?,
             "redact" => self.redact = answer(value)?,
-            "digest" => self.wanted_digests.push(value.to_string()),
             "longest-text" => self.longest_text = number(value)?,
             "log-held" => self.log_held = some(value)?,
             "log-full" => {
@@ -274,9 +273,15 @@ impl Options {
                     _ => return Err(format!("{value} is neither pass, wait nor stop")),
                 }
             }
-            _ => return Err("there is no such name".to_string()),
+            _ => return self.choice.set(name, value),
         }
         Ok(())
+    }
+
+    /// All names of tables that filters and rules have.
+    pub fn names(&self) -> Names {
+        let choices = self.alerts.iter().chain([&self.choice]);
+        Names::of(choices.flat_map(|it| &it.tables))
     }
 
     pub fn telling(&self) -> Telling {
@@ -287,7 +292,13 @@ impl Options {
                 Format::Text
             },
             secrets: self.secrets,
-            digests: self.digests || !self.wanted_digests.is_empty(),
+            digests: self.digests
+                || self
+                    .alerts
+                    .iter()
+                    .chain([&self.choice])
+                    .any(|it| it.has_digests()),
+            tables: self.tables,
             redacts: self.redact,
             most: self.longest_text,
             mode: Mode::default(),
@@ -315,7 +326,11 @@ impl Options {
             ("metrics", self.metrics != old.metrics),
             ("threads", self.threads != old.threads),
             ("json", self.json != old.json),
+            ("alert-log", self.alert_log != old.alert_log),
+            ("alert-command", self.alert_command != old.alert_command),
         ];
+        self.alert_log.clone_from(&old.alert_log);
+        self.alert_command.clone_from(&old.alert_command);
         self.listen.clone_from(&old.listen);
         self.metrics.clone_from(&old.metrics);
         (self.threads, self.json) = (old.threads, old.json);
@@ -377,7 +392,7 @@ mod tests {
             (true, Duration::from_secs(3)),
             (options.json, options.grace)
         );
-        assert_eq!(vec!["ann"], options.users);
+        assert_eq!(vec!["ann"], options.choice.users);
         fs::write(&file, "listen = a:1\nwhat = 2\n").expect("a file");
         let why = of(&format!("--config {}", file.display())).err();
         assert!(why.is_some_and(|why| why.ends_with("line 2: there is no such name")));
@@ -404,6 +419,11 @@ mod tests {
             "a:1 b:2 --held 200 --longest 100",
             "a:1 b:2 --connections 0",
             "a:1 b:2 --log-held 0",
+            "a:1 b:2 --alert table=a",
+            "a:1 b:2 --alert-log f",
+            "a:1 b:2 --alert-log f --alert what=a",
+            "a:1 b:2 --alert-log f --alert kind=what",
+            "a:1 b:2 --alert-log f --alert ;",
         ] {
             assert!(of(words).is_err(), "{words}");
         }

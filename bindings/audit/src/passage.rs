@@ -130,6 +130,7 @@ impl Passage {
     ) -> Passage {
         let (now, options) = (Instant::now(), &settings.options);
         audit.insists = options.tls.changes_greeting();
+        audit.teller.names = settings.names.clone();
         Passage {
             number,
             address,
@@ -398,7 +399,7 @@ impl Passage {
         if is_strict {
             self.feed(side, bytes, fed);
             if means.settings.options.strict {
-                means.lines.hand_to(&means.shared.log);
+                means.lines.hand_to(means.shared);
             }
             if let Some((code, why)) = self.audit.refusal.take() {
                 let number = bytes.get(*passed + 3).copied().unwrap_or_default();
@@ -543,8 +544,10 @@ impl Passage {
     }
 
     /// Takes settings that hold for open connections, too.
-    pub fn change(&mut self, options: &Options) {
+    pub fn change(&mut self, settings: &Settings) {
+        let options = &settings.options;
         self.audit.change(options.on_fault);
+        self.audit.teller.names = settings.names.clone();
         let audit = &mut self.audit;
         // What passed before stays so until it was read.
         audit.passes_first &= !audit.connection.rest(Side::Client).is_empty();

@@ -63,7 +63,11 @@ impl Hidden {
                 (at + 1, payload.get(at).map_or(0, |it| usize::from(*it)))
             }
         };
-        payload.iter_mut().skip(from).take(length).for_each(|byte| *byte = STAR);
+        payload
+            .iter_mut()
+            .skip(from)
+            .take(length)
+            .for_each(|byte| *byte = STAR);
     }
 }
 
@@ -148,10 +152,16 @@ mod tests {
         assert_eq!(b"****".to_vec(), hidden(Hidden::Behind(0), b"why\0"));
         assert_eq!(b"\x11***".to_vec(), hidden(Hidden::Behind(1), b"\x11ann"));
         let change = b"\x11ann\0\x03whyshop\0";
-        assert_eq!(b"\x11ann\0\x03***shop\0".to_vec(), hidden(Hidden::Answer(5, 3), change));
+        assert_eq!(
+            b"\x11ann\0\x03***shop\0".to_vec(),
+            hidden(Hidden::Answer(5, 3), change)
+        );
         // Of an old login the answer ends with a zero.
         let change = b"\x11ann\0why\0shop\0";
-        assert_eq!(b"\x11ann\0***\0shop\0".to_vec(), hidden(Hidden::Answer(5, 3), change));
+        assert_eq!(
+            b"\x11ann\0***\0shop\0".to_vec(),
+            hidden(Hidden::Answer(5, 3), change)
+        );
         let replica = b"\x15\x07\0\0\0\x02at\x03ann\x03why\xea\x0c\0\0\0\0\0\0\0\0";
         let wanted = b"\x15\x07\0\0\0\x02at\x03ann\x03***\xea\x0c\0\0\0\0\0\0\0\0";
         assert_eq!(wanted.to_vec(), hidden(Hidden::Replica, replica));

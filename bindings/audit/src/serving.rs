@@ -78,7 +78,7 @@ impl Loop {
                 self.take_clients();
             }
             self.end_overdue(now);
-            self.lines.hand_to(&self.shared.log);
+            self.lines.hand_to(&self.shared);
             if self.is_empty() && self.shared.course() != Course::Serves {
                 break;
             }
@@ -96,7 +96,7 @@ impl Loop {
         self.period = period_of(&self.settings);
         self.lines.change(Filter::of(&self.settings.options));
         for passage in self.passages.iter_mut().flatten() {
-            passage.change(&self.settings.options);
+            passage.change(&self.settings);
         }
     }
 

@@ -1,9 +1,11 @@
 //! What all loops share.
 
+use crate::alerts::Alerts;
 use crate::counts::Counts;
 use crate::log::Log;
 use crate::options::Options;
 use crate::sys::{hide_memory, Waker};
+use crate::tables::Names;
 use crate::tls::Contexts;
 use std::fs::DirBuilder;
 use std::net::{SocketAddr, TcpStream, ToSocketAddrs};
@@ -29,6 +31,8 @@ pub struct Settings {
     pub upstream: Vec<SocketAddr>,
     /// What TLS needs, where it is spoken.
     pub tls: Option<Arc<Contexts>>,
+    /// The names of tables that filters and alerts ask for.
+    pub names: Arc<Names>,
 }
 
 impl Settings {
@@ -46,6 +50,7 @@ impl Settings {
                 let tls = Contexts::new(&options.tls, &options.upstream)?.map(Arc::new);
                 make_folder(&options)?;
                 Ok(Settings {
+                    names: Arc::new(options.names()),
                     options,
                     upstream,
                     tls,
@@ -69,6 +74,7 @@ pub struct Shared {
     /// How often they changed.
     version: AtomicUsize,
     pub log: Log,
+    pub alerts: Alerts,
     /// What each loop counts.
     pub counts: Vec<Arc<Counts>>,
     /// How many clients are served.
@@ -95,13 +101,14 @@ pub struct Client {
 }
 
 impl Shared {
-    pub fn new(settings: Settings, log: Log) -> Shared {
+    pub fn new(settings: Settings, log: Log, alerts: Alerts) -> Shared {
         let threads = settings.options.threads;
         Shared {
             loops: AtomicUsize::new(threads),
             settings: Mutex::new(Arc::new(settings)),
             version: AtomicUsize::new(0),
             log,
+            alerts,
             counts: (0..threads).map(|_| Arc::default()).collect(),
             open: AtomicUsize::new(0),
             held: AtomicUsize::new(0),
@@ -112,6 +119,11 @@ impl Shared {
     pub fn settings(&self) -> Arc<Settings> {
         let settings = self.settings.lock();
         settings.unwrap_or_else(PoisonError::into_inner).clone()
+    }
+
+    /// The logs, of lines and of alerts.
+    pub fn logs(&self) -> impl Iterator<Item = &Log> {
+        self.alerts.log.iter().chain([&self.log])
     }
 
     /// How often the settings changed.

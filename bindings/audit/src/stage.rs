@@ -37,7 +37,12 @@ impl Audit<Lines> {
 
     /// Whether it was over before its sockets were closed.
     pub fn is_over(&self) -> bool {
-        let over = [Reason::Quit, Reason::Rejected, Reason::Denied, Reason::Farewell];
+        let over = [
+            Reason::Quit,
+            Reason::Rejected,
+            Reason::Denied,
+            Reason::Farewell,
+        ];
         let is_over = |phase| matches!(phase, Phase::Over(reason) if over.contains(&reason));
         !self.gave_up && is_over(self.connection.phase())
     }

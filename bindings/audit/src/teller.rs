@@ -1,10 +1,12 @@
 //! What the events of a connection become: a line for each command whose reply is whole.
 
-use crate::commands::{asked, Telling};
+use crate::commands::{asked, text_of, Telling};
 use crate::lines::{Answer, Format, Heading, Outcome, Sink, Told};
+use crate::tables::Names;
 use mysql_session::{status, ErrorPacket, Event, Mode, OkPacket, Side};
 use std::fmt::Display;
 use std::mem;
+use std::sync::Arc;
 use std::time::{Duration, Instant};
 
 const COM_CHANGE_USER: u8 = 0x11;
@@ -50,6 +52,8 @@ pub struct Teller<S> {
     origin: Origin,
     format: Format,
     pub telling: Telling,
+    /// The names that filters and alerts ask for.
+    pub names: Arc<Names>,
     sink: S,
     user: Vec<u8>,
     database: Vec<u8>,
@@ -83,6 +87,7 @@ impl<S: Sink> Teller<S> {
             origin,
             format: telling.format,
             telling,
+            names: Arc::default(),
             sink,
             user: Vec::new(),
             database: Vec::new(),
@@ -158,7 +163,8 @@ impl<S: Sink> Teller<S> {
             Event::Rejected(error) => self.tell_error("refused", error),
             Event::Farewell(error) => self.tell_error("farewell", error),
             event => match asked(self.telling, event) {
-                Some(told) => {
+                Some(mut told) => {
+                    told.named = self.names.within(text_of(event));
                     self.telling.has_secrets |= told.is_secret && told.kind == "prepare";
                     self.begin(told);
                     if let Some(running) = &mut self.running {

@@ -79,7 +79,8 @@ impl<S: Sink> Audit<S> {
         };
         let id = u32::from_le_bytes(id);
         let statement = self.connection.statement(id)?;
-        let told = self.teller.telling.about(kind, statement.text);
+        let mut told = self.teller.telling.about(kind, statement.text);
+        told.named = self.teller.names.within(statement.text);
         Some(told.with("statement", id))
     }
 

@@ -66,7 +66,8 @@ struct Table {
 impl Table {
     fn new(id: &str, heading: &str, columns: &[&str]) -> Table {
         let heads: String = columns.iter().map(|it| format!("<th>{it}</th>")).collect();
-        let head = format!("<table id=\"{id}\"><thead><tr>{heads}</tr></thead><tbody>\n");
+        let table = format!("<table id=\"{id}\"><thead><tr>{heads}</tr></thead><tbody>\n");
+        let head = format!("<div class=\"wide\">{table}");
         Table {
             html: format!("<h2>{heading}</h2>\n{head}"),
             rows: 0,
@@ -126,7 +127,7 @@ impl Table {
         if self.rows == 0 {
             return String::new();
         }
-        self.html.push_str("</tbody></table>\n");
+        self.html.push_str("</tbody></table></div>\n");
         self.html
     }
 }
@@ -331,6 +332,7 @@ pub fn page(mut sums: Sums, manner: Manner, most: usize, files: &[String]) -> St
         &sums.databases,
         &sums.all,
     );
+    body += &names("tables", "Tables", "table", &sums.tables, &sums.all);
     let ends = ["end", "count", "first", "last"];
     body += &told("ends", "How connections ended", &ends, &sums.ends);
     // The frame is ours, and has the word once.

@@ -30,6 +30,8 @@ pub struct Line<'a> {
     client: String,
     user: String,
     database: String,
+    /// The tables that its statement names, where they are told.
+    tables: Vec<String>,
     seconds: Option<f64>,
     results: &'a str,
     traffic: [f64; 2],
@@ -57,6 +59,9 @@ impl<'a> Line<'a> {
                 ("database", value) => line.database = value.text().into_owned(),
                 ("text", value) => line.text = Some(value),
                 ("digest", value) => line.digest = Some(value),
+                ("tables", Json::List(list)) => {
+                    line.tables = Items::new(list).map(|it| it.text().into_owned()).collect();
+                }
                 ("seconds", Json::Number(seconds)) => line.seconds = Some(seconds),
                 ("results", Json::List(list)) => line.results = list,
                 ("traffic", Json::List(list)) => {
@@ -287,6 +292,7 @@ pub struct Sums {
     pub users: BTreeMap<String, Sum>,
     pub hosts: BTreeMap<String, Sum>,
     pub databases: BTreeMap<String, Sum>,
+    pub tables: BTreeMap<String, Sum>,
     /// By code and state.
     pub errors: BTreeMap<String, Times>,
     /// How connections ended, logins, and what wasn't read.
@@ -345,6 +351,7 @@ impl Sums {
             users: BTreeMap::new(),
             hosts: BTreeMap::new(),
             databases: BTreeMap::new(),
+            tables: BTreeMap::new(),
             errors: BTreeMap::new(),
             ends: BTreeMap::new(),
             logins: Times::default(),
@@ -378,17 +385,18 @@ impl Sums {
         self.is_sample |= line.weight > 1.0;
         match &*line.kind {
             "end" => at(&mut self.ends, &line.text()).add(line, 1.0, ""),
-            "cut" | "unread" | "refused" | "skipped" | "lost" | "farewell" => self.add_gap(line),
+            "cut" | "unread" | "refused" | "skipped" | "lost" => self.add_gap(line),
             kind => {
                 let results = Results::read(line.results);
                 for (code, state, message) in &results.errors {
                     let times = at(&mut self.errors, &format!("{code} ({state})"));
                     times.add(line, line.weight, message);
                 }
-                if kind == "login" {
-                    self.logins.add(line, 1.0, "");
-                } else {
-                    self.add_command(line, &results);
+                match kind {
+                    "login" => self.logins.add(line, 1.0, ""),
+                    // The server's last words are an error, and no command.
+                    "farewell" => {}
+                    _ => self.add_command(line, &results),
                 }
             }
         }
@@ -412,6 +420,9 @@ impl Sums {
         at(&mut self.users, &line.user).add(line, results);
         at(&mut self.hosts, line.host()).add(line, results);
         at(&mut self.databases, &line.database).add(line, results);
+        for table in &line.tables {
+            at(&mut self.tables, table).add(line, results);
+        }
         let Some(second) = line.second() else {
             return;
         };
@@ -539,7 +550,7 @@ mod tests {
         let mut sums = sums(2, true);
         for (second, seconds) in [(1, "0.5"), (2, "0.25"), (3, "0.001")] {
             let rest = format!(
-                "\"kind\":\"query\",\"text\":\"SELECT 1\",\"results\":[{{\"rows\":3}}],\
+                "\"kind\":\"query\",\"tables\":[\"a\",\"b\"],\"text\":\"SELECT 1\",\"results\":[{{\"rows\":3}}],\
                  \"whole\":true,\"seconds\":{seconds},\"traffic\":[10,20]"
             );
             sums.take(line(second, &rest).as_bytes());
@@ -562,9 +573,16 @@ mod tests {
             .as_bytes(),
         );
         sums.take(b"no line");
-        assert_eq!((7, 1, true), (sums.lines, sums.unread, sums.is_sample));
+        let last = r#""kind":"farewell","results":[{"error":4031,"state":"HY000"}],"seconds":0"#;
+        sums.take(line(7, last).as_bytes());
+        assert_eq!(
+            (1.0, 1),
+            (sums.errors["4031 (HY000)"].count, sums.gaps.len())
+        );
+        assert_eq!((8, 1, true), (sums.lines, sums.unread, sums.is_sample));
         assert_eq!((14.0, 9.0), (sums.all.count, sums.all.rows));
         assert_eq!(14.0, sums.hosts["::1"].count);
+        assert_eq!((3.0, 2), (sums.tables["b"].count, sums.tables.len()));
         assert_eq!(
             (10.0, "what"),
             (
