@@ -19,6 +19,7 @@ import sys
 import time
 from typing import NamedTuple
 
+from .audit_clients import check_defaults
 from .audited import test_audited
 from .auditing import has_tls
 from .by_hand import Client as ByHand
@@ -159,7 +160,8 @@ def running(kind, room, *options):
     os.makedirs(room, exist_ok=True)
     first, enter = os.path.join(room, "first.sql"), kind.entered(room)
     with open(first, "w", encoding="utf-8") as it:
-        it.write(f"CREATE USER {USER}@'127.0.0.1';\nGRANT ALL ON *.* TO {USER}@'127.0.0.1';\n"
+        it.write(f"CREATE USER {USER}@'127.0.0.1';\nGRANT ALL ON *.* TO {USER}@'127.0.0.1' WITH "
+                 f"GRANT OPTION;\n"
                  f"CREATE DATABASE {DATABASE};\n")
     user = f"--user={pwd.getpwuid(os.geteuid()).pw_name}"
     tables, (program, *more) = own_words(kind, user, room)
@@ -574,6 +576,17 @@ class Tests:
                           str(self.port), USER, DATABASE, "--part", part, "--count", str(count)],
                          env=self.python).strip().replace("\n", "\n  "), flush=True)
 
+    def clients_by_defaults(self, running):
+        """Clients log in by their defaults through the audit's sample, before a server with TLS."""
+        room = self.file("by_defaults")
+        os.mkdir(room)
+        key, certificate = os.path.join(room, "server.key"), os.path.join(room, "server.pem")
+        run(["openssl", "req", "-x509", "-newkey", "rsa:2048", "-nodes", "-keyout", key, "-out",
+             certificate, "-days", "2", "-subj", "/CN=localhost"])
+        with running(room, f"--ssl-key={key}", f"--ssl-cert={certificate}") as port:
+            check_defaults(self.audit, self.kind.entered(room), room, port,
+                           self.kind.product == MYSQL, USER, DATABASE)
+
     def evasions(self):
         """No statement of an odd client passes the audit unseen."""
         tell(run(["python3", os.path.join(BINDINGS, "testing", "evasions.py"), self.audit,
@@ -728,6 +741,12 @@ def test_longer(report, kind, tests):
               "tcpdump)", flush=True)
     test_replayed(report, tests)
     test_proxied(report, tests, functools.partial(running, kind))
+    if has("openssl") and has_tls():
+        tests.run(report, "clients by their defaults", BOTH, tests.clients_by_defaults,
+                  functools.partial(running, kind))
+    else:
+        print(f"left out: {kind.name}: clients by their defaults (apt-get install openssl "
+              "librust-openssl-dev)", flush=True)
 
 
 def test_servers(report, room, library, load, rate):

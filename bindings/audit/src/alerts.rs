@@ -137,14 +137,15 @@ impl Alerts {
         }
     }
 
-    /// Ends it, once the program had its lines. What it doesn't take by this time is left.
+    /// Ends it, once the program had its lines. For the last of them it has some seconds.
     pub fn end(&self, latest: Instant) {
         self.queue().ends = true;
         self.comes.notify_one();
         if let Some(log) = &self.log {
             log.end(latest);
         }
-        while self.runs() && !self.queue().is_over && Instant::now() < latest + 2 * AT_LAST {
+        let latest = Instant::now() + 2 * AT_LAST;
+        while self.runs() && !self.queue().is_over && Instant::now() < latest {
             sleep(GLANCE);
         }
     }
