@@ -22,7 +22,7 @@ SSL = 1 << 11
 
 
 def settings(room, port):
-    """Writes the sample with places of its own, and returns its file."""
+    """Writes the sample with files and ports for the test, and returns its file."""
     places = {"listen": "127.0.0.1:0", "upstream": f"127.0.0.1:{port}", "log": f"{room}/log",
               "tls-cert": f"{room}/cert.pem", "tls-key": f"{room}/key.pem"}
     text = pathlib.Path(SAMPLE).read_text(encoding="utf-8")

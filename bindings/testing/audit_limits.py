@@ -1,12 +1,12 @@
 """What bindings/audit allows: descriptors, clients, time and memory; and how signals end it."""
 
 import pathlib
+import resource
 import signal
 import socket
 import threading
 import time
 
-import recorded
 from audit_support import COLUMN, EOF, OK, Pair, Program, greeting, packet, query, receive, wait_for
 from recorded import SECONDS, check
 
@@ -14,14 +14,23 @@ from recorded import SECONDS, check
 # ---- Limits -------------------------------------------------------------------------------------
 
 
+# How many descriptors the program may open where it is to have too few.
+DESCRIPTORS = 24
+
+
+def limit_descriptors():
+    """Lets the process that is to be the program open few files."""
+    resource.setrlimit(resource.RLIMIT_NOFILE, (DESCRIPTORS, DESCRIPTORS))
+
+
 def check_descriptors(executable):
     """Where no descriptor is left clients wait, those that are served go on, and each of the others
     is served once there are some."""
     with Program(executable, "--connections", "1000", "--login-timeout", "600",
-                 preexec_fn=recorded.limit_descriptors) as proxy:
+                 preexec_fn=limit_descriptors) as proxy:
         check(True, "there are descriptors for" in proxy.first, "what is said of the limit")
         pair = Pair(proxy)
-        flood = [proxy.ask() for _ in range(2 * recorded.DESCRIPTORS)]
+        flood = [proxy.ask() for _ in range(2 * DESCRIPTORS)]
         while "no client can be taken" not in proxy.process.stderr.readline():
             check(None, proxy.process.poll(), "the status of a proxy without descriptors")
         pair.say("SELECT 1")
