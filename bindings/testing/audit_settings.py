@@ -6,6 +6,7 @@ import signal
 import socket
 import subprocess
 import threading
+import time
 
 from audit_support import OK, Pair, Program, lines_of, log_file, wait_for
 from recorded import SECONDS, check
@@ -62,6 +63,27 @@ def check_reload(executable):
         check([("bob", 2009 + 1), ("bob", None), ("bob", None)],
               [(it["user"], it.get("length")) for it in said], "lines behind a HUP")
         check(False, has(log, "SELECT 2"), "whether the first log goes on")
+
+
+def check_slow_reload(executable):
+    """Where settings can't be read for a while clients are served, and a second HUP isn't lost."""
+    with log_file() as log:
+        file = log.with_name("settings")
+        file.write_text(f"log = {log}\n")
+        with Program(executable, "--config", str(file)) as proxy:
+            file.unlink()
+            os.mkfifo(file)
+            proxy.process.send_signal(signal.SIGHUP)
+            time.sleep(0.1)
+            pair = Pair(proxy)
+            pair.say("SELECT 1")
+            proxy.process.send_signal(signal.SIGHUP)
+            time.sleep(0.1)
+            for _ in range(2):
+                file.write_text(f"log = {log}\nuser = ann\n")
+                proxy.hears(READ)
+            pair.close()
+            proxy.stop()
 
 
 def check_bad_reload(executable):
@@ -215,5 +237,6 @@ def check_systemd(executable):
 def checks():
     """Returns all of them, by their names."""
     return [("HUP", check_reload), ("HUP with bad settings", check_bad_reload),
+            ("HUP with slow settings", check_slow_reload),
             ("HUP while the log is full", check_reload_while_full), ("USR2", check_upgrade),
             ("USR2 without a new process", check_bad_upgrade), ("systemd", check_systemd)]

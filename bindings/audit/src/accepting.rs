@@ -8,6 +8,7 @@ use crate::shared::{Client, Course, Door, Settings, Shared};
 use crate::sys::{open_socket, Poll, Ready, SignalFile, Waker};
 use crate::sys::{EPOLLIN, SIGHUP, SIGINT, SIGTERM, SIGUSR1, SIGUSR2};
 use std::io::{self, ErrorKind};
+use std::mem;
 use std::net::{SocketAddr, TcpListener, TcpStream};
 use std::os::fd::{AsRawFd, OwnedFd};
 use std::sync::atomic::Ordering;
@@ -18,6 +19,7 @@ use std::time::{Duration, Instant};
 const LISTENER: u64 = 0;
 const SIGNALS: u64 = 1;
 const HEIR: u64 = 2;
+const SETTINGS: u64 = 3;
 /// How long it waits where no client can be taken.
 const PAUSE: Duration = Duration::from_millis(20);
 /// How long the loops have behind the grace.
@@ -54,6 +56,67 @@ pub struct Post {
     pub possible: usize,
 }
 
+/// Settings that were read anew, and the log that they name.
+type Read = Result<(Settings, Place), String>;
+
+/// The reading of settings in a thread of its own: a file or a name server may have it wait.
+struct Reading {
+    waker: Arc<Waker>,
+    read: Arc<Mutex<Option<Read>>>,
+    goes_on: bool,
+    /// Whether they are to be read once more.
+    is_asked: bool,
+}
+
+impl Reading {
+    fn new() -> io::Result<Reading> {
+        Ok(Reading {
+            waker: Arc::new(Waker::new()?),
+            read: Arc::default(),
+            goes_on: false,
+            is_asked: false,
+        })
+    }
+
+    /// Begins to read what these words name, beside settings of which some stay.
+    fn begin(&mut self, words: Vec<String>, old: Arc<Settings>) -> io::Result<()> {
+        let (waker, place) = (self.waker.clone(), self.read.clone());
+        let named = thread::Builder::new().name("settings".to_string());
+        named.spawn(move || {
+            let read = read_settings(words, &old.options);
+            *place.lock().unwrap_or_else(PoisonError::into_inner) = Some(read);
+            waker.wake();
+        })?;
+        self.goes_on = true;
+        Ok(())
+    }
+
+    /// What was read, where it is there.
+    fn take(&mut self) -> Option<Read> {
+        self.waker.sleep_again();
+        let read = self
+            .read
+            .lock()
+            .unwrap_or_else(PoisonError::into_inner)
+            .take()?;
+        self.goes_on = false;
+        Some(read)
+    }
+}
+
+fn read_settings(words: Vec<String>, old: &Options) -> Read {
+    let mut options = Options::of(words.into_iter())?;
+    for name in options.keep(old) {
+        say(&format!("--{name} changes by a USR2 or a new start only"));
+    }
+    let settings = Settings::of(options)?;
+    let place = Place::open(settings.options.log.clone());
+    Ok((
+        settings,
+        place.map_err(|error| format!("the log: {error}"))?,
+    ))
+}
+
 pub struct Acceptor {
     shared: Arc<Shared>,
     doors: Vec<Arc<Door>>,
@@ -61,6 +124,7 @@ pub struct Acceptor {
     listener: Option<TcpListener>,
     metrics: Option<(TcpListener, Arc<Stop>)>,
     signals: SignalFile,
+    reading: Reading,
     possible: usize,
     /// The most clients that are served.
     most: usize,
@@ -78,9 +142,10 @@ pub struct Acceptor {
 
 impl Acceptor {
     pub fn new(shared: Arc<Shared>, doors: Vec<Arc<Door>>, post: Post) -> io::Result<Acceptor> {
-        let poll = Poll::new()?;
+        let (poll, reading) = (Poll::new()?, Reading::new()?);
         poll.change(post.listener.as_raw_fd(), LISTENER, 0, EPOLLIN)?;
         poll.change(post.signals.file(), SIGNALS, 0, EPOLLIN)?;
+        poll.change(reading.waker.file(), SETTINGS, 0, EPOLLIN)?;
         Ok(Acceptor {
             most: most_of(&shared.settings().options, post.possible),
             shared,
@@ -89,6 +154,7 @@ impl Acceptor {
             listener: Some(post.listener),
             metrics: post.metrics,
             signals: post.signals,
+            reading,
             possible: post.possible,
             heir: None,
             socket: None,
@@ -102,7 +168,7 @@ impl Acceptor {
     /// Takes clients, whose numbers are behind this one, until a signal ends that.
     pub fn serve(&mut self, number: u64) -> io::Result<()> {
         self.number = number;
-        let mut room = [Ready { bits: 0, token: 0 }; 3];
+        let mut room = [Ready { bits: 0, token: 0 }; 4];
         loop {
             let most = self.paused.then_some(PAUSE);
             let count = self.poll.wait(&mut room, most).len();
@@ -113,6 +179,7 @@ impl Acceptor {
             if room[..count].iter().any(|event| event.token == HEIR) && self.is_succeeded() {
                 return Ok(());
             }
+            self.take_settings();
             if self.paused {
                 self.set_paused(false)?;
             } else {
@@ -137,22 +204,36 @@ impl Acceptor {
         ends
     }
 
-    /// Reads the settings anew. Where they can't be taken all stay as they were.
+    /// Has the settings be read anew. Clients are served meanwhile.
     fn read_settings(&mut self) {
-        if let Err(why) = self.change_settings() {
-            say(&format!("the settings stay as they were: {why}"));
-            self.shared.logs().for_each(|log| log.reopen());
+        if self.reading.goes_on {
+            self.reading.is_asked = true;
+            return;
+        }
+        let (words, old) = (self.own.words.clone(), self.shared.settings());
+        if let Err(error) = self.reading.begin(words, old) {
+            self.keep_settings(&error.to_string());
         }
     }
 
-    fn change_settings(&mut self) -> Result<(), String> {
-        let mut options = Options::of(self.own.words.iter().cloned())?;
-        for name in options.keep(&self.shared.settings().options) {
-            say(&format!("--{name} changes by a USR2 or a new start only"));
+    /// Takes settings that were read. Where they can't be taken all stay as they were.
+    fn take_settings(&mut self) {
+        match self.reading.take() {
+            Some(Ok((settings, place))) => self.change_settings(settings, place),
+            Some(Err(why)) => self.keep_settings(&why),
+            None => return,
         }
-        let settings = Settings::of(options)?;
-        let place = Place::open(settings.options.log.clone());
-        let place = place.map_err(|error| format!("the log: {error}"))?;
+        if mem::take(&mut self.reading.is_asked) {
+            self.read_settings();
+        }
+    }
+
+    fn keep_settings(&self, why: &str) {
+        say(&format!("the settings stay as they were: {why}"));
+        self.shared.logs().for_each(|log| log.reopen());
+    }
+
+    fn change_settings(&mut self, settings: Settings, place: Place) {
         self.most = most_of(&settings.options, self.possible);
         // The next server may have an address of another kind.
         self.socket = None;
@@ -161,7 +242,6 @@ impl Acceptor {
         self.shared.change(settings);
         self.doors.iter().for_each(|door| door.waker.wake());
         say("the settings were read");
-        Ok(())
     }
 
     /// Begins a new process, which takes the listeners once it is ready.
@@ -319,6 +399,7 @@ impl Acceptor {
             if self.read_signals() {
                 self.go_over_to(Course::Ends);
             }
+            self.take_settings();
             thread::sleep(PAUSE / 4);
         }
     }
