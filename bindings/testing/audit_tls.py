@@ -73,6 +73,13 @@ def read_packet(stream):
     return (header[3], receive(stream, int.from_bytes(header[:3], "little"))) if header else None
 
 
+def context_of(folder):
+    """Returns what a server begins TLS with."""
+    context = ssl.SSLContext(ssl.PROTOCOL_TLS_SERVER)
+    context.load_cert_chain(folder / "cert.pem", folder / "key.pem")
+    return context
+
+
 class Secured(Pair):
     """A client and its server, of which each may have TLS."""
 
@@ -91,11 +98,10 @@ class Secured(Pair):
         """The client sends its login."""
         self.client.sendall(packet(self.number, login(self.bits, **how)))
 
-    def accepts_tls(self):
+    def accepts_tls(self, context=None):
         """The server is asked for TLS, and begins it."""
         check((1, front(BITS | SSL)), read_packet(self.server), "the request for TLS")
-        context = ssl.SSLContext(ssl.PROTOCOL_TLS_SERVER)
-        context.load_cert_chain(self.folder / "cert.pem", self.folder / "key.pem")
+        context = context or context_of(self.folder)
         self.server = context.wrap_socket(self.server, server_side=True)
 
     def hears(self, number, payload):
@@ -372,6 +378,25 @@ def check_words(executable):
             check((status, True), (ran.returncode, why in ran.stderr), f"{words}: {ran.stderr}")
 
 
+def check_resumed(executable):
+    """The server's side goes on from the session before, by both versions of TLS."""
+    for version in (ssl.TLSVersion.TLSv1_2, ssl.TLSVersion.TLSv1_3):
+        with certificates() as folder, Program(executable, *pair_of(folder)) as proxy:
+            context, found = context_of(folder), []
+            context.maximum_version = version
+            for _ in range(3):
+                pair = Secured(proxy, folder)
+                pair.logs_in()
+                pair.accepts_tls(context)
+                pair.hears(2, login(BITS | SSL))
+                pair.server.sendall(packet(3, OK))
+                pair.is_told(3, OK)
+                found.append(pair.server.session_reused)
+                pair.close()
+            proxy.stop()
+            check([False, True, True], found, f"sessions that go on, {version.name}")
+
+
 def check_key_log(executable):
     """The keys of each side's sessions go to a file, which nobody else may read."""
     with certificates() as folder:
@@ -394,7 +419,7 @@ def check_key_log(executable):
 
 def checks():
     """Returns all of them, by their names."""
-    return [("a key log", check_key_log), ("TLS on both sides", check_both), ("a hidden password", check_password),
+    return [("a session that goes on", check_resumed), ("a key log", check_key_log), ("TLS on both sides", check_both), ("a hidden password", check_password),
             ("other certificates", check_reload), ("plain clients that are refused", check_plain_refused),
             ("passwords in clear", check_clear_refused), ("what can't be read with TLS", check_unread),
             ("requests for TLS", check_requests),

@@ -1,7 +1,7 @@
 //! TLS of one side of a connection, over bytes: what came of the socket is put in, what is to go is
 //! taken out. This is the only file that knows OpenSSL.
 
-use crate::file::open_secret;
+use crate::file::{open_secret, say};
 use crate::tls_settings::{read_key, OfServer, TlsOptions};
 use openssl::encrypt::Decrypter;
 use openssl::error::ErrorStack;
@@ -47,6 +47,7 @@ fn key_log(options: &TlsOptions) -> Result<KeyLog, String> {
         return Ok(None);
     };
     let file = open_secret(path.as_ref()).map_err(|error| format!("{path}: {error}"))?;
+    say(&format!("the keys of TLS go to {path}"));
     Ok(Some(Arc::new(file)))
 }
 
