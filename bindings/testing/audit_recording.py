@@ -5,8 +5,8 @@ import pathlib
 import random
 import tempfile
 
-from audit_support import ERROR, OK, Pair, Program, packet, query, receive
-from audit_tls import BITS, greeting, login
+from audit_support import ERROR, OK, Pair, Program, packet, query, receive, wait_for
+from audit_tls import BITS, front, greeting
 from recorded import check
 
 STAR = ord("*")
@@ -39,40 +39,59 @@ def check_files(name, sides, found, is_whole):
     check((len(client), set()), (lengths[0], set(differ) - {STAR}), f"{name}, the client's bytes")
 
 
+# Of a login, and its capability by which a length may have more bytes than one.
+LENGTHS = 0x200000
+LOGINS = ((BITS, b"\x08secret-1", b"\x08********"),
+          (BITS | LENGTHS, b"\xfc\x2c\x01" + 300 * b"s", b"\xfc\x2c\x01" + 300 * b"*"))
+SWITCH = b"\xfemysql_clear_password\0"
+REPLICA = b"\x15\x07\0\0\0\x02at\x03ann%s\xea\x0c" + bytes(8)
+CHANGE = b"\x11bob\0%sbooks\0\x21\0caching_sha2_password\0"
+# What the client says then, what of it is recorded, and what the server answers.
+SAID = [
+    (3, b"secret-2\0", b"*********", (4, OK)),
+    (0, b"\x03SELECT 1", b"\x03SELECT 1", (1, OK)),
+    (0, CHANGE % b"\x08secret-3", CHANGE % b"\x08********", (1, SWITCH)),
+    (2, b"secret-4\0", b"*********", (3, OK)),
+    (0, b"\x11bob\0\x08secret-5", b"\x11*************", (1, ERROR)),
+    (0, REPLICA % b"\x08secret-6", REPLICA % b"\x08********", (1, OK)),
+    (0, b"\x01", b"\x01", None)]
+
+
+def login_by(bits, answer):
+    """Returns the payload of a login with this answer, behind its length."""
+    return front(bits) + b"ann\0" + answer + b"shop\0caching_sha2_password\0"
+
+
 def check_hidden(executable):
     """No password is in a recording, neither in clear nor as a hash."""
-    switch = b"\xfemysql_clear_password\0"
-    replica = b"\x15\x07\0\0\0\x02at\x03ann%s\xea\x0c" + bytes(8)
-    change = b"\x11bob\0%sbooks\0\x21\0caching_sha2_password\0"
-    # What the client says, what of it is recorded, and what the server answers.
-    said = [
-        (1, login(BITS, response=b"secret-1"), login(BITS, response=b"********"), (2, switch)),
-        (3, b"secret-2\0", b"*********", (4, OK)),
-        (0, b"\x03SELECT 1", b"\x03SELECT 1", (1, OK)),
-        (0, change % b"\x08secret-3", change % b"\x08********", (1, switch)),
-        (2, b"secret-4\0", b"*********", (3, OK)),
-        (0, b"\x11bob\0\x08secret-5", b"\x11*************", (1, ERROR)),
-        (0, replica % b"\x08secret-6", replica % b"\x08********", (1, OK)),
-        (0, b"\x01", b"\x01", None)]
     with tempfile.TemporaryDirectory(prefix="mysql-audit-") as room:
         folder = pathlib.Path(room, "records")
         with Program(executable, "--record", str(folder)) as proxy:
-            pair = Pair(proxy, logs_in=False)
-            pair.answer(greeting(BITS))
-            for number, asked, _, answer in said:
-                pair.client.sendall(packet(number, asked))
-                check(packet(number, asked), receive(pair.server, 4 + len(asked)), "what passes")
-                if answer:
-                    pair.answer(packet(*answer))
-            pair.close()
+            for bits, answer, kept in LOGINS:
+                asked = (1, login_by(bits, answer), login_by(bits, kept), (2, SWITCH))
+                check_said(Pair(proxy, logs_in=False), folder, bits, [asked, *SAID])
             proxy.stop()
-        client, server = (pathlib.Path(folder, f"1.{it}") for it in ("client", "server"))
-        check(b"".join(packet(number, kept) for number, _, kept, _ in said), client.read_bytes(),
-              "what is recorded of the client")
-        answers = b"".join(packet(*answer) for *_, answer in said if answer)
-        check(greeting(BITS) + answers, server.read_bytes(), "what is recorded of the server")
-        modes = [os.stat(it).st_mode & 0o777 for it in (folder, client, server)]
-        check([0o700, 0o600, 0o600], modes, "who can read it")
+        check(0o700, os.stat(folder).st_mode & 0o777, "who can read the folder")
+
+
+def check_said(pair, folder, bits, said):
+    """A client says something, and its recording has what it is to have."""
+    pair.answer(greeting(bits))
+    for number, asked, _, answer in said:
+        pair.client.sendall(packet(number, asked))
+        check(packet(number, asked), receive(pair.server, 4 + len(asked)), "what passes")
+        if answer:
+            pair.answer(packet(*answer))
+    pair.close()
+    number = 1 if bits == BITS else 2
+    client, server = (pathlib.Path(folder, f"{number}.{it}") for it in ("client", "server"))
+    wanted = b"".join(packet(number, kept) for number, _, kept, _ in said)
+    wait_for(lambda: len(client.read_bytes()) >= len(wanted), "a recording")
+    check(wanted, client.read_bytes(), "what is recorded of the client")
+    answers = b"".join(packet(*answer) for *_, answer in said if answer)
+    check(greeting(bits) + answers, server.read_bytes(), "what is recorded of the server")
+    modes = [os.stat(it).st_mode & 0o777 for it in (client, server)]
+    check([0o600, 0o600], modes, "who can read it")
 
 
 def check_ends(executable):

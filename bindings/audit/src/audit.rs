@@ -205,7 +205,7 @@ impl<S: Sink> Audit<S> {
         if let Some(recording) = &mut self.recording {
             let connection = &self.connection;
             let unread = [Side::Client, Side::Server].map(|side| connection.rest(side).len());
-            recording.pass(unread, hidden);
+            recording.pass(unread, &hidden);
         }
     }
 
