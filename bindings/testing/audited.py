@@ -17,10 +17,11 @@ import subprocess
 import threading
 import time
 
+from .auditing import has_tls
 from .support import Failure, has, run
 
 USER, DATABASE = "tester", "bindings"
-SLOW_LOG = ("--skip-ssl", "--slow-query-log", "--long-query-time=0", "--log-output=FILE",
+SLOW_LOG = ("--slow-query-log", "--long-query-time=0", "--log-output=FILE",
             "--log-slow-disabled-statements=")
 # Who sends under load: clients at once, threads of sysbench, and statements of its transaction.
 WORKERS, SYSBENCH_THREADS, TRANSACTION = 4, 2, 20
@@ -78,24 +79,37 @@ class Proxy:
         return int(status.partition("VmRSS:")[2].split()[0])
 
 
-def client(port, *options):
+def word_of(tls):
+    """Returns the word by which a client uses TLS, or none."""
+    return "--ssl" if tls else "--skip-ssl"
+
+
+def client(port, *options, tls=False):
     """Returns the words of a client that reads statements from its input."""
     return ["mariadb", "--no-defaults", "--host=127.0.0.1", f"--port={port}", f"--user={USER}",
-            "--skip-ssl", "--default-character-set=utf8mb4", "--batch", "--comments", "--force",
+            word_of(tls), "--default-character-set=utf8mb4", "--batch", "--comments", "--force",
             *options, DATABASE]
 
 
-def sql(port, text):
+def sql(port, text, tls=False):
     """Has statements run, and returns what is printed of them; errors are no failure."""
-    ran = subprocess.run(client(port), input=text.encode(), stdout=subprocess.PIPE,
+    ran = subprocess.run(client(port, tls=tls), input=text.encode(), stdout=subprocess.PIPE,
                          stderr=subprocess.DEVNULL, check=False)
     return ran.stdout.decode(errors="replace")
 
 
-def dump(port, table):
+def dump(port, table, tls=False):
     """Returns what mariadb-dump says of a table."""
     return run(["mariadb-dump", "--no-defaults", "--host=127.0.0.1", f"--port={port}",
-                f"--user={USER}", "--skip-ssl", "--skip-comments", "--hex-blob", DATABASE, table])
+                f"--user={USER}", word_of(tls), "--skip-comments", "--hex-blob", DATABASE, table])
+
+
+def certificate(folder):
+    """Makes a certificate, and returns the files that it and its key are in."""
+    cert, key = os.path.join(folder, "cert.pem"), os.path.join(folder, "key.pem")
+    run(["openssl", "req", "-x509", "-newkey", "rsa:2048", "-nodes", "-keyout", key, "-out", cert,
+         "-days", "2", "-subj", "/CN=localhost"])
+    return cert, key
 
 
 # ---- Load ---------------------------------------------------------------------------------------
@@ -123,9 +137,9 @@ class Sender(threading.Thread):
 class Worker(Sender):
     """Clients one behind the other, each with some statements."""
 
-    def __init__(self, port, number, stops, seconds):
+    def __init__(self, port, number, stops, seconds, tls=False):
         super().__init__(stops, seconds)
-        self.port, self.number, self.sent, self.wrong = port, number, 0, []
+        self.port, self.number, self.sent, self.wrong, self.tls = port, number, 0, [], tls
         self.texts = self.statements()
 
     def statements(self):
@@ -142,7 +156,7 @@ class Worker(Sender):
         return texts + [f"SELECT nothing FROM {table}", f"SELECT COUNT(*), SUM(id) FROM {table}"]
 
     def send(self):
-        printed = sql(self.port, ";\n".join(self.texts))
+        printed = sql(self.port, ";\n".join(self.texts), self.tls)
         self.sent += len(self.texts)
         if not printed.endswith("\n20\t190\n"):
             self.wrong.append(printed[-200:])
@@ -151,12 +165,12 @@ class Worker(Sender):
 class Dumper(Sender):
     """Dumps of a table, each of which has to be the same."""
 
-    def __init__(self, port, wanted, stops, seconds):
+    def __init__(self, port, wanted, stops, seconds, tls):
         super().__init__(stops, seconds)
-        self.port, self.wanted, self.wrong = port, wanted, 0
+        self.port, self.wanted, self.wrong, self.tls = port, wanted, 0, tls
 
     def send(self):
-        self.wrong += dump(self.port, "dumped") != self.wanted
+        self.wrong += dump(self.port, "dumped", self.tls) != self.wanted
 
 
 class Sysbench(threading.Thread):
@@ -204,6 +218,8 @@ def counted(records):
         counts[it["kind"]] += 1
         if it["kind"] == "end":
             counts["end", it["text"]] += 1
+        elif it["kind"] == "login":
+            counts["login", "TLS"] += "tls" in it and "tls_server" in it
         elif it["kind"] == "query":
             text = it["text"]
             counts["of workers"] += " load_" in text or text in ("BEGIN", "COMMIT")
@@ -212,14 +228,15 @@ def counted(records):
 
 class Load:
     """Four workers, a dumper and sysbench, which send through the proxy for so many seconds. Of a
-    rate the workers send half, and sysbench the other."""
+    rate the workers send half, and sysbench the other. With TLS two workers and the dumper use it."""
 
-    def __init__(self, port, wanted, seconds, rate):
+    def __init__(self, port, wanted, seconds, rate, tls):
         self.seconds, self.memory, self.stops = seconds, [], threading.Event()
         each = len(Worker(port, 0, self.stops, 0).texts)
         period = 2 * WORKERS * each / rate if rate else 0
-        self.workers = [Worker(port, it, self.stops, period) for it in range(WORKERS)]
-        self.dumper = Dumper(port, wanted, self.stops, period)
+        self.workers = [Worker(port, it, self.stops, period, tls and it % 2 == 0)
+                        for it in range(WORKERS)]
+        self.dumper = Dumper(port, wanted, self.stops, period, tls)
         transactions = max(1, rate // 2 // TRANSACTION) if rate else 0
         self.sysbench = Sysbench(port, seconds, transactions) if has("sysbench") else None
         self.threads = [*self.workers, self.dumper, *([self.sysbench] if self.sysbench else [])]
@@ -244,6 +261,8 @@ class Load:
         check(set(), lost, "what isn't audited")
         check(counts["login"], counts["end", "quit"], "connections that end by a quit")
         check(counts["login"], counts["end"], "ends")
+        secured = sum(it.runs for it in (*self.workers, self.dumper) if it.tls)
+        check(secured, counts["login", "TLS"], "connections with TLS on both sides")
         check(sum(it.sent for it in self.workers), counts["of workers"], "lines of statements")
         if self.sysbench:
             # (a statement that fails, as by a deadlock, is counted apart)
@@ -262,20 +281,22 @@ class Load:
             print("left out: sysbench beside them (apt-get install sysbench)", flush=True)
         lines = sum(number for kind, number in counts.items() if isinstance(kind, str)
                     and kind != "of workers")
-        print(f"{said}{self.dumper.runs} dumps; {counts['login']} connections, {lines} lines",
-              flush=True)
+        print(f"{said}{self.dumper.runs} dumps; {counts['login']} connections, of which "
+              f"{counts['login', 'TLS']} have TLS, {lines} lines", flush=True)
         parts = [self.memory[len(self.memory) * it // 12] for it in range(12)]
         print(f"  KB of memory at each twelfth of the time: {parts}, {self.memory[-1]}", flush=True)
 
 
-def check_load(program, room, port, seconds, rate):
-    """Clients and dumps for so long: none is cut, each has its line, and memory is bounded."""
+def check_load(program, room, port, seconds, rate, pair=()):
+    """Clients and dumps for so long: none is cut, each has its line, and memory is bounded. With a
+    certificate and its key some of them use TLS."""
     fill(port)
     wanted = dump(port, "dumped")
     if wanted.count("INSERT") < 1:
         raise Failure("the table isn't dumped")
-    with Proxy(program, port, os.path.join(room, "load.log"), "--digests") as proxy:
-        load = Load(proxy.port, wanted, seconds, rate)
+    words = [f"--tls-cert={pair[0]}", f"--tls-key={pair[1]}"] if pair else []
+    with Proxy(program, port, os.path.join(room, "load.log"), "--digests", *words) as proxy:
+        load = Load(proxy.port, wanted, seconds, rate, bool(pair))
         load.run(proxy)
         counts = counted(proxy.lines())
     load.check(counts)
@@ -508,11 +529,14 @@ def test_audited(report, room, mariadb, program, seconds, rate):
     slow_log = os.path.join(folder, "slow.log")
     with contextlib.ExitStack() as stack:
         options = [*SLOW_LOG, f"--slow-query-log-file={slow_log}"]
+        pair = certificate(folder) if has("openssl") and has_tls() else ()
+        if pair:
+            options += [f"--ssl-cert={pair[0]}", f"--ssl-key={pair[1]}"]
         port = report.run("a server that logs all as slow",
                           lambda: stack.enter_context(mariadb(folder, *options)))
         if not port:
             return
-        report.run("the audit under load", check_load, program, folder, port, seconds, rate)
+        report.run("the audit under load", check_load, program, folder, port, seconds, rate, pair)
         if has("pt-query-digest"):
             report.run("the audit beside pt-query-digest", check_pt, program, folder, port, slow_log)
             report.run("where digests differ from pt-query-digest's", check_known_differences,
