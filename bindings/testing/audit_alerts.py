@@ -16,6 +16,7 @@ STATEMENTS = (
     ("SELECT pay FROM hr.Salaries s JOIN `people` USING (id)", True, ["hr.salaries", "people"]),
     ("SELECT pay FROM(salaries)", True, ["salaries"]),
     ("SELECT 1 FROM /*!40001 salaries */", True, ["salaries"]),
+    ("SELECT 1 FROM /*!50000salaries*/", True, ["salaries"]),
     # What SQL prepares is a string, in which a filter finds the name.
     ("PREPARE s FROM 'SELECT pay FROM salaries'", True, ["?"]),
     ("SELECT 1 FROM old_salaries, salaries2", False, ["old_salaries", "salaries2"]),

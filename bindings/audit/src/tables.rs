@@ -112,14 +112,23 @@ impl Names {
 
     /// Those that a text has as whole words, wherever they stand.
     pub fn within(&self, text: &[u8]) -> Vec<String> {
-        let is_there = |name: &&String| has_word(text, name.as_bytes());
+        if self.0.is_empty() {
+            return Vec::new();
+        }
+        // A name may stand at once behind a comment's version, of five digits or six.
+        let texts = [0, 5, 6].map(|digits| match digits {
+            0 => Cow::Borrowed(text),
+            most => opened(text, most),
+        });
+        let is_there = |name: &&String| texts.iter().any(|it| has_word(it, name.as_bytes()));
         self.0.iter().filter(is_there).cloned().collect()
     }
 }
 
-/// Whether a byte is one of a name without quotes.
+/// Whether a byte is one of a name without quotes in each character set. By latin1 a0 is a blank, so no
+/// byte from 80 on is.
 fn is_of_name(byte: u8) -> bool {
-    byte.is_ascii_alphanumeric() || matches!(byte, b'_' | b'$' | 0x80..)
+    byte.is_ascii_alphanumeric() || matches!(byte, b'_' | b'$')
 }
 
 /// Whether a text has a name as a whole word, in whatever case.
@@ -129,12 +138,20 @@ fn has_word(text: &[u8], name: &[u8]) -> bool {
         let before = at.checked_sub(1).and_then(|at| text.get(at));
         ends(before) && ends(text.get(at + name.len()))
     };
-    let mut places = text.windows(name.len().max(1)).enumerate();
-    places.any(|(at, word)| word.eq_ignore_ascii_case(name) && is_at(at))
+    let Some(first) = name.first() else {
+        return false;
+    };
+    let is_name = |at: usize| {
+        let word = text.get(at..at + name.len());
+        word.is_some_and(|word| word.eq_ignore_ascii_case(name)) && is_at(at)
+    };
+    let mut bytes = text.iter().enumerate();
+    bytes.any(|(at, byte)| byte.eq_ignore_ascii_case(first) && is_name(at))
 }
 
-/// A text in which comments that servers run are open: their words count.
-fn opened(text: &[u8]) -> Cow<'_, [u8]> {
+/// A text in which comments that servers run are open: their words count. A version has so many digits
+/// at most.
+fn opened(text: &[u8], digits: usize) -> Cow<'_, [u8]> {
     let is_run = |at: &usize| {
         let rest = &text[*at..];
         rest.starts_with(b"/*!") || rest.starts_with(b"/*M!") || rest.starts_with(b"/*m!")
@@ -145,7 +162,7 @@ fn opened(text: &[u8]) -> Cow<'_, [u8]> {
         let mark = if rest[2] == b'!' { 3 } else { 4 };
         let version = rest[mark..]
             .iter()
-            .take(6)
+            .take(digits)
             .take_while(|byte| byte.is_ascii_digit());
         let length = mark + version.count();
         open.to_mut()[at..at + length].fill(b' ');
@@ -155,7 +172,7 @@ fn opened(text: &[u8]) -> Cow<'_, [u8]> {
 
 /// The tables that a text names, each once.
 pub fn tables_in(text: &[u8], mode: Mode) -> Vec<String> {
-    let Some(digest) = digest_of(&opened(text), mode) else {
+    let Some(digest) = digest_of(&opened(text, 6), mode) else {
         return vec![UNKNOWN.to_string()];
     };
     let mut walk = Walk::default();
@@ -409,13 +426,27 @@ mod tests {
         for text in [
             "SELECT 1 FROM old_salaries",
             "salaries2",
-            "\u{e9}salaries",
+            "$salaries",
             "salarie",
             "",
         ] {
             assert!(!has_word(text.as_bytes(), b"salaries"), "{text}");
         }
-        let names = ["b", "a", "b", "c"].map(str::to_string);
-        assert_eq!(vec!["a", "b"], Names::of(names.iter()).within(b"A join B"));
+        // By latin1 that is a blank.
+        assert!(has_word(
+            b"SELECT pay FROM\xa0salaries\xa0WHERE 1",
+            b"salaries"
+        ));
+        let names = ["b", "a", "b", "c", "1x"].map(str::to_string);
+        let within = |text: &[u8]| Names::of(names.iter()).within(text);
+        assert_eq!(vec!["a", "b"], within(b"A join B"));
+        for (text, name) in [
+            (&b"SELECT 1 FROM /*!50000c*/"[..], "c"),
+            (b"SELECT 1 FROM /*!500001x*/", "1x"),
+            (b"SELECT 1 FROM /*M!100100c*/ /*! old_a */", "c"),
+            (b"SELECT 1 FROM /*!c*/", "c"),
+        ] {
+            assert_eq!(vec![name], within(text));
+        }
     }
 }
