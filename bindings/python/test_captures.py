@@ -419,6 +419,10 @@ class Recordings(unittest.TestCase):
                 self.assertEqual(found, wanted, f"row {number}")
                 count += 1
         self.assertGreater(count, 80)
+        # In another character set a0 may be a blank.
+        found = masking.masked(b"CREATE USER ann IDENTIFIED\xa0BY 'tea'")
+        self.assertEqual(found, (b"CREATE USER ann IDENTIFIED'*****'", True))
+        self.assertEqual(masking.masked(b"SELECT '\xa0'"), (b"SELECT '\xa0'", False))
 
     def test_passwords(self) -> None:
         """No password of a statement, of a value or of a reply is printed, but with --secrets."""

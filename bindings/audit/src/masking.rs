@@ -35,15 +35,20 @@ pub fn masked(text: &[u8], escapes: bool) -> Masked<'_> {
             is_secret: false,
         };
     };
+    let from_suspect = || Masked {
+        text: [&text[..suspect], MASK].concat().into(),
+        is_secret: true,
+    };
+    if std::str::from_utf8(text).is_err() {
+        // In another character set other bytes may be blanks, as a0 is in latin1.
+        return from_suspect();
+    }
     let mut masker = Masker::new(text, escapes);
     masker.run();
     let is_unclear = masker.tokens.is_open && masker.written < text.len();
     if let (None, true) = (masker.rest, is_unclear) {
         // Where its strings end isn't known.
-        return Masked {
-            text: [&text[..suspect], MASK].concat().into(),
-            is_secret: true,
-        };
+        return from_suspect();
     }
     let end = masker.rest.unwrap_or(text.len());
     let mut shown = masker.shown;

@@ -303,6 +303,11 @@ def masked(text: bytes, escapes: bool = True) -> Tuple[bytes, bool]:
     suspect = SUSPECTS.search(text)
     if suspect is None:
         return text, False
+    try:
+        text.decode()
+    except UnicodeDecodeError:
+        # In another character set other bytes may be blanks, as a0 is in latin1.
+        return text[:suspect.end()] + MASK, True
     masker = Masker(text, escapes)
     masker.run()
     if masker.rest is not None:

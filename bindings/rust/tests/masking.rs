@@ -56,3 +56,16 @@ fn any_text_has_an_end() {
         }
     }
 }
+
+#[test]
+fn what_is_no_utf8_is_masked_from_the_first_word_on() {
+    // In another character set a0 may be a blank.
+    let found = masked(b"CREATE USER ann IDENTIFIED\xa0BY 'tea'", true);
+    assert_eq!(b"CREATE USER ann IDENTIFIED'*****'"[..], *found.text);
+    assert!(found.is_secret);
+    let found = masked(b"SELECT '\xa0'", true);
+    assert_eq!(
+        (&b"SELECT '\xa0'"[..], false),
+        (&*found.text, found.is_secret)
+    );
+}
